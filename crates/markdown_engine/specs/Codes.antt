@@ -1,5 +1,5 @@
 -- The codes of a document, each with its places.
-use Rattle.std.specs.Prelude.{ℕ, zero, suc, ◌+◌, ◌-◌, ◌%◌, Bool, true, false, ◌&&◌, ◌||◌, nat_lt, nat_le, ◌==◌, List, [], ◌∷◌, ◌++◌, if◌then◌else◌, filter, Option, Some, None}
+use Rattle.std.specs.Prelude.{ℕ, zero, suc, ◌+◌, ◌-◌, ◌%◌, Bool, true, false, ◌&&◌, ◌||◌, nat_lt, nat_le, ◌==◌, List, [], ◌∷◌, ◌++◌, if◌then◌else◌, filter}
 use Rattle.markdown_engine.specs.declared.event.Point.{Point}
 
 -- A code is what the rules of Markdown read one of: a byte, or the line feed that stands for a line
@@ -73,9 +73,10 @@ stop_of p (c ∷ cs) = stop_of c.stop cs
 abbrev pub codes_from : ℕ → Point → List ℕ → List Code
 codes_from before p [] = []
 codes_from before p (b ∷ rest) =
-    elim (before == carriage_return && b == line_feed)
-      [ true ↦ codes_from b p rest
-      | false ↦ let here = codes_of_byte p b rest in here ++ codes_from b (stop_of p here) rest ]
+    elim (before == carriage_return && b == line_feed) [
+      | true ↦ codes_from b p rest
+      | false ↦ let here = codes_of_byte p b rest in here ++ codes_from b (stop_of p here) rest
+    ]
 
 -- all codes of a document
 abbrev pub codes_of : List ℕ → List Code

@@ -4,7 +4,7 @@ use Rattle.std.specs.List.{list_any}
 use Rattle.std.specs.Str.{IsCharBoundary}
 use Rattle.markdown_engine.specs.declared.event.Point.{Point}
 use Rattle.markdown_engine.specs.declared.parser.Piece.{Piece}
-use Rattle.markdown_engine.specs.Codes.{Code, codes_of, document_start, is_at_or_after, is_code_before, place_of, point_at, is_line_ending, is_blank}
+use Rattle.markdown_engine.specs.Codes.{Code, codes_of, document_start, is_at_or_after, is_code_before, point_at, is_line_ending, is_blank}
 
 -- the code begins within the piece
 abbrev pub is_in_piece : Piece → Code → Bool
@@ -53,10 +53,11 @@ abbrev pub are_pieces : List ℕ → List Piece → Bool
 are_pieces bytes [] = true
 are_pieces bytes (piece ∷ rest) =
     (is_piece bytes piece && are_pieces bytes rest)
-    && (elim rest
-      [ [] ↦ true
+    && (elim rest [
+      | [] ↦ true
       | next ∷ more ↦ ends_line (piece_codes (codes_of bytes) piece)
-          && (is_at_or_after piece.end next.start && is_one_line bytes piece.end next.start) ])
+          && (is_at_or_after piece.end next.start && is_one_line bytes piece.end next.start)
+    ])
 
 -- both ends of a piece stand between characters of the text
 abbrev pub IsBetweenCharacters : List ℕ → Piece → Type 0
@@ -74,9 +75,10 @@ pub record IsContent (bytes : List ℕ) (pieces : List Piece) : Type 0 where
 abbrev pub has_no_blank_line : Bool → List Code → Bool
 has_no_blank_line filled [] = filled
 has_no_blank_line filled (c ∷ cs) =
-    elim (is_line_ending c)
-      [ true ↦ filled && has_no_blank_line false cs
-      | false ↦ has_no_blank_line (filled || not (is_blank c)) cs ]
+    elim (is_line_ending c) [
+      | true ↦ filled && has_no_blank_line false cs
+      | false ↦ has_no_blank_line (filled || not (is_blank c)) cs
+    ]
 
 abbrev pub is_text_codes : List Code → Bool
 is_text_codes [] = true

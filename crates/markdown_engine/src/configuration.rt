@@ -40,6 +40,11 @@ pub struct Constructs {
 }
 
 impl Default for Constructs {
+    ghost use Rattle.std.specs.Prelude.{◌≡◌};
+    ghost use Rattle.markdown_engine.specs.Defaults.{default_constructs};
+
+    ghost is_default = { λ c. c ≡ default_constructs };
+
     /// CommonMark's constructs.
     fn default() -> Constructs {
         Constructs {
@@ -79,6 +84,11 @@ pub struct ParseOptions {
 }
 
 impl Default for ParseOptions {
+    ghost use Rattle.std.specs.Prelude.{◌≡◌};
+    ghost use Rattle.markdown_engine.specs.Defaults.{default_options};
+
+    ghost is_default = { λ o. o ≡ default_options };
+
     /// CommonMark's constructs; one tilde or dollar is enough where those constructs are switched on.
     fn default() -> ParseOptions {
         ParseOptions {

@@ -2,7 +2,16 @@
 #![tactic(auto)]
 
 pub mod configuration;
+pub mod cursor;
 pub mod event;
+pub mod events;
+pub mod layer;
 pub mod parser;
 pub mod resolve;
+pub mod run;
+pub mod seq;
 pub mod state;
+pub mod subtokenize;
+pub mod tokenizer;
+pub mod util;
+pub mod walk;

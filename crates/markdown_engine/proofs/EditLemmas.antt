@@ -1,0 +1,592 @@
+-- Edits of a list of events: where each event stands afterwards, and that chains stay chains.
+use Rattle.std.proofs.Common.{◌≡◌, ℕ, zero, suc, ◌+◌, ◌-◌, ◌<◌, ◌≤◌, ◌==◌, ◌||◌, ◌&&◌, not, nat_lt, nat_le, max, min, ◌^◌, ◌⊎◌, inl, inr, Bool, true, false, cond, Option, Some, None, List, [], ◌∷◌, ◌++◌, length, take, drop, get_or, set, refl, sym, ap, subst, ◌∙◌, arith, append_assoc}
+use Rattle.std.specs.List.{All, slice_get}
+use Rattle.std.specs.Option.{option_map}
+use Rattle.std.proofs.lemmas.List.{length-append, append-nil, drop_more, take_more, get_or_read, get_or-set_same, get_or-set_other, get_or_push, get_or_append_left, length_push}
+use Rattle.std.proofs.lemmas.Option.{get_or_from_slice_get, slice_get_within, slice_get-get_or}
+use Rattle.std.proofs.lemmas.Bool.{false≢true}
+use Rattle.std.proofs.lemmas.Bool.Decides.{nat_tests, eqb_tells, leb_tells}
+use Rattle.markdown_engine.specs.declared.event.Event.{Event}
+use Rattle.markdown_engine.specs.declared.event.Kind.{Kind}
+use Rattle.markdown_engine.specs.declared.event.Kind.TheVariants.{Enter, Exit}
+use Rattle.markdown_engine.specs.declared.event.Link.{Link}
+use Rattle.markdown_engine.specs.declared.util.edit_map.Edit.{Edit}
+use Rattle.markdown_engine.specs.Chain.{previous_link, with_previous, link_previous, previous_of, has_link, previous_at, linked_at, MayLink, OnlyEnters, IsLinked, IsUnlinked}
+use Rattle.markdown_engine.specs.Edits.{removed_at, front_at, back_at, added_at, removed_by, is_removed, added_up_to, removed_before, moved_number, moved, edited_from, edited, AddsUnlinked, CanEdit}
+use Rattle.markdown_engine.proofs.ChainLemmas.{OnlyEnters-append, within-linked, IsLinked-prefix}
+
+-- How many events stand before place i afterwards.
+
+abbrev stays : Bool → ℕ
+stays b = cond b 0 1
+
+abbrev pub start : List Edit → ℕ → ℕ
+start log zero = 0
+start log (suc i) = start log i + length (added_at i log) + stays (is_removed log i)
+
+length-part : (b : Bool) (xs : List Event) → length (cond b xs []) ≡ cond b (length xs) 0
+length-part true xs = refl
+length-part false xs = refl
+
+length-parts : (b c : Bool) (xs : List Event) → length (cond (b && c) xs []) + length (cond (b && not c) xs []) ≡ cond b (length xs) 0
+length-parts true true xs = omega arith
+length-parts true false xs = omega arith
+length-parts false c xs = refl
+
+-- how many events an edit brings to a place
+length-added : (i : ℕ) (e : Edit) (log : List Edit) → length (added_at i (e ∷ log)) ≡ cond (e.at == i) (length e.events) 0 + length (added_at i log)
+length-added i e log =
+    let whole : length (added_at i (e ∷ log)) ≡ length (front_at i log) + length (cond (e.at == i && e.before) e.events []) + (length (cond (e.at == i && not e.before) e.events []) + length (back_at i log)) = simp length-append in
+    let both : length (added_at i log) ≡ length (front_at i log) + length (back_at i log) = length-append (front_at i log) (back_at i log) in
+    let here : length (cond (e.at == i && e.before) e.events []) + length (cond (e.at == i && not e.before) e.events []) ≡ cond (e.at == i) (length e.events) 0 = length-parts (e.at == i) e.before e.events in
+    omega arith
+
+at-zero : (a n : ℕ) → cond (nat_le a 0) n 0 ≡ cond (a == 0) n 0
+at-zero a n = grind (arith, nat_tests)
+
+at-more : (a i n : ℕ) → cond (nat_le a (suc i)) n 0 ≡ cond (nat_le a i) n 0 + cond (a == suc i) n 0
+at-more a i n = grind (arith, nat_tests)
+
+added-zero : (log : List Edit) → added_up_to log 0 ≡ length (added_at 0 log)
+added-zero [] = refl
+added-zero (e ∷ log) =
+    let first = at-zero e.at (length e.events) in
+    let rest = added-zero log in
+    let whole = length-added 0 e log in
+    omega arith
+
+added-more : (log : List Edit) (i : ℕ) → added_up_to log (suc i) ≡ added_up_to log i + length (added_at (suc i) log)
+added-more [] i = refl
+added-more (e ∷ log) i =
+    let first = at-more e.at i (length e.events) in
+    let rest = added-more log i in
+    let whole = length-added (suc i) e log in
+    omega arith
+
+abbrev gone : Bool → ℕ
+gone b = cond b 1 0
+
+stays-gone : (b : Bool) → stays b + gone b ≡ 1
+stays-gone true = refl
+stays-gone false = refl
+
+start-counts : (log : List Edit) (i : ℕ) → start log i + length (added_at i log) + removed_before log i ≡ i + added_up_to log i
+start-counts log zero = let a = added-zero log in omega arith
+start-counts log (suc i) =
+    let before = start-counts log i in
+    let more = added-more log i in
+    let one = stays-gone (is_removed log i) in
+    omega arith
+
+-- an event stands behind what comes at its place
+pub moved-start : (log : List Edit) (i : ℕ) → moved_number log i ≡ start log i + length (added_at i log)
+moved-start log i = let a = start-counts log i in omega arith
+
+start-more : (log : List Edit) (i : ℕ) → start log i + length (added_at i log) ≤ start log (suc i)
+start-more log i = omega arith
+
+start-mono : (log : List Edit) (i k : ℕ) → start log i ≤ start log (i + k)
+start-mono log i zero = let e : i + zero ≡ i = omega arith in rw e (omega arith)
+start-mono log i (suc k) =
+    let e : i + suc k ≡ suc (i + k) = omega arith in
+    let l = start-mono log i k in
+    let m = start-more log (i + k) in
+    rw e (omega arith)
+
+pub start-le : (log : List Edit) (i j : ℕ) → i ≤ j → start log i ≤ start log j
+start-le log i j h =
+    let e : i + (j - i) ≡ j = omega arith in
+    subst (λ n. start log i ≤ start log n) e (start-mono log i (j - i))
+
+pub start-kept : (log : List Edit) (i : ℕ) → is_removed log i ≡ false → start log (suc i) ≡ suc (moved_number log i)
+start-kept log i h =
+    let m = moved-start log i in
+    rw h (omega arith)
+
+-- events that stay keep their order
+pub moved-below : (log : List Edit) (p q : ℕ) → p < q → is_removed log p ≡ false → moved_number log p < moved_number log q
+moved-below log p q l h =
+    let a = start-kept log p h in
+    let b = start-le log (suc p) q (omega arith) in
+    let m = moved-start log q in
+    omega arith
+
+pub moved-same : (log : List Edit) (p q : ℕ) → is_removed log p ≡ false → is_removed log q ≡ false → moved_number log p ≡ moved_number log q → p ≡ q
+moved-same log p q h k e =
+    elim (eqb_tells p q) [
+      | inl t ↦ t.1
+      | inr f ↦ absurd (elim (leb_tells p q) [
+        | inl l ↦ let b = moved-below log p q (omega arith) h in omega arith
+        | inr g ↦ let b = moved-below log q p g.1 k in omega arith
+      ])
+    ]
+
+-- The list afterwards, event by event.
+
+some-none : {A : Type 0} → (p : A) → None ≡ Some p → ⊥
+some-none p h = cc
+
+slice-after : {A : Type 0} → (xs ys : List A) (k j : ℕ) → k ≡ length xs + j → slice_get (xs ++ ys) k ≡ slice_get ys j
+slice-after [] ys k j h = ap (slice_get ys) (omega arith)
+slice-after (x ∷ xs) ys zero j h = absurd (omega arith)
+slice-after (x ∷ xs) ys (suc k) j h = slice-after xs ys k j (omega arith)
+
+slice-before : {A : Type 0} → (xs ys : List A) (k : ℕ) → k < length xs → slice_get (xs ++ ys) k ≡ slice_get xs k
+slice-before [] ys k h = absurd (omega arith)
+slice-before (x ∷ xs) ys zero h = refl
+slice-before (x ∷ xs) ys (suc k) h = slice-before xs ys k (omega arith)
+
+abbrev stay : List Edit → Bool → Event → List Event
+stay log b e = cond b [] (moved log e ∷ [])
+
+length-stay : (log : List Edit) (b : Bool) (e : Event) → length (stay log b e) ≡ stays b
+length-stay log true e = refl
+length-stay log false e = refl
+
+-- from place i on, number k is what number k' is from the next place on
+edited-next : (log : List Edit) (i : ℕ) (e : Event) (es : List Event) (k j : ℕ) → start log i + k ≡ start log (suc i) + j → slice_get (edited_from log i (e ∷ es)) k ≡ slice_get (edited_from log (suc i) es) j
+edited-next log i e es k j h =
+    let size = length-stay log (is_removed log i) e in
+    slice-after (added_at i log) (stay log (is_removed log i) e ++ edited_from log (suc i) es) k (stays (is_removed log i) + j) (omega arith) ∙ slice-after (stay log (is_removed log i) e) (edited_from log (suc i) es) (stays (is_removed log i) + j) j (omega arith)
+
+edited-here : (log : List Edit) (i : ℕ) (e : Event) (es : List Event) (k : ℕ) → start log i + k ≡ moved_number log i → is_removed log i ≡ false → slice_get (edited_from log i (e ∷ es)) k ≡ Some (moved log e)
+edited-here log i e es k h r =
+    let m = moved-start log i in
+    slice-after (added_at i log) (stay log (is_removed log i) e ++ edited_from log (suc i) es) k 0 (omega arith) ∙ ap (λ b. slice_get (stay log b e ++ edited_from log (suc i) es) 0) r
+
+-- an event that stays is found at its number
+edited-at : (log : List Edit) (i q j k : ℕ) (es : List Event) → q ≡ i + j → start log i + k ≡ moved_number log q → is_removed log q ≡ false → j < length es → slice_get (edited_from log i es) k ≡ option_map (moved log) (slice_get es j)
+edited-at log i q j k [] at h r l = absurd (omega arith)
+edited-at log i q zero k (e ∷ es) at h r l =
+    let same : q ≡ i = omega arith in
+    edited-here log i e es k (h ∙ ap (moved_number log) same) (ap (is_removed log) (sym same) ∙ r)
+edited-at log i q (suc j) k (e ∷ es) at h r l =
+    let more : q ≡ suc i + j = omega arith in
+    let low : start log (suc i) ≤ start log q = start-le log (suc i) q (omega arith) in
+    let m = moved-start log q in
+    let there : start log (suc i) + (moved_number log q - start log (suc i)) ≡ moved_number log q = omega arith in
+    edited-next log i e es k (moved_number log q - start log (suc i)) (h ∙ sym there) ∙ edited-at log (suc i) q j (moved_number log q - start log (suc i)) es more there r (omega arith)
+
+-- an event afterwards either carries no link, or is one that stayed
+pub record Stayed (log : List Edit) (i : ℕ) (es : List Event) (k : ℕ) (x : Event) : Type 0 where
+  pub number : ℕ
+  pub event : Event
+  pub stays_there : is_removed log (i + number) ≡ false
+  pub place : start log i + k ≡ moved_number log (i + number)
+  pub was : slice_get es number ≡ Some event
+  pub is : x ≡ moved log event
+
+-- what holds of each event of a list
+abbrev Each : (Event → Type 0) → List Event → Type 0
+Each P xs = (k : ℕ) (x : Event) → slice_get xs k ≡ Some x → P x
+
+Each-tail : (P : Event → Type 0) (y : Event) (xs : List Event) → Each P (y ∷ xs) → Each P xs
+Each-tail P y xs h = λ k. h (suc k)
+
+Each-append : (P : Event → Type 0) (xs ys : List Event) → Each P xs → Each P ys → Each P (xs ++ ys)
+Each-append P [] ys h g = g
+Each-append P (x ∷ xs) ys h g = λ (k : ℕ) (y : Event). each-step P x xs ys h (Each-append P xs ys (Each-tail P x xs h) g) k y
+  where
+    each-step : (P : Event → Type 0) (x : Event) (xs ys : List Event) → Each P (x ∷ xs) → Each P (xs ++ ys) → (k : ℕ) (y : Event) → slice_get (x ∷ xs ++ ys) k ≡ Some y → P y
+    each-step P x xs ys h g zero y e = h zero y e
+    each-step P x xs ys h g (suc k) y e = g k y e
+
+Each-nil : (P : Event → Type 0) → Each P []
+Each-nil P = λ k x h. absurd (some-none x h)
+
+Each-part : (P : Event → Type 0) (b : Bool) (xs : List Event) → Each P xs → Each P (cond b xs [])
+Each-part P true xs h = h
+Each-part P false xs h = Each-nil P
+
+Each-all : (P : Event → Type 0) (xs : List Event) → All P xs → Each P xs
+Each-all P xs h = λ k x e. subst P (get_or_from_slice_get xs k x x e) (h k x (slice_get_within xs k x e))
+
+adds-head : (e : Edit) (log : List Edit) → AddsUnlinked (e ∷ log) → Each IsUnlinked e.events
+adds-head e log u = Each-all IsUnlinked e.events (u 0 e (omega arith))
+
+adds-tail : (e : Edit) (log : List Edit) → AddsUnlinked (e ∷ log) → AddsUnlinked log
+adds-tail e log u = λ k d h. u (suc k) d (omega arith)
+
+front-unlinked : (i : ℕ) (log : List Edit) → AddsUnlinked log → Each IsUnlinked (front_at i log)
+front-unlinked i [] u = Each-nil IsUnlinked
+front-unlinked i (e ∷ log) u = Each-append IsUnlinked (front_at i log) (cond (e.at == i && e.before) e.events []) (front-unlinked i log (adds-tail e log u)) (Each-part IsUnlinked (e.at == i && e.before) e.events (adds-head e log u))
+
+back-unlinked : (i : ℕ) (log : List Edit) → AddsUnlinked log → Each IsUnlinked (back_at i log)
+back-unlinked i [] u = Each-nil IsUnlinked
+back-unlinked i (e ∷ log) u = Each-append IsUnlinked (cond (e.at == i && not e.before) e.events []) (back_at i log) (Each-part IsUnlinked (e.at == i && not e.before) e.events (adds-head e log u)) (back-unlinked i log (adds-tail e log u))
+
+added-unlinked : (log : List Edit) (i : ℕ) → AddsUnlinked log → Each IsUnlinked (added_at i log)
+added-unlinked log i u = Each-append IsUnlinked (front_at i log) (back_at i log) (front-unlinked i log u) (back-unlinked i log u)
+
+stays-one : (b : Bool) → stays b ≡ 1 → b ≡ false
+stays-one true h = absurd (omega arith)
+stays-one false h = refl
+
+Stayed-next : (log : List Edit) (i k j : ℕ) (e : Event) (es : List Event) (x : Event) → start log i + k ≡ start log (suc i) + j → Stayed log (suc i) es j x → Stayed log i (e ∷ es) k x
+Stayed-next log i k j e es x h s =
+    let same : suc i + s.number ≡ i + suc s.number = omega arith in
+    record {
+      number = suc s.number;
+      event = s.event;
+      stays_there = ap (is_removed log) (sym same) ∙ s.stays_there;
+      place = h ∙ s.place ∙ ap (moved_number log) same;
+      was = s.was;
+      is = s.is;
+    }
+
+Stayed-here : (log : List Edit) (i k : ℕ) (e : Event) (es : List Event) (x : Event) → start log i + k ≡ moved_number log i → is_removed log i ≡ false → x ≡ moved log e → Stayed log i (e ∷ es) k x
+Stayed-here log i k e es x h r g =
+    let same : i + 0 ≡ i = omega arith in
+    record {
+      number = 0;
+      event = e;
+      stays_there = ap (is_removed log) same ∙ r;
+      place = h ∙ ap (moved_number log) (sym same);
+      was = refl;
+      is = g;
+    }
+
+same_value : (x y : Event) → Some x ≡ Some y → x ≡ y
+same_value x y h = cc
+
+edited-back : (log : List Edit) (i k : ℕ) (es : List Event) (x : Event) → AddsUnlinked log → slice_get (edited_from log i es) k ≡ Some x → IsUnlinked x ⊎ Stayed log i es k x
+edited-back log i k [] x u h = inl (added-unlinked log i u k x h)
+edited-back log i k (e ∷ es) x u h =
+    elim (leb_tells (start log (suc i)) (start log i + k)) [
+      | inl next ↦
+          let j : start log i + k ≡ start log (suc i) + (start log i + k - start log (suc i)) = omega arith in
+          elim (edited-back log (suc i) (start log i + k - start log (suc i)) es x u (sym (edited-next log i e es k (start log i + k - start log (suc i)) j) ∙ h)) [
+            | inl a ↦ inl a
+            | inr s ↦ inr (Stayed-next log i k (start log i + k - start log (suc i)) e es x j s)
+          ]
+      | inr here ↦ elim (leb_tells (length (added_at i log)) k) [
+        | inl at ↦
+            let one : stays (is_removed log i) ≡ 1 = stays-below (is_removed log i) (omega arith) in
+            let r : is_removed log i ≡ false = stays-one (is_removed log i) one in
+            let p : start log i + k ≡ moved_number log i = omega (arith, moved-start log i) in
+            inr (Stayed-here log i k e es x p r (same_value x (moved log e) (sym h ∙ edited-here log i e es k p r)))
+        | inr below ↦ inl (added-unlinked log i u k x (sym (slice-before (added_at i log) (stay log (is_removed log i) e ++ edited_from log (suc i) es) k below.1) ∙ h))
+      ]
+    ]
+  where
+    stays-below : (b : Bool) → 0 < stays b → stays b ≡ 1
+    stays-below true h = absurd (omega arith)
+    stays-below false h = refl
+
+-- Chains stay chains.
+
+previous-get : (es : List Event) (j : ℕ) (e : Event) → slice_get es j ≡ Some e → previous_at es j ≡ previous_of e
+previous-get [] j e h = absurd (some-none e h)
+previous-get (x ∷ es) zero e h = ap (λ y. previous_of y) (same_value x e h)
+previous-get (x ∷ es) (suc j) e h = previous-get es j e h
+
+linked-get : (es : List Event) (j : ℕ) (e : Event) → slice_get es j ≡ Some e → linked_at es j ≡ has_link e.link
+linked-get [] j e h = absurd (some-none e h)
+linked-get (x ∷ es) zero e h = ap (λ (y : Event). has_link y.link) (same_value x e h)
+linked-get (x ∷ es) (suc j) e h = linked-get es j e h
+
+get-previous : (es : List Event) (j p : ℕ) → previous_at es j ≡ Some p → (e : Event) × (slice_get es j ≡ Some e)
+get-previous [] j p h = absurd (some-none p h)
+get-previous (x ∷ es) zero p h = (x, refl)
+get-previous (x ∷ es) (suc j) p h = get-previous es j p h
+
+get-linked : (es : List Event) (j : ℕ) → linked_at es j ≡ true → (e : Event) × (slice_get es j ≡ Some e)
+get-linked [] j h = absurd (false≢true h)
+get-linked (x ∷ es) zero h = (x, refl)
+get-linked (x ∷ es) (suc j) h = get-linked es j h
+
+map-back : (f : ℕ → ℕ) (o : Option ℕ) (q : ℕ) → option_map f o ≡ Some q → (p : ℕ) × ((o ≡ Some p) × (q ≡ f p))
+map-back f None q h = absurd (some-none q h)
+map-back f (Some p) q h = (p, (refl, same_number q (f p) (sym h)))
+  where
+    same_number : (a b : ℕ) → Some a ≡ Some b → a ≡ b
+    same_number a b h = cc
+
+linked-previous : (k : Option ℕ) (l : Option Link) (q : ℕ) → link_previous (previous_link k l) ≡ Some q → link_previous (previous_link k l) ≡ k
+linked-previous k None q h = absurd (some-none q h)
+linked-previous k (Some l) q h = refl
+
+moved-previous : (log : List Edit) (e : Event) (q : ℕ) → previous_of (moved log e) ≡ Some q → (p : ℕ) × ((previous_of e ≡ Some p) × (q ≡ moved_number log p))
+moved-previous log e q h = map-back (moved_number log) (previous_of e) q (sym (linked-previous (option_map (moved_number log) (previous_of e)) e.link q h) ∙ h)
+
+has-previous : (k : Option ℕ) (l : Option Link) → has_link (previous_link k l) ≡ has_link l
+has-previous k None = refl
+has-previous k (Some l) = refl
+
+pub moved-linked : (log : List Edit) (e : Event) → has_link (moved log e).link ≡ has_link e.link
+moved-linked log e = has-previous (option_map (moved_number log) (previous_of e)) e.link
+
+unlinked-none : (x : Event) (q : ℕ) → IsUnlinked x → previous_of x ≡ Some q → ⊥
+unlinked-none x q u h = some-none q (sym (ap link_previous u) ∙ h)
+
+true-or-false : (b : Bool) → (b ≡ true) ⊎ (b ≡ false)
+true-or-false true = inl refl
+true-or-false false = inr refl
+
+-- what an event afterwards that names another was
+record Named (log : List Edit) (es : List Event) (k q : ℕ) : Type 0 where
+  by : ℕ
+  before : ℕ
+  number : k ≡ moved_number log by
+  named : previous_at es by ≡ Some before
+  was : q ≡ moved_number log before
+
+module _ (log : List Edit) (es : List Event) (u : AddsUnlinked log) (can : CanEdit log es) where
+  named-back : (k q : ℕ) → previous_at (edited log es) k ≡ Some q → Named log es k q
+  named-back k q h =
+      let found = get-previous (edited log es) k q h in
+      let names : previous_of found.0 ≡ Some q = sym (previous-get (edited log es) k found.0 found.1) ∙ h in
+      elim (edited-back log 0 k es found.0 u found.1) [
+        | inl a ↦ absurd (unlinked-none found.0 q a names)
+        | inr s ↦
+            let m = moved-previous log s.event q (sym (ap (λ y. previous_of y) s.is) ∙ names) in
+            let here : k ≡ moved_number log s.number = omega (arith, s.place, ap (moved_number log) (zero-plus s.number)) in
+            record { by = s.number; before = m.0; number = here; named = previous-get es s.number s.event s.was ∙ m.1.0; was = m.1.1 }
+      ]
+    where
+      zero-plus : (n : ℕ) → 0 + n ≡ n
+      zero-plus n = omega arith
+
+  kept-linked : (p : ℕ) → linked_at es p ≡ true → is_removed log p ≡ false
+  kept-linked p h = elim (true-or-false (is_removed log p)) [ inl r ↦ absurd (false≢true (sym (can.unlinked p r) ∙ h)) | inr s ↦ s ]
+
+  pub linked-moved : (p : ℕ) → linked_at es p ≡ true → linked_at (edited log es) (moved_number log p) ≡ true
+  linked-moved p h =
+      let found = get-linked es p h in
+      let there : slice_get (edited log es) (moved_number log p) ≡ Some (moved log found.0) =
+      edited-at log 0 p p (moved_number log p) es (omega arith) (omega arith) (kept-linked p h) (within-linked es p h) ∙ ap (option_map (moved log)) found.1 in
+      linked-get (edited log es) (moved_number log p) (moved log found.0) there ∙ moved-linked log found.0 ∙ sym (linked-get es p found.0 found.1) ∙ h
+
+may-unlinked : (x : Event) → IsUnlinked x → MayLink x.kind x.link
+may-unlinked x u = let P : Option Link → Type 0 = λ l. MayLink x.kind l in subst P (sym u) tt
+
+enters-each : (xs : List Event) → Each IsUnlinked xs → OnlyEnters xs
+enters-each [] h = tt
+enters-each (x ∷ xs) h = (may-unlinked x (h 0 x refl), enters-each xs (Each-tail IsUnlinked x xs h))
+
+may-previous : (k : Kind) (p : Option ℕ) (l : Option Link) → MayLink k l → MayLink k (previous_link p l)
+may-previous k p None h = tt
+may-previous Enter p (Some l) h = tt
+may-previous Exit p (Some l) h = h
+
+enters-stay : (log : List Edit) (b : Bool) (e : Event) → MayLink e.kind e.link → OnlyEnters (stay log b e)
+enters-stay log true e h = tt
+enters-stay log false e h = (may-previous e.kind (option_map (moved_number log) (previous_of e)) e.link h, tt)
+
+enters-edited : (log : List Edit) (i : ℕ) (es : List Event) → AddsUnlinked log → OnlyEnters es → OnlyEnters (edited_from log i es)
+enters-edited log i [] u h = enters-each (added_at i log) (added-unlinked log i u)
+enters-edited log i (e ∷ es) u h =
+    OnlyEnters-append (added_at i log) (stay log (is_removed log i) e ++ edited_from log (suc i) es) (enters-each (added_at i log) (added-unlinked log i u))
+    (OnlyEnters-append (stay log (is_removed log i) e) (edited_from log (suc i) es) (enters-stay log (is_removed log i) e h.0) (enters-edited log (suc i) es u h.1))
+
+-- edits keep the chains
+pub IsLinked-edited : (log : List Edit) (es : List Event) → AddsUnlinked log → CanEdit log es → IsLinked es → IsLinked (edited log es)
+IsLinked-edited log es u can w =
+    let back = named-back log es u can in
+    let stays_there = λ (j p : ℕ) (h : previous_at es j ≡ Some p). kept-linked log es u can p (w.linked j p h) in
+    record {
+      earlier = λ k q h.
+          let n = back k q h in
+          let l = moved-below log n.before n.by (w.earlier n.by n.before n.named) (stays_there n.by n.before n.named) in
+          omega (arith, n.number, n.was);
+      linked = λ k q h.
+          let n = back k q h in
+          ap (linked_at (edited log es)) n.was ∙ linked-moved log es u can n.before (w.linked n.by n.before n.named);
+      single = λ j k q h g.
+          let n = back j q h in
+          let m = back k q g in
+          let same : n.before ≡ m.before = moved-same log n.before m.before (stays_there n.by n.before n.named) (stays_there m.by m.before m.named) (sym n.was ∙ m.was) in
+          let by : n.by ≡ m.by = w.single n.by m.by n.before n.named (m.named ∙ ap (λ x. Some x) (sym same)) in
+          n.number ∙ ap (moved_number log) by ∙ sym m.number;
+      enters = enters-edited log 0 es u w.enters;
+    }
+
+-- How the code collects the edits.
+
+-- where the ranges of the places before i end at the furthest
+abbrev pub range_end : List Edit → ℕ → ℕ
+range_end log zero = 0
+range_end log (suc i) = max (range_end log i) (i + removed_at i log)
+
+below-max : (j a b : ℕ) → nat_lt j (max a b) ≡ (nat_lt j b || nat_lt j a)
+below-max j a b = grind (arith, nat_tests)
+
+removed-range : (log : List Edit) (j i : ℕ) → removed_by log j i ≡ nat_lt j (range_end log (suc i))
+removed-range log j zero = grind (arith, nat_tests)
+removed-range log j (suc i) = ap (λ b. nat_lt j (suc i + removed_at (suc i) log) || b) (removed-range log j i) ∙ sym (below-max j (range_end log (suc i)) (suc i + removed_at (suc i) log))
+
+-- an event goes if it stands before that end
+pub removed-test : (log : List Edit) (i : ℕ) → is_removed log i ≡ nat_lt i (range_end log (suc i))
+removed-test log i = removed-range log i i
+
+-- a step of the collection, from the first edit on
+pub back_push : (i : ℕ) (log : List Edit) (e : Edit) → back_at i (log ++ e ∷ []) ≡ back_at i log ++ cond (e.at == i && not e.before) e.events []
+back_push i [] e = append-nil (cond (e.at == i && not e.before) e.events [])
+back_push i (x ∷ log) e = ap (λ y. cond (x.at == i && not x.before) x.events [] ++ y) (back_push i log e) ∙ sym (append_assoc (cond (x.at == i && not x.before) x.events []) (back_at i log) (cond (e.at == i && not e.before) e.events []))
+
+pub removed_push : (i : ℕ) (log : List Edit) (e : Edit) → removed_at i (log ++ e ∷ []) ≡ removed_at i log + cond (e.at == i) e.remove 0
+removed_push i [] e = omega arith
+removed_push i (x ∷ log) e = let r = removed_push i log e in omega arith
+
+abbrev pub ByPlace : List (List Event) → List (List Event) → (ℕ → List Event) → Type 0
+ByPlace xs ys f = (i : ℕ) → get_or ys i [] ≡ get_or xs i [] ++ f i
+
+behind-part : (b c : Bool) (xs : List Event) → c ≡ false → cond (b && not c) xs [] ≡ cond b xs []
+behind-part true c xs h = rw h refl
+behind-part false c xs h = refl
+
+no-part : (b c : Bool) (xs : List Event) → c ≡ true → cond (b && not c) xs [] ≡ []
+no-part true c xs h = rw h refl
+no-part false c xs h = refl
+
+pub back-taken : (xs ys zs : List (List Event)) (log : List Edit) (k : ℕ) (e : Edit) (es : List Event) → k < length log → e ≡ get_or log k e → e.before ≡ false → es ≡ e.events → ByPlace xs ys (λ i. back_at i (take k log)) → ByPlace ys zs (λ i. cond (e.at == i) es []) → ByPlace xs zs (λ i. back_at i (take (k + 1) log))
+back-taken xs ys zs log k e es l r b s h g = λ i.
+    let more : take (k + 1) log ≡ take k log ++ e ∷ [] = take_more log k e l ∙ ap (λ x. take k log ++ x ∷ []) (sym r) in
+    let last : cond (e.at == i) es [] ≡ cond (e.at == i && not e.before) e.events [] = ap (λ x. cond (e.at == i) x []) s ∙ sym (behind-part (e.at == i) e.before e.events b) in
+    g i ∙ ap (λ x. x ++ cond (e.at == i) es []) (h i) ∙ append_assoc (get_or xs i []) (back_at i (take k log)) (cond (e.at == i) es []) ∙ ap (λ x. get_or xs i [] ++ (back_at i (take k log) ++ x)) last ∙ ap (λ x. get_or xs i [] ++ x) (sym (back_push i (take k log) e)) ∙ ap (λ x. get_or xs i [] ++ back_at i x) (sym more)
+
+pub back-left : (xs ys : List (List Event)) (log : List Edit) (k : ℕ) (e : Edit) → k < length log → e ≡ get_or log k e → e.before ≡ true → ByPlace xs ys (λ i. back_at i (take k log)) → ByPlace xs ys (λ i. back_at i (take (k + 1) log))
+back-left xs ys log k e l r b h = λ i.
+    let more : take (k + 1) log ≡ take k log ++ e ∷ [] = take_more log k e l ∙ ap (λ x. take k log ++ x ∷ []) (sym r) in
+    h i ∙ ap (λ x. get_or xs i [] ++ x) (sym (append-nil (back_at i (take k log)))) ∙ ap (λ x. get_or xs i [] ++ (back_at i (take k log) ++ x)) (sym (no-part (e.at == i) e.before e.events b)) ∙ ap (λ x. get_or xs i [] ++ x) (sym (back_push i (take k log) e)) ∙ ap (λ x. get_or xs i [] ++ back_at i x) (sym more)
+
+abbrev pub Counts : List ℕ → (ℕ → ℕ) → Type 0
+Counts xs f = (i : ℕ) → get_or xs i 0 ≡ min (f i) (2 ^ 64 - 1)
+
+pub counts-more : (xs : List ℕ) (log : List Edit) (k : ℕ) (e : Edit) (c r : ℕ) → k < length log → e ≡ get_or log k e → e.at < length xs → c ≡ get_or xs e.at c → r ≡ min (c + e.remove) (2 ^ 64 - 1) → Counts xs (λ i. removed_at i (take k log)) → Counts (set xs e.at r) (λ i. removed_at i (take (k + 1) log))
+counts-more xs log k e c r l s w here is h = λ i.
+    let more : take (k + 1) log ≡ take k log ++ e ∷ [] = take_more log k e l ∙ ap (λ x. take k log ++ x ∷ []) (sym s) in
+    let whole : removed_at i (take (k + 1) log) ≡ removed_at i (take k log) + cond (e.at == i) e.remove 0 = ap (removed_at i) more ∙ removed_push i (take k log) e in
+    elim (eqb_tells e.at i) [
+      | inl t ↦
+          let was : c ≡ get_or xs e.at 0 = get_or_read xs e.at c w here 0 in
+          let old = h e.at in
+          let at : get_or (set xs e.at r) i 0 ≡ r = ap (λ j. get_or (set xs e.at r) j 0) (sym t.1) ∙ get_or-set_same xs e.at r 0 w in
+          let part : cond (e.at == i) e.remove 0 ≡ e.remove = rw t.0 refl in
+          let same : removed_at e.at (take k log) ≡ removed_at i (take k log) = ap (λ j. removed_at j (take k log)) t.1 in
+          counted _ _ _ _ _ at is was old same (whole ∙ ap (λ x. removed_at i (take k log) + x) part)
+      | inr f ↦
+          let at : get_or (set xs e.at r) i 0 ≡ get_or xs i 0 = get_or-set_other xs e.at i r 0 (λ q. f.1 (sym q)) in
+          let part : cond (e.at == i) e.remove 0 ≡ 0 = rw f.0 refl in
+          at ∙ h i ∙ ap (λ x. min x (2 ^ 64 - 1)) (omega arith)
+    ]
+  where
+    counted : (v c r old rem : ℕ) {a b n : ℕ} → v ≡ r → r ≡ min (c + rem) (2 ^ 64 - 1) → c ≡ old → old ≡ min a (2 ^ 64 - 1) → a ≡ b → n ≡ b + rem → v ≡ min n (2 ^ 64 - 1)
+    counted v c r old rem h g k l m o = omega arith
+
+-- a step of the pass over the events
+
+All-each : (P : Event → Type 0) (xs : List Event) → Each P xs → All P xs
+All-each P xs h = λ k d l. h k (get_or xs k d) (slice_get-get_or xs k d l)
+
+pub place-within : (log : List Edit) (n k : ℕ) (e : Edit) → All (λ x. x.at ≤ n) log → k < length log → e ≡ get_or log k e → e.at ≤ n
+place-within log n k e h l r = subst (λ (x : Edit). x.at ≤ n) (sym r) (h k e l)
+
+pub added-read : (vs : List (List Event)) (log : List Edit) (i : ℕ) (xs ys : List Event) → xs ≡ get_or vs i xs → i < length vs → ((j : ℕ) → get_or vs j [] ≡ added_at j log) → ys ≡ xs → ys ≡ added_at i log
+added-read vs log i xs ys r l h s = s ∙ get_or_read vs i xs l r [] ∙ h i
+
+pub added-plain : (log : List Edit) (i : ℕ) (xs : List Event) → AddsUnlinked log → xs ≡ added_at i log → All IsUnlinked xs
+added-plain log i xs u h = let P : List Event → Type 0 = λ ys. All IsUnlinked ys in subst P (sym h) (All-each IsUnlinked (added_at i log) (added-unlinked log i u))
+
+previous-read : (es : List Event) (i : ℕ) (e : Event) → i < length es → e ≡ get_or es i e → previous_at es i ≡ previous_of e
+previous-read es i e l r = previous-get es i e (slice_get-get_or es i e l ∙ ap (λ x. Some x) (sym r))
+
+pub previous-below : (es : List Event) (i p : ℕ) (e : Event) → i < length es → e ≡ get_or es i e → IsLinked es → previous_of e ≡ Some p → p < i
+previous-below es i p e l r w h = w.earlier i p (previous-read es i e l r ∙ h)
+
+map-same : (f g : ℕ → ℕ) (o : Option ℕ) → ((p : ℕ) → o ≡ Some p → f p ≡ g p) → option_map f o ≡ option_map g o
+map-same f g None h = refl
+map-same f g (Some p) h = ap (λ x. Some x) (h p refl)
+
+-- the link looked up in the numbers so far
+pub moved-read : (log : List Edit) (es : List Event) (i : ℕ) (numbers : List ℕ) (e x : Event) → i < length es → e ≡ get_or es i e → IsLinked es → ((j : ℕ) → j < i → get_or numbers j 0 ≡ moved_number log j) → x ≡ with_previous (option_map (λ p. get_or numbers p 0) (previous_of e)) e → x ≡ moved log e
+moved-read log es i numbers e x l r w n h =
+    h ∙ ap (λ o. with_previous o e) (map-same (λ p. get_or numbers p 0) (moved_number log) (previous_of e) (λ p k. n p (previous-below es i p e l r w k)))
+
+pub range-more : (log : List Edit) (i a b c d : ℕ) → a ≡ min (range_end log i) (2 ^ 64 - 1) → b ≡ min (removed_at i log) (2 ^ 64 - 1) → c ≡ min (i + b) (2 ^ 64 - 1) → d ≡ max a c → d ≡ min (range_end log (i + 1)) (2 ^ 64 - 1)
+range-more log i a b c d h g k l =
+    let e : i + 1 ≡ suc i = omega arith in
+    rw e (omega arith)
+
+below-range : (log : List Edit) (i d : ℕ) → i < 2 ^ 64 - 1 → d ≡ min (range_end log (i + 1)) (2 ^ 64 - 1) → is_removed log i ≡ nat_lt i d
+below-range log i d l h =
+    let e : i + 1 ≡ suc i = omega arith in
+    let same : d ≡ min (range_end log (suc i)) (2 ^ 64 - 1) = h ∙ ap (λ n. min (range_end log n) (2 ^ 64 - 1)) e in
+    removed-test log i ∙ tested i (range_end log (suc i)) d l same
+  where
+    tested : (i r d : ℕ) → i < 2 ^ 64 - 1 → d ≡ min r (2 ^ 64 - 1) → nat_lt i r ≡ nat_lt i d
+    tested i r d l h = grind (arith, nat_tests)
+
+pub stays-from : (log : List Edit) (i d : ℕ) → i < 2 ^ 64 - 1 → d ≡ min (range_end log (i + 1)) (2 ^ 64 - 1) → d ≤ i → is_removed log i ≡ false
+stays-from log i d l h k = below-range log i d l h ∙ not-below i d k
+  where
+    not-below : (i d : ℕ) → d ≤ i → nat_lt i d ≡ false
+    not-below i d h = grind (arith, nat_tests)
+
+pub goes-from : (log : List Edit) (i d : ℕ) → i < 2 ^ 64 - 1 → d ≡ min (range_end log (i + 1)) (2 ^ 64 - 1) → i < d → is_removed log i ≡ true
+goes-from log i d l h k = below-range log i d l h ∙ is-below i d k
+  where
+    is-below : (i d : ℕ) → i < d → nat_lt i d ≡ true
+    is-below i d h = grind (arith, nat_tests)
+
+found : (es : List Event) (i : ℕ) → i < length es → (e : Event) × (e ≡ get_or es i e)
+found [] i l = absurd (omega arith)
+found (x ∷ es) zero l = (x, refl)
+found (x ∷ es) (suc i) l = found es i (omega arith)
+
+module _ (log : List Edit) (es : List Event) (i : ℕ) (done put : List Event) (l : i < length es) (h : done ++ edited_from log i (drop i es) ≡ edited log es) (g : put ≡ done ++ added_at i log) where
+  step : (e : Event) → e ≡ get_or es i e → edited log es ≡ put ++ (stay log (is_removed log i) e ++ edited_from log (i + 1) (drop (i + 1) es))
+  step e r =
+      let cut : drop i es ≡ e ∷ drop (i + 1) es = drop_more es i e l ∙ ap (λ x. x ∷ drop (i + 1) es) (sym r) in
+      let next : suc i ≡ i + 1 = omega arith in
+      sym h ∙ ap (λ x. done ++ edited_from log i x) cut ∙ sym (append_assoc done (added_at i log) (stay log (is_removed log i) e ++ edited_from log (suc i) (drop (i + 1) es))) ∙ ap (λ x. x ++ (stay log (is_removed log i) e ++ edited_from log (suc i) (drop (i + 1) es))) (sym g) ∙ ap (λ n. put ++ (stay log (is_removed log i) e ++ edited_from log n (drop (i + 1) es))) next
+
+  pub step-kept : (e x : Event) → e ≡ get_or es i e → x ≡ moved log e → is_removed log i ≡ false → (put ++ x ∷ []) ++ edited_from log (i + 1) (drop (i + 1) es) ≡ edited log es
+  step-kept e x r m s =
+      append_assoc put (x ∷ []) (edited_from log (i + 1) (drop (i + 1) es)) ∙ ap (λ y. put ++ (y ∷ edited_from log (i + 1) (drop (i + 1) es))) m ∙ ap (λ b. put ++ (stay log b e ++ edited_from log (i + 1) (drop (i + 1) es))) (sym s) ∙ sym (step e r)
+
+  pub step-gone : is_removed log i ≡ true → put ++ edited_from log (i + 1) (drop (i + 1) es) ≡ edited log es
+  step-gone s =
+      let e = found es i l in
+      ap (λ b. put ++ (stay log b e.0 ++ edited_from log (i + 1) (drop (i + 1) es))) (sym s) ∙ sym (step e.0 e.1)
+
+  pub step-chains : (e x : Event) → e ≡ get_or es i e → x ≡ moved log e → is_removed log i ≡ false → IsLinked (edited log es) → IsLinked (put ++ x ∷ [])
+  step-chains e x r m s w =
+      let P : List Event → Type 0 = λ ys. IsLinked ys in
+      IsLinked-prefix (put ++ x ∷ []) (edited_from log (i + 1) (drop (i + 1) es)) (subst P (sym (step-kept e x r m s)) w)
+
+pub placed-put : (log : List Edit) (i : ℕ) (done put : List Event) → length done ≡ start log i → put ≡ done ++ added_at i log → length put ≡ moved_number log i
+placed-put log i done put s g = omega (arith, ap length g, length-append done (added_at i log), moved-start log i)
+
+pub placed-kept : (log : List Edit) (i : ℕ) (put : List Event) (x : Event) → length put ≡ moved_number log i → is_removed log i ≡ false → length (put ++ x ∷ []) ≡ start log (i + 1)
+placed-kept log i put x h s =
+    let e : suc i ≡ i + 1 = omega arith in
+    let size : length (put ++ x ∷ []) ≡ suc (moved_number log i) = omega (arith, length_push put x) in
+    size ∙ sym (start-kept log i s) ∙ ap (start log) e
+
+start-gone : (log : List Edit) (i : ℕ) → is_removed log i ≡ true → start log (suc i) ≡ moved_number log i
+start-gone log i h = let m = moved-start log i in rw h (omega arith)
+
+pub placed-gone : (log : List Edit) (i : ℕ) (put : List Event) → length put ≡ moved_number log i → is_removed log i ≡ true → length put ≡ start log (i + 1)
+placed-gone log i put h s = let e : suc i ≡ i + 1 = omega arith in h ∙ sym (start-gone log i s) ∙ ap (start log) e
+
+pub numbers-more : (log : List Edit) (i n : ℕ) (xs ys : List ℕ) → ys ≡ xs ++ n ∷ [] → length xs ≡ i → n ≡ moved_number log i → ((j : ℕ) → j < i → get_or xs j 0 ≡ moved_number log j) → (j : ℕ) → j < i + 1 → get_or ys j 0 ≡ moved_number log j
+numbers-more log i n xs ys e s m h = λ j l.
+    elim (leb_tells i j) [
+      | inl a ↦ let same : j ≡ i = omega arith in ap (λ (v : List ℕ). get_or v j 0) e ∙ get_or_push xs n 0 j (s ∙ sym same) ∙ m ∙ ap (moved_number log) (sym same)
+      | inr b ↦ ap (λ (v : List ℕ). get_or v j 0) e ∙ get_or_append_left xs (n ∷ []) 0 j (omega arith) ∙ h j b.1
+    ]
+
+-- what is collected, of the edits as contracts see them
+pub added-seen : (vs : List (List Event)) (a b log : List Edit) → a ≡ b → b ≡ log → ((j : ℕ) → get_or vs j [] ≡ added_at j a) → (j : ℕ) → get_or vs j [] ≡ added_at j log
+added-seen vs a b log h g k = λ j. k j ∙ ap (added_at j) (h ∙ g)
+
+pub counts-seen : (vs : List ℕ) (a b log : List Edit) (i n : ℕ) → a ≡ b → b ≡ log → ((j : ℕ) → get_or vs j 0 ≡ min (removed_at j a) (2 ^ 64 - 1)) → n ≡ get_or vs i n → i < length vs → n ≡ min (removed_at i log) (2 ^ 64 - 1)
+counts-seen vs a b log i n h g k r l = get_or_read vs i n l r 0 ∙ k i ∙ ap (λ x. min (removed_at i x) (2 ^ 64 - 1)) (h ∙ g)
+
+pub unlinked-seen : (a log : List Edit) → a ≡ log → AddsUnlinked a → AddsUnlinked log
+unlinked-seen a log h u = let P : List Edit → Type 0 = λ x. AddsUnlinked x in subst P h u
+
+pub numbers-seen : (log : List Edit) (i n : ℕ) (xs ys zs : List ℕ) → zs ≡ ys → ys ≡ xs ++ n ∷ [] → length xs ≡ i → ((j : ℕ) → j < i → get_or xs j 0 ≡ moved_number log j) → (j : ℕ) → j < i → get_or zs j 0 ≡ moved_number log j
+numbers-seen log i n xs ys zs v e s h = λ j l.
+    ap (λ (w : List ℕ). get_or w j 0) (v ∙ e) ∙ get_or_append_left xs (n ∷ []) 0 j (omega arith) ∙ h j l

@@ -1,0 +1,176 @@
+// A place in a content, which hides the pieces, the tabs and what is left out of the lines.
+ghost use Rattle.std.specs.Prelude.{◌≡◌, ℕ, List, drop, length, ◌<◌, IsSome, IsTrue};
+ghost use Rattle.markdown_engine.specs.Codes.{place_of, stop_of};
+ghost use Rattle.markdown_engine.specs.Content.{IsContent};
+ghost use Rattle.markdown_engine.specs.Place.{start_of_content, code_at, code_before, point_of, exit_point, moved};
+ghost use Rattle.markdown_engine.specs.Standing.{is_open, first_point, followed};
+ghost use Rattle.markdown_engine.specs.Walk.{IsPoint};
+
+use crate::event::Point;
+use crate::parser::Piece;
+use crate::walk::{code_from, past_code, walk_to};
+use std::marker::Model;
+
+const DOCUMENT_START: Point = Point {
+    line: 1,
+    column: 1,
+    index: 0,
+    vs: 0,
+};
+
+/// A place in a content: its codes, how many of them are passed, and where it ends.
+pub struct Cursor<'a> {
+    bytes: &'a [u8],
+    pieces: &'a [Piece],
+    // The number of the piece that it stands in.
+    piece: usize,
+    // Where the code at the place begins, or where the content ends.
+    point: Point,
+    // Where the code before the place ends, or `point` where there is none.
+    exit: Point,
+    // The code before the place.
+    previous: Option<u8>,
+    // How many codes are passed.
+    passed: usize,
+}
+
+impl<'a> Model for Cursor<'a> {
+    ghost use Rattle.markdown_engine.specs.Place.{Place, start_of_content};
+    ghost use Rattle.markdown_engine.specs.Standing.{IsCursor};
+
+    ghost Value = { Place };
+
+    ghost view = { λ c. record (start_of_content c.bytes.now c.pieces.now) { at = c.passed } };
+
+    ghost invariant = { λ c. IsCursor c.bytes.now c.pieces.now c.piece c.point c.exit c.previous c.passed };
+}
+
+impl<'a> Drop for Cursor<'a> {
+    fn drop(self) {
+        let Cursor {
+            bytes: _,
+            pieces: _,
+            piece: _,
+            point: _,
+            exit: _,
+            previous: _,
+            passed: _,
+        } = self;
+    }
+}
+
+impl<'a> Cursor<'a> {
+    /// Makes a cursor at the start of a content.
+    pub fn new(bytes: &'a [u8], pieces: &'a [Piece]) -> Cursor<'a>
+        requires { IsContent bytes.now pieces.now }
+        ensures { result ≡ start_of_content bytes.entry.now pieces.entry.now }
+    {
+        let point = start_of_pieces(bytes, pieces);
+        Cursor {
+            bytes,
+            pieces,
+            piece: 0,
+            point,
+            exit: point,
+            previous: None,
+            passed: 0,
+        }
+    }
+
+    /// Answers a second cursor at the same place.
+    pub fn save(&self) -> Cursor<'a>
+        ensures { result ≡ self.now }
+    {
+        Cursor {
+            bytes: self.bytes,
+            pieces: self.pieces,
+            piece: self.piece,
+            point: self.point,
+            exit: self.exit,
+            previous: self.previous,
+            passed: self.passed,
+        }
+    }
+
+    /// Answers the code at the place, `None` where the content ends.
+    pub fn current(&self) -> Option<u8>
+        ensures { result ≡ code_at self.now }
+    {
+        if stands_before_end(self.pieces, self.piece, self.point) {
+            Some(code_from(self.bytes, self.point))
+        } else {
+            None
+        }
+    }
+
+    /// Answers the code before the place, `None` where the content starts.
+    pub fn previous(&self) -> Option<u8>
+        ensures { result ≡ code_before self.now }
+    {
+        self.previous
+    }
+
+    /// Answers where an event that begins here stands.
+    pub fn point(&self) -> Point
+        ensures { result ≡ point_of self.now }
+    {
+        self.point
+    }
+
+    /// Answers where an event that ends here stands: after a line ending at the start of the next line, before what is left out of that line.
+    pub fn exit_point(&self) -> Point
+        ensures { result ≡ exit_point self.now }
+    {
+        self.exit
+    }
+
+    /// Moves past the code at the place.
+    pub fn consume(&mut self)
+        requires { IsSome (code_at self.old) }
+        ensures { self.new ≡ moved self.old }
+    {
+        let previous = code_from(self.bytes, self.point);
+        let exit = past_code(self.bytes, self.point);
+        let (piece, point) = follow(self.bytes, self.pieces, self.piece, exit);
+        self.piece = piece;
+        self.point = point;
+        self.exit = exit;
+        self.previous = Some(previous);
+        self.passed += 1;
+    }
+}
+
+// Where the first code of some pieces begins.
+fn start_of_pieces(bytes: &[u8], pieces: &[Piece]) -> Point
+    requires { IsContent bytes.now pieces.now }
+    ensures { result ≡ first_point bytes.now pieces.now }
+{
+    if pieces.is_empty() {
+        DOCUMENT_START
+    } else {
+        walk_to(bytes, DOCUMENT_START, pieces[0].start)
+    }
+}
+
+// Whether a point is not at the end of the piece of this number.
+fn stands_before_end(pieces: &[Piece], piece: usize, point: Point) -> bool
+    ensures { result ≡ is_open (place_of point) (drop piece pieces.now) }
+{
+    piece < pieces.len() && (point.index, point.vs) != pieces[piece].end
+}
+
+// The piece and the place of the next code, after a code of this piece.
+fn follow(bytes: &[u8], pieces: &[Piece], piece: usize, point: Point) -> (usize, Point)
+    requires content { IsContent bytes.now pieces.now }
+    requires is_point { IsPoint bytes.now point }
+    requires piece { piece < length pieces.now }
+    ensures { result ≡ followed bytes.now piece point (drop piece pieces.now) }
+{
+    if stands_before_end(pieces, piece, point) {
+        (piece, point)
+    } else if piece + 1 < pieces.len() {
+        (piece + 1, walk_to(bytes, point, pieces[piece + 1].start))
+    } else {
+        (piece, point)
+    }
+}

@@ -1,0 +1,222 @@
+// The events so far.
+ghost use Rattle.std.specs.Prelude.{◌≡◌, ◌<◌, ◌-◌, ◌++◌, ◌∷◌, ◌==◌, [], length, take, OnOk, OnErr, Some, None, true, slice_index_or};
+ghost use Rattle.markdown_engine.specs.Chain.{bare, chained, changed_at, with_next, with_previous, link_previous, previous_at, linked_at, EndsChain, IsLinked, IsFresh};
+
+use crate::event::{Event, Link};
+use crate::seq::Seq;
+use std::alloc::{AllocError, Global};
+use std::marker::Model;
+
+/// The events so far, in order, with the chains on which the linked ones stand.
+///
+/// Contracts see each event with the event before it on its chain, and without the event after: that
+/// one follows, since it is the event that names this one as the event before. So the list that
+/// contracts see only grows and shrinks at its end, and no event in it changes when a later one is
+/// linked to it. `as_slice` and `into_vec` give the events with both numbers.
+#[derive(Drop)]
+pub struct Events {
+    items: Seq<Event>,
+}
+
+impl Model for Events {
+    ghost use Rattle.std.specs.Prelude.{List};
+    ghost use Rattle.markdown_engine.specs.Chain.{bares, IsFilled};
+    ghost use Rattle.markdown_engine.specs.declared.event.Event.{Event};
+
+    ghost Value = { List Event };
+
+    ghost view = { λ s. bares s.items };
+
+    ghost invariant = { λ s. IsFilled s.items };
+}
+
+// The number of the event before on the chain.
+fn previous_of(event: &Event) -> Option<usize>
+    ensures { result ≡ link_previous event.now.link }
+{
+    match event.link {
+        None => None,
+        Some(link) => link.previous,
+    }
+}
+
+// The event, with another event after.
+fn linked_on(event: Event, next: Option<usize>) -> Event
+    ensures { result ≡ with_next next event }
+{
+    match event.link {
+        None => event,
+        Some(link) => Event {
+            kind: event.kind,
+            name: event.name,
+            point: event.point,
+            link: Some(Link {
+                previous: link.previous,
+                next,
+                content: link.content,
+            }),
+        },
+    }
+}
+
+// The event, with this event before.
+fn linked_back(event: Event, previous: usize) -> Event
+    ensures { result ≡ with_previous (Some previous) event }
+{
+    match event.link {
+        None => event,
+        Some(link) => Event {
+            kind: event.kind,
+            name: event.name,
+            point: event.point,
+            link: Some(Link {
+                previous: Some(previous),
+                next: link.next,
+                content: link.content,
+            }),
+        },
+    }
+}
+
+// Writes the event after into an event.
+fn set_next(items: &mut Seq<Event>, index: usize, next: Option<usize>)
+    requires { index < length items.old }
+    ensures { items.new ≡ changed_at (with_next next) index items.old }
+{
+    let event = linked_on(*items.at(index), next);
+    items.put(index, event);
+}
+
+// Writes the event before into an event.
+fn set_previous(items: &mut Seq<Event>, index: usize, previous: usize)
+    requires { index < length items.old }
+    ensures { items.new ≡ changed_at (with_previous (Some previous)) index items.old }
+{
+    let event = linked_back(*items.at(index), previous);
+    items.put(index, event);
+}
+
+impl Events {
+    /// No event. Takes no memory.
+    pub fn new(alloc: Global) -> Events
+        ensures { result ≡ [] }
+    {
+        Events {
+            items: Seq::new(alloc),
+        }
+    }
+
+    /// How many events there are.
+    pub fn len(&self) -> usize
+        ensures { result ≡ length self.now }
+    {
+        self.items.len()
+    }
+
+    /// Whether there is no event.
+    pub fn is_empty(&self) -> bool
+        ensures { result ≡ (length self.now == 0) }
+    {
+        self.items.is_empty()
+    }
+
+    /// The events, lent, with both numbers of each link.
+    pub fn as_slice(&self) -> &[Event]
+        ensures events { result.now ≡ chained self.now }
+        ensures chains { IsLinked self.now }
+    {
+        self.items.as_slice()
+    }
+
+    /// An event, at an index below `len`, with both numbers of its link.
+    pub fn at(&self, index: usize) -> &Event
+        requires { index < length self.now }
+        ensures { result.now ≡ slice_index_or (chained self.now) index result.now }
+    {
+        self.items.at(index)
+    }
+
+    /// An event, at an index below `len`, without the event after on its chain.
+    pub fn bare_at(&self, index: usize) -> Event
+        requires { index < length self.now }
+        ensures event { result ≡ slice_index_or self.now index result }
+        ensures bare { bare result ≡ result }
+        ensures chains { IsLinked self.now }
+    {
+        linked_on(*self.items.at(index), None)
+    }
+
+    /// Adds an event that is linked to no other yet. Only an Enter may carry a link.
+    ///
+    /// `Err` only if memory is refused; the events are then as they were.
+    pub fn push(&mut self, event: Event) -> Result<(), AllocError>
+        requires { IsFresh event }
+        ensures ok { OnOk result (self.new ≡ self.old ++ event ∷ []) }
+        ensures err { OnErr result (self.new ≡ self.old) }
+    {
+        self.items.push(event)?;
+        Ok(())
+    }
+
+    /// Adds an event whose link may name the event before on its chain, an earlier one.
+    ///
+    /// `Err` only if memory is refused; the events are then as they were.
+    pub fn push_linked(&mut self, event: Event) -> Result<(), AllocError>
+        requires bare { bare event ≡ event }
+        requires chains { IsLinked (self.old ++ event ∷ []) }
+        ensures ok { OnOk result (self.new ≡ self.old ++ event ∷ []) }
+        ensures err { OnErr result (self.new ≡ self.old) }
+    {
+        let index = self.items.len();
+        self.items.push(event)?;
+        if let Some(previous) = previous_of(&event) {
+            set_next(&mut self.items, previous, Some(index));
+        }
+        Ok(())
+    }
+
+    /// Links the event at `index` back to the event at `previous`, an earlier one: both carry a link,
+    /// the one has no event before yet, and the other no event after.
+    pub fn connect(&mut self, previous: usize, index: usize)
+        requires order { previous < index }
+        requires from { linked_at self.old previous ≡ true }
+        requires to { linked_at self.old index ≡ true }
+        requires first { previous_at self.old index ≡ None }
+        requires last { EndsChain previous self.old }
+        ensures { self.new ≡ changed_at (with_previous (Some previous)) index self.old }
+    {
+        set_next(&mut self.items, previous, Some(index));
+        set_previous(&mut self.items, index, previous);
+    }
+
+    // Takes the last event off, and with it the link on to it.
+    fn drop_last(&mut self)
+        ensures { self.new ≡ take (length self.old - 1) self.old }
+    {
+        let Some(event) = self.items.pop() else {
+            return;
+        };
+        if let Some(previous) = previous_of(&event) {
+            set_next(&mut self.items, previous, None);
+        }
+    }
+
+    /// Keeps the first `n` events, or all if there are fewer, with their links to each other.
+    ///
+    /// The work is that of the events that go.
+    pub fn truncate(&mut self, n: usize)
+        ensures { self.new ≡ take n self.old }
+    {
+        while self.len() > n {
+            self.drop_last();
+        }
+    }
+
+    /// The events, with both numbers of each link.
+    pub fn into_vec(self) -> Vec<Event>
+        ensures { result.items ≡ chained self }
+    {
+        let Events { items } = self;
+        items.into_vec()
+    }
+}

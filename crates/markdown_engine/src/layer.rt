@@ -1,0 +1,58 @@
+// The states and passes of a layer, as the engine reaches them.
+ghost use Rattle.std.specs.Prelude.{◌≡◌, ℕ, Bool, IfOk, OnErr, IsTrue, None};
+ghost use Rattle.markdown_engine.specs.declared.resolve.ResolveName.{ResolveName};
+ghost use Rattle.markdown_engine.specs.declared.state.StateName.{StateName};
+ghost use Rattle.markdown_engine.specs.declared.tokenizer.Tokenizer.{Tokenizer};
+ghost use Rattle.markdown_engine.specs.Runs.{Stepped, Lawful};
+
+use crate::resolve::ResolveName;
+use crate::state::{State, StateName};
+use crate::subtokenize::Subresult;
+use crate::tokenizer::Tokenizer;
+use std::alloc::AllocError;
+
+/// What the engine runs: states by their names, and passes by theirs.
+///
+/// A layer says, for each state, when it may be called, what it answers and leaves, how a run from there may end, and a number that falls
+/// at each step; its laws make any run of it safe, finite, and ended as it says.
+pub trait Layer {
+    // when a state may be called
+    ghost ready: { StateName → Tokenizer → Type 0 };
+
+    // what a call of a state answers and leaves
+    ghost step: { StateName → Tokenizer → Stepped };
+
+    // how a run from a state in a tokenizer may end: Ok or not, and in which tokenizer
+    ghost ends: { StateName → Tokenizer → Bool → Tokenizer → Type 0 };
+
+    // a number that falls at each step
+    ghost weight: { StateName → Tokenizer → ℕ };
+
+    // when a pass may be called
+    ghost may_resolve: { ResolveName → Tokenizer → Type 0 };
+
+    // what a pass leaves
+    ghost resolves: { ResolveName → Tokenizer → Tokenizer → Type 0 };
+
+    /// Calls the state of this name.
+    ///
+    /// The error comes where a growth is refused; then `failed` is true.
+    fn call(name: StateName, tokenizer: &mut Tokenizer) -> Result<State, AllocError>
+        requires { ready name tokenizer.old }
+        ensures ok { IfOk result (λ s. step name tokenizer.old ≡ record { state = s; left = tokenizer.new }) }
+        ensures err { OnErr result (IsTrue tokenizer.new.failed) };
+
+    /// Calls the pass of this name.
+    ///
+    /// The error comes where a growth is refused; then `failed` is true.
+    fn resolve(
+        name: ResolveName,
+        tokenizer: &mut Tokenizer,
+    ) -> Result<Option<Subresult>, AllocError>
+        requires { may_resolve name tokenizer.old }
+        ensures none { IfOk result (λ r. r ≡ None) }
+        ensures ok { IfOk result (λ _. resolves name tokenizer.old tokenizer.new) }
+        ensures err { OnErr result (IsTrue tokenizer.new.failed) };
+
+    ghost laws: { Lawful ready step ends weight };
+}

@@ -1,0 +1,111 @@
+// Runs of a layer's states, and of its passes.
+ghost use Rattle.std.specs.Prelude.{◌≡◌, ◌<◌, Bool, [], IfOk, OnOk, OnErr, IsTrue};
+ghost use Rattle.markdown_engine.specs.Runs.{going_state, going_in, ends_state, ready_state, MayGo};
+ghost use Rattle.markdown_engine.specs.Reach.{Reaches};
+ghost use Rattle.markdown_engine.specs.Resolves.{MayResolve, Resolves, unregistered};
+ghost use Rattle.markdown_engine.specs.declared.state.State.TheVariants.{Next, Retry};
+ghost use Rattle.markdown_engine.specs.declared.tokenizer.Tokenizer.{Tokenizer};
+
+use crate::layer::Layer;
+use crate::seq::Seq;
+use crate::state::{State, StateName};
+use crate::tokenizer::{Attempt, Tokenizer};
+use std::alloc::AllocError;
+use std::mem;
+
+// Goes on with an attempt, after an Ok or a Nok.
+#[tactic(auto, unfolding(crate::specs::Runs::restored))]
+fn resume<'a>(tokenizer: &mut Tokenizer<'a>, attempt: Attempt<'a>, ok: bool) -> State
+    ensures state { result ≡ going_state attempt.entry ok }
+    ensures left { tokenizer.new ≡ going_in attempt.entry ok tokenizer.old }
+{
+    let Attempt {
+        ok: if_ok,
+        nok: if_nok,
+        events_len,
+        map_len,
+        restores,
+        stack_len,
+        cursor,
+    } = attempt;
+    if ok && !restores {
+        return if_ok;
+    }
+    tokenizer.events.truncate(events_len);
+    tokenizer.map.truncate(map_len);
+    tokenizer.stack.truncate(stack_len);
+    tokenizer.cursor = cursor;
+    if ok { if_ok } else { if_nok }
+}
+
+// Calls a state, and runs what it attempts.
+#[cycle(run)]
+fn step_over<L: Layer>(name: StateName, tokenizer: &mut Tokenizer) -> Result<State, AllocError>
+    requires ready { L.ready name tokenizer.old }
+    requires alone { tokenizer.old.attempts ≡ [] }
+    ensures alone { IfOk result (λ _. tokenizer.new.attempts ≡ []) }
+    ensures goes { IfOk result (λ s. MayGo L.ready L.weight (L.weight name tokenizer.old) s tokenizer.new) }
+    ensures calls { IfOk result (λ s. (ok : Bool) (U : Tokenizer) → Reaches L.ready L.step [] s tokenizer.new ok U → Reaches L.ready L.step [] (Next name) tokenizer.old ok U) }
+    ensures ends { IfOk result (λ s. (ok : Bool) (U : Tokenizer) → ends_state L.ends s tokenizer.new ok U → L.ends name tokenizer.old ok U) }
+    ensures err { OnErr result (IsTrue tokenizer.new.failed) }
+{
+    let mut state = L::call(name, tokenizer)?;
+    let mut opened = tokenizer.take_attempts();
+    while let Some(attempt) = opened.pop() {
+        let ok = run_from::<L>(state, tokenizer)?;
+        state = resume(tokenizer, attempt, ok);
+    }
+    Ok(state)
+}
+
+// Runs states from this answer until Ok or Nok with no attempt open.
+#[cycle(run)]
+fn run_from<L: Layer>(start: State, tokenizer: &mut Tokenizer) -> Result<bool, AllocError>
+    requires ready { ready_state L.ready start tokenizer.old }
+    requires alone { tokenizer.old.attempts ≡ [] }
+    ensures alone { IfOk result (λ _. tokenizer.new.attempts ≡ []) }
+    ensures calls { IfOk result (λ ok. Reaches L.ready L.step [] start tokenizer.old ok tokenizer.new) }
+    ensures ends { IfOk result (λ ok. ends_state L.ends start tokenizer.old ok tokenizer.new) }
+    ensures err { OnErr result (IsTrue tokenizer.new.failed) }
+{
+    let mut state = start;
+    loop {
+        match state {
+            State::Next(name) | State::Retry(name) => state = step_over::<L>(name, tokenizer)?,
+            State::Ok => return Ok(true),
+            State::Nok => return Ok(false),
+        }
+    }
+}
+
+impl<'a> Tokenizer<'a> {
+    /// Runs the layer's states from this one over the content until Ok (true) or Nok (false) with no attempt open.
+    ///
+    /// The error comes where a growth is refused; then `failed` is true.
+    pub fn run_state<L: Layer>(&mut self, name: StateName) -> Result<bool, AllocError>
+        requires ready { L.ready name self.old }
+        requires alone { self.old.attempts ≡ [] }
+        ensures alone { IfOk result (λ _. self.new.attempts ≡ []) }
+        ensures calls { IfOk result (λ ok. Reaches L.ready L.step [] (Retry name) self.old ok self.new) }
+        ensures ends { IfOk result (λ ok. L.ends name self.old ok self.new) }
+        ensures err { OnErr result (IsTrue self.new.failed) }
+    {
+        run_from::<L>(State::Retry(name), self)
+    }
+
+    /// Runs the registered passes in order, after which none is registered.
+    ///
+    /// The error comes where a growth is refused; then `failed` is true.
+    #[tactic(auto, unfolding(crate::specs::Resolves::unregistered))]
+    pub fn resolve_all<L: Layer>(&mut self) -> Result<(), AllocError>
+        requires { MayResolve L.may_resolve L.resolves self.old.resolvers (unregistered self.old) }
+        ensures ok { OnOk result (Resolves L.resolves self.old.resolvers (unregistered self.old) self.new) }
+        ensures err { OnErr result (IsTrue self.new.failed) }
+    {
+        let names = mem::replace(&mut self.resolvers, Seq::new(self.alloc));
+        for name in names.as_slice() {
+            let _ = L::resolve(*name, self)?;
+        }
+        Ok(())
+    }
+}

@@ -1,0 +1,497 @@
+// The tokenizer: what a state function is given.
+ghost use Rattle.std.specs.Prelude.{◌≡◌, ◌++◌, ◌∷◌, [], OnOk, OnErr, IsTrue, true, false, Some, None};
+ghost use Rattle.markdown_engine.specs.Ops.{applied, Enter, Exit, EnterLink, EnterConnected, Consume, attempted, registered, registered_before, is_registered, refused, current_of, previous_of, IsOpen, HasCode, link_back, enter_event, LinkedBefore};
+ghost use Rattle.markdown_engine.specs.Content.{IsContent};
+ghost use Rattle.markdown_engine.specs.Place.{point_of, start_of_content};
+ghost use Rattle.markdown_engine.specs.Chain.{IsFresh};
+ghost use Rattle.markdown_engine.specs.Rest.{at_rest};
+ghost use Rattle.markdown_engine.specs.Runs.{settled};
+
+use crate::cursor::Cursor;
+use crate::event::{Content, Event, Kind, Link, Name, Point};
+use crate::events::Events;
+use crate::parser::{ParseState, Piece};
+use crate::resolve::ResolveName;
+use crate::seq::{Seq, Stack};
+use crate::state::State;
+use crate::util::edit_map::EditMap;
+use std::alloc::{AllocError, Global};
+use std::marker::Model;
+use std::mem;
+
+/// What kind of label a start begins.
+#[derive(Clone, Copy, Debug, PartialEq, Eq)]
+pub enum LabelKind {
+    /// `![`: an image.
+    Image,
+    /// `[`: a link.
+    Link,
+    /// `[^`: a footnote call.
+    GfmFootnote,
+    /// `[^` where no such footnote is defined: a link whose text begins with the caret.
+    GfmUndefinedFootnote,
+}
+
+/// The start of a label. Events are named by their numbers in the list.
+#[derive(Clone, Copy, Debug, PartialEq, Eq)]
+pub struct LabelStart {
+    /// What it may begin.
+    pub kind: LabelKind,
+    /// The first Enter and the last Exit of the start.
+    pub start: (usize, usize),
+    /// Whether a link after it bars it.
+    pub inactive: bool,
+}
+
+/// A label: its start and its end. Events are named by their numbers in the list.
+#[derive(Clone, Copy, Debug, PartialEq, Eq)]
+pub struct Label {
+    /// What it is.
+    pub kind: LabelKind,
+    /// The first Enter and the last Exit of the start.
+    pub start: (usize, usize),
+    /// The first Enter and the last Exit of the end.
+    pub end: (usize, usize),
+}
+
+/// The bytes at which data stops.
+#[derive(Drop)]
+pub struct Markers {
+    bytes: &'static [u8],
+}
+
+impl Model for Markers {
+    ghost use Rattle.std.specs.Prelude.{List, ℕ};
+
+    ghost Value = { List ℕ };
+
+    ghost view = { λ m. m.bytes.now };
+}
+
+impl Markers {
+    /// These bytes.
+    pub fn new(bytes: &'static [u8]) -> Markers
+        ensures { result ≡ bytes.entry.now }
+    {
+        Markers { bytes }
+    }
+
+    /// The bytes.
+    pub fn as_slice(&self) -> &[u8]
+        ensures { result.now ≡ self.now }
+    {
+        self.bytes
+    }
+}
+
+/// The scratch fields of the states: what one state leaves for another. Each is at rest between two constructs, but for the lists of
+/// labels, `markers`, `probes` and `document_at_first_paragraph_of_list_item`.
+#[derive(Drop)]
+pub struct TokenizeState {
+    /// The byte that a construct began with; 0 at rest.
+    pub marker: u8,
+    /// The byte that is to end it; 0 at rest.
+    pub marker_b: u8,
+    /// How many codes, bytes or markers were passed; 0 at rest.
+    pub size: usize,
+    /// A second number; 0 at rest. For a destination its greatest depth of parentheses.
+    pub size_b: usize,
+    /// The number of an event or a byte where something starts; 0 at rest.
+    pub start: usize,
+    /// Where it ends; 0 at rest.
+    pub end: usize,
+    /// Whether something was seen; false at rest.
+    pub seen: bool,
+    /// Whether the next linked event goes on with a chain; false at rest.
+    pub connect: bool,
+    /// The bytes at which data stops.
+    pub markers: Markers,
+    /// A name for a partial construct; `Data` at rest, as the four below.
+    pub token_1: Name,
+    /// The second name.
+    pub token_2: Name,
+    /// The third name.
+    pub token_3: Name,
+    /// The fourth name.
+    pub token_4: Name,
+    /// The fifth name.
+    pub token_5: Name,
+    /// Whether whitespace goes on with a chain; false at rest.
+    pub space_or_tab_connect: bool,
+    /// How linked whitespace is to be read; none at rest.
+    pub space_or_tab_content: Option<Content>,
+    /// The fewest codes of whitespace; 0 at rest.
+    pub space_or_tab_min: usize,
+    /// The most codes of whitespace; 0 at rest.
+    pub space_or_tab_max: usize,
+    /// The codes of whitespace so far; 0 at rest.
+    pub space_or_tab_size: usize,
+    /// The name of whitespace; `SpaceOrTab` at rest.
+    pub space_or_tab_token: Name,
+    /// How linked whitespace across a line ending is to be read; none at rest.
+    pub space_or_tab_eol_content: Option<Content>,
+    /// Whether that whitespace goes on with a chain; false at rest.
+    pub space_or_tab_eol_connect: bool,
+    /// Whether there was whitespace before a line ending; false at rest.
+    pub space_or_tab_eol_ok: bool,
+    /// The label starts that no end has used, the last one on top.
+    pub label_starts: Stack<LabelStart>,
+    /// The label starts whose end failed.
+    pub label_starts_loose: Seq<LabelStart>,
+    /// The labels.
+    pub labels: Seq<Label>,
+    /// The number of opener probes of attention.
+    pub probes: u128,
+    /// Whether the content is the first paragraph of a list item.
+    pub document_at_first_paragraph_of_list_item: bool,
+}
+
+impl TokenizeState {
+    /// All at rest: no labels, no markers, no probes.
+    pub fn new(alloc: Global) -> TokenizeState
+        ensures { result ≡ at_rest }
+    {
+        TokenizeState {
+            marker: 0,
+            marker_b: 0,
+            size: 0,
+            size_b: 0,
+            start: 0,
+            end: 0,
+            seen: false,
+            connect: false,
+            markers: Markers::new(&[]),
+            token_1: Name::Data,
+            token_2: Name::Data,
+            token_3: Name::Data,
+            token_4: Name::Data,
+            token_5: Name::Data,
+            space_or_tab_connect: false,
+            space_or_tab_content: None,
+            space_or_tab_min: 0,
+            space_or_tab_max: 0,
+            space_or_tab_size: 0,
+            space_or_tab_token: Name::SpaceOrTab,
+            space_or_tab_eol_content: None,
+            space_or_tab_eol_connect: false,
+            space_or_tab_eol_ok: false,
+            label_starts: Stack::new(alloc),
+            label_starts_loose: Seq::new(alloc),
+            labels: Seq::new(alloc),
+            probes: 0,
+            document_at_first_paragraph_of_list_item: false,
+        }
+    }
+}
+
+/// What the next Ok and Nok go on with, and what a Nok restores.
+#[derive(Drop)]
+pub struct Attempt<'a> {
+    /// How the run goes on after an Ok.
+    pub ok: State,
+    /// How it goes on after a Nok.
+    pub nok: State,
+    /// Whether an Ok restores too.
+    pub restores: bool,
+    /// How many events there were.
+    pub events_len: usize,
+    /// How many edits there were.
+    pub map_len: usize,
+    /// How many events stood open.
+    pub stack_len: usize,
+    /// Where the tokenizer stood.
+    pub cursor: Cursor<'a>,
+}
+
+/// A run over a content: where it stands, what it has found, and what is still to settle.
+#[derive(Drop)]
+pub struct Tokenizer<'a> {
+    /// Where memory comes from.
+    pub alloc: Global,
+    /// The document and what is asked of the run.
+    pub parse_state: &'a ParseState<'a>,
+    /// The events so far.
+    pub events: Events,
+    /// Edits of the events that are put off.
+    pub map: EditMap,
+    /// The names of the open events, the innermost on top.
+    pub stack: Stack<Name>,
+    /// The place in the content.
+    pub cursor: Cursor<'a>,
+    /// The scratch fields.
+    pub tokenize_state: TokenizeState,
+    /// The passes that are to follow, in order.
+    pub resolvers: Seq<ResolveName>,
+    /// The attempts that wait, the innermost on top.
+    pub attempts: Stack<Attempt<'a>>,
+    /// Whether a growth was refused.
+    pub failed: bool,
+}
+
+impl<'a> Tokenizer<'a> {
+    /// A run at the start of a content: no events, all scratch fields at rest. Takes no memory.
+    pub fn new(alloc: Global, parse_state: &'a ParseState<'a>, pieces: &'a [Piece]) -> Tokenizer<'a>
+        requires { IsContent parse_state.now.bytes.now pieces.now }
+        ensures { result ≡ record { alloc = alloc; parse_state = parse_state.entry; events = []; map = []; stack = []; cursor = start_of_content parse_state.entry.now.bytes.now pieces.entry.now; tokenize_state = at_rest; resolvers = []; attempts = []; failed = false } }
+    {
+        Tokenizer {
+            alloc,
+            parse_state,
+            events: Events::new(alloc),
+            map: EditMap::new(alloc),
+            stack: Stack::new(alloc),
+            cursor: Cursor::new(parse_state.bytes, pieces),
+            tokenize_state: TokenizeState::new(alloc),
+            resolvers: Seq::new(alloc),
+            attempts: Stack::new(alloc),
+            failed: false,
+        }
+    }
+
+    /// The code at the place, none at the content's end.
+    pub fn current(&self) -> Option<u8>
+        ensures { result ≡ current_of self.now }
+    {
+        self.cursor.current()
+    }
+
+    /// The code before the place in the content, none at its start.
+    pub fn previous(&self) -> Option<u8>
+        ensures { result ≡ previous_of self.now }
+    {
+        self.cursor.previous()
+    }
+
+    /// The place.
+    pub fn point(&self) -> Point
+        ensures { result ≡ point_of self.now.cursor }
+    {
+        self.cursor.point()
+    }
+
+    /// Whether a growth was refused.
+    pub fn failed(&self) -> bool
+        ensures { result ≡ self.now.failed }
+    {
+        self.failed
+    }
+
+    /// Keeps in mind that a growth was refused.
+    pub fn fail(&mut self)
+        ensures { self.new ≡ refused self.old }
+    {
+        self.failed = true;
+    }
+
+    // An Enter of this name at the place.
+    fn enter_here(&self, name: Name, link: Option<Link>) -> Event
+        ensures { result ≡ enter_event name link self.now }
+    {
+        Event {
+            kind: Kind::Enter,
+            name,
+            point: self.point(),
+            link,
+        }
+    }
+
+    // Appends an event; a refused growth is kept in mind.
+    fn append(&mut self, event: Event) -> Result<(), AllocError>
+        requires { IsFresh event }
+        ensures ok { OnOk result (self.new ≡ record self.old { events = self.old.events ++ event ∷ [] }) }
+        ensures err { OnErr result (IsTrue self.new.failed) }
+    {
+        let appended = self.events.push(event);
+        if appended.is_err() {
+            self.fail();
+        }
+        appended
+    }
+
+    // Opens an event of this name; a refused growth is kept in mind.
+    fn open(&mut self, name: Name) -> Result<(), AllocError>
+        ensures ok { OnOk result (self.new ≡ record self.old { stack = name ∷ self.old.stack }) }
+        ensures err { OnErr result (IsTrue self.new.failed) }
+    {
+        let opened = self.stack.push(name);
+        if opened.is_err() {
+            self.fail();
+        }
+        opened
+    }
+
+    /// Appends an Enter at the place.
+    ///
+    /// The error comes where a growth is refused; then `failed` is true.
+    #[tactic(auto, unfolding(crate::specs::Ops::applied))]
+    pub fn enter(&mut self, name: Name) -> Result<(), AllocError>
+        ensures ok { OnOk result (self.new ≡ applied (Enter name) self.old) }
+        ensures err { OnErr result (IsTrue self.new.failed) }
+    {
+        let event = self.enter_here(name, None);
+        self.append(event)?;
+        self.open(name)
+    }
+
+    /// Appends an Enter of linked content at the place, the first of a chain.
+    ///
+    /// The error comes where a growth is refused; then `failed` is true.
+    #[tactic(auto, unfolding(crate::specs::Ops::applied))]
+    pub fn enter_link(&mut self, name: Name, link: Link) -> Result<(), AllocError>
+        requires { link ≡ link_back None link.content }
+        ensures ok { OnOk result (self.new ≡ applied (EnterLink name link.content) self.old) }
+        ensures err { OnErr result (IsTrue self.new.failed) }
+    {
+        let event = self.enter_here(name, Some(link));
+        self.append(event)?;
+        self.open(name)
+    }
+
+    /// Appends an Enter of linked content at the place, linked to the linked event just before.
+    ///
+    /// The error comes where a growth is refused; then `failed` is true.
+    #[tactic(auto, using(crate::proofs::ConnectLemmas::connect_rules), unfolding(crate::specs::Ops::applied))]
+    pub fn enter_connected(&mut self, name: Name, content: Content) -> Result<(), AllocError>
+        requires { LinkedBefore self.old }
+        ensures ok { OnOk result (self.new ≡ applied (EnterConnected name content) self.old) }
+        ensures err { OnErr result (IsTrue self.new.failed) }
+    {
+        let back = Link {
+            previous: Some(self.events.as_slice().len() - 2),
+            next: None,
+            content,
+        };
+        let event = self.enter_here(name, Some(back));
+        let appended = self.events.push_linked(event);
+        if appended.is_err() {
+            self.fail();
+        }
+        appended?;
+        self.open(name)
+    }
+
+    /// Appends an Exit of the innermost open event at the place, or at the start of the line after a line ending.
+    ///
+    /// The error comes where a growth is refused; then `failed` is true.
+    #[tactic(auto, unfolding(crate::specs::Ops::applied))]
+    pub fn exit(&mut self, name: Name) -> Result<(), AllocError>
+        requires { IsOpen name self.old }
+        ensures ok { OnOk result (self.new ≡ applied (Exit name) self.old) }
+        ensures err { OnErr result (IsTrue self.new.failed) }
+    {
+        let _ = self.stack.pop();
+        let event = Event {
+            kind: Kind::Exit,
+            name,
+            point: self.cursor.exit_point(),
+            link: None,
+        };
+        self.append(event)
+    }
+
+    /// Moves past the code at the place, and past bytes that are left out if it was a line ending.
+    #[tactic(auto, unfolding(crate::specs::Ops::applied))]
+    pub fn consume(&mut self)
+        requires { HasCode self.old }
+        ensures { self.new ≡ applied Consume self.old }
+    {
+        self.cursor.consume();
+    }
+
+    // Opens an attempt; a refused growth is kept in mind.
+    #[tactic(auto, unfolding(crate::specs::Ops::attempted, crate::specs::Ops::frame_of))]
+    fn try_with(&mut self, restores: bool, ok: State, nok: State) -> Result<(), AllocError>
+        ensures ok { OnOk result (self.new ≡ attempted restores ok nok self.old) }
+        ensures err { OnErr result (IsTrue self.new.failed) }
+    {
+        let attempt = Attempt {
+            ok,
+            nok,
+            restores,
+            events_len: self.events.len(),
+            map_len: self.map.len(),
+            stack_len: self.stack.len(),
+            cursor: self.cursor.save(),
+        };
+        let opened = self.attempts.push(attempt);
+        if opened.is_err() {
+            self.fail();
+        }
+        opened
+    }
+
+    /// Goes on with `ok` after the next Ok, keeping all; after the next Nok restores events, edits and place, and goes on with `nok`.
+    ///
+    /// The error comes where a growth is refused; then `failed` is true.
+    pub fn attempt(&mut self, ok: State, nok: State) -> Result<(), AllocError>
+        ensures ok { OnOk result (self.new ≡ attempted false ok nok self.old) }
+        ensures err { OnErr result (IsTrue self.new.failed) }
+    {
+        self.try_with(false, ok, nok)
+    }
+
+    /// As `attempt`, and the next Ok restores too.
+    ///
+    /// The error comes where a growth is refused; then `failed` is true.
+    pub fn check(&mut self, ok: State, nok: State) -> Result<(), AllocError>
+        ensures ok { OnOk result (self.new ≡ attempted true ok nok self.old) }
+        ensures err { OnErr result (IsTrue self.new.failed) }
+    {
+        self.try_with(true, ok, nok)
+    }
+
+    // Hands over the attempts that a call opened.
+    #[tactic(auto, unfolding(crate::specs::Runs::settled))]
+    pub(crate) fn take_attempts(&mut self) -> Stack<Attempt<'a>>
+        ensures left { self.new ≡ settled self.old }
+        ensures taken { result ≡ self.old.attempts }
+    {
+        mem::replace(&mut self.attempts, Stack::new(self.alloc))
+    }
+
+    // Whether the pass is registered.
+    fn has_resolver(&self, name: ResolveName) -> bool
+        ensures { result ≡ is_registered name self.now.resolvers }
+    {
+        self.resolvers
+            .as_slice()
+            .iter()
+            .any(|registered| *registered as u8 == name as u8)
+    }
+
+    /// Adds the pass last, unless it is there.
+    ///
+    /// The error comes where a growth is refused; then `failed` is true.
+    #[tactic(auto, unfolding(crate::specs::Ops::registered))]
+    pub fn register_resolver(&mut self, name: ResolveName) -> Result<(), AllocError>
+        ensures ok { OnOk result (self.new ≡ registered name self.old) }
+        ensures err { OnErr result (IsTrue self.new.failed) }
+    {
+        if self.has_resolver(name) {
+            return Ok(());
+        }
+        let added = self.resolvers.push(name);
+        if added.is_err() {
+            self.fail();
+        }
+        added
+    }
+
+    /// Adds the pass first, unless it is there.
+    ///
+    /// The error comes where a growth is refused; then `failed` is true.
+    #[tactic(auto, unfolding(crate::specs::Ops::registered_before))]
+    pub fn register_resolver_before(&mut self, name: ResolveName) -> Result<(), AllocError>
+        ensures ok { OnOk result (self.new ≡ registered_before name self.old) }
+        ensures err { OnErr result (IsTrue self.new.failed) }
+    {
+        if self.has_resolver(name) {
+            return Ok(());
+        }
+        let added = self.resolvers.push_first(name);
+        if added.is_err() {
+            self.fail();
+        }
+        added
+    }
+}
