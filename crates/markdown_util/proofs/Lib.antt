@@ -1,0 +1,9 @@
+pub mod FirstByte
+pub mod Joining
+pub mod LastChar
+pub mod Numbers
+pub mod ParsedLemmas
+pub mod Spaces
+pub mod Semicolon
+pub mod Tables
+pub mod WholeReference

@@ -1,0 +1,29 @@
+-- Numbers as `from_str_radix` reads them, and those that stand for the replacement character.
+use Rattle.std.proofs.Common.{◌≡◌, ◌≢◌, ◌∙◌, ap, refl, subst, ℕ, ◌<◌, ◌≤◌, true, false, List, [], ◌∷◌, get_or, Result, Ok, Err, inl, inr, arith}
+use Rattle.std.specs.Char.{OutOfScalarRange, digit_value}
+use Rattle.std.specs.Str.Parse.{IsNumeral, ParsesUnsigned, digits_value}
+use Rattle.std.proofs.lemmas.Bool.Decides.{nat_tests}
+use Rattle.std.proofs.lemmas.Str.Parse.{without_leading_plus_none}
+use Rattle.markdown_util.specs.Reference.{is_replaced, character_of, IsNumber}
+
+no_plus : (radix : ℕ) (bs : List ℕ) → radix ≤ 36 → IsNumeral radix bs → get_or bs 0 0 ≢ 43
+no_plus radix [] low h = absurd (omega (arith, h.0))
+no_plus radix (c ∷ cs) low h = λ e. absurd (omega (arith, subst (λ (d : ℕ). digit_value d < radix) e h.1.0))
+
+-- a number is read as its value
+pub number_read : (radix : ℕ) (bs : List ℕ) {E : Type 0} (r : Result ℕ E) (n : ℕ) → radix ≤ 36 → IsNumber radix bs → ParsesUnsigned 32 radix bs r → r ≡ Ok n → n ≡ digits_value radix bs
+number_read radix bs (Err e) n low h p is = cc
+number_read radix bs (Ok m) n low h p is =
+    let same = without_leading_plus_none bs (no_plus radix bs low h.numeral) in
+    let value = p.1 ∙ ap (digits_value radix) same in
+    cc
+
+pub replaced_out : (n : ℕ) → OutOfScalarRange n → is_replaced n ≡ true
+replaced_out n (inl h) = grind (arith, nat_tests)
+replaced_out n (inr h) = grind (arith, nat_tests)
+
+pub character_kept : (c n : ℕ) → c ≡ n → is_replaced c ≡ false → c ≡ character_of n
+character_kept c n same e = rw (← same, e) refl
+
+pub character_replaced : (c n : ℕ) → c ≡ n → is_replaced c ≡ true → 0xFFFD ≡ character_of n
+character_replaced c n same e = rw (← same, e) refl

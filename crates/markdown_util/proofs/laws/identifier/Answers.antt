@@ -1,0 +1,5 @@
+use Rattle.markdown_util.proofs.Spaces.{identifier_law}
+use Rattle.markdown_util.proofs.laws.identifier.Goals as goal
+
+pub returns : goal.returns
+returns c = identifier_law

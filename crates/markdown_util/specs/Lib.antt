@@ -1,0 +1,5 @@
+pub mod Identifier
+pub mod Laws
+pub mod Neighbours
+pub mod Parts
+pub mod Reference

@@ -1,0 +1,6 @@
+//! Values that the constructs of the inline layer stand on, each of which may also be called alone.
+
+pub mod char;
+pub mod character_reference;
+pub mod constant;
+pub mod normalize_identifier;

@@ -1,0 +1,104 @@
+//! The characters beside an index of a text, and their classes.
+
+ghost use Rattle.std.specs.Prelude.{◌≡◌, IsUtf8};
+ghost use Rattle.std.specs.Str.{IsCharBoundary};
+ghost use Rattle.markdown_util.specs.Neighbours.{before_index, after_index, class_of, is_punctuation};
+
+use unicode::properties::{GeneralCategory, GeneralCategoryGroup, is_white_space};
+
+/// The class of a character, by which a run of markers may open or close.
+#[derive(Clone, Copy, Debug, PartialEq, Eq)]
+pub enum Kind {
+    /// White space by Unicode, or no character at all.
+    Whitespace,
+    /// A character of the general categories P (punctuation) and S (symbols).
+    Punctuation,
+    /// Every other character.
+    Other,
+}
+
+/// The character just before an index of a text in UTF-8, and none at its start. The index is that
+/// of a byte.
+pub fn before_index(bytes: &[u8], index: usize) -> Option<char>
+    requires utf8 { IsUtf8 bytes.now }
+    requires boundary { IsCharBoundary bytes.now index }
+    ensures { result ≡ before_index bytes.now index }
+{
+    // SAFETY: a text in UTF-8 is cut at a character boundary.
+    let front = unsafe { str::from_utf8_unchecked(&bytes[..index]) };
+    front.chars().next_back()
+}
+
+/// The character at an index of a text in UTF-8, and none at its end. The index is that of a byte.
+pub fn after_index(bytes: &[u8], index: usize) -> Option<char>
+    requires utf8 { IsUtf8 bytes.now }
+    requires boundary { IsCharBoundary bytes.now index }
+    ensures { result ≡ after_index bytes.now index }
+{
+    // SAFETY: a text in UTF-8 is cut at a character boundary.
+    let rest = unsafe { str::from_utf8_unchecked(&bytes[index..]) };
+    rest.chars().next()
+}
+
+/// The class of a character. A missing one, at the start or the end of a text, is whitespace.
+#[tactic(auto, unfolding(crate::specs::Neighbours::class_of))]
+pub fn classify_opt(char_opt: Option<char>) -> Kind
+    ensures { result ≡ class_of char_opt }
+{
+    match char_opt {
+        None => Kind::Whitespace,
+        Some(c) if is_white_space(c) => Kind::Whitespace,
+        Some(c) if is_punctuation(c) => Kind::Punctuation,
+        Some(_) => Kind::Other,
+    }
+}
+
+/// The class of the character at an index of a text in UTF-8. The index is that of a byte.
+pub fn kind_after_index(bytes: &[u8], index: usize) -> Kind
+    requires utf8 { IsUtf8 bytes.now }
+    requires boundary { IsCharBoundary bytes.now index }
+    ensures { result ≡ class_of (after_index bytes.now index) }
+{
+    classify_opt(after_index(bytes, index))
+}
+
+/// Whether the general category of a character is P or S.
+fn is_punctuation(c: char) -> bool
+    ensures { result ≡ is_punctuation c }
+{
+    let category = GeneralCategory::for_char(c);
+    GeneralCategoryGroup::Punctuation.contains(category)
+        || GeneralCategoryGroup::Symbol.contains(category)
+}
+
+#[cfg(test)]
+mod tests {
+    use super::*;
+
+    #[test]
+    fn neighbours(rt: HostRuntime) {
+        let bytes = "é*".as_bytes();
+        assert_eq!(rt; before_index(bytes, 0), None);
+        assert_eq!(rt; after_index(bytes, 0), Some('é'));
+        assert_eq!(rt; before_index(bytes, 2), Some('é'));
+        assert_eq!(rt; after_index(bytes, 2), Some('*'));
+        assert_eq!(rt; after_index(bytes, 3), None);
+        assert_eq!(rt; kind_after_index(bytes, 0), Kind::Other);
+        assert_eq!(rt; kind_after_index(bytes, 2), Kind::Punctuation);
+        assert_eq!(rt; kind_after_index(bytes, 3), Kind::Whitespace);
+    }
+
+    #[test]
+    fn classes(rt: HostRuntime) {
+        assert_eq!(rt; classify_opt(None), Kind::Whitespace);
+        for c in ['\t', ' ', '\u{B}', '\u{85}', '\u{A0}', '\u{2029}'] {
+            assert_eq!(rt; classify_opt(Some(c)), Kind::Whitespace);
+        }
+        for c in ['*', '$', '~', '€', '¿'] {
+            assert_eq!(rt; classify_opt(Some(c)), Kind::Punctuation);
+        }
+        for c in ['a', '7', 'é', '\u{1}', '\u{200B}'] {
+            assert_eq!(rt; classify_opt(Some(c)), Kind::Other);
+        }
+    }
+}
