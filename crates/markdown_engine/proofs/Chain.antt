@@ -86,10 +86,10 @@ head_same c d cs ds e = cc
 pub tail_same : (c d : Code) (cs ds : List Code) → c ∷ cs ≡ d ∷ ds → cs ≡ ds
 tail_same c d cs ds e = cc
 
-cons≢nil : (c : Code) (cs : List Code) → c ∷ cs ≡ [] → ⊥
+pub cons≢nil : (c : Code) (cs : List Code) → c ∷ cs ≡ [] → ⊥
 cons≢nil c cs e = cc
 
-first-start : (p : Point) (front : List Code) (c : Code) (back : List Code) → IsChain p (front ++ c ∷ back) → c.start ≡ stop_of p front
+pub first-start : (p : Point) (front : List Code) (c : Code) (back : List Code) → IsChain p (front ++ c ∷ back) → c.start ≡ stop_of p front
 first-start p front c back h = (chain-back p front (c ∷ back) h).0
 
 -- no code stands across an end of another: one that begins before such a place ends there or before it

@@ -8,6 +8,7 @@ use Rattle.markdown_engine.specs.declared.event.Kind.TheVariants as Kind
 use Rattle.markdown_engine.specs.declared.event.Link.{Link}
 use Rattle.markdown_engine.specs.declared.event.Name.{Name}
 use Rattle.markdown_engine.specs.declared.event.Point.{Point}
+use Rattle.markdown_engine.proofs.OpRules.{op_rules}
 use Rattle.markdown_engine.proofs.ChainLemmas.{length-chained, IsLinked-push, IsLinked-connect, ends-last, linked_at-before, linked_at-after, previous_at-before, previous_at-end}
 
 and-left : (a b : Bool) → a && b ≡ true → a ≡ true
@@ -66,7 +67,16 @@ connected-linked es n p c h e =
 pub ends-linked-size : (es : List Event) → ends_linked es ≡ true → 2 ≤ length es
 ends-linked-size es h = omega (arith, (ends-linked es h).size)
 
+-- an Enter with a link and an Exit behind any events are linked content just before
+pub ends_linked-append : (es : List Event) (a b : Event) → ends_linked ((es ++ a ∷ []) ++ b ∷ []) ≡ has_link a.link && not (has_link b.link)
+ends_linked-append [] a b = refl
+ends_linked-append (e ∷ []) a b = refl
+ends_linked-append (e ∷ x ∷ []) a b = ends_linked-append (x ∷ []) a b
+ends_linked-append (e ∷ x ∷ y ∷ es) a b = ends_linked-append (x ∷ y ∷ es) a b
+
 pub length-chained-all : (es : List Event) → length (chained es) ≡ length es
 length-chained-all es = length-chained 0 es
 
 pub ruleset connect_rules = (connected-linked, ends-linked-size, length-chained-all)
+
+pub ruleset leaf_rules = (op_rules, ends_linked-append)

@@ -1,18 +1,19 @@
 -- What a cursor answers, and what it keeps.
-use Rattle.std.proofs.Common.{ℕ, suc, ◌+◌, ◌*◌, ◌<◌, ◌≤◌, ◌^◌, Bool, true, false, ◌≡◌, arith, List, length, drop, slice_get, refl, sym, ap, subst, ◌∙◌, Option, Some, None, IsSome, add-one, inl, inr}
+use Rattle.std.proofs.Common.{ℕ, suc, ◌+◌, ◌*◌, ◌<◌, ◌≤◌, ◌^◌, Bool, true, false, ◌≡◌, arith, List, length, drop, slice_get, refl, sym, ap, subst, ◌∙◌, Option, Some, None, IsSome, add-one, inl, inr, ◌&&◌, ◌==◌, nat_lt, get_or, if◌then◌else◌}
 use Rattle.std.proofs.lemmas.List.{drop_all}
-use Rattle.std.proofs.lemmas.Bool.{both_ways, cases_lt}
+use Rattle.std.proofs.lemmas.Bool.{both_ways, cases_lt, eqb-true}
 use Rattle.markdown_engine.specs.declared.event.Point.{Point}
 use Rattle.markdown_engine.specs.declared.parser.Piece.{Piece}
-use Rattle.markdown_engine.specs.Codes.{Code, place_of}
+use Rattle.markdown_engine.specs.Codes.{Code, line_feed, space_value, tab_value, is_line_ending_byte, place_of}
 use Rattle.markdown_engine.specs.Content.{IsContent, content_of, content_end}
 use Rattle.markdown_engine.specs.Place.{Place, start_of_content, moved, value_of, start_or, stop_or, code_at, code_before, point_of, exit_point}
 use Rattle.markdown_engine.specs.Walk.{IsPoint, next_point, value_from}
 use Rattle.markdown_engine.specs.Standing.{is_open, IsStanding, IsCursor, content_place, first_point, followed}
-use Rattle.markdown_engine.proofs.Steps.{stop_at, code_here}
+use Rattle.markdown_engine.proofs.Steps.{stop_at, value_at, code_here}
+use Rattle.markdown_engine.proofs.Walks.{stop-ending}
 use Rattle.markdown_engine.proofs.Points.{next, IsNext}
 use Rattle.markdown_engine.proofs.Past.{value-is, point_fits, Fits_point}
-use Rattle.markdown_engine.proofs.Cursors.{standing-point, standing-start, standing-next, open-standing, closed-standing, IsOpenStanding}
+use Rattle.markdown_engine.proofs.Cursors.{standing-point, standing-start, standing-next, stop-within, open-standing, closed-standing, IsOpenStanding}
 
 pub cursor_point : {bytes : List ℕ} {pieces : List Piece} {k : ℕ} {p e : Point} {before : Option ℕ} {n : ℕ} → IsCursor bytes pieces k p e before n → p ≡ point_of (content_place bytes pieces n)
 unfolding point_of start_of_content
@@ -89,6 +90,28 @@ exit-more : (bytes : List ℕ) (pieces : List Piece) (n : ℕ) (c : Code) → sl
 unfolding exit_point start_of_content
 exit-more bytes pieces n c h = rw add-one (ap (λ (x : Option Code). stop_or x (start_or (slice_get (content_of bytes pieces) (suc n)) (content_end bytes pieces))) h)
 
+some-same : (v w : ℕ) → Some v ≡ Some w → v ≡ w
+some-same v w e = cc
+
+none≢some : (v : ℕ) → None ≡ Some v → ⊥
+none≢some v e = cc
+
+other-value : (b : ℕ) (t : Bool) → is_line_ending_byte b ≡ false → (if t then space_value else b) ≡ line_feed → ⊥
+other-value b true h e = omega arith
+other-value b false h e = both_ways (is_line_ending_byte b) h (rw e refl)
+
+-- after a line ending stands the start of a line
+value-other : (bytes : List ℕ) (p : Point) → is_line_ending_byte (get_or bytes p.index 0) ≡ false → (if get_or bytes p.index 0 == tab_value && nat_lt 0 p.vs then space_value else get_or bytes p.index 0) ≡ value_at bytes p
+value-other bytes p h = rw h refl
+
+line-stop-by : (bytes : List ℕ) (p : Point) → value_at bytes p ≡ line_feed → (b : Bool) → is_line_ending_byte (get_or bytes p.index 0) ≡ b → ((stop_at bytes p).column ≡ 1) × ((stop_at bytes p).vs ≡ 0)
+line-stop-by bytes p v true h = subst (λ (q : Point). (q.column ≡ 1) × (q.vs ≡ 0)) (stop-ending bytes p h) (refl, refl)
+line-stop-by bytes p v false h =
+    absurd (other-value (get_or bytes p.index 0) (get_or bytes p.index 0 == tab_value && nat_lt 0 p.vs) h (value-other bytes p h ∙ v))
+
+line-stop : (bytes : List ℕ) (p : Point) → value_at bytes p ≡ line_feed → ((stop_at bytes p).column ≡ 1) × ((stop_at bytes p).vs ≡ 0)
+line-stop bytes p v = line-stop-by bytes p v (is_line_ending_byte (get_or bytes p.index 0)) refl
+
 -- a cursor past the code where it stood
 pub cursor_next : {bytes : List ℕ} {pieces : List Piece} {k : ℕ} {p e : Point} {before : Option ℕ} {n : ℕ} (x : Place) (k2 v : ℕ) (p2 e2 : Point) → IsCursor bytes pieces k p e before n → content_place bytes pieces n ≡ x → IsSome (code_at x) → value_from bytes p ≡ Some v → e2 ≡ next_point bytes p → ◌≡◌ {A = ℕ × Point} (k2, p2) (followed bytes k e2 (drop k pieces)) → IsCursor bytes pieces k2 p2 e2 (Some v) (n + 1)
 cursor_next {bytes} {pieces} {k} {p} {e} {before} {n} x k2 v p2 e2 h is some value stop go =
@@ -96,11 +119,14 @@ cursor_next {bytes} {pieces} {k} {p} {e} {before} {n} x k2 v p2 e2 h is some val
     let shown : is_open (place_of p) (drop k pieces) ≡ true = at-some-by h here (is_open (place_of p) (drop k pieces)) refl in
     let at : IsAtCode bytes pieces k p n = at_code h shown in
     let same : e2 ≡ stop_at bytes p = stop ∙ at.next in
+    let read : v ≡ value_at bytes p = some-same v (value_at bytes p) (sym value ∙ value-is bytes p h.standing.is_point at.in_bytes) in
     let went : ◌≡◌ {A = ℕ × Point} (followed bytes k (stop_at bytes p) (drop k pieces)) (k2, p2) = sym (go ∙ ap (λ (q : Point). followed bytes k q (drop k pieces)) same) in
     record {
       standing = subst (λ (x : ℕ × Point). IsStanding bytes pieces (drop x.0 pieces) x.1 (n + 1)) went (standing-next bytes pieces p n k h.standing shown);
       before = sym value ∙ at.value ∙ sym (before-more bytes pieces n);
       exits = same ∙ sym (exit-more bytes pieces n (code_here bytes p) at.code);
+      after_line = λ f. subst (λ (q : Point). (q.column ≡ 1) × (q.vs ≡ 0)) (sym same) (line-stop bytes p (sym read ∙ some-same v line_feed f));
+      within_line = λ other. same ∙ stop-within bytes pieces (drop k pieces) p n k h.standing shown (λ f. other (ap (λ (x : ℕ). Some x) (read ∙ eqb-true (value_at bytes p) line_feed f))) ∙ ap (λ (x : ℕ × Point). x.1) went;
     }
 
 -- a cursor at the start
@@ -108,7 +134,7 @@ pub cursor_start : (bytes : List ℕ) (pieces : List Piece) (p : Point) → IsCo
 unfolding code_before exit_point start_of_content
 cursor_start bytes pieces p h is =
     let s : IsStanding bytes pieces pieces p 0 = subst (λ (x : Point). IsStanding bytes pieces pieces x 0) (sym is) (standing-start bytes pieces h) in
-    record { standing = s; before = refl; exits = standing-point bytes pieces pieces p 0 s }
+    record { standing = s; before = refl; exits = standing-point bytes pieces pieces p 0 s; after_line = λ f. absurd (none≢some line_feed f); within_line = λ _. refl }
 
 pub start_is : (bytes : List ℕ) (pieces : List Piece) → content_place bytes pieces 0 ≡ start_of_content bytes pieces
 unfolding start_of_content

@@ -5,16 +5,16 @@ use Rattle.std.proofs.lemmas.Bool.{both_ways}
 use Rattle.std.proofs.lemmas.Bool.Decides.{nat_tests}
 use Rattle.markdown_engine.specs.declared.event.Point.{Point}
 use Rattle.markdown_engine.specs.declared.parser.Piece.{Piece}
-use Rattle.markdown_engine.specs.Codes.{Code, place_of, point_at}
+use Rattle.markdown_engine.specs.Codes.{Code, place_of, point_at, is_line_ending}
 use Rattle.markdown_engine.specs.Content.{IsContent, content_of, content_end, are_pieces}
 use Rattle.markdown_engine.specs.Place.{start_or}
 use Rattle.markdown_engine.specs.Walk.{IsPoint}
-use Rattle.markdown_engine.specs.Standing.{is_open, codes_in, IsEntered, IsStanding, first_point, followed}
+use Rattle.markdown_engine.specs.Standing.{is_open, codes_in, IsEntered, EndsLine, IsStanding, first_point, followed}
 use Rattle.markdown_engine.proofs.Order.{is_before}
 use Rattle.markdown_engine.proofs.Steps.{stop_at, code_here}
-use Rattle.markdown_engine.proofs.Points.{stands-point, point-start, vs-small}
+use Rattle.markdown_engine.proofs.Points.{stands-point, point_start, vs-small}
 use Rattle.markdown_engine.proofs.Strides.{not_past}
-use Rattle.markdown_engine.proofs.Standings.{row-start, IsRowStart, open-row, IsOpenRow, closed-row, closed-codes, forward-row, piece_row}
+use Rattle.markdown_engine.proofs.Standings.{row-start, IsRowStart, open-row, IsOpenRow, closed-row, closed-codes, forward-row, piece_row, line-stay, line-last}
 
 -- Lists from an index on.
 
@@ -79,6 +79,7 @@ standing-start-row bytes piece more h r = record {
   ahead = r.codes;
   within = r.within;
   entered = r.entered;
+  line = r.line;
   end = refl;
   count = omega arith;
 }
@@ -86,11 +87,12 @@ standing-start-row bytes piece more h r = record {
 pub standing-start : (bytes : List ℕ) (pieces : List Piece) → IsContent bytes pieces → IsStanding bytes pieces pieces (first_point bytes pieces) 0
 standing-start bytes [] h = record {
   content = h;
-  is_point = point-start bytes;
+  is_point = point_start bytes;
   in_order = refl;
   ahead = refl;
   within = refl;
   entered = tt;
+  line = tt;
   end = refl;
   count = omega arith;
 }
@@ -98,19 +100,20 @@ standing-start bytes (piece ∷ more) h = standing-start-row bytes piece more h 
 
 -- After a code.
 
-standing-stay : (bytes : List ℕ) (pieces : List Piece) (piece : Piece) (more : List Piece) (p : Point) (n : ℕ) → IsStanding bytes pieces (piece ∷ more) p n → IsOpenRow bytes p piece more → IsEntered (place_of (stop_at bytes p)) (piece ∷ more) → IsStanding bytes pieces (piece ∷ more) (stop_at bytes p) (n + 1)
-standing-stay bytes pieces piece more p n s row entered = record {
+standing-stay : (bytes : List ℕ) (pieces : List Piece) (piece : Piece) (more : List Piece) (p : Point) (n : ℕ) → IsStanding bytes pieces (piece ∷ more) p n → IsOpenRow bytes p piece more → IsEntered (place_of (stop_at bytes p)) (piece ∷ more) → EndsLine bytes (place_of (stop_at bytes p)) (piece ∷ more) → IsStanding bytes pieces (piece ∷ more) (stop_at bytes p) (n + 1)
+standing-stay bytes pieces piece more p n s row entered line = record {
   content = s.content;
   is_point = row.toward.next.point;
   in_order = s.in_order;
   ahead = drop-past n (content_of bytes pieces) (code_here bytes p) (codes_in bytes (place_of (stop_at bytes p)) (piece ∷ more)) (s.ahead ∙ row.codes);
   within = row.within;
   entered = entered;
+  line = line;
   end = s.end;
   count = omega (arith, s.count, row.toward.next.counts);
 }
 
-before-keys : (a b c d : ℕ) → is_before (c, d) (a, b) ≡ false → b ≤ 3 → 4 * a + b ≤ 4 * c + d
+pub before-keys : (a b c d : ℕ) → is_before (c, d) (a, b) ≡ false → b ≤ 3 → 4 * a + b ≤ 4 * c + d
 before-keys a b c d h k = grind (arith, nat_tests)
 
 count-more : (n a b c : ℕ) → n ≤ a → a + 1 ≤ b → b ≤ c → n + 1 ≤ c
@@ -124,6 +127,7 @@ go-record bytes pieces next more n content rs others ahead end count = record {
   ahead = ahead ∙ rs.codes;
   within = rs.within;
   entered = rs.entered;
+  line = rs.line;
   end = end;
   count = count;
 }
@@ -142,9 +146,9 @@ standing-go bytes pieces piece next more p n s row h =
 
 standing-next-row : (bytes : List ℕ) (pieces : List Piece) (piece : Piece) (more : List Piece) (p : Point) (n k : ℕ) → drop k pieces ≡ piece ∷ more → IsStanding bytes pieces (piece ∷ more) p n → IsOpenRow bytes p piece more → (b : Bool) → is_open (place_of (stop_at bytes p)) (piece ∷ []) ≡ b → IsStanding bytes pieces (drop (followed bytes k (stop_at bytes p) (piece ∷ more)).0 pieces) (followed bytes k (stop_at bytes p) (piece ∷ more)).1 (n + 1)
 standing-next-row bytes pieces piece [] p n k left s row b e =
-    subst (λ (x : List Piece). IsStanding bytes pieces x (stop_at bytes p) (n + 1)) (sym left) (standing-stay bytes pieces piece [] p n s row tt)
+    subst (λ (x : List Piece). IsStanding bytes pieces x (stop_at bytes p) (n + 1)) (sym left) (standing-stay bytes pieces piece [] p n s row tt tt)
 standing-next-row bytes pieces piece (next ∷ more) p n k left s row true e =
-    rw e (subst (λ (x : List Piece). IsStanding bytes pieces x (stop_at bytes p) (n + 1)) (sym left) (standing-stay bytes pieces piece (next ∷ more) p n s row e))
+    rw e (subst (λ (x : List Piece). IsStanding bytes pieces x (stop_at bytes p) (n + 1)) (sym left) (standing-stay bytes pieces piece (next ∷ more) p n s row e (line-stay bytes p piece (next ∷ more) s.in_order row s.line e)))
 standing-next-row bytes pieces piece (next ∷ more) p n k left s row false e =
     rw e (subst (λ (x : List Piece). IsStanding bytes pieces x (point_at bytes next.start) (n + 1)) (sym (drop-past k pieces piece (next ∷ more) left)) (standing-go bytes pieces piece next more p n s row e))
 
@@ -156,3 +160,15 @@ standing-next-left bytes pieces (piece ∷ more) p n k e s h =
 -- after a code
 pub standing-next : (bytes : List ℕ) (pieces : List Piece) (p : Point) (n k : ℕ) → IsStanding bytes pieces (drop k pieces) p n → is_open (place_of p) (drop k pieces) ≡ true → IsStanding bytes pieces (drop (followed bytes k (stop_at bytes p) (drop k pieces)).0 pieces) (followed bytes k (stop_at bytes p) (drop k pieces)).1 (n + 1)
 standing-next bytes pieces p n k s h = standing-next-left bytes pieces (drop k pieces) p n k refl s h
+
+-- Where an event stands that ends after a code: where the next one begins, but for a line ending.
+
+stop-within-row : (bytes : List ℕ) (pieces : List Piece) (piece : Piece) (more : List Piece) (p : Point) (n k : ℕ) → IsStanding bytes pieces (piece ∷ more) p n → IsOpenRow bytes p piece more → (is_line_ending (code_here bytes p) ≡ true → ⊥) → (b : Bool) → is_open (place_of (stop_at bytes p)) (piece ∷ []) ≡ b → stop_at bytes p ≡ (followed bytes k (stop_at bytes p) (piece ∷ more)).1
+stop-within-row bytes pieces piece [] p n k s row other b e = refl
+stop-within-row bytes pieces piece (next ∷ more) p n k s row other true e = rw e refl
+stop-within-row bytes pieces piece (next ∷ more) p n k s row other false e = absurd (other (line-last bytes p piece next more row s.line e))
+
+pub stop-within : (bytes : List ℕ) (pieces left : List Piece) (p : Point) (n k : ℕ) → IsStanding bytes pieces left p n → is_open (place_of p) left ≡ true → (is_line_ending (code_here bytes p) ≡ true → ⊥) → stop_at bytes p ≡ (followed bytes k (stop_at bytes p) left).1
+stop-within bytes pieces [] p n k s h other = absurd (both_ways false refl h)
+stop-within bytes pieces (piece ∷ more) p n k s h other =
+    stop-within-row bytes pieces piece more p n k s (open-row bytes p piece more s.is_point s.in_order s.within h) other (is_open (place_of (stop_at bytes p)) (piece ∷ [])) refl

@@ -24,10 +24,6 @@ abbrev pub start : List Edit → ℕ → ℕ
 start log zero = 0
 start log (suc i) = start log i + length (added_at i log) + stays (is_removed log i)
 
-length-part : (b : Bool) (xs : List Event) → length (cond b xs []) ≡ cond b (length xs) 0
-length-part true xs = refl
-length-part false xs = refl
-
 length-parts : (b c : Bool) (xs : List Event) → length (cond (b && c) xs []) + length (cond (b && not c) xs []) ≡ cond b (length xs) 0
 length-parts true true xs = omega arith
 length-parts true false xs = omega arith
@@ -155,7 +151,7 @@ edited-here log i e es k h r =
     slice-after (added_at i log) (stay log (is_removed log i) e ++ edited_from log (suc i) es) k 0 (omega arith) ∙ ap (λ b. slice_get (stay log b e ++ edited_from log (suc i) es) 0) r
 
 -- an event that stays is found at its number
-edited-at : (log : List Edit) (i q j k : ℕ) (es : List Event) → q ≡ i + j → start log i + k ≡ moved_number log q → is_removed log q ≡ false → j < length es → slice_get (edited_from log i es) k ≡ option_map (moved log) (slice_get es j)
+pub edited-at : (log : List Edit) (i q j k : ℕ) (es : List Event) → q ≡ i + j → start log i + k ≡ moved_number log q → is_removed log q ≡ false → j < length es → slice_get (edited_from log i es) k ≡ option_map (moved log) (slice_get es j)
 edited-at log i q j k [] at h r l = absurd (omega arith)
 edited-at log i q zero k (e ∷ es) at h r l =
     let same : q ≡ i = omega arith in

@@ -1,3 +1,10 @@
+pub mod EditFacts
+pub mod Texts
+pub mod Spaces
+pub mod Reaching
+pub mod PlaceRules
+pub mod Passing
+pub mod Betweens
 pub mod Order
 pub mod Chain
 pub mod Steps
@@ -24,3 +31,4 @@ pub mod TreeLemmas
 pub mod EndsLemmas
 pub mod ChainTree
 pub mod SolidLemmas
+pub mod Bounds

@@ -1,5 +1,5 @@
 -- The place after a code, by the byte there.
-use Rattle.std.proofs.Common.{ℕ, ◌+◌, ◌-◌, ◌%◌, ◌<◌, ◌≤◌, ◌^◌, true, false, nat_lt, ◌≡◌, arith, List, length, drop, get_or, refl, sym, ap, ◌∙◌, ◌⊎◌, inl, inr, Some, slice_get, if◌then◌else◌}
+use Rattle.std.proofs.Common.{ℕ, ◌+◌, ◌-◌, ◌%◌, ◌<◌, ◌≤◌, ◌^◌, true, false, nat_lt, ◌≡◌, arith, List, length, drop, get_or, refl, sym, ap, subst, ◌∙◌, ◌⊎◌, inl, inr, Some, slice_get, if◌then◌else◌}
 use Rattle.std.specs.Option.{option_map}
 use Rattle.std.proofs.lemmas.Bool.{eq-eqb, ne_eqb, lt-ltb, le-ltb, cases_eq}
 use Rattle.std.proofs.lemmas.Bool.Decides.{nat_tests}
@@ -9,7 +9,7 @@ use Rattle.markdown_engine.specs.Content.{document_limit}
 use Rattle.markdown_engine.specs.Walk.{IsPoint, next_point, value_from}
 use Rattle.markdown_engine.proofs.Steps.{Stands, tab_left, value_at}
 use Rattle.markdown_engine.proofs.Walks.{few-end, value-ending, value-plain, value-tab, stop-ending, stop-plain, stop-last, stop-more}
-use Rattle.markdown_engine.proofs.Points.{stands-point, next}
+use Rattle.markdown_engine.proofs.Points.{stands-point, next, IsNext}
 
 -- the numbers of a place fit a `usize`, those of the next one too
 pub record Fits_point (p : Point) : Type 0 where
@@ -84,3 +84,9 @@ value_byte bytes p h lt plain first =
           value-is bytes p h lt ∙ ap (λ (v : ℕ). Some v) (sym (value-tab bytes p plain (eq-eqb (get_or bytes p.index 0) tab_value e)) ∙ none ∙ sym e)
       | inr e ↦ value-is bytes p h lt ∙ ap (λ (v : ℕ). Some v) (sym (value-plain bytes p plain (ne_eqb (get_or bytes p.index 0) tab_value e)))
     ]
+
+-- the next place is one of the document
+pub next_is_point : (bytes : List ℕ) (p q : Point) → IsPoint bytes p → p.index < length bytes → q ≡ next_point bytes p → IsPoint bytes q
+next_is_point bytes p q h lt e =
+    let one : IsNext bytes p = next bytes p h lt in
+    subst (λ (x : Point). IsPoint bytes x) (sym (e ∙ one.next)) one.point

@@ -22,7 +22,7 @@ along bytes p (c ∷ cs) back s e =
 pub chain-document : (bytes : List ℕ) → IsChain document_start (codes_of bytes)
 chain-document bytes = chain-at bytes document_start (codes_of bytes) (stands-start bytes) refl
 
-chain-split : (bytes : List ℕ) (front back : List Code) → codes_of bytes ≡ front ++ back → IsChain document_start (front ++ back)
+pub chain-split : (bytes : List ℕ) (front back : List Code) → codes_of bytes ≡ front ++ back → IsChain document_start (front ++ back)
 chain-split bytes front back e = subst (λ (cs : List Code). IsChain document_start cs) e (chain-document bytes)
 
 -- after any of the document's first codes is a place
@@ -58,7 +58,7 @@ pub record IsNext (bytes : List ℕ) (p : Point) : Type 0 where
   pub later : is_before (place_of p) (place_of (stop_at bytes p)) ≡ true
   pub counts : 4 * p.index + p.vs + 1 ≤ 4 * (stop_at bytes p).index + (stop_at bytes p).vs
 
-stop-more : (p : Point) (cs : List Code) (c : Code) → stop_of p (cs ++ c ∷ []) ≡ c.stop
+pub stop-more : (p : Point) (cs : List Code) (c : Code) → stop_of p (cs ++ c ∷ []) ≡ c.stop
 stop-more p [] c = refl
 stop-more p (d ∷ cs) c = stop-more d.stop cs c
 
@@ -84,8 +84,8 @@ next bytes p h lt =
       counts = one.counts;
     }
 
-pub point-start : (bytes : List ℕ) → IsPoint bytes document_start
-point-start bytes = record { here = point-split bytes [] (codes_of bytes) refl }
+pub point_start : (bytes : List ℕ) → IsPoint bytes document_start
+point_start bytes = record { here = point-split bytes [] (codes_of bytes) refl }
 
 -- A place of the document by its numbers.
 
@@ -135,11 +135,14 @@ pub vs-small : (bytes : List ℕ) (p : Point) → Stands bytes p → p.vs ≤ 3
 vs-small bytes p s = omega (arith, s.inside)
 
 -- the numbers of a place of the document
-pub stands-there : (bytes : List ℕ) (at : ℕ × ℕ) → is_place bytes at ≡ true → (at.0 ≤ length bytes) × (at.1 ≤ 3) × (0 < at.1 → at.0 < length bytes)
-stands-there bytes at h =
-    let t : IsThere bytes at = there bytes at h in
+pub stands-there : (bytes : List ℕ) (at : ℕ × ℕ) → IsThere bytes at → (at.0 ≤ length bytes) × (at.1 ≤ 3) × (0 < at.1 → at.0 < length bytes)
+stands-there bytes at t =
     let s : Stands bytes (point_at bytes at) = stands-point bytes (point_at bytes at) t.point in
     subst (λ (x : ℕ × ℕ). (x.0 ≤ length bytes) × (x.1 ≤ 3) × (0 < x.1 → x.0 < length bytes)) t.place (s.in_bytes, vs-small bytes (point_at bytes at) s, λ k. (s.in_tab k).0)
+
+-- a point's own place
+pub there-point : (bytes : List ℕ) (p : Point) → IsPoint bytes p → IsThere bytes (place_of p)
+there-point bytes p h = record { place = ap (λ (x : Point). place_of x) h.here; point = subst (λ (x : Point). IsPoint bytes x) (sym h.here) h }
 
 -- before a place of the document there is a code, and it ends there or before
 pub record IsToward (bytes : List ℕ) (p : Point) (at : ℕ × ℕ) : Type 0 where
@@ -147,15 +150,14 @@ pub record IsToward (bytes : List ℕ) (p : Point) (at : ℕ × ℕ) : Type 0 wh
   pub next : IsNext bytes p
   pub reached : is_before at (place_of (stop_at bytes p)) ≡ false
 
-inside-before : (n i v a b : ℕ) → is_before (i, v) (a, b) ≡ true → a ≤ n → (0 < b → a < n) → i < n
+pub inside-before : (n i v a b : ℕ) → is_before (i, v) (a, b) ≡ true → a ≤ n → (0 < b → a < n) → i < n
 inside-before n i v a b h k l = grind (arith, nat_tests)
 
-pub toward : (bytes : List ℕ) (p : Point) (at : ℕ × ℕ) → IsPoint bytes p → is_place bytes at ≡ true → is_before (place_of p) at ≡ true → IsToward bytes p at
-toward bytes p at h place before =
-    let n : (at.0 ≤ length bytes) × (at.1 ≤ 3) × (0 < at.1 → at.0 < length bytes) = stands-there bytes at place in
+pub toward : (bytes : List ℕ) (p : Point) (at : ℕ × ℕ) → IsPoint bytes p → IsThere bytes at → is_before (place_of p) at ≡ true → IsToward bytes p at
+toward bytes p at h t before =
+    let n : (at.0 ≤ length bytes) × (at.1 ≤ 3) × (0 < at.1 → at.0 < length bytes) = stands-there bytes at t in
     let lt : p.index < length bytes = inside-before (length bytes) p.index p.vs at.0 at.1 before n.0 n.2 in
     let one : IsNext bytes p = next bytes p h lt in
-    let t : IsThere bytes at = there bytes at place in
     let c : Code = code_here bytes p in
     let front : List Code = before_in (place_of p) (codes_of bytes) in
     let back : List Code = codes_after bytes (place_of (stop_at bytes p)) in

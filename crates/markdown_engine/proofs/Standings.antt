@@ -4,10 +4,10 @@ use Rattle.std.proofs.lemmas.Bool.{both_ways, and_parts, eqb-true, not-false}
 use Rattle.std.proofs.lemmas.Bool.Decides.{nat_tests}
 use Rattle.markdown_engine.specs.declared.event.Point.{Point}
 use Rattle.markdown_engine.specs.declared.parser.Piece.{Piece}
-use Rattle.markdown_engine.specs.Codes.{Code, codes_of, place_of, point_at, is_at_or_after, is_code_before}
+use Rattle.markdown_engine.specs.Codes.{Code, codes_of, place_of, point_at, is_at_or_after, is_code_before, is_line_ending}
 use Rattle.markdown_engine.specs.Content.{content_of, content_end, piece_codes, is_place, is_piece, are_pieces, ends_line, is_one_line}
 use Rattle.markdown_engine.specs.Walk.{codes_after, IsPoint}
-use Rattle.markdown_engine.specs.Standing.{is_open, codes_in, IsWithin, IsEntered}
+use Rattle.markdown_engine.specs.Standing.{is_open, codes_in, IsWithin, IsEntered, EndsLine}
 use Rattle.markdown_engine.proofs.Order.{is_before, before-self}
 use Rattle.markdown_engine.proofs.Chain.{before_in-none}
 use Rattle.markdown_engine.proofs.Steps.{codes_at, stop_at, code_here}
@@ -75,6 +75,7 @@ pub record IsRowStart (bytes : List ℕ) (piece : Piece) (more : List Piece) : T
   pub codes : content_of bytes (piece ∷ more) ≡ codes_in bytes (place_of (point_at bytes piece.start)) (piece ∷ more)
   pub within : IsWithin (point_at bytes piece.start) (piece ∷ more)
   pub entered : IsEntered (place_of (point_at bytes piece.start)) (piece ∷ more)
+  pub line : EndsLine bytes (place_of (point_at bytes piece.start)) (piece ∷ more)
 
 is_open-same : (at end : ℕ × ℕ) → not (at.0 == end.0 && at.1 == end.1) ≡ false → ◌≡◌ {A = ℕ × ℕ} at end
 is_open-same at end h =
@@ -97,6 +98,10 @@ entered-start bytes piece [] t h = tt
 entered-start bytes piece (next ∷ more) t h =
     open-start bytes piece t (followed_by bytes piece next more h).ends (is_open piece.start (piece ∷ [])) refl
 
+line-start : (bytes : List ℕ) (piece : Piece) (rest : List Piece) → are_pieces bytes (piece ∷ rest) ≡ true → EndsLine bytes piece.start (piece ∷ rest)
+line-start bytes piece [] h = tt
+line-start bytes piece (next ∷ more) h = ap ends_line (sym (piece-codes-is bytes piece)) ∙ (followed_by bytes piece next more h).ends
+
 pub row-start : (bytes : List ℕ) (piece : Piece) (more : List Piece) → are_pieces bytes (piece ∷ more) ≡ true → IsRowStart bytes piece more
 row-start bytes piece more h =
     let row : IsPieceRow bytes piece more = piece_row bytes piece more h in
@@ -108,6 +113,7 @@ row-start bytes piece more h =
       codes = codes ∙ ap (λ (x : ℕ × ℕ). codes_in bytes x (piece ∷ more)) (sym t.place);
       within = ap (λ (x : ℕ × ℕ). is_at_or_after x piece.end) t.place ∙ not_past-back piece.start piece.end row.in_order;
       entered = subst (λ (x : ℕ × ℕ). IsEntered x (piece ∷ more)) (sym t.place) (entered-start bytes piece more t h);
+      line = subst (λ (x : ℕ × ℕ). EndsLine bytes x (piece ∷ more)) (sym t.place) (line-start bytes piece more h);
     }
 
 -- Where a code stands.
@@ -116,22 +122,47 @@ pub record IsOpenRow (bytes : List ℕ) (p : Point) (piece : Piece) (more : List
   pub toward : IsToward bytes p piece.end
   pub codes : codes_in bytes (place_of p) (piece ∷ more) ≡ code_here bytes p ∷ codes_in bytes (place_of (stop_at bytes p)) (piece ∷ more)
   pub within : IsWithin (stop_at bytes p) (piece ∷ more)
+  pub here : filter (is_code_before piece.end) (codes_after bytes (place_of p)) ≡ code_here bytes p ∷ filter (is_code_before piece.end) (codes_after bytes (place_of (stop_at bytes p)))
 
 open-before : (a b c d : ℕ) → is_before (c, d) (a, b) ≡ false → not (a == c && b == d) ≡ true → is_before (a, b) (c, d) ≡ true
 open-before a b c d h k = grind (arith, nat_tests)
 
-first-passes : (f : Code → Bool) (c : Code) (cs ds more : List Code) → f c ≡ true → ds ≡ c ∷ cs → filter f ds ++ more ≡ c ∷ (filter f cs ++ more)
+pub passes : (f : Code → Bool) (c : Code) (cs ds : List Code) → f c ≡ true → ds ≡ c ∷ cs → filter f ds ≡ c ∷ filter f cs
+passes f c cs ds h e = rw (e, h) refl
+
+pub first-passes : (f : Code → Bool) (c : Code) (cs ds more : List Code) → f c ≡ true → ds ≡ c ∷ cs → filter f ds ++ more ≡ c ∷ (filter f cs ++ more)
 first-passes f c cs ds more h e = rw (e, h) refl
 
 pub open-row : (bytes : List ℕ) (p : Point) (piece : Piece) (more : List Piece) → IsPoint bytes p → are_pieces bytes (piece ∷ more) ≡ true → IsWithin p (piece ∷ more) → is_open (place_of p) (piece ∷ more) ≡ true → IsOpenRow bytes p piece more
 open-row bytes p piece more h all within here =
     let before : is_before (place_of p) piece.end ≡ true = open-before p.index p.vs piece.end.0 piece.end.1 (not_past (place_of p) piece.end within) here in
-    let t : IsToward bytes p piece.end = toward bytes p piece.end h (piece_row bytes piece more all).end before in
+    let t : IsToward bytes p piece.end = toward bytes p piece.end h (there bytes piece.end (piece_row bytes piece more all).end) before in
     record {
       toward = t;
       codes = first-passes (is_code_before piece.end) (code_here bytes p) (codes_after bytes (place_of (stop_at bytes p))) (codes_after bytes (place_of p)) (content_of bytes more) before t.next.codes;
       within = not_past-back (place_of (stop_at bytes p)) piece.end t.reached;
+      here = passes (is_code_before piece.end) (code_here bytes p) (codes_after bytes (place_of (stop_at bytes p))) (codes_after bytes (place_of p)) before t.next.codes;
     }
+
+-- a code that is not the last of a piece leaves the end of its line to come
+ends-later : (c d : Code) (cs ds : List Code) → cs ≡ d ∷ ds → ends_line (c ∷ cs) ≡ true → ends_line cs ≡ true
+ends-later c d cs ds e h = ap ends_line e ∙ ap (λ (x : List Code). ends_line (c ∷ x)) (sym e) ∙ h
+
+pub line-stay : (bytes : List ℕ) (p : Point) (piece : Piece) (more : List Piece) → are_pieces bytes (piece ∷ more) ≡ true → IsOpenRow bytes p piece more → EndsLine bytes (place_of p) (piece ∷ more) → is_open (place_of (stop_at bytes p)) (piece ∷ []) ≡ true → EndsLine bytes (place_of (stop_at bytes p)) (piece ∷ more)
+line-stay bytes p piece [] all row line h = tt
+line-stay bytes p piece (next ∷ more) all row line h =
+    let q : Point = stop_at bytes p in
+    let after : IsOpenRow bytes q piece (next ∷ more) = open-row bytes q piece (next ∷ more) row.toward.next.point all row.within h in
+    ends-later (code_here bytes p) (code_here bytes q) (filter (is_code_before piece.end) (codes_after bytes (place_of q))) (filter (is_code_before piece.end) (codes_after bytes (place_of (stop_at bytes q)))) after.here (ap ends_line (sym row.here) ∙ line)
+
+-- the last code of a piece that another follows is a line ending
+pub line-last : (bytes : List ℕ) (p : Point) (piece next : Piece) (more : List Piece) → IsOpenRow bytes p piece (next ∷ more) → EndsLine bytes (place_of p) (piece ∷ next ∷ more) → is_open (place_of (stop_at bytes p)) (piece ∷ []) ≡ false → is_line_ending (code_here bytes p) ≡ true
+line-last bytes p piece next more row line h =
+    let q : Point = stop_at bytes p in
+    let same : ◌≡◌ {A = ℕ × ℕ} (place_of q) piece.end = is_open-same (place_of q) piece.end h in
+    let here : is_before (place_of q) piece.end ≡ false = ap (λ (x : ℕ × ℕ). is_before x piece.end) same ∙ before-self piece.end in
+    let none : filter (is_code_before piece.end) (codes_after bytes (place_of q)) ≡ [] = none-before bytes q piece.end row.toward.next.point here in
+    ap (λ (x : List Code). ends_line (code_here bytes p ∷ x)) (sym none) ∙ ap ends_line (sym row.here) ∙ line
 
 -- Where no code is left.
 

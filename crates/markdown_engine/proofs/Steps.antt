@@ -160,7 +160,7 @@ len-cases : (b c : ℕ) (cs : List ℕ) (t : Bool) → (b == carriage_return && 
 len-cases b c cs true h = let two : line_ending_len b (c ∷ cs) ≡ 2 = len-two b c cs h in (omega arith, omega arith)
 len-cases b c cs false h = let one : line_ending_len b (c ∷ cs) ≡ 1 = len-one b c cs h in (omega arith, omega arith)
 
-len-bounds : (b : ℕ) (bs : List ℕ) → (1 ≤ line_ending_len b bs) × (line_ending_len b bs ≤ 1 + length bs)
+pub len-bounds : (b : ℕ) (bs : List ℕ) → (1 ≤ line_ending_len b bs) × (line_ending_len b bs ≤ 1 + length bs)
 len-bounds b [] = (omega arith, omega arith)
 len-bounds b (c ∷ cs) = len-cases b c cs (b == carriage_return && c == line_feed) refl
 

@@ -9,7 +9,7 @@ use Rattle.markdown_engine.specs.Walk.{IsPoint, next_point}
 use Rattle.markdown_engine.proofs.Order.{is_before, at_or_after-is, same_place}
 use Rattle.markdown_engine.proofs.Steps.{stop_at}
 use Rattle.markdown_engine.proofs.Walks.{few-end}
-use Rattle.markdown_engine.proofs.Points.{stands-point, toward, IsToward, same-pair}
+use Rattle.markdown_engine.proofs.Points.{stands-point, there, toward, IsToward, same-pair}
 
 -- how far a place is from the end of its document, in codes at most
 abbrev pub codes_left_at : List ℕ → Point → ℕ
@@ -27,10 +27,10 @@ not_past x at h = not-true (is_before at x) (sym (at_or_after-is x at) ∙ h)
 pub not_past-back : (x at : ℕ × ℕ) → is_before at x ≡ false → IsTrue (is_at_or_after x at)
 not_past-back x at h = at_or_after-is x at ∙ not_from_false (is_before at x) h
 
-few-less : (a b n : ℕ) → 0 + a + b ≤ n → a + b ≤ n
+pub few-less : (a b n : ℕ) → 0 + a + b ≤ n → a + b ≤ n
 few-less a b n h = omega arith
 
-falls : (n a b : ℕ) → a + 1 ≤ b → b ≤ n → n - b < n - a
+pub falls : (n a b : ℕ) → a + 1 ≤ b → b ≤ n → n - b < n - a
 falls n a b h k = omega arith
 
 stride-next : (bytes : List ℕ) (p : Point) (at : ℕ × ℕ) → IsToward bytes p at → IsStride bytes p (stop_at bytes p) at
@@ -46,7 +46,7 @@ stride-next bytes p at t =
 
 pub stride_before : (bytes : List ℕ) (p : Point) (at : ℕ × ℕ) → IsPoint bytes p → IsTrue (is_place bytes at) → is_before (place_of p) at ≡ true → IsStride bytes p (next_point bytes p) at
 stride_before bytes p at h place before =
-    let t : IsToward bytes p at = toward bytes p at h place before in
+    let t : IsToward bytes p at = toward bytes p at h (there bytes at place) before in
     subst (λ (x : Point). IsStride bytes p x at) (sym t.next.next) (stride-next bytes p at t)
 
 -- toward a place that is not reached yet

@@ -2,9 +2,11 @@ pub mod Defaults
 pub mod Codes
 pub mod Content
 pub mod Walk
+pub mod Checks
 pub mod Standing
 pub mod Tree
 pub mod Place
+pub mod Slices
 pub mod Lists
 pub mod Chain
 pub mod Edits

@@ -1,9 +1,9 @@
 -- How a place in the document stands for a place in a content.
-use Rattle.std.specs.Prelude.{◌≡◌, ℕ, ◌+◌, ◌*◌, ◌≤◌, Bool, false, not, ◌&&◌, ◌==◌, List, [], ◌∷◌, ◌++◌, drop, filter, IsTrue, if◌then◌else◌, Option}
+use Rattle.std.specs.Prelude.{◌≡◌, ℕ, ◌+◌, ◌*◌, ◌≤◌, Bool, false, not, ◌&&◌, ◌==◌, List, [], ◌∷◌, ◌++◌, drop, filter, IsTrue, if◌then◌else◌, Option, Some}
 use Rattle.markdown_engine.specs.declared.event.Point.{Point}
 use Rattle.markdown_engine.specs.declared.parser.Piece.{Piece}
-use Rattle.markdown_engine.specs.Codes.{Code, document_start, is_at_or_after, is_code_before, place_of, point_at}
-use Rattle.markdown_engine.specs.Content.{IsContent, content_of, content_end, are_pieces}
+use Rattle.markdown_engine.specs.Codes.{Code, line_feed, document_start, is_at_or_after, is_code_before, place_of, point_at}
+use Rattle.markdown_engine.specs.Content.{IsContent, content_of, content_end, are_pieces, ends_line}
 use Rattle.markdown_engine.specs.Walk.{IsPoint, codes_after}
 use Rattle.markdown_engine.specs.Place.{Place, start_of_content, code_before, exit_point}
 
@@ -27,6 +27,12 @@ abbrev pub IsEntered : ℕ × ℕ → List Piece → Type 0
 IsEntered at [] = Unit {0}
 IsEntered at (piece ∷ rest) = elim rest [ [] ↦ Unit {0} | next ∷ more ↦ IsTrue (is_open at (piece ∷ [])) ]
 
+-- a piece that another one follows goes on from a place in it to the end of a line
+abbrev pub EndsLine : List ℕ → ℕ × ℕ → List Piece → Type 0
+EndsLine bytes at [] = Unit {0}
+EndsLine bytes at (piece ∷ rest) =
+    elim rest [ [] ↦ Unit {0} | next ∷ more ↦ IsTrue (ends_line (filter (is_code_before piece.end) (codes_after bytes at))) ]
+
 -- a place of the document in the first of the pieces that are left, with so many codes of the content before it
 pub record IsStanding (bytes : List ℕ) (pieces left : List Piece) (point : Point) (passed : ℕ) : Type 0 where
   pub content : IsContent bytes pieces
@@ -35,6 +41,7 @@ pub record IsStanding (bytes : List ℕ) (pieces left : List Piece) (point : Poi
   pub ahead : drop passed (content_of bytes pieces) ≡ codes_in bytes (place_of point) left
   pub within : IsWithin point left
   pub entered : IsEntered (place_of point) left
+  pub line : EndsLine bytes (place_of point) left
   pub end : content_end bytes left ≡ content_end bytes pieces
   pub count : passed ≤ 4 * point.index + point.vs
 
@@ -61,3 +68,5 @@ pub record IsCursor (bytes : List ℕ) (pieces : List Piece) (piece : ℕ) (poin
   pub standing : IsStanding bytes pieces (drop piece pieces) point passed
   pub before : previous ≡ code_before (content_place bytes pieces passed)
   pub exits : exit ≡ exit_point (content_place bytes pieces passed)
+  pub after_line : previous ≡ Some line_feed → (exit.column ≡ 1) × (exit.vs ≡ 0)
+  pub within_line : (previous ≡ Some line_feed → ⊥) → exit ≡ point

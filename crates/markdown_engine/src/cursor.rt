@@ -1,6 +1,6 @@
 // A place in a content, which hides the pieces, the tabs and what is left out of the lines.
 ghost use Rattle.std.specs.Prelude.{◌≡◌, ℕ, List, drop, length, ◌<◌, IsSome, IsTrue};
-ghost use Rattle.markdown_engine.specs.Codes.{place_of, stop_of};
+ghost use Rattle.markdown_engine.specs.Codes.{line_feed, place_of};
 ghost use Rattle.markdown_engine.specs.Content.{IsContent};
 ghost use Rattle.markdown_engine.specs.Place.{start_of_content, code_at, code_before, point_of, exit_point, moved};
 ghost use Rattle.markdown_engine.specs.Standing.{is_open, first_point, followed};
@@ -8,15 +8,8 @@ ghost use Rattle.markdown_engine.specs.Walk.{IsPoint};
 
 use crate::event::Point;
 use crate::parser::Piece;
-use crate::walk::{code_from, past_code, walk_to};
+use crate::walk::{DOCUMENT_START, code_from, past_code, walk_to};
 use std::marker::Model;
-
-const DOCUMENT_START: Point = Point {
-    line: 1,
-    column: 1,
-    index: 0,
-    vs: 0,
-};
 
 /// A place in a content: its codes, how many of them are passed, and where it ends.
 pub struct Cursor<'a> {
@@ -119,7 +112,9 @@ impl<'a> Cursor<'a> {
 
     /// Answers where an event that ends here stands: after a line ending at the start of the next line, before what is left out of that line.
     pub fn exit_point(&self) -> Point
-        ensures { result ≡ exit_point self.now }
+        ensures exit { result ≡ exit_point self.now }
+        ensures after_line { code_before self.now ≡ Some line_feed → (result.column ≡ 1) × (result.vs ≡ 0) }
+        ensures within_line { (code_before self.now ≡ Some line_feed → ⊥) → result ≡ point_of self.now }
     {
         self.exit
     }
@@ -172,5 +167,158 @@ fn follow(bytes: &[u8], pieces: &[Piece], piece: usize, point: Point) -> (usize,
         (piece + 1, walk_to(bytes, point, pieces[piece + 1].start))
     } else {
         (piece, point)
+    }
+}
+
+#[cfg(test)]
+mod tests {
+    use super::*;
+    use crate::content::is_content;
+    use std::process::Abort;
+
+    // A code, the line and column where it begins, with its index and how many codes of the tab there come before
+    // it, and the column and index where an event ends that ends before it.
+    type Row = (Option<u8>, (usize, usize, usize, usize), (usize, usize));
+
+    // Reads a content, a row a code, and one at its end.
+    fn reads(rt: &impl Abort, bytes: &[u8], pieces: &[Piece], rows: &[Row]) {
+        assert!(rt; is_content(bytes, pieces));
+        let mut cursor = Cursor::new(bytes, pieces);
+        let mut previous = None;
+        for (code, place, exit) in rows {
+            let point = cursor.point();
+            let end = cursor.exit_point();
+            assert_eq!(rt; (point.line, point.column, point.index, point.vs), *place);
+            assert_eq!(rt; (end.column, end.index), *exit);
+            assert_eq!(rt; cursor.current(), *code);
+            assert_eq!(rt; cursor.previous(), previous);
+            assert_eq!(rt; cursor.save().current(), *code);
+            previous = cursor.current();
+            if previous.is_some() {
+                cursor.consume();
+            }
+        }
+    }
+
+    fn piece(start: (usize, usize), end: (usize, usize)) -> Piece {
+        Piece { start, end }
+    }
+
+    #[test]
+    fn reads_line_endings(rt: HostRuntime) {
+        reads(
+            &rt,
+            b"a\r\nb",
+            &[piece((0, 0), (4, 0))],
+            &[
+                (Some(b'a'), (1, 1, 0, 0), (1, 0)),
+                (Some(b'\n'), (1, 2, 1, 0), (2, 1)),
+                (Some(b'b'), (2, 1, 3, 0), (1, 3)),
+                (None, (2, 2, 4, 0), (2, 4)),
+            ],
+        );
+        reads(
+            &rt,
+            "é".as_bytes(),
+            &[piece((0, 0), (2, 0))],
+            &[
+                (Some(0xC3), (1, 1, 0, 0), (1, 0)),
+                (Some(0xA9), (1, 2, 1, 0), (2, 1)),
+                (None, (1, 3, 2, 0), (3, 2)),
+            ],
+        );
+        reads(&rt, b"a", &[], &[(None, (1, 1, 0, 0), (1, 0))]);
+    }
+
+    // What is left out of a line stands between the end of an event and the start of the next.
+    #[test]
+    fn leaves_out_prefixes(rt: HostRuntime) {
+        let pieces = [piece((2, 0), (5, 0)), piece((7, 0), (11, 0))];
+        reads(
+            &rt,
+            b"> [a\n> ](b)",
+            &pieces,
+            &[
+                (Some(b'['), (1, 3, 2, 0), (3, 2)),
+                (Some(b'a'), (1, 4, 3, 0), (4, 3)),
+                (Some(b'\n'), (1, 5, 4, 0), (5, 4)),
+                (Some(b']'), (2, 3, 7, 0), (1, 5)),
+                (Some(b'('), (2, 4, 8, 0), (4, 8)),
+                (Some(b'b'), (2, 5, 9, 0), (5, 9)),
+                (Some(b')'), (2, 6, 10, 0), (6, 10)),
+                (None, (2, 7, 11, 0), (7, 11)),
+            ],
+        );
+    }
+
+    #[test]
+    fn reads_tabs(rt: HostRuntime) {
+        reads(
+            &rt,
+            b"\ta",
+            &[piece((0, 2), (2, 0))],
+            &[
+                (Some(b' '), (1, 3, 0, 2), (3, 0)),
+                (Some(b' '), (1, 4, 0, 3), (4, 0)),
+                (Some(b'a'), (1, 5, 1, 0), (5, 1)),
+                (None, (1, 6, 2, 0), (6, 2)),
+            ],
+        );
+        reads(
+            &rt,
+            b"a\tb",
+            &[piece((0, 0), (1, 2))],
+            &[
+                (Some(b'a'), (1, 1, 0, 0), (1, 0)),
+                (Some(b'\t'), (1, 2, 1, 0), (2, 1)),
+                (Some(b' '), (1, 3, 1, 1), (3, 1)),
+                (None, (1, 4, 1, 2), (4, 1)),
+            ],
+        );
+        reads(
+            &rt,
+            b"a\tb",
+            &[piece((1, 2), (3, 0))],
+            &[
+                (Some(b' '), (1, 4, 1, 2), (4, 1)),
+                (Some(b'b'), (1, 5, 2, 0), (5, 2)),
+                (None, (1, 6, 3, 0), (6, 3)),
+            ],
+        );
+    }
+
+    #[test]
+    fn reads_parts_of_one_tab(rt: HostRuntime) {
+        reads(
+            &rt,
+            b"\t",
+            &[piece((0, 0), (0, 1))],
+            &[
+                (Some(b'\t'), (1, 1, 0, 0), (1, 0)),
+                (None, (1, 2, 0, 1), (2, 0)),
+            ],
+        );
+        reads(
+            &rt,
+            b"\t",
+            &[piece((0, 1), (0, 3))],
+            &[
+                (Some(b' '), (1, 2, 0, 1), (2, 0)),
+                (Some(b' '), (1, 3, 0, 2), (3, 0)),
+                (None, (1, 4, 0, 3), (4, 0)),
+            ],
+        );
+        reads(
+            &rt,
+            b"\t",
+            &[piece((0, 0), (1, 0))],
+            &[
+                (Some(b'\t'), (1, 1, 0, 0), (1, 0)),
+                (Some(b' '), (1, 2, 0, 1), (2, 0)),
+                (Some(b' '), (1, 3, 0, 2), (3, 0)),
+                (Some(b' '), (1, 4, 0, 3), (4, 0)),
+                (None, (1, 5, 1, 0), (5, 1)),
+            ],
+        );
     }
 }

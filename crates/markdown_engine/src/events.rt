@@ -133,7 +133,7 @@ impl Events {
         requires { index < length self.now }
         ensures { result.now ≡ slice_index_or (chained self.now) index result.now }
     {
-        self.items.at(index)
+        &self.as_slice()[index]
     }
 
     /// An event, at an index below `len`, without the event after on its chain.
@@ -161,16 +161,16 @@ impl Events {
     /// Adds an event whose link may name the event before on its chain, an earlier one.
     ///
     /// `Err` only if memory is refused; the events are then as they were.
-    pub fn push_linked(&mut self, event: Event) -> Result<(), AllocError>
-        requires bare { bare event ≡ event }
-        requires chains { IsLinked (self.old ++ event ∷ []) }
-        ensures ok { OnOk result (self.new ≡ self.old ++ event ∷ []) }
+    pub fn push_linked(&mut self, linked: Event) -> Result<(), AllocError>
+        requires bare { bare linked ≡ linked }
+        requires chains { IsLinked (self.old ++ linked ∷ []) }
+        ensures ok { OnOk result (self.new ≡ self.old ++ linked ∷ []) }
         ensures err { OnErr result (self.new ≡ self.old) }
     {
-        let index = self.items.len();
-        self.items.push(event)?;
-        if let Some(previous) = previous_of(&event) {
-            set_next(&mut self.items, previous, Some(index));
+        let number = self.len();
+        self.items.push(linked)?;
+        if let Some(previous) = previous_of(&linked) {
+            set_next(&mut self.items, previous, Some(number));
         }
         Ok(())
     }
@@ -218,5 +218,97 @@ impl Events {
     {
         let Events { items } = self;
         items.into_vec()
+    }
+}
+
+#[cfg(test)]
+mod tests {
+    use super::*;
+    use crate::event::{Content, Kind, Name, Point};
+    use crate::subtokenize::link;
+    use std::test::Fail;
+
+    const HERE: Point = Point {
+        line: 1,
+        column: 1,
+        index: 0,
+        vs: 0,
+    };
+
+    fn linked(previous: Option<usize>, next: Option<usize>) -> Event
+        ensures { result ≡ record {
+          kind = Kind.Enter;
+          name = Name.Data;
+          point = HERE;
+          link = Some (record { previous = previous; next = next; content = Content.Text });
+        } }
+    {
+        Event {
+            kind: Kind::Enter,
+            name: Name::Data,
+            point: HERE,
+            link: Some(Link {
+                previous,
+                next,
+                content: Content::Text,
+            }),
+        }
+    }
+
+    fn exit() -> Event
+        ensures { result ≡ record { kind = Kind.Exit; name = Name.Data; point = HERE; link = None } }
+    {
+        Event {
+            kind: Kind::Exit,
+            name: Name::Data,
+            point: HERE,
+            link: None,
+        }
+    }
+
+    // The link on to an event goes with it.
+    #[test]
+    fn truncates_across_a_link(rt: HostRuntime) -> Result<(), Fail> {
+        let mut events = Events::new(rt.alloc());
+        events.push(linked(None, None))?;
+        events.push(exit())?;
+        events.push(linked(None, None))?;
+        events.push(exit())?;
+        events.push(linked(None, None))?;
+        link(&mut events, 2);
+        link(&mut events, 4);
+        let before = [
+            linked(None, Some(2)),
+            exit(),
+            linked(Some(0), Some(4)),
+            exit(),
+            linked(Some(2), None),
+        ];
+        assert_eq!(rt; events.as_slice(), before.as_slice());
+        events.truncate(4);
+        let after = [linked(None, Some(2)), exit(), linked(Some(0), None), exit()];
+        assert_eq!(rt; events.as_slice(), after.as_slice());
+        events.truncate(1);
+        assert_eq!(rt;
+            events.into_vec().as_slice(),
+            [linked(None, None)].as_slice()
+        );
+        Ok(())
+    }
+
+    // An event that comes with its link back; events of another chain stand between.
+    #[test]
+    fn pushes_linked(rt: HostRuntime) -> Result<(), Fail> {
+        let mut events = Events::new(rt.alloc());
+        events.push(linked(None, None))?;
+        events.push(linked(None, None))?;
+        events.push_linked(linked(Some(0), None))?;
+        let after = [
+            linked(None, Some(2)),
+            linked(None, None),
+            linked(Some(0), None),
+        ];
+        assert_eq!(rt; events.as_slice(), after.as_slice());
+        Ok(())
     }
 }

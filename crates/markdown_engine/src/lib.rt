@@ -2,6 +2,7 @@
 #![tactic(auto)]
 
 pub mod configuration;
+pub mod content;
 pub mod cursor;
 pub mod event;
 pub mod events;

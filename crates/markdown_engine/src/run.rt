@@ -109,3 +109,6 @@ impl<'a> Tokenizer<'a> {
         Ok(())
     }
 }
+
+#[cfg(test)]
+mod tests;

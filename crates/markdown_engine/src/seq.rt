@@ -34,7 +34,7 @@ impl<T: Drop> Seq<T> {
     pub fn from_vec(items: Vec<T>) -> Seq<T>
         ensures { result ≡ items.items }
     {
-        Seq { items }
+        Self { items }
     }
 
     /// Its items.
@@ -56,7 +56,7 @@ impl<T: Drop> Seq<T> {
     pub fn is_empty(&self) -> bool
         ensures { result ≡ (length self.now == 0) }
     {
-        self.items.len() == 0
+        self.items.is_empty()
     }
 
     /// The items, lent.
@@ -94,7 +94,8 @@ impl<T: Drop> Seq<T> {
 
     /// Takes the last item off, if there is one.
     pub fn pop(&mut self) -> Option<T>
-        ensures cases { MatchOption result ((self.old ≡ []) × (self.new ≡ [])) (λ x. self.old ≡ self.new ++ x ∷ []) }
+        ensures cases { MatchOption result ((self.old ≡ []) × (self.new ≡ []))
+            (λ x. self.old ≡ self.new ++ x ∷ []) }
         ensures rest { self.new ≡ take (length self.old - 1) self.old }
     {
         self.items.pop()
@@ -141,7 +142,8 @@ impl<T: Copy> Seq<T> {
 /// Contracts see it as the list of its items, the top first, without its capacity.
 #[derive(Drop)]
 pub struct Stack<T> {
-    items: Vec<T>,
+    // the top last
+    bottom_up: Vec<T>,
 }
 
 impl<T> Model for Stack<T> {
@@ -149,7 +151,7 @@ impl<T> Model for Stack<T> {
 
     ghost Value = { List T };
 
-    ghost view = { λ s. reverse s.items.items };
+    ghost view = { λ s. reverse s.bottom_up.items };
 }
 
 impl<T: Drop> Stack<T> {
@@ -158,7 +160,7 @@ impl<T: Drop> Stack<T> {
         ensures { result ≡ [] }
     {
         Stack {
-            items: Vec::new(alloc),
+            bottom_up: Vec::new(alloc),
         }
     }
 
@@ -166,14 +168,14 @@ impl<T: Drop> Stack<T> {
     pub fn len(&self) -> usize
         ensures { result ≡ length self.now }
     {
-        self.items.len()
+        self.bottom_up.len()
     }
 
     /// Whether there is no item.
     pub fn is_empty(&self) -> bool
         ensures { result ≡ (length self.now == 0) }
     {
-        self.items.len() == 0
+        self.bottom_up.is_empty()
     }
 
     /// Puts an item on top.
@@ -183,7 +185,7 @@ impl<T: Drop> Stack<T> {
         ensures ok { OnOk result (self.new ≡ item ∷ self.old) }
         ensures err { OnErr result (self.new ≡ self.old) }
     {
-        match self.items.push(item) {
+        match self.bottom_up.push(item) {
             Ok(()) => Ok(()),
             Err(_) => Err(AllocError),
         }
@@ -191,17 +193,18 @@ impl<T: Drop> Stack<T> {
 
     /// Takes the top off, if there is one.
     pub fn pop(&mut self) -> Option<T>
-        ensures cases { MatchOption result ((self.old ≡ []) × (self.new ≡ [])) (λ x. self.old ≡ x ∷ self.new) }
+        ensures cases { MatchOption result ((self.old ≡ []) × (self.new ≡ []))
+            (λ x. self.old ≡ x ∷ self.new) }
         ensures rest { self.new ≡ drop 1 self.old }
     {
-        self.items.pop()
+        self.bottom_up.pop()
     }
 
     /// Keeps the lowest `n` items, or all if there are fewer.
     pub fn truncate(&mut self, n: usize)
         ensures { self.new ≡ drop (length self.old - n) self.old }
     {
-        self.items.truncate(n);
+        self.bottom_up.truncate(n);
     }
 
     /// Moves all that `other` holds to the top, in its order.
@@ -213,9 +216,41 @@ impl<T: Drop> Stack<T> {
         ensures err { OnErr result (self.new ≡ self.old) }
         ensures stays { OnErr result (other.new ≡ other.old) }
     {
-        match self.items.append(&mut other.items) {
+        match self.bottom_up.append(&mut other.bottom_up) {
             Ok(()) => Ok(()),
             Err(_) => Err(AllocError),
         }
+    }
+}
+
+#[cfg(test)]
+mod tests {
+    use super::*;
+    use std::test::Fail;
+
+    #[test]
+    fn grows_a_list(rt: HostRuntime) -> Result<(), Fail> {
+        let mut list = Seq::new(rt.alloc());
+        list.push(1u8)?;
+        list.extend_from_slice(&[2, 3])?;
+        assert_eq!(rt; list.as_slice(), [1, 2, 3].as_slice());
+        assert_eq!(rt; list.pop(), Some(3));
+        Ok(())
+    }
+
+    #[test]
+    fn stacks(rt: HostRuntime) -> Result<(), Fail> {
+        let mut low = Stack::new(rt.alloc());
+        low.push(1u8)?;
+        let mut high = Stack::new(rt.alloc());
+        high.push(2)?;
+        high.push(3)?;
+        low.append(&mut high)?;
+        assert!(rt; high.is_empty());
+        assert_eq!(rt; low.pop(), Some(3));
+        low.truncate(1);
+        assert_eq!(rt; low.pop(), Some(1));
+        assert_eq!(rt; low.pop(), None);
+        Ok(())
     }
 }

@@ -7,7 +7,15 @@ ghost use Rattle.markdown_engine.specs.Walk.{IsPoint, next_point, value_from};
 use crate::event::Point;
 
 /// How many columns apart tab stops are.
-const TAB_SIZE: usize = 4;
+pub(crate) const TAB_SIZE: usize = 4;
+
+/// The place before all codes of a document.
+pub(crate) const DOCUMENT_START: Point = Point {
+    line: 1,
+    column: 1,
+    index: 0,
+    vs: 0,
+};
 
 /// Answers the place after the code that begins at a place.
 ///
@@ -16,7 +24,8 @@ pub fn past_code(bytes: &[u8], point: Point) -> Point
     requires fits { length bytes.now ≤ document_limit }
     requires is_point { IsPoint bytes.now point }
     requires begins { point.index < length bytes.now }
-    ensures { result ≡ next_point bytes.now point }
+    ensures next { result ≡ next_point bytes.now point }
+    ensures is_point { IsPoint bytes.now result }
 {
     let byte = bytes[point.index];
     if byte == b'\n' || byte == b'\r' {
@@ -80,7 +89,9 @@ pub fn walk_to(bytes: &[u8], point: Point, place: (usize, usize)) -> Point
     requires is_point { IsPoint bytes.now point }
     requires is_place { IsTrue (is_place bytes.now place) }
     requires forward { IsTrue (is_at_or_after (place_of point) place) }
-    ensures { result ≡ point_at bytes.now place }
+    ensures point { result ≡ point_at bytes.now place }
+    ensures place { place_of result ≡ place }
+    ensures is_point { IsPoint bytes.now result }
 {
     let mut point = point;
     while (point.index, point.vs) != place {
@@ -97,7 +108,53 @@ pub fn move_to(bytes: &[u8], point: Point, index: usize) -> Point
     requires is_point { IsPoint bytes.now point }
     requires is_place { IsTrue (is_place bytes.now (index, 0)) }
     requires forward { IsTrue (is_at_or_after (place_of point) (index, 0)) }
-    ensures { result ≡ point_at bytes.now (index, 0) }
+    ensures point { result ≡ point_at bytes.now (index, 0) }
+    ensures place { place_of result ≡ (index, 0) }
+    ensures is_point { IsPoint bytes.now result }
 {
     walk_to(bytes, point, (index, 0))
+}
+
+#[cfg(test)]
+mod tests {
+    use super::*;
+    use crate::content::is_content;
+    use crate::parser::Piece;
+
+    // A place by its index, from the start and from a place before it.
+    #[test]
+    fn moves_to_an_index(rt: HostRuntime) {
+        let bytes = b"a\r\n\tb";
+        assert!(rt;
+            is_content(
+                bytes,
+                &[Piece {
+                    start: (0, 0),
+                    end: (3, 0)
+                }]
+            )
+        );
+        assert!(rt;
+            is_content(
+                bytes,
+                &[Piece {
+                    start: (3, 0),
+                    end: (4, 0)
+                }]
+            )
+        );
+        let tab = move_to(bytes, DOCUMENT_START, 3);
+        assert_eq!(rt; (tab.line, tab.column, tab.index, tab.vs), (2, 1, 3, 0));
+        let after = move_to(bytes, tab, 4);
+        assert_eq!(rt;
+            (after.line, after.column, after.index, after.vs),
+            (2, 5, 4, 0)
+        );
+        let inside = past_code(bytes, tab);
+        assert_eq!(rt;
+            (inside.line, inside.column, inside.index, inside.vs),
+            (2, 2, 3, 1)
+        );
+        assert_eq!(rt; code_from(bytes, inside), b' ');
+    }
 }

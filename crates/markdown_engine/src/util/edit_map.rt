@@ -113,7 +113,8 @@ fn added_by_place(alloc: Global, log: &[Edit], last: usize) -> Result<Vec<Seq<Ev
 // How many events go, from each place up to the last; a count past usize::MAX stands as usize::MAX.
 fn removed_by_place(alloc: Global, log: &[Edit], last: usize) -> Result<Vec<usize>, AllocError>
     requires { All (λ e. e.at ≤ last) log.now }
-    ensures counts { IfOk result (λ v. (i : ℕ) → slice_index_or v.items i 0 ≡ min (removed_at i log.now) (2 ^ 64 - 1)) }
+    ensures counts { IfOk result (λ v. (i : ℕ)
+        → slice_index_or v.items i 0 ≡ min (removed_at i log.now) (2 ^ 64 - 1)) }
     ensures len { IfOk result (λ v. length v.items ≡ last + 1) }
 {
     let mut removed = vec![in alloc; 0usize; last]?;
@@ -138,7 +139,8 @@ fn push_all(events: &mut Events, items: &[Event]) -> Result<(), AllocError>
 // The event, with the number of the event before on its chain looked up.
 fn renumbered(event: Event, numbers: &[usize]) -> Event
     requires { ForSome (previous_of event) (λ p. p < length numbers.now) }
-    ensures { result ≡ with_previous (option_map (λ p. slice_index numbers.now p) (previous_of event)) event }
+    ensures { result
+        ≡ with_previous (option_map (λ p. slice_index numbers.now p) (previous_of event)) event }
 {
     let Some(link) = event.link else {
         return event;
@@ -159,6 +161,82 @@ fn renumbered(event: Event, numbers: &[usize]) -> Event
 }
 
 impl EditMap {
+    /// No edit. Takes no memory.
+    pub fn new(alloc: Global) -> EditMap
+        ensures { result ≡ [] }
+    {
+        EditMap {
+            log: Seq::new(alloc),
+            alloc,
+        }
+    }
+
+    /// How many calls have added an edit.
+    pub fn len(&self) -> usize
+        ensures { result ≡ length self.now }
+    {
+        self.log.len()
+    }
+
+    /// Whether there is no edit.
+    pub fn is_empty(&self) -> bool
+        ensures { result ≡ (length self.now == 0) }
+    {
+        self.log.is_empty()
+    }
+
+    /// Removes `remove` events from the place `at` on, and puts events there, behind those that earlier
+    /// edits put there. The events carry no link.
+    ///
+    /// `Err` only if memory is refused; the edits are then as they were.
+    pub fn add(&mut self, at: usize, remove: usize, events: Vec<Event>) -> Result<(), AllocError>
+        requires { All IsUnlinked events.items }
+        ensures ok { OnOk result (self.new
+            ≡ self.old ++ (record { at = at; remove = remove; events = events.items; before = false }) ∷ []) }
+        ensures err { OnErr result (self.new ≡ self.old) }
+    {
+        self.log.push(Edit {
+            at,
+            remove,
+            events: Seq::from_vec(events),
+            before: false,
+        })?;
+        Ok(())
+    }
+
+    /// Removes `remove` events from the place `at` on, and puts events there, before those that earlier
+    /// edits put there. The events carry no link.
+    ///
+    /// `Err` only if memory is refused; the edits are then as they were.
+    pub fn add_before(
+        &mut self,
+        at: usize,
+        remove: usize,
+        events: Vec<Event>,
+    ) -> Result<(), AllocError>
+        requires { All IsUnlinked events.items }
+        ensures ok { OnOk result (self.new
+            ≡ self.old ++ (record { at = at; remove = remove; events = events.items; before = true }) ∷ []) }
+        ensures err { OnErr result (self.new ≡ self.old) }
+    {
+        self.log.push(Edit {
+            at,
+            remove,
+            events: Seq::from_vec(events),
+            before: true,
+        })?;
+        Ok(())
+    }
+
+    /// Keeps the edits of the first `n` calls, or all if there are fewer.
+    ///
+    /// The work is that of the edits that go.
+    pub fn truncate(&mut self, n: usize)
+        ensures { self.new ≡ take n self.old }
+    {
+        self.log.truncate(n);
+    }
+
     // The events after all edits.
     fn applied(&self, events: &Events) -> Result<Events, AllocError>
         requires { CanEdit self.now events.now }
@@ -196,83 +274,92 @@ impl EditMap {
         ensures err { OnErr result (events.new ≡ events.old) }
         ensures stays { OnErr result (self.new ≡ self.old) }
     {
+        if self.is_empty() {
+            return Ok(());
+        }
         let done = self.applied(events)?;
         *events = done;
         self.log.truncate(0);
         Ok(())
     }
+}
 
-    /// No edit. Takes no memory.
-    pub fn new(alloc: Global) -> EditMap
-        ensures { result ≡ [] }
+#[cfg(test)]
+mod tests {
+    use super::*;
+    use crate::event::{Content, Kind, Name, Point};
+    use std::test::Fail;
+
+    const HERE: Point = Point {
+        line: 1,
+        column: 1,
+        index: 0,
+        vs: 0,
+    };
+
+    fn linked(name: Name, previous: Option<usize>, next: Option<usize>) -> Event
+        ensures { result ≡ record {
+          kind = Kind.Enter;
+          name = name;
+          point = HERE;
+          link = Some (record { previous = previous; next = next; content = Content.String });
+        } }
     {
-        EditMap {
-            log: Seq::new(alloc),
-            alloc,
+        Event {
+            kind: Kind::Enter,
+            name,
+            point: HERE,
+            link: Some(Link {
+                previous,
+                next,
+                content: Content::String,
+            }),
         }
     }
 
-    /// How many calls have added an edit.
-    pub fn len(&self) -> usize
-        ensures { result ≡ length self.now }
+    fn plain(kind: Kind, name: Name) -> Event
+        ensures { result ≡ record { kind = kind; name = name; point = HERE; link = None } }
     {
-        self.log.len()
+        Event {
+            kind,
+            name,
+            point: HERE,
+            link: None,
+        }
     }
 
-    /// Whether there is no edit.
-    pub fn is_empty(&self) -> bool
-        ensures { result ≡ (length self.now == 0) }
-    {
-        self.log.is_empty()
-    }
-
-    /// Removes `remove` events from the place `at` on, and puts events there, behind those that earlier
-    /// edits put there. The events carry no link.
-    ///
-    /// `Err` only if memory is refused; the edits are then as they were.
-    pub fn add(&mut self, at: usize, remove: usize, events: Vec<Event>) -> Result<(), AllocError>
-        requires { All IsUnlinked events.items }
-        ensures ok { OnOk result (self.new ≡ self.old ++ (record { at = at; remove = remove; events = events.items; before = false }) ∷ []) }
-        ensures err { OnErr result (self.new ≡ self.old) }
-    {
-        self.log.push(Edit {
-            at,
-            remove,
-            events: Seq::from_vec(events),
-            before: false,
-        })?;
+    // Two linked leaves and whitespace between them, which gives way to other events.
+    #[test]
+    fn edits_at_one_place(rt: HostRuntime) -> Result<(), Fail> {
+        let alloc = rt.alloc();
+        let mut events = Events::new(alloc);
+        events.push(linked(Name::Data, None, None))?;
+        events.push(plain(Kind::Exit, Name::Data))?;
+        events.push(plain(Kind::Enter, Name::SpaceOrTab))?;
+        events.push(plain(Kind::Exit, Name::SpaceOrTab))?;
+        events.push(linked(Name::LineEnding, None, None))?;
+        events.push(plain(Kind::Exit, Name::LineEnding))?;
+        events.connect(0, 4);
+        let mut map = EditMap::new(alloc);
+        map.add(2, 1, vec![in alloc; plain(Kind::Enter, Name::Emphasis)]?)?;
+        map.add(2, 1, vec![in alloc; plain(Kind::Exit, Name::Emphasis)]?)?;
+        map.add_before(2, 0, vec![in alloc; plain(Kind::Exit, Name::Strong)]?)?;
+        map.add_before(0, 0, vec![in alloc; plain(Kind::Enter, Name::Strong)]?)?;
+        map.add(6, 0, vec![in alloc; plain(Kind::Enter, Name::Data)]?)?;
+        map.consume(&mut events)?;
+        assert!(rt; map.is_empty());
+        let after = [
+            plain(Kind::Enter, Name::Strong),
+            linked(Name::Data, None, Some(6)),
+            plain(Kind::Exit, Name::Data),
+            plain(Kind::Exit, Name::Strong),
+            plain(Kind::Enter, Name::Emphasis),
+            plain(Kind::Exit, Name::Emphasis),
+            linked(Name::LineEnding, Some(1), None),
+            plain(Kind::Exit, Name::LineEnding),
+            plain(Kind::Enter, Name::Data),
+        ];
+        assert_eq!(rt; events.as_slice(), after.as_slice());
         Ok(())
-    }
-
-    /// Removes `remove` events from the place `at` on, and puts events there, before those that earlier
-    /// edits put there. The events carry no link.
-    ///
-    /// `Err` only if memory is refused; the edits are then as they were.
-    pub fn add_before(
-        &mut self,
-        at: usize,
-        remove: usize,
-        events: Vec<Event>,
-    ) -> Result<(), AllocError>
-        requires { All IsUnlinked events.items }
-        ensures ok { OnOk result (self.new ≡ self.old ++ (record { at = at; remove = remove; events = events.items; before = true }) ∷ []) }
-        ensures err { OnErr result (self.new ≡ self.old) }
-    {
-        self.log.push(Edit {
-            at,
-            remove,
-            events: Seq::from_vec(events),
-            before: true,
-        })?;
-        Ok(())
-    }
-
-    /// Keeps the edits of the first `n` calls, or all if there are fewer.
-    ///
-    /// The work is that of the edits that go.
-    pub fn truncate(&mut self, n: usize)
-        ensures { self.new ≡ take n self.old }
-    {
-        self.log.truncate(n);
     }
 }

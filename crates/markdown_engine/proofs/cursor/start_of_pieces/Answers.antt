@@ -1,9 +1,9 @@
-use Rattle.markdown_engine.proofs.Points.{point-start}
+use Rattle.markdown_engine.proofs.Points.{point_start}
 use Rattle.markdown_engine.proofs.Follows.{first_place}
 use Rattle.markdown_engine.proofs.cursor.start_of_pieces.Goals as goal
 
 pub walk_to-requires-clause-is_point : goal.walk_to-requires-clause-is_point
-walk_to-requires-clause-is_point c = point-start c.args.bytes.now
+walk_to-requires-clause-is_point c = point_start c.args.bytes.now
 
 pub walk_to-requires-clause-is_place : goal.walk_to-requires-clause-is_place
 walk_to-requires-clause-is_place c =

@@ -9,10 +9,10 @@ past_code-point-requires-clause-begins c =
 
 pub loop-place-smaller : goal.loop-place-smaller
 loop-place-smaller c =
-    (stride_test c.args.bytes.now c.loop-place.point c.past_code-point.result c.args.place c.ne.result c.loop-place.invariant c.requires.is_place c.ne.ensures c.loop-place-test.true c.past_code-point.ensures).less
+    (stride_test c.args.bytes.now c.loop-place.point c.past_code-point.result c.args.place c.ne.result c.loop-place.invariant c.requires.is_place c.ne.ensures c.loop-place-test.true c.past_code-point.ensures.next).less
 
 pub loop-place-preserved : goal.loop-place-preserved
 loop-place-preserved c =
     let s : IsStride c.args.bytes.now c.loop-place.point c.past_code-point.result c.args.place =
-    stride_test c.args.bytes.now c.loop-place.point c.past_code-point.result c.args.place c.ne.result c.loop-place.invariant c.requires.is_place c.ne.ensures c.loop-place-test.true c.past_code-point.ensures in
+    stride_test c.args.bytes.now c.loop-place.point c.past_code-point.result c.args.place c.ne.result c.loop-place.invariant c.requires.is_place c.ne.ensures c.loop-place-test.true c.past_code-point.ensures.next in
     (s.point, s.forward)

@@ -13,7 +13,7 @@ past_code-exit-requires-clause-begins c = (at_some c.args.self.now c.self.invari
 
 pub follow-piece-requires-clause-is_point : goal.follow-piece-requires-clause-is_point
 follow-piece-requires-clause-is_point c =
-    subst (λ (x : Point). IsPoint c.self.inside.bytes.now x) (sym c.past_code-exit.ensures) (at_some c.args.self.now c.self.invariant c.self.view_is c.requires).stop
+    subst (λ (x : Point). IsPoint c.self.inside.bytes.now x) (sym c.past_code-exit.ensures.next) (at_some c.args.self.now c.self.invariant c.self.view_is c.requires).stop
 
 pub follow-piece-requires-clause-piece : goal.follow-piece-requires-clause-piece
 follow-piece-requires-clause-piece c = (at_some c.args.self.now c.self.invariant c.self.view_is c.requires).in_pieces
@@ -23,7 +23,7 @@ overflow_add-self c = omega (arith, (at_some c.args.self.now c.self.invariant c.
 
 pub invariant_of-self : goal.invariant_of-self
 invariant_of-self c =
-    cursor_next c.args.self.now c.follow-piece.result.0 c.code_from-previous.result c.follow-piece.result.1 c.past_code-exit.result c.self.invariant c.self.view_is c.requires c.code_from-previous.ensures c.past_code-exit.ensures c.follow-piece.ensures
+    cursor_next c.args.self.now c.follow-piece.result.0 c.code_from-previous.result c.follow-piece.result.1 c.past_code-exit.result c.self.invariant c.self.view_is c.requires c.code_from-previous.ensures c.past_code-exit.ensures.next c.follow-piece.ensures
 
 pub returns : goal.returns
 returns c = sym (ap moved (sym c.self.view_is) ∙ moved_is c.self.inside.bytes.now c.self.inside.pieces.now c.self.inside.passed)

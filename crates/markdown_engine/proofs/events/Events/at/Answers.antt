@@ -1,6 +1,15 @@
-use Rattle.std.proofs.Common.{arith}
-use Rattle.markdown_engine.proofs.FilledLemmas.{view-length}
+use Rattle.std.proofs.Common.{arith, ap, length}
+use Rattle.markdown_engine.proofs.ChainLemmas.{length-chained}
 use Rattle.markdown_engine.proofs.events.Events.at.Goals as goal
 
-pub at-requires : goal.at-requires
-at-requires c = omega (arith, view-length _ _ c.self.view_is)
+pub offset_bounds-as_slice-index : goal.offset_bounds-as_slice-index
+offset_bounds-as_slice-index c =
+    let size = ap length c.as_slice.ensures.events in
+    let same = length-chained 0 c.args.self.now in
+    omega arith
+
+pub bounds-as_slice-index : goal.bounds-as_slice-index
+bounds-as_slice-index c =
+    let size = ap length c.as_slice.ensures.events in
+    let same = length-chained 0 c.args.self.now in
+    omega arith

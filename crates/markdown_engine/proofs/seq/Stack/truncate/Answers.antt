@@ -14,4 +14,4 @@ reverse-take xs n =
     sym (ap (λ x. drop (length (reverse xs) - n) x) parts ∙ drop-first (reverse (drop n xs)) (reverse (take n xs)) _ size)
 
 pub returns : goal.returns
-returns g c = rw (c.truncate.ensures.items, ← c.self.view_is) (reverse-take c.self.inside.items.items c.args.n)
+returns g c = rw (c.truncate.ensures.items, ← c.self.view_is) (reverse-take c.self.inside.bottom_up.items c.args.n)

@@ -2,7 +2,7 @@ use Rattle.std.proofs.Common.{◌∙◌, ap, arith}
 use Rattle.std.specs.Option.{option_and_then}
 use Rattle.markdown_engine.specs.Nesting.{point_at}
 use Rattle.markdown_engine.proofs.NestingLemmas.{reached-start, reached-past_enter, reached-past_exit, reached-end, point-read}
-use Rattle.markdown_engine.proofs.util.position_from.from_exit_event.Goals as goal
+use Rattle.markdown_engine.proofs.util.slice.Position.from_exit_event.Goals as goal
 
 pub loop-awaited-preserved-in-Enter : goal.loop-awaited-preserved-in-Enter
 loop-awaited-preserved-in-Enter c =

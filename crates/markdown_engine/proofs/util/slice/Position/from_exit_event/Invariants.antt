@@ -1,7 +1,7 @@
 use Rattle.std.proofs.Common.{◌≡◌, ◌≤◌, ◌+◌}
 use Rattle.markdown_engine.specs.Nesting.{own_enter}
 use Rattle.markdown_engine.proofs.NestingLemmas.{reached}
-use Rattle.markdown_engine.proofs.util.position_from.from_exit_event.Given as goal
+use Rattle.markdown_engine.proofs.util.slice.Position.from_exit_event.Given as goal
 
 abbrev pub invariant-loop-awaited : goal.invariant-loop-awaited
 invariant-loop-awaited l = record {

@@ -1,0 +1,46 @@
+use Rattle.std.proofs.Common.{◌≡◌, ◌∙◌, ◌==◌, sym, refl, arith, ℕ}
+use Rattle.std.proofs.lemmas.Bool.{both_ways}
+use Rattle.markdown_engine.specs.declared.event.Point.{Point}
+use Rattle.markdown_engine.specs.Codes.{place_of}
+use Rattle.markdown_engine.proofs.Order.{is_before}
+use Rattle.markdown_engine.proofs.Reaching.{reaching-start, reaching-next, reaching-less, reaching-end, reaching-none, or-first, or-second, both-tests, not-both}
+use Rattle.markdown_engine.proofs.content.reach.Goals as goal
+use Rattle.markdown_engine.proofs.content.reach.Goals.{then-loop-stretch-test+else-is_before, else-loop-stretch-test}
+
+pub loop-stretch-init : goal.loop-stretch-init
+loop-stretch-init c = reaching-start c.args.bytes.now c.args.point c.args.place c.requires.is_point c.requires.forward
+
+pub loop-stretch-smaller-then-stretch : goal.loop-stretch-smaller-then-stretch
+loop-stretch-smaller-then-stretch c =
+    reaching-less c.args.bytes.now c.loop-stretch.stretch.point c.past_code.result c.loop-stretch.invariant.point c.loop-stretch-test.true c.past_code.ensures.next
+
+pub loop-stretch-preserved-then-stretch : goal.loop-stretch-preserved-then-stretch
+loop-stretch-preserved-then-stretch c =
+    let n : ℕ = c.code_from-ends_line.result in
+    reaching-next c.args.bytes.now c.args.point c.args.place c.loop-stretch.stretch c.past_code.result n (n == 10) c.loop-stretch.stretch.has_line_ending c.loop-stretch.invariant c.loop-stretch-test.true (sym c.is_before.ensures ∙ c.if-is_before.true) c.code_from-ends_line.ensures refl c.past_code.ensures.next (or-first c.loop-stretch.stretch.has_line_ending (n == 10) c.if-stretch.true)
+
+pub loop-stretch-smaller : goal.loop-stretch-smaller
+loop-stretch-smaller c =
+    reaching-less c.args.bytes.now c.loop-stretch.stretch.point c.past_code.result c.loop-stretch.invariant.point c.loop-stretch-test.true c.past_code.ensures.next
+
+pub loop-stretch-preserved : goal.loop-stretch-preserved
+loop-stretch-preserved c =
+    let n : ℕ = c.code_from-ends_line.result in
+    reaching-next c.args.bytes.now c.args.point c.args.place c.loop-stretch.stretch c.past_code.result n (n == 10) (n == 10) c.loop-stretch.invariant c.loop-stretch-test.true (sym c.is_before.ensures ∙ c.if-is_before.true) c.code_from-ends_line.ensures refl c.past_code.ensures.next (or-second c.loop-stretch.stretch.has_line_ending (n == 10) c.if-stretch.false)
+
+pub returns-then-eq : goal.returns-then-eq
+returns-then-eq c =
+    let p : Point = c.loop-stretch.stretch.point in
+    let same : (p.index ≡ c.args.place.0) × (p.vs ≡ c.args.place.1) = both-tests p.index p.vs c.args.place.0 c.args.place.1 c.eq.result c.eq.ensures c.if-eq.true in
+    reaching-end c.args.bytes.now c.args.point c.args.place c.loop-stretch.stretch c.loop-stretch.invariant same.0 same.1
+
+pub returns-else-eq : goal.returns-else-eq
+returns-else-eq c =
+    let p : Point = c.loop-stretch.stretch.point in
+    reaching-none c.args.bytes.now c.args.point c.args.place c.loop-stretch.stretch c.loop-stretch.invariant
+    (λ lt before.
+    elim c.loop-stretch-test.branch [
+      | then-loop-stretch-test+else-is_before w ↦ both_ways (is_before (place_of p) c.args.place) (sym w.is_before.ensures ∙ w.if-is_before.false) before
+      | else-loop-stretch-test w ↦ absurd (omega (arith, lt, w.loop-stretch-test.false))
+    ])
+    (not-both p.index p.vs c.args.place.0 c.args.place.1 c.eq.result c.eq.ensures c.if-eq.false)

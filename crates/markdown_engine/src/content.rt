@@ -1,0 +1,219 @@
+// Tests whether pieces of a document are a content, and a text.
+ghost use Rattle.std.specs.Prelude.{◌≡◌, ◌≤◌, ◌^◌, ◌&&◌, ◌||◌, ◌==◌, ◌↔◌, nat_lt, not, false, if◌then◌else◌, length, All, IsTrue, IsCharBoundary};
+ghost use Rattle.markdown_engine.specs.Codes.{place_of, is_at_or_after};
+ghost use Rattle.markdown_engine.specs.Content.{document_limit, content_of, is_text_codes, IsContent, IsTextContent, IsBetweenCharacters, are_pieces};
+ghost use Rattle.markdown_engine.specs.Checks.{Reaches, PassesPiece, PassesNext};
+ghost use Rattle.markdown_engine.specs.Walk.{IsPoint};
+
+use crate::cursor::Cursor;
+use crate::event::Point;
+use crate::parser::Piece;
+use crate::walk::{DOCUMENT_START, code_from, past_code};
+
+// A row of codes.
+#[derive(Clone, Copy)]
+struct Stretch {
+    // Where it ends.
+    point: Point,
+    // Whether a code of it is a line ending.
+    has_line_ending: bool,
+    // Whether the last code of it is a line ending.
+    ends_line: bool,
+}
+
+// Whether the first place stands before the second.
+fn is_before(place: (usize, usize), other: (usize, usize)) -> bool
+    ensures { result ≡ (nat_lt place.0 other.0 || (place.0 == other.0 && nat_lt place.1 other.1)) }
+{
+    place.0 < other.0 || (place.0 == other.0 && place.1 < other.1)
+}
+
+// Walks forward to a place, if it is one of the document.
+fn reach(bytes: &[u8], point: Point, place: (usize, usize)) -> Option<Stretch>
+    requires fits { length bytes.now ≤ document_limit }
+    requires is_point { IsPoint bytes.now point }
+    requires forward { IsTrue (is_at_or_after (place_of point) place) }
+    ensures { Reaches bytes.now point place result }
+{
+    let mut stretch = Stretch {
+        point,
+        has_line_ending: false,
+        ends_line: false,
+    };
+    while stretch.point.index < bytes.len()
+        && is_before((stretch.point.index, stretch.point.vs), place)
+    {
+        let ends_line = code_from(bytes, stretch.point) == b'\n';
+        stretch = Stretch {
+            point: past_code(bytes, stretch.point),
+            has_line_ending: stretch.has_line_ending || ends_line,
+            ends_line,
+        };
+    }
+    if (stretch.point.index, stretch.point.vs) == place {
+        Some(stretch)
+    } else {
+        None
+    }
+}
+
+// Walks forward over a piece, if it is one.
+fn pass_piece(bytes: &[u8], point: Point, piece: &Piece) -> Option<Stretch>
+    requires fits { length bytes.now ≤ document_limit }
+    requires is_point { IsPoint bytes.now point }
+    requires forward { IsTrue (is_at_or_after (place_of point) piece.now.start) }
+    ensures { PassesPiece bytes.now piece.now result }
+{
+    let start = reach(bytes, point, piece.start)?;
+    if is_before(piece.end, piece.start) {
+        return None;
+    }
+    reach(bytes, start.point, piece.end)
+}
+
+// Walks on over the piece after one that ends here, if it may follow that one.
+fn pass_next(bytes: &[u8], before: Stretch, piece: &Piece) -> Option<Stretch>
+    requires fits { length bytes.now ≤ document_limit }
+    requires is_point { IsPoint bytes.now before.point }
+    ensures { PassesNext bytes.now before.ends_line before.point piece.now result }
+{
+    if !before.ends_line {
+        return None;
+    }
+    if is_before(piece.start, (before.point.index, before.point.vs)) {
+        return None;
+    }
+    let gap = reach(bytes, before.point, piece.start)?;
+    if gap.has_line_ending {
+        return None;
+    }
+    pass_piece(bytes, gap.point, piece)
+}
+
+// Whether the pieces are in order, each a piece of the document.
+fn are_pieces(bytes: &[u8], pieces: &[Piece]) -> bool
+    requires { length bytes.now ≤ document_limit }
+    ensures { result ≡ are_pieces bytes.now pieces.now }
+{
+    let [first, rest @ ..] = pieces else {
+        return true;
+    };
+    let Some(mut last) = pass_piece(bytes, DOCUMENT_START, first) else {
+        return false;
+    };
+    for piece in rest {
+        let Some(next) = pass_next(bytes, last, piece) else {
+            return false;
+        };
+        last = next;
+    }
+    true
+}
+
+// Whether an index stands between two characters, or at an end of them.
+fn is_char_boundary(bytes: &[u8], index: usize) -> bool
+    ensures { IsTrue result ↔ IsCharBoundary bytes.now index }
+{
+    if index < bytes.len() {
+        bytes[index] < 128 || bytes[index] >= 192
+    } else {
+        index == bytes.len()
+    }
+}
+
+// Whether both ends of each piece stand between characters.
+fn are_between_characters(bytes: &[u8], pieces: &[Piece]) -> bool
+    ensures { IsTrue result ↔ All (IsBetweenCharacters bytes.now) pieces.now }
+{
+    pieces.iter().all(|piece| {
+        is_char_boundary(bytes, piece.start.0) && is_char_boundary(bytes, piece.end.0)
+    })
+}
+
+/// Whether the pieces are a content of the document.
+///
+/// The document is UTF-8 of at most `usize::MAX / 8` bytes.
+/// The ends of a piece are places of the document on character boundaries, its end not before its start.
+/// Each piece but the last ends just after a line ending, and the next one starts on the line after it.
+pub fn is_content(bytes: &[u8], pieces: &[Piece]) -> bool
+    ensures { IsTrue result ↔ IsContent bytes.now pieces.now }
+{
+    bytes.len() <= usize::MAX / 8
+        && str::from_utf8(bytes).is_ok()
+        && are_between_characters(bytes, pieces)
+        && are_pieces(bytes, pieces)
+}
+
+// Whether a line has a code that is not blank once this one is read, if `filled` says so before it.
+fn is_filled_by(filled: bool, code: u8) -> bool
+    ensures { result ≡ (if code == 10 then false else (filled || not (code == 32 || code == 9))) }
+{
+    match code {
+        b'\n' => false,
+        b' ' | b'\t' => filled,
+        _ => true,
+    }
+}
+
+// Whether no line of a content is blank, and the last one has no line ending.
+fn has_text_lines(bytes: &[u8], pieces: &[Piece]) -> bool
+    requires { IsContent bytes.now pieces.now }
+    ensures { result ≡ is_text_codes (content_of bytes.now pieces.now) }
+{
+    let mut cursor = Cursor::new(bytes, pieces);
+    let mut filled = cursor.current().is_none();
+    while let Some(code) = cursor.current() {
+        if code == b'\n' && !filled {
+            return false;
+        }
+        filled = is_filled_by(filled, code);
+        cursor.consume();
+    }
+    filled
+}
+
+/// Whether the pieces are a content of the document that is text.
+///
+/// No line of a text is blank: each has a code besides spaces and tabs. Its last line has no line ending.
+pub fn is_text(bytes: &[u8], pieces: &[Piece]) -> bool
+    ensures { IsTrue result ↔ IsTextContent bytes.now pieces.now }
+{
+    is_content(bytes, pieces) && has_text_lines(bytes, pieces)
+}
+
+#[cfg(test)]
+mod tests {
+    use super::*;
+
+    fn piece(start: (usize, usize), end: (usize, usize)) -> Piece {
+        Piece { start, end }
+    }
+
+    #[test]
+    fn tells_contents(rt: HostRuntime) {
+        let quote = b"> [a\n> ](b)";
+        assert!(rt; is_content(quote, &[]));
+        assert!(rt; is_content(quote, &[piece((2, 0), (2, 0))]));
+        assert!(rt; is_content(quote, &[piece((2, 0), (5, 0)), piece((7, 0), (11, 0))]));
+        // the first does not end a line, the second starts past its line, and the third before it
+        assert!(rt; !is_content(quote, &[piece((2, 0), (4, 0)), piece((7, 0), (11, 0))]));
+        assert!(rt; !is_content(b"a\nb\nc", &[piece((0, 0), (2, 0)), piece((4, 0), (5, 0))]));
+        assert!(rt; !is_content(quote, &[piece((7, 0), (11, 0)), piece((2, 0), (5, 0))]));
+        // inside a character, inside a CR LF, past a tab's columns, past the end, not UTF-8
+        assert!(rt; !is_content("é".as_bytes(), &[piece((1, 0), (2, 0))]));
+        assert!(rt; !is_content(b"\r\n", &[piece((0, 0), (1, 0))]));
+        assert!(rt; !is_content(b"\t", &[piece((0, 0), (0, 4))]));
+        assert!(rt; !is_content(b"a", &[piece((0, 0), (2, 0))]));
+        assert!(rt; !is_content(&[0xFF], &[]));
+    }
+
+    #[test]
+    fn tells_texts(rt: HostRuntime) {
+        assert!(rt; is_text(b"", &[]));
+        assert!(rt; is_text(b"a\nb", &[piece((0, 0), (3, 0))]));
+        assert!(rt; !is_text(b"a\n", &[piece((0, 0), (2, 0))]));
+        assert!(rt; !is_text(b"a\n\nb", &[piece((0, 0), (4, 0))]));
+        assert!(rt; !is_text(b"a\n \t\nb", &[piece((0, 0), (6, 0))]));
+        assert!(rt; !is_text(b" ", &[piece((0, 0), (1, 0))]));
+    }
+}
