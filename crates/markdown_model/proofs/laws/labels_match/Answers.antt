@@ -1,0 +1,5 @@
+use Rattle.markdown_model.proofs.LabelMatching.{labels_match}
+use Rattle.markdown_model.proofs.laws.labels_match.Goals as goal
+
+pub returns : goal.returns
+returns c = labels_match

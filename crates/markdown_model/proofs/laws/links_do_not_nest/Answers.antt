@@ -1,0 +1,5 @@
+use Rattle.markdown_model.proofs.LinkLaws.{links_do_not_nest}
+use Rattle.markdown_model.proofs.laws.links_do_not_nest.Goals as goal
+
+pub returns : goal.returns
+returns c = links_do_not_nest

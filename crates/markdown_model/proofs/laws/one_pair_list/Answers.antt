@@ -1,0 +1,5 @@
+use Rattle.markdown_model.proofs.TreeLaws.{one_pair_list}
+use Rattle.markdown_model.proofs.laws.one_pair_list.Goals as goal
+
+pub returns : goal.returns
+returns c = one_pair_list

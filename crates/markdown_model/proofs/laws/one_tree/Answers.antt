@@ -1,0 +1,5 @@
+use Rattle.markdown_model.proofs.TreeLaws.{one_tree}
+use Rattle.markdown_model.proofs.laws.one_tree.Goals as goal
+
+pub returns : goal.returns
+returns c = one_tree

@@ -1,0 +1,5 @@
+use Rattle.markdown_model.proofs.PairFacts.{pairs_are_sound}
+use Rattle.markdown_model.proofs.laws.pairs_are_sound.Goals as goal
+
+pub returns : goal.returns
+returns c = pairs_are_sound

@@ -1,0 +1,126 @@
+-- From elements to a tree: labels, merging, trimming and emails, each of a whole row and all inside it.
+use Rattle.std.specs.Prelude.{Bool, true, false, ◌&&◌, ◌||◌, nat_le, List, [], ◌∷◌, ◌++◌, length, take, drop, reverse, map, Option, Some, None}
+use Rattle.std.specs.List.{list_all}
+use Rattle.markdown_engine.specs.declared.event.Name.{Name}
+use Rattle.markdown_engine.specs.declared.tokenizer.LabelKind.{LabelKind}
+use Rattle.markdown_engine.specs.Codes.{Code, is_blank, stop_of, document_start}
+use Rattle.markdown_engine.specs.Tree.{Forest, empty, leaf_then, group_then, leaf, ◌⊕◌, group, text_group, start_of}
+use Rattle.markdown_model.specs.CodeTests.{is_real_space}
+use Rattle.markdown_model.specs.Grammar.{span}
+use Rattle.markdown_model.specs.Email.{with_emails}
+use Rattle.markdown_model.specs.LabelEnd.{Element, plain, starts, ends}
+use Rattle.markdown_model.specs.Groups.{Bracketed, item, opens, closes, nested, joined, loose}
+
+-- Labels: a group for each start and the end that it succeeds with; other starts and ends are data.
+
+abbrev pub Start : Type 0
+Start = LabelKind × List Code
+
+abbrev pub End : Type 0
+End = List Code × Option (LabelKind × Forest)
+
+abbrev pub as_bracket : Element → Bracketed Start End Forest
+as_bracket (plain t) = item t
+as_bracket (starts kind marker) = opens (kind, marker)
+as_bracket (ends marker outcome) = closes (marker, outcome)
+
+-- the marker of a start; the caret of a footnote that is not defined belongs to the text
+abbrev pub start_marker : LabelKind → List Code → List Code
+start_marker LabelKind.GfmUndefinedFootnote cs = take 1 cs
+start_marker _ cs = cs
+
+abbrev pub start_tree : LabelKind → List Code → Forest
+start_tree LabelKind.Image cs = group Name.LabelImage (leaf Name.LabelImageMarker (take 1 cs) ⊕ leaf Name.LabelMarker (drop 1 cs))
+start_tree LabelKind.GfmFootnote cs = group Name.GfmFootnoteCallLabel (leaf Name.LabelMarker (take 1 cs) ⊕ leaf Name.GfmFootnoteCallMarker (drop 1 cs))
+start_tree _ cs = group Name.LabelLink (leaf Name.LabelMarker cs)
+
+abbrev pub label_name : LabelKind → Name
+label_name LabelKind.Image = Name.Image
+label_name LabelKind.GfmFootnote = Name.GfmFootnoteCall
+label_name _ = Name.Link
+
+-- the text begins where the start ends, and ends at the `]`, also where it is empty
+abbrev pub label_group : LabelKind → List Code → Forest → List Code → Forest → Forest
+label_group kind marker inside back tail =
+    let front = start_marker kind marker in
+    let caret = drop (length front) marker in
+    group (label_name kind) (group Name.Label
+    (start_tree kind front
+    ⊕ text_group Name.LabelText (stop_of document_start front) (start_of back) (leaf Name.Data caret ⊕ inside)
+    ⊕ group Name.LabelEnd (leaf Name.LabelMarker back))
+    ⊕ tail)
+
+abbrev pub loose_start : Start → List Forest
+loose_start start = loose start.1
+
+abbrev pub loose_end : End → List Forest
+loose_end end = loose end.0
+
+-- a start, the trees inside it, and its end
+abbrev pub labelled : Start → List Forest → End → List Forest
+labelled start inside end =
+    elim (end.1) [
+      | None ↦ loose_start start ++ inside ++ loose_end end
+      | Some outcome ↦ label_group outcome.0 start.1 (joined inside) end.0 outcome.1 ∷ []
+    ]
+
+unfoldable pub labels_of : List Element → Forest
+labels_of es = joined (nested labelled loose_start loose_end (map as_bracket es))
+
+-- Merging: neighbouring data without a link become one.
+
+abbrev pub data_onto : List Code → Forest → Forest
+data_onto cs (leaf_then Name.Data None more rest) = leaf_then Name.Data None (cs ++ more) rest
+data_onto cs rest = leaf_then Name.Data None cs rest
+
+unfoldable pub merged : Forest → Forest
+merged empty = empty
+merged (leaf_then Name.Data None cs rest) = data_onto cs (merged rest)
+merged (leaf_then name link cs rest) = leaf_then name link cs (merged rest)
+merged (group_then name enter exit inside rest) = group_then name enter exit (merged inside) (merged rest)
+
+-- Trimming (CommonMark 6.7 and 6.8): data beside a line ending loses its blank codes there, and so do, in
+-- a text, the first and the last of the whole. Two or more spaces before a line ending are a hard break;
+-- here blank codes with a tab among them are none. Neighbours are those of the merged tree.
+
+abbrev pub begins_line_ending : Forest → Bool
+begins_line_ending (leaf_then Name.LineEnding link cs rest) = true
+begins_line_ending _ = false
+
+abbrev pub is_nothing : Forest → Bool
+is_nothing empty = true
+is_nothing _ = false
+
+abbrev pub blank_name : Bool → List Code → Name
+blank_name hard cs = elim ((hard && nat_le 2 (length cs)) && list_all is_real_space cs) [ true ↦ Name.HardBreakTrailing | false ↦ Name.SpaceOrTab ]
+
+-- the leaves of a data that loses its blank codes in front, at its back, or both, the back first; `hard`
+-- says that those at its back may be a hard break
+abbrev pub trimmed_data : Bool → Bool → Bool → List Code → Forest
+trimmed_data front back hard cs =
+    let cut : List Code × List Code = elim back [ true ↦ span is_blank (reverse cs) | false ↦ ([], reverse cs) ] in
+    let kept = reverse cut.1 in
+    let lead : List Code × List Code = elim front [ true ↦ span is_blank kept | false ↦ ([], kept) ] in
+    leaf Name.SpaceOrTab lead.0 ⊕ leaf Name.Data lead.1 ⊕ leaf (blank_name hard (reverse cut.0)) (reverse cut.0)
+
+-- `front` says that a line ending or the whole's start stands before, `whole` that the whole's end is
+-- trimmed too
+module _ (hard : Bool) where
+  unfoldable pub trimmed : Bool → Bool → Forest → Forest
+  trimmed front whole empty = empty
+  trimmed front whole (leaf_then Name.Data None cs rest) =
+      trimmed_data front (begins_line_ending rest || (whole && is_nothing rest)) (hard && begins_line_ending rest) cs
+      ⊕ trimmed false whole rest
+  trimmed front whole (leaf_then Name.LineEnding link cs rest) = leaf_then Name.LineEnding link cs (trimmed true whole rest)
+  trimmed front whole (leaf_then name link cs rest) = leaf_then name link cs (trimmed false whole rest)
+  trimmed front whole (group_then name enter exit inside rest) =
+      group_then name enter exit (trimmed false false inside) (trimmed false whole rest)
+
+-- Emails: in data without a link, outside links.
+
+unfoldable pub mailed : Forest → Forest
+mailed empty = empty
+mailed (leaf_then Name.Data None cs rest) = with_emails cs ⊕ mailed rest
+mailed (leaf_then name link cs rest) = leaf_then name link cs (mailed rest)
+mailed (group_then Name.Link enter exit inside rest) = group_then Name.Link enter exit inside (mailed rest)
+mailed (group_then name enter exit inside rest) = group_then name enter exit (mailed inside) (mailed rest)

@@ -1,0 +1,159 @@
+-- What stands after a label: reference labels, and resources with a destination and a title.
+use Rattle.std.specs.Prelude.{ℕ, zero, suc, ◌-◌, Bool, true, false, ◌&&◌, ◌||◌, not, nat_lt, nat_le, ◌==◌, List, [], ◌∷◌, ◌++◌, codes, Some, None}
+use Rattle.std.specs.Str.{byte}
+use Rattle.std.specs.List.{list_any}
+use Rattle.markdown_engine.specs.Codes.{Code, is_line_ending, is_blank}
+use Rattle.markdown_engine.specs.Content.{has_no_blank_line}
+use Rattle.markdown_engine.specs.Tree.{Forest, empty, ◌⊕◌, leaf, leaf_then, group_then, linked, group}
+use Rattle.markdown_engine.specs.declared.event.Name.{Name}
+use Rattle.markdown_engine.specs.declared.event.Content.{Content}
+use Rattle.markdown_model.specs.CodeTests.{is_value, is_among, is_empty, next_is, is_whitespace_code, is_control}
+use Rattle.markdown_model.specs.Grammar.{Reading, ◌>>=◌, ◌>>◌, gives, either, provided, if_next, one, before, with_first, up_to, optional_tree}
+use Rattle.markdown_model.specs.Lines.{lines}
+use Rattle.markdown_model.specs.Whitespace.{spacing}
+
+-- Texts between two markers.
+
+-- the names of a text with its markers
+pub record StringNames : Type 0 where
+  pub whole : Name
+  pub marker : Name
+  pub text : Name
+
+abbrev pub reference_names : StringNames
+reference_names = record { whole = Name.Reference; marker = Name.ReferenceMarker; text = Name.ReferenceString }
+
+abbrev pub title_names : StringNames
+title_names = record { whole = Name.ResourceTitle; marker = Name.ResourceTitleMarker; text = Name.ResourceTitleString }
+
+-- the group of a text, absent where the text is empty
+abbrev pub string_group : Name → Forest → Forest
+string_group name empty = empty
+string_group name (leaf_then n l c r) = group name (leaf_then n l c r)
+string_group name (group_then n a b i r) = group name (group_then n a b i r)
+
+-- its lines are one chain of linked leaves, to be read as a string
+abbrev pub between_markers : StringNames → List Code → List Code → List Code → Forest
+between_markers names front text back =
+    group names.whole (leaf names.marker front
+    ⊕ string_group names.text (lines Name.Data (Some Content.String) text)
+    ⊕ leaf names.marker back)
+
+-- Labels (CommonMark 6.3, link label): `[` up to the first `]` that is not escaped, with no bare `[`
+-- inside, at least one code that is no whitespace, and at most 999 codes. Here line endings and the
+-- blank codes after them do not count to the 999. A blank line cannot stand inside.
+
+-- how many codes count; `indent` says that a line ending and blank codes alone stand before on the line
+abbrev pub counted : Bool → List Code → ℕ
+counted indent [] = 0
+counted indent (c ∷ cs) =
+    elim (is_line_ending c) [
+      | true ↦ counted true cs
+      | false ↦ elim (indent && is_blank c) [ true ↦ counted true cs | false ↦ suc (counted false cs) ]
+    ]
+
+unfoldable pub label : StringNames → Reading Forest
+label names = do
+  front ← one (is_value (byte "["))
+  text ← up_to (is_value (byte "]")) (is_among (codes "[\\]")) (is_value (byte "["))
+  provided (list_any (λ c. not (is_whitespace_code c)) text)
+  provided (nat_le (counted false text) 999)
+  back ← one (is_value (byte "]"))
+  provided (has_no_blank_line true (text ++ back))
+  gives (between_markers names front text back)
+
+-- Titles (CommonMark 6.3, link title): between two `"`, two `'`, or `(` and `)`, up to the first closer
+-- that is not escaped; no blank line. Here a bare `(` may stand between parentheses.
+
+unfoldable pub title_between : ℕ → ℕ → StringNames → Reading Forest
+title_between opener closer names = do
+  front ← one (is_value opener)
+  text ← up_to (is_value closer) (is_among (byte "\\" ∷ closer ∷ [])) (λ c. false)
+  back ← one (is_value closer)
+  provided (has_no_blank_line true (text ++ back))
+  gives (between_markers names front text back)
+
+unfoldable pub title : StringNames → Reading Forest
+title names = either (title_between (byte "\"") (byte "\"") names) (either (title_between (byte "'") (byte "'") names) (title_between (byte "(") (byte ")") names))
+
+-- Destinations (CommonMark 6.3, link destination).
+
+-- the names of a destination
+pub record DestinationNames : Type 0 where
+  pub whole : Name
+  pub literal : Name
+  pub marker : Name
+  pub raw : Name
+  pub text : Name
+
+abbrev pub resource_names : DestinationNames
+resource_names = record { whole = Name.ResourceDestination; literal = Name.ResourceDestinationLiteral; marker = Name.ResourceDestinationLiteralMarker; raw = Name.ResourceDestinationRaw; text = Name.ResourceDestinationString }
+
+-- `<` up to the first `>` that is not escaped, with no line ending and no bare `<`
+unfoldable pub literal_destination : DestinationNames → Reading Forest
+literal_destination names = do
+  front ← one (is_value (byte "<"))
+  text ← up_to (is_value (byte ">")) (is_among (codes "<>\\")) (λ c. is_value (byte "<") c || is_line_ending c)
+  back ← one (is_value (byte ">"))
+  gives (group names.whole (group names.literal
+      (leaf names.marker front ⊕ string_group names.text (linked Name.Data text) ⊕ leaf names.marker back)))
+
+-- The codes of a raw destination from here on: up to whitespace, the end, or a `)` that closes no `(` of
+-- it. Parentheses are balanced, unless they are escaped, and nest at most `max` deep; no control stands
+-- inside. `depth` of them are open here; `slash` says that a backslash stands before that is not escaped.
+unfoldable pub raw_from : ℕ → Bool → ℕ → Reading (List Code)
+raw_from max slash depth [] = elim depth [ zero ↦ Some ([], []) | suc d ↦ None ]
+raw_from max slash depth (c ∷ cs) =
+    elim (slash && is_among (codes "()\\") c) [
+      | true ↦ with_first c (raw_from max false depth cs)
+      | false ↦ elim (is_whitespace_code c || (is_value (byte ")") c && depth == 0)) [
+        | true ↦ elim depth [ zero ↦ Some ([], c ∷ cs) | suc d ↦ None ]
+        | false ↦ elim (is_control c) [
+          | true ↦ None
+          | false ↦ elim (is_value (byte "(") c) [
+            | true ↦ elim (nat_lt depth max) [ true ↦ with_first c (raw_from max false (suc depth) cs) | false ↦ None ]
+            | false ↦ elim (is_value (byte ")") c) [
+              | true ↦ with_first c (raw_from max false (depth - 1) cs)
+              | false ↦ with_first c (raw_from max (is_value (byte "\\") c) depth cs)
+            ]
+          ]
+        ]
+      ]
+    ]
+
+unfoldable pub raw_destination : ℕ → DestinationNames → Reading Forest
+raw_destination max names = do
+  text ← raw_from max false 0
+  provided (not (is_empty text))
+  gives (group names.whole (group names.raw (group names.text (linked Name.Data text))))
+
+-- a destination that begins with `<` is never raw
+unfoldable pub destination : ℕ → DestinationNames → Reading Forest
+destination max names = if_next (is_value (byte "<")) (literal_destination names) (raw_destination max names)
+
+-- Resources (CommonMark 6.3, inline link): in parentheses a destination, and a title apart from it, both
+-- optional, with whitespace around them. Here parentheses of a destination nest at most 32 deep.
+
+abbrev pub begins_title : List Code → Bool
+begins_title cs = next_is (is_among (codes "\"'(")) cs
+
+unfoldable pub spaced_title : Reading Forest
+spaced_title = do
+  space ← before (spacing None) begins_title
+  text ← title title_names
+  back ← optional_tree (spacing None)
+  gives (space ⊕ text ⊕ back)
+
+unfoldable pub destination_and_title : Reading Forest
+destination_and_title = do
+  target ← destination 32 resource_names
+  after ← either spaced_title (optional_tree (spacing None))
+  gives (target ⊕ after)
+
+unfoldable pub resource : Reading Forest
+resource = do
+  front ← one (is_value (byte "("))
+  space ← optional_tree (spacing None)
+  inside ← if_next (is_value (byte ")")) (gives empty) destination_and_title
+  back ← one (is_value (byte ")"))
+  gives (group Name.Resource (leaf Name.ResourceMarker front ⊕ space ⊕ inside ⊕ leaf Name.ResourceMarker back))

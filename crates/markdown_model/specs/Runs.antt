@@ -1,0 +1,70 @@
+-- Runs of markers, and whether they may open and close emphasis (CommonMark 6.2; GFM 6.5).
+use Rattle.std.specs.Prelude.{ℕ, Bool, true, false, ◌&&◌, ◌||◌, not, ◌==◌, List, [], ◌∷◌, ◌++◌, Option, Some, None}
+use Rattle.std.specs.Str.{byte}
+use Rattle.markdown_engine.specs.declared.event.Name.{Name}
+use Rattle.markdown_engine.specs.Codes.{Code, stop_of}
+use Rattle.markdown_engine.specs.Tree.{Forest, empty, leaf_then, group_then}
+use Rattle.markdown_util.specs.Neighbours.{class_of, before_index, after_index}
+use Rattle.markdown_util.specs.declared.util.char.Kind.{Kind}
+use Rattle.markdown_model.specs.Literal.{is_other}
+use Rattle.markdown_model.specs.Setting.{Setting}
+
+-- A run of equal markers, and whether it may open and may close.
+pub record Run : Type 0 where
+  pub codes : List Code
+  pub may_open : Bool
+  pub may_close : Bool
+
+abbrev pub marker_of : List Code → ℕ
+marker_of [] = 0
+marker_of (c ∷ cs) = c.value
+
+abbrev pub is_punctuation_class : Kind → Bool
+is_punctuation_class Kind.Punctuation = true
+is_punctuation_class _ = false
+
+-- Here `*` and `_` also open and close beside another marker.
+abbrev pub is_beside_marker : Setting → ℕ → Option ℕ → Bool
+is_beside_marker s marker None = false
+is_beside_marker s marker (Some c) =
+    not (marker == byte "~") && ((c == byte "*" || c == byte "_") || (c == byte "~" && s.options.constructs.gfm_strikethrough))
+
+-- Left-flanking by the characters before a run and after it, and, with these exchanged, right-flanking.
+abbrev pub is_flanking : Setting → ℕ → Option ℕ → Option ℕ → Bool
+is_flanking s marker b a =
+    (is_other (class_of a) || (is_punctuation_class (class_of a) && not (is_other (class_of b)))) || is_beside_marker s marker a
+
+-- The characters beside a run are those of the document, left-out bytes included. A run that may both
+-- open and close by them may do so as `_` only beside a character that is not of class other.
+unfoldable pub run_of : Setting → List Code → Run
+run_of s [] = record { codes = []; may_open = false; may_close = false }
+run_of s (c ∷ cs) =
+    let b = before_index s.bytes c.start.index in
+    let a = after_index s.bytes (stop_of c.stop cs).index in
+    let left = is_flanking s c.value b a in
+    let right = is_flanking s c.value a b in
+    record {
+      codes = c ∷ cs;
+      may_open = left && (not (c.value == byte "_") || (not (is_other (class_of b)) || not right));
+      may_close = right && (not (c.value == byte "_") || (not (is_other (class_of a)) || not left));
+    }
+
+-- Containers: the whole content, and the text of each label. Each is a row of the tree of labels, and
+-- runs of different rows do not pair.
+
+-- the runs that stand in a row, in order
+unfoldable pub runs_of : Setting → Forest → List Run
+runs_of s empty = []
+runs_of s (leaf_then Name.AttentionSequence link cs rest) = run_of s cs ∷ runs_of s rest
+runs_of s (leaf_then name link cs rest) = runs_of s rest
+runs_of s (group_then name enter exit inside rest) = runs_of s rest
+
+-- the runs of each row inside a row
+unfoldable pub rows_inside : Setting → Forest → List (List Run)
+rows_inside s empty = []
+rows_inside s (leaf_then name link cs rest) = rows_inside s rest
+rows_inside s (group_then name enter exit inside rest) = (runs_of s inside ∷ rows_inside s inside) ++ rows_inside s rest
+
+-- the runs of each row; rows that are no containers have none
+unfoldable pub containers_of : Setting → Forest → List (List Run)
+containers_of s tree = runs_of s tree ∷ rows_inside s tree
