@@ -1,0 +1,11 @@
+pub mod StringItems
+pub mod Onto
+pub mod LineEdges
+pub mod StringSteps
+pub mod Layer
+pub mod Laws
+pub mod Words
+pub mod Resolve
+pub mod Settings
+pub mod Statuses
+pub mod Construct

@@ -1,0 +1,71 @@
+-- What the states of a string do, and how runs from them end.
+use Rattle.std.specs.Prelude.{◌≡◌, ◌≢◌, ℕ, Bool, true, false, ◌==◌, if◌then◌else◌, List, [], ◌∷◌, Option, Some, None}
+use Rattle.markdown_engine.specs.Ops.{attempted, scratched, registered, current_of, ahead}
+use Rattle.markdown_engine.specs.Past.{past}
+use Rattle.markdown_engine.specs.Runs.{Stepped, stepped}
+use Rattle.markdown_engine.specs.Tree.{Forest}
+use Rattle.markdown_engine.specs.declared.resolve.ResolveName.TheVariants as R
+use Rattle.markdown_engine.specs.declared.state.State.TheVariants.{Next, Retry, Ok, Nok}
+use Rattle.markdown_engine.specs.declared.state.StateName.TheVariants.{CharacterEscapeStart, DataStart, StringBefore, StringBeforeData}
+use Rattle.markdown_engine.specs.declared.tokenizer.Tokenizer.{Tokenizer}
+use Rattle.markdown_leaf.specs.CharacterEscape.{is_on, escape_here}
+use Rattle.markdown_partial.specs.Merge.{HasData}
+use Rattle.markdown_inline.specs.Onto.{merged_onto}
+use Rattle.markdown_inline.specs.StringItems.{Item, AreItems, items_row}
+
+-- the codes at which data stops: `&` and the backslash
+abbrev pub string_markers : List ℕ
+string_markers = 38 ∷ 92 ∷ []
+
+abbrev pub string_marked : Tokenizer → Tokenizer
+string_marked T = scratched (record T.tokenize_state { markers = string_markers }) T
+
+abbrev pub start_step : Tokenizer → Stepped
+start_step T = stepped (Retry StringBefore) (string_marked T)
+
+-- with the passes of a string registered
+abbrev pub string_passed : Tokenizer → Tokenizer
+string_passed T = registered R.String (registered R.Data T)
+
+-- by the current code
+abbrev pub before_at : Option ℕ → Tokenizer → Stepped
+before_at None T = stepped Ok (string_passed T)
+before_at (Some c) T =
+    if c == 92
+    then stepped (Retry CharacterEscapeStart) (attempted false (Next StringBefore) (Next StringBeforeData) T)
+    else stepped (Retry StringBeforeData) T
+
+abbrev pub before_step : Tokenizer → Stepped
+before_step T = before_at (current_of T) T
+
+abbrev pub before_data_step : Tokenizer → Stepped
+before_data_step T = stepped (Retry DataStart) (attempted false (Next StringBefore) Nok T)
+
+-- When they may be called.
+
+abbrev pub BeforeReady : Tokenizer → Type 0
+BeforeReady T = T.tokenize_state.markers ≡ string_markers
+
+-- a code stands at the place, and no escape
+pub record BeforeDataReady (T : Tokenizer) : Type 0 where
+  pub marked : T.tokenize_state.markers ≡ string_markers
+  pub some_code : current_of T ≢ None
+  pub no_escape : escape_here T (ahead T) ≡ None
+
+-- How runs end.
+
+-- the codes from T on are these items, and U is T past a row that merges to the row of the items
+pub record BeforeEnd (T U : Tokenizer) : Type 0 where
+  pub items : List Item
+  pub tree : Forest
+  pub are_items : AreItems (is_on T) items (ahead T)
+  pub reads_as : (m : Forest) → merged_onto tree m ≡ merged_onto (items_row items) m
+  pub has_data : HasData tree
+  pub left : U ≡ string_passed (past None tree T)
+
+abbrev pub before_ends : Tokenizer → Bool → Tokenizer → Type 0
+before_ends T true U = BeforeEnd T U
+before_ends T false U = ⊥
+
+abbrev pub start_ends : Tokenizer → Bool → Tokenizer → Type 0
+start_ends T ok U = before_ends (string_marked T) ok U

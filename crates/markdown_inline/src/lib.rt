@@ -1,0 +1,12 @@
+//! Markdown's inline layer whole: its states and passes by name, its runs, and the program. The modules of the constructs stand here under their paths.
+#![tactic(auto)]
+
+pub mod program;
+pub mod resolve;
+pub mod run;
+pub mod state;
+pub mod string;
+
+pub use markdown_leaf::character_escape;
+pub use markdown_partial::partial_data;
+pub use markdown_util::util;

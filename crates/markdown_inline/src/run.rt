@@ -1,0 +1,100 @@
+//! Runs over a content.
+ghost use Rattle.std.specs.Prelude.{◌≡◌, ◌-◌, ◌≤◌, IsUtf8, false, true, [], ◌∷◌, take, drop, length, IfOk, IsErr, OnErr, IsTrue};
+ghost use Rattle.markdown_inline.specs.Construct.{IsConstruct, construct_reading, ReadsOrStays};
+ghost use Rattle.markdown_engine.specs.Content.{IsContent, content_of, document_limit};
+ghost use Rattle.markdown_inline.specs.LineEdges.{has_bare_line_endings};
+ghost use Rattle.markdown_inline.specs.Settings.{setting_of};
+ghost use Rattle.markdown_model.specs.Inline.{string_events};
+
+use crate::state::Inline;
+use markdown_engine::cursor::Cursor;
+use markdown_engine::event::Event;
+use markdown_engine::parser::ParseState;
+pub use markdown_engine::parser::Piece;
+use markdown_engine::state::StateName;
+use markdown_engine::tokenizer::Tokenizer;
+use std::alloc::{AllocError, Global};
+
+/// What a run finds.
+#[derive(Debug, Drop)]
+pub struct Run {
+    /// The events of the content's inline tree, in order.
+    pub events: Vec<Event>,
+    /// The number of looks at a run of markers as a possible opener of one closer.
+    pub probes: u128,
+}
+
+// The piece of a whole document, which is a content.
+pub(crate) fn whole_document(bytes: &[u8]) -> Piece
+    requires text { IsUtf8 bytes.now }
+    requires fits { length bytes.now ≤ document_limit }
+    ensures { IsContent bytes.now (result ∷ []) }
+{
+    Piece {
+        start: (0, 0),
+        end: (bytes.len(), 0),
+    }
+}
+
+/// The events of the inline tree of a content that is read as a string: of its escapes, character references and data.
+///
+/// The error comes only where memory is refused.
+pub fn string(alloc: Global, parse_state: &ParseState, pieces: &[Piece]) -> Result<Run, AllocError>
+    requires { IsContent parse_state.now.bytes.now pieces.now }
+    ensures events { parse_state.now.options.now.constructs.character_reference ≡ false → has_bare_line_endings (content_of parse_state.now.bytes.now pieces.now) ≡ true → IfOk result (λ run. run.events.items ≡ string_events (setting_of parse_state.now) pieces.now) }
+    ensures probes { IfOk result (λ run. run.probes ≡ 0) }
+{
+    let mut tokenizer = Tokenizer::new(alloc, parse_state, pieces);
+    let _ = tokenizer.run_state::<Inline>(StateName::StringStart)?;
+    tokenizer.resolve_all::<Inline>()?;
+    let probes = tokenizer.tokenize_state.probes;
+    Ok(Run {
+        events: tokenizer.events.into_vec(),
+        probes,
+    })
+}
+
+// Puts back events, edits, open names and place.
+fn put_back<'a>(
+    tokenizer: &mut Tokenizer<'a>,
+    events_len: usize,
+    map_len: usize,
+    stack_len: usize,
+    cursor: Cursor<'a>,
+)
+    ensures { tokenizer.new ≡ record tokenizer.old { events = take events_len tokenizer.old.events; map = take map_len tokenizer.old.map; stack = drop (length tokenizer.old.stack - stack_len) tokenizer.old.stack; cursor = cursor.entry } }
+{
+    tokenizer.events.truncate(events_len);
+    tokenizer.map.truncate(map_len);
+    tokenizer.stack.truncate(stack_len);
+    tokenizer.cursor = cursor;
+}
+
+/// Reads one construct at the tokenizer's place, by the name of the state that starts it: `CharacterEscapeStart` or `DataStart`, which
+/// takes the bytes at which it stops from the scratch field `markers`, and holds everywhere.
+///
+/// Where the construct holds, its events are appended, and the tokenizer stands at its end; otherwise it is as before. The scratch fields are
+/// as before in either case. The error comes where a growth is refused; then `failed` is true. It comes at once where `failed` is true already.
+pub fn construct(name: StateName, tokenizer: &mut Tokenizer) -> Result<bool, AllocError>
+    requires construct { IsConstruct name }
+    requires alone { tokenizer.old.attempts ≡ [] }
+    ensures reads { IfOk result (λ ok. ReadsOrStays (construct_reading name tokenizer.old) tokenizer.old ok tokenizer.new) }
+    ensures failed { IsTrue tokenizer.old.failed → IsErr result }
+    ensures err { OnErr result (IsTrue tokenizer.new.failed) }
+{
+    if tokenizer.failed() {
+        return Err(AllocError);
+    }
+    let events_len = tokenizer.events.len();
+    let map_len = tokenizer.map.len();
+    let stack_len = tokenizer.stack.len();
+    let cursor = tokenizer.cursor.save();
+    let held = tokenizer.run_state::<Inline>(name)?;
+    if !held {
+        put_back(tokenizer, events_len, map_len, stack_len, cursor);
+    }
+    Ok(held)
+}
+
+#[cfg(test)]
+mod tests;

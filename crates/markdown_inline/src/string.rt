@@ -1,0 +1,70 @@
+//! String content: escapes, character references and data.
+#![tactic(auto, using(markdown_engine::proofs::OpRules::op_rules))]
+
+ghost use Rattle.std.specs.Prelude.{◌≡◌, IfOk, OnErr, IsTrue, None};
+ghost use Rattle.markdown_inline.specs.StringSteps.{start_step, before_step, before_data_step};
+
+use markdown_engine::resolve::ResolveName;
+use markdown_engine::state::{State, StateName};
+use markdown_engine::subtokenize::Subresult;
+use markdown_engine::tokenizer::{Markers, Tokenizer};
+use std::alloc::AllocError;
+
+// The bytes at which data of a string stops.
+const MARKERS: [u8; 2] = [b'&', b'\\'];
+
+/// At the start of a string.
+///
+/// The error comes where a growth is refused; then `failed` is true.
+#[tactic(auto, using(markdown_engine::proofs::OpRules::op_rules), unfolding(markdown_engine::specs::Ops::scratched))]
+pub fn start(tokenizer: &mut Tokenizer) -> Result<State, AllocError>
+    ensures ok { IfOk result (λ s. start_step tokenizer.old ≡ record { state = s; left = tokenizer.new }) }
+    ensures err { OnErr result (IsTrue tokenizer.new.failed) }
+{
+    tokenizer.tokenize_state.markers = Markers::new(&MARKERS);
+    Ok(State::Retry(StateName::StringBefore))
+}
+
+/// Before an element of the string, or at its end.
+///
+/// The error comes where a growth is refused; then `failed` is true.
+pub fn before(tokenizer: &mut Tokenizer) -> Result<State, AllocError>
+    ensures ok { IfOk result (λ s. before_step tokenizer.old ≡ record { state = s; left = tokenizer.new }) }
+    ensures err { OnErr result (IsTrue tokenizer.new.failed) }
+{
+    match tokenizer.current() {
+        None => {
+            tokenizer.register_resolver(ResolveName::Data)?;
+            tokenizer.register_resolver(ResolveName::String)?;
+            Ok(State::Ok)
+        }
+        Some(b'\\') => {
+            tokenizer.attempt(
+                State::Next(StateName::StringBefore),
+                State::Next(StateName::StringBeforeData),
+            )?;
+            Ok(State::Retry(StateName::CharacterEscapeStart))
+        }
+        _ => Ok(State::Retry(StateName::StringBeforeData)),
+    }
+}
+
+/// Before data of the string.
+///
+/// The error comes where a growth is refused; then `failed` is true.
+pub fn before_data(tokenizer: &mut Tokenizer) -> Result<State, AllocError>
+    ensures ok { IfOk result (λ s. before_data_step tokenizer.old ≡ record { state = s; left = tokenizer.new }) }
+    ensures err { OnErr result (IsTrue tokenizer.new.failed) }
+{
+    tokenizer.attempt(State::Next(StateName::StringBefore), State::Nok)?;
+    Ok(State::Retry(StateName::DataStart))
+}
+
+/// After the run over a string: nothing is left to settle.
+pub fn resolve(tokenizer: &mut Tokenizer) -> Result<Option<Subresult>, AllocError>
+    ensures none { IfOk result (λ r. r ≡ None) }
+    ensures same { tokenizer.new ≡ tokenizer.old }
+    ensures err { OnErr result (IsTrue tokenizer.new.failed) }
+{
+    Ok(None)
+}

@@ -1,0 +1,242 @@
+-- The laws of the states of a character reference.
+use Rattle.std.proofs.Common.{◌≡◌, ◌≢◌, ℕ, ◌+◌, ◌≤◌, ◌==◌, ◌&&◌, ◌||◌, nat_lt, Bool, true, false, List, [], ◌∷◌, ◌++◌, drop, refl, sym, ap, subst, ◌∙◌, arith, append-nil, inl, inr}
+use Rattle.std.specs.Prelude.{codes}
+use Rattle.markdown_engine.specs.Codes.{Code}
+use Rattle.markdown_engine.specs.Lists.{rest_of}
+use Rattle.markdown_engine.specs.Ops.{Op, Consume, applied, current_of, ahead, done, scratched}
+use Rattle.markdown_engine.specs.Runs.{Stepped, GoesOn, stepped}
+use Rattle.markdown_engine.specs.Weights.{weight_at}
+use Rattle.markdown_engine.specs.declared.event.Name.{Name}
+use Rattle.markdown_engine.specs.declared.event.Name.TheVariants as N
+use Rattle.markdown_engine.specs.declared.state.State.TheVariants.{Next, Retry, Nok}
+use Rattle.markdown_engine.specs.declared.state.StateName.{StateName}
+use Rattle.markdown_engine.specs.declared.state.StateName.TheVariants.{CharacterReferenceOpen, CharacterReferenceNumeric, CharacterReferenceValue}
+use Rattle.markdown_engine.specs.declared.tokenizer.TokenizeState.{TokenizeState}
+use Rattle.markdown_engine.specs.declared.tokenizer.Tokenizer.{Tokenizer}
+use Rattle.markdown_engine.proofs.Laws.{if-step, code-step}
+use Rattle.markdown_engine.proofs.OpRules.{law_rules, ahead-none, ahead-some}
+use Rattle.markdown_engine.proofs.OpsLemmas.{scratch-done}
+use Rattle.markdown_model.specs.CodeTests.{is_value, is_among, is_alphanumeric, is_digit, is_hex_digit, next_is}
+use Rattle.markdown_model.specs.Grammar.{◌>>◌, provided, some}
+use Rattle.markdown_model.specs.Leaf.{Parts, reference, reference_tree, named_parts, decimal_parts, hexadecimal_parts}
+use Rattle.markdown_util.specs.Reference.{html_5_rows, IsMarker, value_size_max}
+use Rattle.markdown_leaf.specs.CharacterReference.{IsAtRest, IsOpened, IsValue, is_on, marked, sized, rested, opening, number_sign, hexadecimal_sign, value_start, closing, begins_name, is_taken, start_at, start_step, named_step, open_at, open_step, decimal_step, numeric_at, numeric_step, value_at, value_step, reference_here, value_program, numeric_program, named_program, open_program, start_ends, open_ends, numeric_ends, value_ends}
+use Rattle.markdown_leaf.specs.Program.{Program, preceded, program_of, DoesAs, KeepsAs}
+use Rattle.markdown_leaf.proofs.CharacterReferenceReading.{reference-start, no-reference, value-close, value-more, value-end, value-stop}
+use Rattle.markdown_leaf.proofs.ProgramLemmas.{GoesOn-map, Goes-on, Goes-kept, Goes-next, Goes-ok, Goes-nok, Goes-no, EndsAs-program, some-codes, no-codes, scratch-scratched}
+use Rattle.markdown_leaf.proofs.ReadingLemmas.{and-left, and-right, and-false, if-true, if-false}
+use Rattle.markdown_leaf.proofs.WholeReadings.{Gives, Covers, IsSome, IsNothing, Gives-bind, Gives-after, Gives-either, Gives-switched, Gives-one, Gives-some, Gives-test, Gives-gives, Covers-group, Covers-row, Covers-leaf, some-first}
+
+-- what the layer says of these states
+pub record Within (ready : StateName → Tokenizer → Type 0) (ends : StateName → Tokenizer → Bool → Tokenizer → Type 0) (weight : StateName → Tokenizer → ℕ) : Type 0 where
+  pub open_ready : (T : Tokenizer) → IsOpened T → ready CharacterReferenceOpen T
+  pub open_end : (T : Tokenizer) (ok : Bool) (U : Tokenizer) → ends CharacterReferenceOpen T ok U → open_ends T ok U
+  pub open_weight : (T : Tokenizer) → weight CharacterReferenceOpen T ≡ weight_at 3 T
+  pub numeric_ready : (T : Tokenizer) → IsOpened T → ready CharacterReferenceNumeric T
+  pub numeric_end : (T : Tokenizer) (ok : Bool) (U : Tokenizer) → ends CharacterReferenceNumeric T ok U → numeric_ends T ok U
+  pub numeric_weight : (T : Tokenizer) → weight CharacterReferenceNumeric T ≡ weight_at 2 T
+  pub value_ready : (T : Tokenizer) → IsValue T → ready CharacterReferenceValue T
+  pub value_end : (T : Tokenizer) (ok : Bool) (U : Tokenizer) → ends CharacterReferenceValue T ok U → value_ends T ok U
+  pub value_weight : (T : Tokenizer) → weight CharacterReferenceValue T ≡ weight_at 1 T
+
+-- What a reference passes.
+
+record IsParts (p : Parts) (ws : List Code) : Type 0 where
+  pub some : p.front ≢ []
+  pub whole : p.front ++ (p.number ++ (p.hexadecimal ++ (p.value ++ p.back))) ≡ ws
+
+whole-named : Gives IsParts (named_parts html_5_rows)
+unfolding named_parts
+whole-named =
+    Gives-bind _ _ IsSome IsParts (Gives-one (is_value 38)) (λ front ws p.
+    Gives-bind _ _ IsSome _ (Gives-some is_alphanumeric) (λ value vs q.
+    Gives-after _ _ IsNothing _ (Gives-test _) (λ x us u.
+    Gives-bind _ _ IsSome _ (Gives-one (is_value 59)) (λ back bs b.
+    Gives-gives _ _ (record { some = p.1; whole = rw (p.0, q.0, u, b.0, append-nil) refl })))))
+
+whole-decimal : Gives IsParts decimal_parts
+unfolding decimal_parts
+whole-decimal =
+    Gives-bind _ _ IsSome IsParts (Gives-one (is_value 38)) (λ front ws p.
+    Gives-bind _ _ IsSome _ (Gives-one (is_value 35)) (λ number ns n.
+    Gives-bind _ _ IsSome _ (Gives-some is_digit) (λ value vs q.
+    Gives-after _ _ IsNothing _ (Gives-test _) (λ x us u.
+    Gives-bind _ _ IsSome _ (Gives-one (is_value 59)) (λ back bs b.
+    Gives-gives _ _ (record { some = p.1; whole = rw (p.0, n.0, q.0, u, b.0, append-nil) refl }))))))
+
+whole-hexadecimal : Gives IsParts hexadecimal_parts
+unfolding hexadecimal_parts
+whole-hexadecimal =
+    Gives-bind _ _ IsSome IsParts (Gives-one (is_value 38)) (λ front ws p.
+    Gives-bind _ _ IsSome _ (Gives-one (is_value 35)) (λ number ns n.
+    Gives-bind _ _ IsSome _ (Gives-one (is_among (codes "xX"))) (λ sign hs h.
+    Gives-bind _ _ IsSome _ (Gives-some is_hex_digit) (λ value vs q.
+    Gives-after _ _ IsNothing _ (Gives-test _) (λ x us u.
+    Gives-bind _ _ IsSome _ (Gives-one (is_value 59)) (λ back bs b.
+    Gives-gives _ _ (record { some = p.1; whole = rw (p.0, n.0, h.0, q.0, u, b.0, append-nil) refl })))))))
+
+parts-cover : (p : Parts) → p.front ≢ [] → Covers (reference_tree p) (p.front ++ (p.number ++ (p.hexadecimal ++ (p.value ++ p.back))))
+parts-cover p some =
+    Covers-group N.CharacterReference _ _ (some-first p.front _ some)
+    (Covers-row _ _ p.front _ (Covers-leaf _ p.front p.front refl)
+    (Covers-row _ _ p.number _ (Covers-leaf _ p.number p.number refl)
+    (Covers-row _ _ p.hexadecimal _ (Covers-leaf _ p.hexadecimal p.hexadecimal refl)
+    (Covers-row _ _ p.value p.back (Covers-leaf _ p.value p.value refl) (Covers-leaf _ p.back p.back refl)))))
+
+whole : (on : Bool) → Gives Covers (provided on >> reference html_5_rows)
+unfolding reference
+whole on =
+    Gives-switched on (reference html_5_rows) Covers
+    (Gives-bind _ _ IsParts Covers (Gives-either _ _ IsParts whole-named (Gives-either _ _ IsParts whole-decimal whole-hexadecimal)) (λ p ws q.
+    Gives-gives (reference_tree p) _ (subst (λ us. Covers (reference_tree p) us) (q.whole ∙ sym (append-nil ws)) (parts-cover p q.some))))
+
+-- The scratch fields.
+
+rested-same : (s : TokenizeState) → s.marker ≡ 0 → s.size ≡ 0 → rested s ≡ s
+rested-same s e h =
+    subst (λ m. record s { marker = m; size = 0 } ≡ s) e (subst (λ n. record s { marker = s.marker; size = n } ≡ s) h refl)
+
+opened-done : (T : Tokenizer) → IsAtRest T → IsOpened (done opening T)
+opened-done T r = record { whole = grind (arith, law_rules); marker = ap (λ (s : TokenizeState). s.marker) (scratch-done opening T) ∙ r.marker; size = ap (λ (s : TokenizeState). s.size) (scratch-done opening T) ∙ r.size }
+
+numbered-done : (T : Tokenizer) → IsOpened T → IsOpened (done number_sign T)
+numbered-done T o = record { whole = grind (arith, law_rules, o.whole); marker = ap (λ (s : TokenizeState). s.marker) (scratch-done number_sign T) ∙ o.marker; size = ap (λ (s : TokenizeState). s.size) (scratch-done number_sign T) ∙ o.size }
+
+-- on in the value, of this kind
+value-from : (m : ℕ) (os : List Op) (T : Tokenizer) → IsOpened T → (ok : Bool) (U : Tokenizer) → value_ends (scratched (marked m T.tokenize_state) (done os T)) ok U → DoesAs 2 (value_program m 0) (rested T.tokenize_state) (scratched (marked m T.tokenize_state) (done os T)) ok U
+value-from m os T o ok U k =
+    let V : Tokenizer = scratched (marked m T.tokenize_state) (done os T) in
+    let now : V.tokenize_state ≡ marked m T.tokenize_state = scratch-scratched (marked m T.tokenize_state) (done os T) in
+    subst (λ n. DoesAs 2 (value_program m n) (rested T.tokenize_state) V ok U) o.size
+    (subst (λ (s : TokenizeState). DoesAs 2 (value_program s.marker s.size) (rested s) V ok U) now k)
+
+-- in a value of this kind
+is-value : (m : ℕ) (V : Tokenizer) (s : TokenizeState) (more : List Name) → V.stack ≡ N.CharacterReferenceValue ∷ N.CharacterReference ∷ more → V.tokenize_state ≡ marked m s → s.size ≡ 0 → IsMarker m → IsValue V
+is-value m V s more e now z k =
+    let size : V.tokenize_state.size ≡ 0 = ap (λ (q : TokenizeState). q.size) now ∙ z in
+    record {
+      value = e ∙ ap (λ ns. N.CharacterReferenceValue ∷ rest_of ns) (sym e);
+      whole = ap rest_of e ∙ ap (λ ns. N.CharacterReference ∷ rest_of (rest_of ns)) (sym e);
+      marker = subst (λ (q : TokenizeState). IsMarker q.marker) (sym now) k;
+      size = omega (arith, size);
+    }
+
+started : (m : ℕ) (T : Tokenizer) → IsOpened T → (scratched (marked m T.tokenize_state) (done value_start T)).stack ≡ N.CharacterReferenceValue ∷ N.CharacterReference ∷ rest_of T.stack
+started m T o = grind (arith, law_rules, o.whole)
+
+signed : (T : Tokenizer) → IsOpened T → (scratched (marked 120 T.tokenize_state) (done hexadecimal_sign T)).stack ≡ N.CharacterReferenceValue ∷ N.CharacterReference ∷ rest_of T.stack
+signed T o = grind (arith, law_rules, o.whole)
+
+less-more : (n max : ℕ) → nat_lt n max ≡ true → n + 1 ≤ max
+less-more n max e = grind arith
+
+taken-room : (m n c : ℕ) → is_taken m n c ≡ true → n + 1 ≤ value_size_max m
+unfolding is_taken
+taken-room m n c e = less-more n (value_size_max m) (and-left _ _ e)
+
+-- one code further on in the value
+value-on : (T : Tokenizer) → IsValue T → (c : ℕ) → is_taken T.tokenize_state.marker T.tokenize_state.size c ≡ true → IsValue (scratched (sized (T.tokenize_state.size + 1) T.tokenize_state) (done (Consume ∷ []) T))
+unfolding scratched applied
+value-on T v c e = record { value = v.value; whole = v.whole; marker = v.marker; size = taken-room T.tokenize_state.marker T.tokenize_state.size c e }
+
+or-none : (b : Bool) → b || false ≡ b
+or-none true = refl
+or-none false = refl
+
+sign-test : (c : Code) → is_among (codes "xX") c ≡ (c.value == 120) || (c.value == 88)
+sign-test c = ap (λ b. (c.value == 120) || b) (or-none (c.value == 88))
+
+-- The states.
+
+module _ (ready : StateName → Tokenizer → Type 0) (ends : StateName → Tokenizer → Bool → Tokenizer → Type 0) (weight : StateName → Tokenizer → ℕ) (within : Within ready ends weight) where
+  pub start-law : (T : Tokenizer) → T.attempts ≡ [] → IsAtRest T → GoesOn ready ends weight (weight_at 4 T) (start_ends T) (start_step T)
+  start-law T alone rest =
+      let p : Program = program_of (reference_here T) in
+      let E : Bool → Tokenizer → Type 0 = KeepsAs 0 p T in
+      let P : Stepped → Type 0 = GoesOn ready ends weight (weight_at 4 T) E in
+      let open_rest : IsOpened (done opening T) → rested (done opening T).tokenize_state ≡ (done opening T).tokenize_state =
+      λ o. rested-same _ o.marker o.size in
+      GoesOn-map ready ends weight (weight_at 4 T) E (start_ends T) (start_step T) (λ ok U k. EndsAs-program (reference_here T) (whole (is_on T)) T.tokenize_state T ok U k)
+      (code-step P (current_of T) (λ o. start_at (is_on T) o T)
+      (λ e. Goes-no ready ends weight 4 0 p T alone (ap p (ahead-none T e) ∙ no-reference (is_on T) [] (and-false (is_on T))))
+      (λ c e. let b = ahead-some T c e in
+      if-step P (is_on T && (c == 38)) _ _
+      (λ h. Goes-next ready ends weight 4 3 0 p open_program opening T (Next CharacterReferenceOpen) alone refl (some-codes T c e) (omega arith)
+      (ap p b.whole ∙ reference-start (is_on T) b.code (rest_of (ahead T)) (and-left _ _ h) (ap (λ v. v == 38) b.value ∙ and-right _ _ h))
+      (within.open_ready (done opening T) (opened-done T rest))
+      (within.open_weight (done opening T))
+      (λ ok U k. subst (λ (s : TokenizeState). DoesAs 1 open_program s (done opening T) ok U) (open_rest (opened-done T rest)) (within.open_end (done opening T) ok U k)))
+      (λ h. Goes-no ready ends weight 4 0 p T alone (ap p b.whole ∙ no-reference (is_on T) (b.code ∷ rest_of (ahead T)) (ap (λ v. is_on T && (v == 38)) b.value ∙ h)))))
+
+  -- neither a number nor a name of the table, or the start of a name
+  named-law : (T : Tokenizer) → T.attempts ≡ [] → IsOpened T → next_is (is_value 35) (ahead T) ≡ false → GoesOn ready ends weight (weight_at 3 T) (open_ends T) (named_step T)
+  named-law T alone o none =
+      let P : Stepped → Type 0 = GoesOn ready ends weight (weight_at 3 T) (open_ends T) in
+      let V : Tokenizer = scratched (marked 38 T.tokenize_state) (done value_start T) in
+      let other : open_program (ahead T) ≡ named_program (ahead T) = if-false _ _ _ none in
+      if-step P (begins_name (ahead T)) _ _
+      (λ h. Goes-on ready ends weight 3 1 1 open_program (value_program 38 0) value_start (rested T.tokenize_state) (marked 38 T.tokenize_state) T (Retry CharacterReferenceValue) alone refl (no-codes T) (omega arith)
+      (other ∙ if-true _ _ _ h)
+      (within.value_ready V (is-value 38 V T.tokenize_state (rest_of T.stack) (started 38 T o) (scratch-scratched _ _) o.size (inl refl)))
+      (within.value_weight V)
+      (λ ok U k. value-from 38 value_start T o ok U (within.value_end V ok U k)))
+      (λ h. subst (λ (s : TokenizeState). GoesOn ready ends weight (weight_at 3 T) (DoesAs 1 open_program s T) (stepped Nok T)) (sym (rested-same T.tokenize_state o.marker o.size)) (Goes-no ready ends weight 3 1 open_program T alone (other ∙ if-false _ _ _ h)))
+
+  pub open-law : (T : Tokenizer) → T.attempts ≡ [] → IsOpened T → GoesOn ready ends weight (weight_at 3 T) (open_ends T) (open_step T)
+  open-law T alone o =
+      let P : Stepped → Type 0 = GoesOn ready ends weight (weight_at 3 T) (open_ends T) in
+      code-step P (current_of T) (λ x. open_at x T)
+      (λ e. named-law T alone o (ap (next_is (is_value 35)) (ahead-none T e)))
+      (λ c e. let b = ahead-some T c e in
+      if-step P (c == 35) _ _
+      (λ h. Goes-kept ready ends weight 3 2 1 open_program numeric_program number_sign (rested T.tokenize_state) T (Next CharacterReferenceNumeric) alone refl (some-codes T c e) (omega arith)
+      (ap open_program b.whole ∙ if-true _ _ _ (ap (λ v. v == 35) b.value ∙ h) ∙ ap (λ cs. preceded number_sign (numeric_program (drop 1 cs))) (sym b.whole))
+      (within.numeric_ready (done number_sign T) (numbered-done T o))
+      (within.numeric_weight (done number_sign T))
+      (λ ok U k. subst (λ (s : TokenizeState). DoesAs 1 numeric_program (rested s) (done number_sign T) ok U) (scratch-done number_sign T) (within.numeric_end (done number_sign T) ok U k)))
+      (λ h. named-law T alone o (ap (next_is (is_value 35)) b.whole ∙ ap (λ v. v == 35) b.value ∙ h)))
+
+  -- decimal digits
+  decimal-law : (T : Tokenizer) → T.attempts ≡ [] → IsOpened T → next_is (is_among (codes "xX")) (ahead T) ≡ false → GoesOn ready ends weight (weight_at 2 T) (numeric_ends T) (decimal_step T)
+  decimal-law T alone o none =
+      let V : Tokenizer = scratched (marked 35 T.tokenize_state) (done value_start T) in
+      Goes-on ready ends weight 2 1 1 numeric_program (value_program 35 0) value_start (rested T.tokenize_state) (marked 35 T.tokenize_state) T (Retry CharacterReferenceValue) alone refl (no-codes T) (omega arith)
+      (if-false _ _ _ none)
+      (within.value_ready V (is-value 35 V T.tokenize_state (rest_of T.stack) (started 35 T o) (scratch-scratched _ _) o.size (inr (inl refl))))
+      (within.value_weight V)
+      (λ ok U k. value-from 35 value_start T o ok U (within.value_end V ok U k))
+
+  pub numeric-law : (T : Tokenizer) → T.attempts ≡ [] → IsOpened T → GoesOn ready ends weight (weight_at 2 T) (numeric_ends T) (numeric_step T)
+  numeric-law T alone o =
+      let P : Stepped → Type 0 = GoesOn ready ends weight (weight_at 2 T) (numeric_ends T) in
+      let V : Tokenizer = scratched (marked 120 T.tokenize_state) (done hexadecimal_sign T) in
+      code-step P (current_of T) (λ x. numeric_at x T)
+      (λ e. decimal-law T alone o (ap (next_is (is_among (codes "xX"))) (ahead-none T e)))
+      (λ c e. let b = ahead-some T c e in
+      if-step P ((c == 120) || (c == 88)) _ _
+      (λ h. Goes-on ready ends weight 2 1 1 numeric_program (value_program 120 0) hexadecimal_sign (rested T.tokenize_state) (marked 120 T.tokenize_state) T (Next CharacterReferenceValue) alone refl (some-codes T c e) (omega arith)
+      (ap numeric_program b.whole ∙ if-true _ _ _ (sign-test b.code ∙ ap (λ v. (v == 120) || (v == 88)) b.value ∙ h) ∙ ap (λ cs. preceded hexadecimal_sign (value_program 120 0 (drop 1 cs))) (sym b.whole))
+      (within.value_ready V (is-value 120 V T.tokenize_state (rest_of T.stack) (signed T o) (scratch-scratched _ _) o.size (inr (inr refl))))
+      (within.value_weight V)
+      (λ ok U k. value-from 120 hexadecimal_sign T o ok U (within.value_end V ok U k)))
+      (λ h. decimal-law T alone o (ap (next_is (is_among (codes "xX"))) b.whole ∙ sign-test b.code ∙ ap (λ v. (v == 120) || (v == 88)) b.value ∙ h)))
+
+  pub value-law : (T : Tokenizer) → T.attempts ≡ [] → IsValue T → GoesOn ready ends weight (weight_at 1 T) (value_ends T) (value_step T)
+  value-law T alone v =
+      let s : TokenizeState = T.tokenize_state in
+      let p : Program = value_program s.marker s.size in
+      let P : Stepped → Type 0 = GoesOn ready ends weight (weight_at 1 T) (value_ends T) in
+      let V : Tokenizer = scratched (sized (s.size + 1) s) (done (Consume ∷ []) T) in
+      code-step P (current_of T) (λ x. value_at x T)
+      (λ e. Goes-nok ready ends weight 1 2 p (rested s) T alone (ap p (ahead-none T e) ∙ value-end s.marker s.size))
+      (λ c e. let b = ahead-some T c e in
+      if-step P ((c == 59) && nat_lt 0 s.size) _ _
+      (λ h. Goes-ok ready ends weight 1 2 p closing (rested s) T alone (ap p b.whole ∙ value-close s.marker s.size b.code (rest_of (ahead T)) (ap (λ x. x == 59) b.value ∙ and-left _ _ h) (and-right _ _ h) v.size))
+      (λ h. if-step P (is_taken s.marker s.size c) _ _
+      (λ t. let t2 : is_taken s.marker s.size b.code.value ≡ true = ap (is_taken s.marker s.size) b.value ∙ t in
+      Goes-on ready ends weight 1 1 2 p (value_program s.marker (s.size + 1)) (Consume ∷ []) (rested s) (sized (s.size + 1) s) T (Next CharacterReferenceValue) alone refl (some-codes T c e) (omega arith)
+      (ap p b.whole ∙ value-more s.marker s.size b.code (rest_of (ahead T)) t2 ∙ ap (λ cs. preceded (Consume ∷ []) (value_program s.marker (s.size + 1) (drop 1 cs))) (sym b.whole))
+      (within.value_ready V (value-on T v c t))
+      (within.value_weight V)
+      (λ ok U k. subst (λ (q : TokenizeState). DoesAs 2 (value_program q.marker q.size) (rested q) V ok U) (scratch-scratched (sized (s.size + 1) s) (done (Consume ∷ []) T)) (within.value_end V ok U k)))
+      (λ t. Goes-nok ready ends weight 1 2 p (rested s) T alone (ap p b.whole ∙ value-stop s.marker s.size b.code (rest_of (ahead T)) (ap (λ x. (x == 59) && nat_lt 0 s.size) b.value ∙ h) (ap (is_taken s.marker s.size) b.value ∙ t)))))

@@ -1,0 +1,10 @@
+pub mod ReadingLemmas
+pub mod WholeReadings
+pub mod ProgramLemmas
+pub mod CharacterEscapeLaws
+pub mod HardBreakEscapeLaws
+pub mod NameLemmas
+pub mod CharacterReferenceReading
+pub mod CharacterReferenceLaws
+pub mod AutolinkReading
+pub mod AutolinkLaws

@@ -1,0 +1,57 @@
+-- What the states of a character escape do, and how runs from them end.
+use Rattle.std.specs.Prelude.{ℕ, Bool, ◌&&◌, ◌||◌, nat_le, ◌==◌, if◌then◌else◌, Option, Some, None, List, [], ◌∷◌}
+use Rattle.markdown_engine.specs.Ops.{Op, Enter, Exit, Consume, done, current_of}
+use Rattle.markdown_engine.specs.Past.{EndsAs, TreeReading}
+use Rattle.markdown_engine.specs.Runs.{Stepped, stepped}
+use Rattle.markdown_model.specs.CodeTests.{is_ascii_punctuation, next_is}
+use Rattle.markdown_model.specs.Grammar.{◌>>◌, provided}
+use Rattle.markdown_model.specs.Leaf.{escape}
+use Rattle.markdown_leaf.specs.Program.{Program, KeepsAs}
+use Rattle.markdown_engine.specs.declared.event.Name.TheVariants as N
+use Rattle.markdown_engine.specs.declared.state.State.TheVariants.{Next, Nok}
+use Rattle.markdown_engine.specs.declared.state.State.TheVariants as State
+use Rattle.markdown_engine.specs.declared.state.StateName.TheVariants.{CharacterEscapeInside}
+use Rattle.markdown_engine.specs.declared.tokenizer.Tokenizer.{Tokenizer}
+
+abbrev pub is_punctuation : ℕ → Bool
+is_punctuation c = (nat_le 33 c && nat_le c 47) || (nat_le 58 c && nat_le c 64) || (nat_le 91 c && nat_le c 96) || (nat_le 123 c && nat_le c 126)
+
+abbrev pub opening : List Op
+opening = Enter N.CharacterEscape ∷ Enter N.CharacterEscapeMarker ∷ Consume ∷ Exit N.CharacterEscapeMarker ∷ []
+
+abbrev pub value : List Op
+value = Enter N.CharacterEscapeValue ∷ Consume ∷ Exit N.CharacterEscapeValue ∷ Exit N.CharacterEscape ∷ []
+
+abbrev pub is_on : Tokenizer → Bool
+is_on T = T.parse_state.now.options.now.constructs.character_escape
+
+-- by the current code
+abbrev pub start_at : Bool → Option ℕ → Tokenizer → Stepped
+start_at on None T = stepped Nok T
+start_at on (Some c) T = if on && (c == 92) then stepped (Next CharacterEscapeInside) (done opening T) else stepped Nok T
+
+abbrev pub start_step : Tokenizer → Stepped
+start_step T = start_at (is_on T) (current_of T) T
+
+abbrev pub inside_at : Option ℕ → Tokenizer → Stepped
+inside_at None T = stepped Nok T
+inside_at (Some c) T = if is_punctuation c then stepped State.Ok (done value T) else stepped Nok T
+
+abbrev pub inside_step : Tokenizer → Stepped
+inside_step T = inside_at (current_of T) T
+
+-- How runs end.
+
+-- the codes at hand read as an escape, where escapes are on
+abbrev pub escape_here : Tokenizer → TreeReading
+escape_here T = provided (is_on T) >> escape
+
+abbrev pub start_ends : Tokenizer → Bool → Tokenizer → Type 0
+start_ends T ok U = EndsAs (escape_here T) None T.tokenize_state T ok U
+
+-- punctuation comes next
+abbrev pub inside_program : Program
+inside_program cs = if next_is is_ascii_punctuation cs then Some value else None
+
+abbrev pub inside_ends : Tokenizer → Bool → Tokenizer → Type 0
+inside_ends T ok U = KeepsAs 1 inside_program T ok U

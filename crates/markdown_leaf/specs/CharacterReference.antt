@@ -1,0 +1,191 @@
+-- What the states of a character reference do, and how runs from them end.
+use Rattle.std.specs.Prelude.{◌≡◌, ℕ, ◌+◌, ◌≤◌, Bool, true, false, ◌&&◌, ◌||◌, ◌==◌, nat_lt, if◌then◌else◌, Option, Some, None, is_some, take, ◌<◌, List, [], ◌∷◌, ◌++◌, length, codes}
+use Rattle.std.specs.Char.{is_ascii_alphanumeric}
+use Rattle.std.specs.List.{list_all}
+use Rattle.markdown_engine.specs.Codes.{Code}
+use Rattle.markdown_engine.specs.Lists.{rest_of}
+use Rattle.markdown_engine.specs.Ops.{Op, Enter, Exit, Consume, done, current_of, ahead, IsOpen, scratched}
+use Rattle.markdown_engine.specs.Past.{EndsAs, TreeReading}
+use Rattle.markdown_engine.specs.Runs.{Stepped, stepped}
+use Rattle.markdown_engine.specs.TreeOps.{consumes}
+use Rattle.markdown_model.specs.CodeTests.{is_value, is_among, is_between, is_alphanumeric, next_is, values_of}
+use Rattle.markdown_model.specs.Grammar.{◌>>◌, provided, span}
+use Rattle.markdown_model.specs.Leaf.{reference, is_name}
+use Rattle.markdown_util.specs.Reference.{Table, IsMarker, html_5_rows, named_value, value_size_max, is_value_byte}
+use Rattle.markdown_leaf.specs.Program.{Program, preceded, DoesAs}
+use Rattle.markdown_engine.specs.declared.event.Name.TheVariants as N
+use Rattle.markdown_engine.specs.declared.state.State.TheVariants.{Next, Retry, Nok}
+use Rattle.markdown_engine.specs.declared.state.State.TheVariants as State
+use Rattle.markdown_engine.specs.declared.state.StateName.TheVariants.{CharacterReferenceOpen, CharacterReferenceNumeric, CharacterReferenceValue}
+use Rattle.markdown_engine.specs.declared.tokenizer.TokenizeState.{TokenizeState}
+use Rattle.markdown_engine.specs.declared.tokenizer.Tokenizer.{Tokenizer}
+
+-- The scratch fields: the kind of the value, and how many of its codes are passed.
+
+abbrev pub marked : ℕ → TokenizeState → TokenizeState
+marked m s = record s { marker = m }
+
+abbrev pub sized : ℕ → TokenizeState → TokenizeState
+sized n s = record s { size = n }
+
+abbrev pub rested : TokenizeState → TokenizeState
+rested s = record s { marker = 0; size = 0 }
+
+pub record IsAtRest (T : Tokenizer) : Type 0 where
+  pub marker : T.tokenize_state.marker ≡ 0
+  pub size : T.tokenize_state.size ≡ 0
+
+-- after the `&`
+pub record IsOpened (T : Tokenizer) : Type 0 where
+  pub whole : IsOpen N.CharacterReference T
+  pub marker : T.tokenize_state.marker ≡ 0
+  pub size : T.tokenize_state.size ≡ 0
+
+-- in the value
+pub record IsValue (T : Tokenizer) : Type 0 where
+  pub value : IsOpen N.CharacterReferenceValue T
+  pub whole : rest_of T.stack ≡ N.CharacterReference ∷ rest_of (rest_of T.stack)
+  pub marker : IsMarker T.tokenize_state.marker
+  pub size : T.tokenize_state.size ≤ value_size_max T.tokenize_state.marker
+
+-- Operations.
+
+abbrev pub opening : List Op
+opening = Enter N.CharacterReference ∷ Enter N.CharacterReferenceMarker ∷ Consume ∷ Exit N.CharacterReferenceMarker ∷ []
+
+abbrev pub number_sign : List Op
+number_sign = Enter N.CharacterReferenceMarkerNumeric ∷ Consume ∷ Exit N.CharacterReferenceMarkerNumeric ∷ []
+
+abbrev pub hexadecimal_sign : List Op
+hexadecimal_sign =
+    Enter N.CharacterReferenceMarkerHexadecimal ∷ Consume ∷ Exit N.CharacterReferenceMarkerHexadecimal ∷ Enter N.CharacterReferenceValue ∷ []
+
+abbrev pub value_start : List Op
+value_start = Enter N.CharacterReferenceValue ∷ []
+
+abbrev pub closing : List Op
+closing =
+    Exit N.CharacterReferenceValue ∷ Enter N.CharacterReferenceMarkerSemi ∷ Consume ∷ Exit N.CharacterReferenceMarkerSemi ∷ Exit N.CharacterReference ∷ []
+
+-- Names.
+
+abbrev pub has_value : Table → List ℕ → Bool
+has_value table name = is_some (named_value table name)
+
+-- the letters and digits at hand are a name of the table, and a `;` stands behind them
+abbrev pub begins_name : List Code → Bool
+begins_name cs = is_name html_5_rows (span is_alphanumeric cs).0 && next_is (is_value 59) (span is_alphanumeric cs).1
+
+-- a code of a name
+abbrev pub is_name_code : Code → Bool
+is_name_code c = is_ascii_alphanumeric c.value
+
+-- from some codes to those after, so many codes of a name were passed, and their values written down
+pub record IsPassing (before after : List Code) (name : List ℕ) (size : ℕ) : Type 0 where
+  pub passed : List Code
+  pub front : (span is_name_code before).0 ≡ passed ++ (span is_name_code after).0
+  pub back : (span is_name_code before).1 ≡ (span is_name_code after).1
+  pub values : take size name ≡ values_of passed
+  pub count : length passed ≡ size
+  pub all : list_all is_ascii_alphanumeric (values_of passed) ≡ true
+
+-- as many as there are, or as there is room for
+pub record HasPassed (before after : List Code) (name : List ℕ) (size : ℕ) : Type 0 where
+  pub passing : IsPassing before after name size
+  pub room : size ≤ length name
+  pub ends : size < length name → next_is is_name_code after ≡ false
+
+-- The states, by the current code.
+
+abbrev pub is_on : Tokenizer → Bool
+is_on T = T.parse_state.now.options.now.constructs.character_reference
+
+abbrev pub start_at : Bool → Option ℕ → Tokenizer → Stepped
+start_at on None T = stepped Nok T
+start_at on (Some c) T = if on && (c == 38) then stepped (Next CharacterReferenceOpen) (done opening T) else stepped Nok T
+
+abbrev pub start_step : Tokenizer → Stepped
+start_step T = start_at (is_on T) (current_of T) T
+
+abbrev pub named_step : Tokenizer → Stepped
+named_step T =
+    if begins_name (ahead T)
+    then stepped (Retry CharacterReferenceValue) (scratched (marked 38 T.tokenize_state) (done value_start T))
+    else stepped Nok T
+
+abbrev pub open_at : Option ℕ → Tokenizer → Stepped
+open_at None T = named_step T
+open_at (Some c) T = if c == 35 then stepped (Next CharacterReferenceNumeric) (done number_sign T) else named_step T
+
+abbrev pub open_step : Tokenizer → Stepped
+open_step T = open_at (current_of T) T
+
+abbrev pub decimal_step : Tokenizer → Stepped
+decimal_step T = stepped (Retry CharacterReferenceValue) (scratched (marked 35 T.tokenize_state) (done value_start T))
+
+abbrev pub numeric_at : Option ℕ → Tokenizer → Stepped
+numeric_at None T = decimal_step T
+numeric_at (Some c) T =
+    if c == 120 || c == 88
+    then stepped (Next CharacterReferenceValue) (scratched (marked 120 T.tokenize_state) (done hexadecimal_sign T))
+    else decimal_step T
+
+abbrev pub numeric_step : Tokenizer → Stepped
+numeric_step T = numeric_at (current_of T) T
+
+-- a value of this kind, of so many codes, goes on with this code
+unfoldable pub is_taken : ℕ → ℕ → ℕ → Bool
+is_taken marker size c = nat_lt size (value_size_max marker) && is_value_byte marker c
+
+abbrev pub value_at : Option ℕ → Tokenizer → Stepped
+value_at None T = stepped Nok (scratched (rested T.tokenize_state) T)
+value_at (Some c) T =
+    if (c == 59) && nat_lt 0 T.tokenize_state.size
+    then stepped State.Ok (scratched (rested T.tokenize_state) (done closing T))
+    else (if is_taken T.tokenize_state.marker T.tokenize_state.size c
+    then stepped (Next CharacterReferenceValue) (scratched (sized (T.tokenize_state.size + 1) T.tokenize_state) (done (Consume ∷ []) T))
+    else stepped Nok (scratched (rested T.tokenize_state) T))
+
+abbrev pub value_step : Tokenizer → Stepped
+value_step T = value_at (current_of T) T
+
+-- How runs end.
+
+-- the codes at hand read as a reference, where these are on
+abbrev pub reference_here : Tokenizer → TreeReading
+reference_here T = provided (is_on T) >> reference html_5_rows
+
+abbrev pub start_ends : Tokenizer → Bool → Tokenizer → Type 0
+start_ends T ok U = EndsAs (reference_here T) None T.tokenize_state T ok U
+
+abbrev pub is_value_code : ℕ → Code → Bool
+is_value_code marker c = is_value_byte marker c.value
+
+-- the rest of a value of this kind, of so many codes: the codes that go on with it, and a `;`
+abbrev pub value_of : ℕ → ℕ → List Code × List Code → Option (List Op)
+value_of marker size s =
+    if is_between 1 (value_size_max marker) (size + length s.0) && next_is (is_value 59) s.1 then Some (consumes s.0 ++ closing) else None
+
+abbrev pub value_program : ℕ → ℕ → Program
+value_program marker size cs = value_of marker size (span (is_value_code marker) cs)
+
+abbrev pub value_ends : Tokenizer → Bool → Tokenizer → Type 0
+value_ends T ok U = DoesAs 2 (value_program T.tokenize_state.marker T.tokenize_state.size) (rested T.tokenize_state) T ok U
+
+-- after the `#`: an `x` and hexadecimal digits, or decimal digits
+abbrev pub numeric_program : Program
+numeric_program cs =
+    if next_is (is_among (codes "xX")) cs then preceded hexadecimal_sign (value_program 120 0 (rest_of cs)) else preceded value_start (value_program 35 0 cs)
+
+abbrev pub numeric_ends : Tokenizer → Bool → Tokenizer → Type 0
+numeric_ends T ok U = DoesAs 1 numeric_program (rested T.tokenize_state) T ok U
+
+-- after the `&`: a number, or a name
+abbrev pub named_program : Program
+named_program cs = if begins_name cs then preceded value_start (value_program 38 0 cs) else None
+
+abbrev pub open_program : Program
+open_program cs = if next_is (is_value 35) cs then preceded number_sign (numeric_program (rest_of cs)) else named_program cs
+
+abbrev pub open_ends : Tokenizer → Bool → Tokenizer → Type 0
+open_ends T ok U = DoesAs 1 open_program (rested T.tokenize_state) T ok U

@@ -1,0 +1,55 @@
+-- What the states of a hard break by a backslash do, and how runs from them end.
+use Rattle.std.specs.Prelude.{ℕ, Bool, ◌&&◌, ◌==◌, if◌then◌else◌, Option, Some, None, List, [], ◌∷◌}
+use Rattle.markdown_engine.specs.Codes.{is_line_ending}
+use Rattle.markdown_engine.specs.Ops.{Op, Enter, Exit, Consume, done, current_of}
+use Rattle.markdown_engine.specs.Past.{EndsAs, TreeReading}
+use Rattle.markdown_engine.specs.Runs.{Stepped, stepped}
+use Rattle.markdown_model.specs.CodeTests.{next_is}
+use Rattle.markdown_model.specs.Grammar.{◌>>◌, provided}
+use Rattle.markdown_model.specs.Leaf.{hard_break_escape}
+use Rattle.markdown_leaf.specs.Program.{Program, KeepsAs}
+use Rattle.markdown_engine.specs.declared.event.Name.TheVariants as N
+use Rattle.markdown_engine.specs.declared.state.State.TheVariants.{Next, Nok}
+use Rattle.markdown_engine.specs.declared.state.State.TheVariants as State
+use Rattle.markdown_engine.specs.declared.state.StateName.TheVariants.{HardBreakEscapeAfter}
+use Rattle.markdown_engine.specs.declared.tokenizer.Tokenizer.{Tokenizer}
+
+abbrev pub opening : List Op
+opening = Enter N.HardBreakEscape ∷ Consume ∷ []
+
+abbrev pub closing : List Op
+closing = Exit N.HardBreakEscape ∷ []
+
+abbrev pub is_on : Tokenizer → Bool
+is_on T = T.parse_state.now.options.now.constructs.hard_break_escape
+
+-- by the current code
+abbrev pub start_at : Bool → Option ℕ → Tokenizer → Stepped
+start_at on None T = stepped Nok T
+start_at on (Some c) T = if on && (c == 92) then stepped (Next HardBreakEscapeAfter) (done opening T) else stepped Nok T
+
+abbrev pub start_step : Tokenizer → Stepped
+start_step T = start_at (is_on T) (current_of T) T
+
+abbrev pub after_at : Option ℕ → Tokenizer → Stepped
+after_at None T = stepped Nok T
+after_at (Some c) T = if c == 10 then stepped State.Ok (done closing T) else stepped Nok T
+
+abbrev pub after_step : Tokenizer → Stepped
+after_step T = after_at (current_of T) T
+
+-- How runs end.
+
+-- the codes at hand read as a hard break, where these are on
+abbrev pub break_here : Tokenizer → TreeReading
+break_here T = provided (is_on T) >> hard_break_escape
+
+abbrev pub start_ends : Tokenizer → Bool → Tokenizer → Type 0
+start_ends T ok U = EndsAs (break_here T) None T.tokenize_state T ok U
+
+-- a line ending comes next
+abbrev pub after_program : Program
+after_program cs = if next_is is_line_ending cs then Some closing else None
+
+abbrev pub after_ends : Tokenizer → Bool → Tokenizer → Type 0
+after_ends T ok U = KeepsAs 1 after_program T ok U

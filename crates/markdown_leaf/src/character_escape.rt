@@ -1,0 +1,54 @@
+// Character escapes.
+//
+// CommonMark 2.4: a backslash before an ASCII punctuation character makes that character stand for itself.
+#![tactic(auto, using(markdown_engine::proofs::OpRules::op_rules))]
+
+ghost use Rattle.std.specs.Prelude.{◌≡◌, IfOk, OnErr, IsTrue};
+ghost use Rattle.markdown_engine.specs.Ops.{IsOpen};
+ghost use Rattle.markdown_engine.specs.declared.event.Name.TheVariants.{CharacterEscape};
+ghost use Rattle.markdown_leaf.specs.CharacterEscape.{start_step, inside_step};
+
+use markdown_engine::event::Name;
+use markdown_engine::state::{State, StateName};
+use markdown_engine::tokenizer::Tokenizer;
+use std::alloc::AllocError;
+
+/// At the start of a character escape: the backslash.
+///
+/// The error comes where a growth is refused; then `failed` is true.
+pub fn start(tokenizer: &mut Tokenizer) -> Result<State, AllocError>
+    ensures ok { IfOk result (λ s. start_step tokenizer.old ≡ record { state = s; left = tokenizer.new }) }
+    ensures err { OnErr result (IsTrue tokenizer.new.failed) }
+{
+    if tokenizer.parse_state.options.constructs.character_escape
+        && tokenizer.current() == Some(b'\\')
+    {
+        tokenizer.enter(Name::CharacterEscape)?;
+        tokenizer.enter(Name::CharacterEscapeMarker)?;
+        tokenizer.consume();
+        tokenizer.exit(Name::CharacterEscapeMarker)?;
+        Ok(State::Next(StateName::CharacterEscapeInside))
+    } else {
+        Ok(State::Nok)
+    }
+}
+
+/// After the backslash: the punctuation that it escapes.
+///
+/// The error comes where a growth is refused; then `failed` is true.
+pub fn inside(tokenizer: &mut Tokenizer) -> Result<State, AllocError>
+    requires { IsOpen CharacterEscape tokenizer.old }
+    ensures ok { IfOk result (λ s. inside_step tokenizer.old ≡ record { state = s; left = tokenizer.new }) }
+    ensures err { OnErr result (IsTrue tokenizer.new.failed) }
+{
+    match tokenizer.current() {
+        Some(b'!'..=b'/' | b':'..=b'@' | b'['..=b'`' | b'{'..=b'~') => {
+            tokenizer.enter(Name::CharacterEscapeValue)?;
+            tokenizer.consume();
+            tokenizer.exit(Name::CharacterEscapeValue)?;
+            tokenizer.exit(Name::CharacterEscape)?;
+            Ok(State::Ok)
+        }
+        _ => Ok(State::Nok),
+    }
+}

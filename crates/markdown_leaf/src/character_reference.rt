@@ -1,0 +1,177 @@
+// Character references.
+//
+// CommonMark 2.5: `&`, the name of a character or its number, and `;`. A number is `#` and decimal digits, or `#x` and hexadecimal ones.
+#![tactic(auto, using(markdown_engine::proofs::OpRules::op_rules), unfolding(markdown_engine::specs::Ops::scratched))]
+
+ghost use Rattle.std.specs.Prelude.{◌≡◌, ◌<◌, IfOk, OnErr, IsTrue};
+ghost use Rattle.std.specs.Char.{is_ascii_alphanumeric};
+ghost use Rattle.std.specs.List.{list_all};
+ghost use Rattle.markdown_engine.specs.Ops.{scratched};
+ghost use Rattle.markdown_engine.specs.Place.{ahead_at};
+ghost use Rattle.markdown_util.specs.Reference.{html_5_rows, IsMarker, value_size_max};
+ghost use Rattle.markdown_leaf.specs.CharacterReference.{begins_name, has_value, HasPassed, IsValue, is_taken, rested, start_step, open_step, numeric_step, value_step};
+
+use markdown_engine::cursor::Cursor;
+use markdown_engine::event::Name;
+use markdown_engine::state::{State, StateName};
+use markdown_engine::tokenizer::Tokenizer;
+use markdown_util::util::character_reference::{decode_named, value_max, value_test};
+use markdown_util::util::constant::CHARACTER_REFERENCE_NAMED_SIZE_MAX;
+use std::alloc::AllocError;
+use std::str;
+
+/// At the start of a character reference: the `&`.
+///
+/// The error comes where a growth is refused; then `failed` is true.
+pub fn start(tokenizer: &mut Tokenizer) -> Result<State, AllocError>
+    ensures ok { IfOk result (λ s. start_step tokenizer.old ≡ record { state = s; left = tokenizer.new }) }
+    ensures err { OnErr result (IsTrue tokenizer.new.failed) }
+{
+    if tokenizer.parse_state.options.constructs.character_reference
+        && tokenizer.current() == Some(b'&')
+    {
+        tokenizer.enter(Name::CharacterReference)?;
+        tokenizer.enter(Name::CharacterReferenceMarker)?;
+        tokenizer.consume();
+        tokenizer.exit(Name::CharacterReferenceMarker)?;
+        Ok(State::Next(StateName::CharacterReferenceOpen))
+    } else {
+        Ok(State::Nok)
+    }
+}
+
+/// After the `&`: a `#`, or a name of the table and its `;`.
+///
+/// The error comes where a growth is refused; then `failed` is true.
+pub fn open(tokenizer: &mut Tokenizer) -> Result<State, AllocError>
+    ensures ok { IfOk result (λ s. open_step tokenizer.old ≡ record { state = s; left = tokenizer.new }) }
+    ensures err { OnErr result (IsTrue tokenizer.new.failed) }
+{
+    if tokenizer.current() == Some(b'#') {
+        tokenizer.enter(Name::CharacterReferenceMarkerNumeric)?;
+        tokenizer.consume();
+        tokenizer.exit(Name::CharacterReferenceMarkerNumeric)?;
+        Ok(State::Next(StateName::CharacterReferenceNumeric))
+    } else if stands_at_name(&tokenizer.cursor) {
+        tokenizer.enter(Name::CharacterReferenceValue)?;
+        tokenizer.tokenize_state.marker = b'&';
+        Ok(State::Retry(StateName::CharacterReferenceValue))
+    } else {
+        Ok(State::Nok)
+    }
+}
+
+/// After the `#`: an `x` of either case, or the first decimal digit.
+///
+/// The error comes where a growth is refused; then `failed` is true.
+pub fn numeric(tokenizer: &mut Tokenizer) -> Result<State, AllocError>
+    ensures ok { IfOk result (λ s. numeric_step tokenizer.old ≡ record { state = s; left = tokenizer.new }) }
+    ensures err { OnErr result (IsTrue tokenizer.new.failed) }
+{
+    if let Some(b'x' | b'X') = tokenizer.current() {
+        tokenizer.enter(Name::CharacterReferenceMarkerHexadecimal)?;
+        tokenizer.consume();
+        tokenizer.exit(Name::CharacterReferenceMarkerHexadecimal)?;
+        tokenizer.enter(Name::CharacterReferenceValue)?;
+        tokenizer.tokenize_state.marker = b'x';
+        Ok(State::Next(StateName::CharacterReferenceValue))
+    } else {
+        tokenizer.enter(Name::CharacterReferenceValue)?;
+        tokenizer.tokenize_state.marker = b'#';
+        Ok(State::Retry(StateName::CharacterReferenceValue))
+    }
+}
+
+/// In the value, `size` codes of which are passed; `marker` says of which kind it is.
+///
+/// The error comes where a growth is refused; then `failed` is true.
+pub fn value(tokenizer: &mut Tokenizer) -> Result<State, AllocError>
+    requires { IsValue tokenizer.old }
+    ensures ok { IfOk result (λ s. value_step tokenizer.old ≡ record { state = s; left = tokenizer.new }) }
+    ensures err { OnErr result (IsTrue tokenizer.new.failed) }
+{
+    let marker = tokenizer.tokenize_state.marker;
+    let size = tokenizer.tokenize_state.size;
+    let Some(byte) = tokenizer.current() else {
+        put_to_rest(tokenizer);
+        return Ok(State::Nok);
+    };
+    if byte == b';' && size > 0 {
+        tokenizer.exit(Name::CharacterReferenceValue)?;
+        tokenizer.enter(Name::CharacterReferenceMarkerSemi)?;
+        tokenizer.consume();
+        tokenizer.exit(Name::CharacterReferenceMarkerSemi)?;
+        tokenizer.exit(Name::CharacterReference)?;
+        put_to_rest(tokenizer);
+        Ok(State::Ok)
+    } else if takes(marker, size, byte) {
+        tokenizer.consume();
+        tokenizer.tokenize_state.size = size + 1;
+        Ok(State::Next(StateName::CharacterReferenceValue))
+    } else {
+        put_to_rest(tokenizer);
+        Ok(State::Nok)
+    }
+}
+
+// Whether a value of this kind, of so many codes, goes on with this one.
+#[tactic(auto, unfolding(crate::specs::CharacterReference::is_taken))]
+fn takes(marker: u8, size: usize, byte: u8) -> bool
+    requires { IsMarker marker }
+    ensures test { result ≡ is_taken marker size byte }
+    ensures room { IsTrue result → size < value_size_max marker }
+{
+    size < value_max(marker) && value_test(marker, byte)
+}
+
+// Puts the scratch fields of references to rest.
+fn put_to_rest(tokenizer: &mut Tokenizer)
+    ensures { tokenizer.new ≡ scratched (rested tokenizer.old.tokenize_state) tokenizer.old }
+{
+    tokenizer.tokenize_state.marker = 0;
+    tokenizer.tokenize_state.size = 0;
+}
+
+// Whether a name of the table and a `;` stand at the place.
+fn stands_at_name(cursor: &Cursor) -> bool
+    ensures { result ≡ begins_name (ahead_at cursor.now) }
+{
+    let mut name = [0; CHARACTER_REFERENCE_NAMED_SIZE_MAX];
+    let mut ahead = cursor.save();
+    let size = pass_name(&mut ahead, &mut name);
+    let Some(byte) = ahead.current() else {
+        return false;
+    };
+    if byte != b';' {
+        return false;
+    }
+    is_name(&name[..size])
+}
+
+// Passes letters and digits, no more than there is room for, and answers how many.
+fn pass_name(ahead: &mut Cursor, name: &mut [u8]) -> usize
+    ensures { HasPassed (ahead_at ahead.old) (ahead_at ahead.new) name.new result }
+{
+    for (size, slot) in name.iter_mut().enumerate() {
+        let Some(byte) = ahead.current() else {
+            return size;
+        };
+        if !byte.is_ascii_alphanumeric() {
+            return size;
+        }
+        *slot = byte;
+        ahead.consume();
+    }
+    name.len()
+}
+
+// Whether these bytes, letters and digits, are a name of the table.
+fn is_name(bytes: &[u8]) -> bool
+    requires { IsTrue (list_all is_ascii_alphanumeric bytes.now) }
+    ensures { result ≡ has_value html_5_rows bytes.now }
+{
+    match str::from_utf8(bytes) {
+        Ok(name) => decode_named(name, true).is_some(),
+        Err(_) => unreachable!(),
+    }
+}

@@ -1,0 +1,49 @@
+// Hard breaks by a backslash.
+//
+// CommonMark 6.7: a backslash before a line ending is a hard line break. The line ending itself stays.
+#![tactic(auto, using(markdown_engine::proofs::OpRules::op_rules))]
+
+ghost use Rattle.std.specs.Prelude.{◌≡◌, IfOk, OnErr, IsTrue};
+ghost use Rattle.markdown_engine.specs.Ops.{IsOpen};
+ghost use Rattle.markdown_engine.specs.declared.event.Name.TheVariants.{HardBreakEscape};
+ghost use Rattle.markdown_leaf.specs.HardBreakEscape.{start_step, after_step};
+
+use markdown_engine::event::Name;
+use markdown_engine::state::{State, StateName};
+use markdown_engine::tokenizer::Tokenizer;
+use std::alloc::AllocError;
+
+/// At the start of a hard break: the backslash.
+///
+/// The error comes where a growth is refused; then `failed` is true.
+pub fn start(tokenizer: &mut Tokenizer) -> Result<State, AllocError>
+    ensures ok { IfOk result (λ s. start_step tokenizer.old ≡ record { state = s; left = tokenizer.new }) }
+    ensures err { OnErr result (IsTrue tokenizer.new.failed) }
+{
+    if tokenizer.parse_state.options.constructs.hard_break_escape
+        && tokenizer.current() == Some(b'\\')
+    {
+        tokenizer.enter(Name::HardBreakEscape)?;
+        tokenizer.consume();
+        Ok(State::Next(StateName::HardBreakEscapeAfter))
+    } else {
+        Ok(State::Nok)
+    }
+}
+
+/// After the backslash: a line ending has to follow, and is left to others.
+///
+/// The error comes where a growth is refused; then `failed` is true.
+pub fn after(tokenizer: &mut Tokenizer) -> Result<State, AllocError>
+    requires { IsOpen HardBreakEscape tokenizer.old }
+    ensures ok { IfOk result (λ s. after_step tokenizer.old ≡ record { state = s; left = tokenizer.new }) }
+    ensures err { OnErr result (IsTrue tokenizer.new.failed) }
+{
+    match tokenizer.current() {
+        Some(b'\n') => {
+            tokenizer.exit(Name::HardBreakEscape)?;
+            Ok(State::Ok)
+        }
+        _ => Ok(State::Nok),
+    }
+}

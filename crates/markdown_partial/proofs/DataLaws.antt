@@ -1,0 +1,199 @@
+-- the laws of the states of data
+use Rattle.std.proofs.Common.{◌≡◌, ℕ, ◌+◌, ◌≤◌, ◌==◌, ◌||◌, Bool, true, false, Some, None, List, [], ◌∷◌, ◌++◌, length, refl, sym, ap, subst, ◌∙◌, arith, append-nil}
+use Rattle.markdown_engine.specs.Codes.{Code}
+use Rattle.markdown_engine.specs.Lists.{rest_of}
+use Rattle.markdown_engine.specs.Ops.{current_of, ahead, exited, applied, IsOpen, done, Exit, Consume}
+use Rattle.markdown_engine.specs.Past.{EndsAs, past, passed, behind, last_link}
+use Rattle.markdown_engine.specs.Runs.{Stepped, GoesOn, stepped}
+use Rattle.markdown_engine.specs.Tree.{Forest, empty, leaf, leaf_codes}
+use Rattle.markdown_engine.specs.Weights.{codes_left, weight_at}
+use Rattle.markdown_engine.specs.declared.event.Name.TheVariants as N
+use Rattle.markdown_engine.specs.declared.state.State.TheVariants.{Next, Retry}
+use Rattle.markdown_engine.specs.declared.state.State.{State}
+use Rattle.markdown_engine.specs.declared.state.StateName.{StateName}
+use Rattle.markdown_engine.specs.declared.state.StateName.TheVariants.{DataAtBreak, DataInside}
+use Rattle.markdown_engine.specs.declared.tokenizer.TokenizeState.{TokenizeState}
+use Rattle.markdown_engine.specs.declared.tokenizer.Tokenizer.{Tokenizer}
+use Rattle.markdown_engine.proofs.EndsLemmas.{EndsAs-then, scratched-same}
+use Rattle.markdown_engine.proofs.Laws.{Goes-plain, if-step, code-step}
+use Rattle.markdown_engine.proofs.OpRules.{Begins, ahead-none, ahead-some}
+use Rattle.markdown_engine.proofs.OpsLemmas.{Goes-ops, ahead-done, left-done}
+use Rattle.markdown_engine.proofs.TreeLemmas.{done-leaf, leaf-past, ahead-past}
+use Rattle.markdown_model.specs.Lines.{data_up_to}
+use Rattle.markdown_partial.specs.DataSteps.{marks, markers_of, ending, opening, passing, start_at, start_step, at_break_at, at_break_step, leaving, inside_at, inside_step, more_data, is_plain, stretch_of, past_stretch, start_ends, at_break_ends, inside_ends}
+use Rattle.markdown_partial.proofs.RunLemmas.{EndsAs-same, EndsAs-here, Goes-wider}
+use Rattle.markdown_partial.proofs.LineLemmas.{up_to_break, span-parts, data-then, ending-then, more-goes, more-stops, break-stops, break-goes}
+
+-- what the layer says of the states of data
+pub record Within (ready : StateName → Tokenizer → Type 0) (ends : StateName → Tokenizer → Bool → Tokenizer → Type 0) (weight : StateName → Tokenizer → ℕ) : Type 0 where
+  pub at_break_ready : (T : Tokenizer) → ready DataAtBreak T
+  pub at_break_end : (T : Tokenizer) (ok : Bool) (U : Tokenizer) → ends DataAtBreak T ok U → at_break_ends T ok U
+  pub at_break_weight : (T : Tokenizer) → weight DataAtBreak T ≡ weight_at 1 T
+  pub inside_ready : (T : Tokenizer) → IsOpen N.Data T → ready DataInside T
+  pub inside_end : (T : Tokenizer) (ok : Bool) (U : Tokenizer) → ends DataInside T ok U → inside_ends T ok U
+  pub inside_weight : (T : Tokenizer) → weight DataInside T ≡ weight_at 2 T
+
+-- past a leaf the run goes on with more data
+scratch-past : (t : Forest) (T V : Tokenizer) → V ≡ past None t T → V.tokenize_state ≡ T.tokenize_state
+unfolding past
+scratch-past t T V e = ap (λ (x : Tokenizer). x.tokenize_state) e
+
+closes : (t : Forest) (rest : List Code) (T V : Tokenizer) → last_link (length T.events) None t ≡ None → V ≡ past None t T → ahead T ≡ leaf_codes t ++ rest → data_up_to (markers_of T) (ahead T) ≡ behind t (more_data (markers_of T) rest) → (ok : Bool) (U : Tokenizer) → at_break_ends V ok U → start_ends T ok U
+closes t rest T V unlinked e whole reads ok U k =
+    let s : TokenizeState = T.tokenize_state in
+    let left : ahead V ≡ rest = ap ahead e ∙ ahead-past None t T rest whole in
+    let End : TokenizeState → Type 0 = λ q. EndsAs (more_data q.markers) None q V ok U in
+    EndsAs-then (data_up_to s.markers) (more_data s.markers) None None t s s T V
+    (e ∙ ap (past None t) (sym (scratched-same T)))
+    (whole ∙ ap (λ cs. leaf_codes t ++ cs) (sym left))
+    (sym unlinked)
+    (reads ∙ ap (λ cs. behind t (more_data s.markers cs)) (sym left))
+    ok U (subst End (scratch-past t T V e) k)
+
+ending-closes : (T : Tokenizer) (v : ℕ) → current_of T ≡ Some v → (v == 10) ≡ true → (ok : Bool) (U : Tokenizer) → at_break_ends (done ending T) ok U → start_ends T ok U
+ending-closes T v e h ok U k =
+    let b : Begins v (ahead T) = ahead-some T v e in
+    let cs : List Code = rest_of (ahead T) in
+    closes (leaf N.LineEnding (b.code ∷ [])) cs T (done ending T) refl (done-leaf N.LineEnding None false b.code [] cs T b.whole) b.whole
+    (ap (data_up_to (markers_of T)) b.whole ∙ ending-then (markers_of T) b.code cs (ap (λ x. x == 10) b.value ∙ h)) ok U k
+
+-- past the first code of a stretch
+opened : (T : Tokenizer) → IsOpen N.Data (done opening T)
+unfolding applied
+opened T = refl
+
+data-past : (c : Code) (cs rest : List Code) (T : Tokenizer) → ahead T ≡ (c ∷ cs) ++ rest → exited N.Data (passed cs (done opening T)) ≡ past None (leaf N.Data (c ∷ cs)) T
+unfolding passed applied
+data-past c cs rest T e = leaf-past N.Data None false c cs rest T e
+
+ahead-opening : (T : Tokenizer) → ahead (done opening T) ≡ rest_of (ahead T)
+ahead-opening T = ahead-done opening T
+
+scratch-opening : (T : Tokenizer) → (done opening T).tokenize_state ≡ T.tokenize_state
+unfolding applied
+scratch-opening T = refl
+
+stretch-opening : (T : Tokenizer) → stretch_of (done opening T) ≡ (up_to_break (markers_of T) (rest_of (ahead T))).0
+stretch-opening T =
+    ap (λ (q : TokenizeState). (up_to_break q.markers (ahead (done opening T))).0) (scratch-opening T)
+    ∙ ap (λ cs. (up_to_break (markers_of T) cs).0) (ahead-opening T)
+
+opening-closes : (T : Tokenizer) (v : ℕ) → current_of T ≡ Some v → (v == 10) ≡ false → (ok : Bool) (U : Tokenizer) → inside_ends (done opening T) ok U → start_ends T ok U
+opening-closes T v e h ok U k =
+    let b : Begins v (ahead T) = ahead-some T v e in
+    let cs : List Code = rest_of (ahead T) in
+    let w : List Code × List Code = up_to_break (markers_of T) cs in
+    let whole : ahead T ≡ (b.code ∷ w.0) ++ w.1 = b.whole ∙ ap (λ xs. b.code ∷ xs) (sym (span-parts (is_plain (markers_of T)) cs)) in
+    let V : Tokenizer = exited N.Data (passed (stretch_of (done opening T)) (done opening T)) in
+    let is : V ≡ past None (leaf N.Data (b.code ∷ w.0)) T = ap (λ xs. exited N.Data (passed xs (done opening T))) (stretch-opening T) ∙ data-past b.code w.0 w.1 T whole in
+    closes (leaf N.Data (b.code ∷ w.0)) w.1 T V refl is (whole ∙ ap (λ xs. xs ++ w.1) (sym (append-nil (b.code ∷ w.0))))
+    (ap (data_up_to (markers_of T)) b.whole ∙ data-then (markers_of T) b.code cs (ap (λ x. x == 10) b.value ∙ h)) ok U k
+
+one-ahead : (T : Tokenizer) (v : ℕ) → current_of T ≡ Some v → 1 ≤ length (ahead T)
+one-ahead T v e = omega (arith, ap length (ahead-some T v e).whole)
+
+passing-law : (ready : StateName → Tokenizer → Type 0) (ends : StateName → Tokenizer → Bool → Tokenizer → Type 0) (weight : StateName → Tokenizer → ℕ) → Within ready ends weight → (T : Tokenizer) → T.attempts ≡ [] → (v : ℕ) → current_of T ≡ Some v → GoesOn ready ends weight (weight_at 1 T) (start_ends T) (passing v T)
+passing-law ready ends weight within T alone v e =
+    let P : Stepped → Type 0 = GoesOn ready ends weight (weight_at 1 T) (start_ends T) in
+    let one : 1 ≤ length (ahead T) = one-ahead T v e in
+    if-step P (v == 10) (stepped (Next DataAtBreak) (done ending T)) (stepped (Next DataInside) (done opening T))
+    (λ h. let less : codes_left (done ending T) + 1 ≡ codes_left T = left-done ending T one in
+    Goes-ops ready ends weight (weight_at 1 T) (start_ends T) (Next DataAtBreak) ending T alone (within.at_break_ready (done ending T)) (rw within.at_break_weight (omega (arith, less))) (λ ok U k. ending-closes T v e h ok U (within.at_break_end (done ending T) ok U k)))
+    (λ h. let less : codes_left (done opening T) + 1 ≡ codes_left T = left-done opening T one in
+    Goes-ops ready ends weight (weight_at 1 T) (start_ends T) (Next DataInside) opening T alone (within.inside_ready (done opening T) (opened T)) (rw within.inside_weight (omega (arith, less))) (λ ok U k. opening-closes T v e h ok U (within.inside_end (done opening T) ok U k)))
+
+nothing-read : (T : Tokenizer) → ahead T ≡ [] → data_up_to (markers_of T) (ahead T) ≡ Some (empty, ahead T)
+unfolding data_up_to
+nothing-read T e = subst (λ cs. data_up_to (markers_of T) cs ≡ Some (empty, cs)) (sym e) refl
+
+nothing-more : (T : Tokenizer) → ahead T ≡ [] → more_data (markers_of T) (ahead T) ≡ Some (empty, ahead T)
+nothing-more T e = subst (λ cs. more_data (markers_of T) cs ≡ Some (empty, cs)) (sym e) refl
+
+pub start-law : (ready : StateName → Tokenizer → Type 0) (ends : StateName → Tokenizer → Bool → Tokenizer → Type 0) (weight : StateName → Tokenizer → ℕ) → Within ready ends weight → (T : Tokenizer) → T.attempts ≡ [] → GoesOn ready ends weight (weight_at 1 T) (start_ends T) (start_step T)
+start-law ready ends weight within T alone =
+    let P : Stepped → Type 0 = GoesOn ready ends weight (weight_at 1 T) (start_ends T) in
+    code-step P (current_of T) (λ o. start_at o T)
+    (λ e. Goes-plain ready ends weight (weight_at 1 T) (start_ends T) State.Ok T alone tt (omega arith) (EndsAs-here (data_up_to (markers_of T)) T (nothing-read T (ahead-none T e))))
+    (λ v e. passing-law ready ends weight within T alone v e)
+
+-- the same where no marker stands
+more-here : (T : Tokenizer) (v : ℕ) → current_of T ≡ Some v → marks (markers_of T) v ≡ false → (ok : Bool) (U : Tokenizer) → start_ends T ok U → at_break_ends T ok U
+more-here T v e h ok U k =
+    let b : Begins v (ahead T) = ahead-some T v e in
+    let cs : List Code = rest_of (ahead T) in
+    let reads : more_data (markers_of T) (ahead T) ≡ data_up_to (markers_of T) (ahead T) =
+    ap (more_data (markers_of T)) b.whole ∙ more-goes (markers_of T) b.code cs (ap (marks (markers_of T)) b.value ∙ h) ∙ ap (data_up_to (markers_of T)) (sym b.whole) in
+    EndsAs-same (more_data (markers_of T)) (data_up_to (markers_of T)) None T.tokenize_state T reads ok U k
+
+marker-here : (T : Tokenizer) (v : ℕ) → current_of T ≡ Some v → marks (markers_of T) v ≡ true → more_data (markers_of T) (ahead T) ≡ Some (empty, ahead T)
+marker-here T v e h =
+    let b : Begins v (ahead T) = ahead-some T v e in
+    ap (more_data (markers_of T)) b.whole ∙ more-stops (markers_of T) b.code (rest_of (ahead T)) (ap (marks (markers_of T)) b.value ∙ h) ∙ ap (λ cs. Some (empty, cs)) (sym b.whole)
+
+pub at_break-law : (ready : StateName → Tokenizer → Type 0) (ends : StateName → Tokenizer → Bool → Tokenizer → Type 0) (weight : StateName → Tokenizer → ℕ) → Within ready ends weight → (T : Tokenizer) → T.attempts ≡ [] → GoesOn ready ends weight (weight_at 1 T) (at_break_ends T) (at_break_step T)
+at_break-law ready ends weight within T alone =
+    let n : ℕ = weight_at 1 T in
+    let P : Stepped → Type 0 = GoesOn ready ends weight n (at_break_ends T) in
+    code-step P (current_of T) (λ o. at_break_at o T)
+    (λ e. Goes-plain ready ends weight n (at_break_ends T) State.Ok T alone tt (omega arith) (EndsAs-here (more_data (markers_of T)) T (nothing-more T (ahead-none T e))))
+    (λ v e. if-step P (marks (markers_of T) v) (stepped State.Ok T) (passing v T)
+    (λ h. Goes-plain ready ends weight n (at_break_ends T) State.Ok T alone tt (omega arith) (EndsAs-here (more_data (markers_of T)) T (marker-here T v e h)))
+    (λ h. Goes-wider ready ends weight n (start_ends T) (at_break_ends T) (passing v T) (λ ok U k. more-here T v e h ok U k) (passing-law ready ends weight within T alone v e)))
+
+-- In a stretch.
+
+past-none : (T : Tokenizer) → passed [] T ≡ T
+unfolding passed
+past-none T = refl
+
+past-one : (c : Code) (cs : List Code) (T : Tokenizer) → passed (c ∷ cs) T ≡ passed cs (done (Consume ∷ []) T)
+unfolding passed applied
+past-one c cs T = refl
+
+scratch-consumed : (T : Tokenizer) → (done (Consume ∷ []) T).tokenize_state ≡ T.tokenize_state
+unfolding applied
+scratch-consumed T = refl
+
+stack-consumed : (T : Tokenizer) → IsOpen N.Data T → IsOpen N.Data (done (Consume ∷ []) T)
+unfolding applied
+stack-consumed T h = h
+
+stretch-ends : (T : Tokenizer) → stretch_of T ≡ [] → (ok : Bool) (U : Tokenizer) → at_break_ends (done (Exit N.Data ∷ []) T) ok U → inside_ends T ok U
+stretch-ends T e ok U k =
+    let same : exited N.Data T ≡ past_stretch T = ap (exited N.Data) (sym (past-none T) ∙ ap (λ cs. passed cs T) (sym e)) in
+    subst (λ (V : Tokenizer). at_break_ends V ok U) same k
+
+stretch-goes : (T : Tokenizer) (v : ℕ) → current_of T ≡ Some v → (v == 10) || marks (markers_of T) v ≡ false → (ok : Bool) (U : Tokenizer) → inside_ends (done (Consume ∷ []) T) ok U → inside_ends T ok U
+stretch-goes T v e h ok U k =
+    let b : Begins v (ahead T) = ahead-some T v e in
+    let m : List ℕ = markers_of T in
+    let X : Tokenizer = done (Consume ∷ []) T in
+    let next : stretch_of X ≡ (up_to_break m (rest_of (ahead T))).0 =
+    ap (λ (q : TokenizeState). (up_to_break q.markers (ahead X)).0) (scratch-consumed T) ∙ ap (λ cs. (up_to_break m cs).0) (ahead-done (Consume ∷ []) T) in
+    let here : stretch_of T ≡ b.code ∷ stretch_of X =
+    ap (λ cs. (up_to_break m cs).0) b.whole
+    ∙ ap (λ (s : List Code × List Code). s.0) (break-goes m b.code (rest_of (ahead T)) (ap (λ x. (x == 10) || marks m x) b.value ∙ h))
+    ∙ ap (λ cs. b.code ∷ cs) (sym next) in
+    let same : past_stretch X ≡ past_stretch T = ap (exited N.Data) (sym (past-one b.code (stretch_of X) T) ∙ ap (λ cs. passed cs T) (sym here)) in
+    subst (λ (V : Tokenizer). at_break_ends V ok U) same k
+
+stretch-stops : (T : Tokenizer) (v : ℕ) → current_of T ≡ Some v → (v == 10) || marks (markers_of T) v ≡ true → stretch_of T ≡ []
+stretch-stops T v e h =
+    let b : Begins v (ahead T) = ahead-some T v e in
+    let m : List ℕ = markers_of T in
+    ap (λ cs. (up_to_break m cs).0) b.whole ∙ ap (λ (s : List Code × List Code). s.0) (break-stops m b.code (rest_of (ahead T)) (ap (λ x. (x == 10) || marks m x) b.value ∙ h))
+
+pub inside-law : (ready : StateName → Tokenizer → Type 0) (ends : StateName → Tokenizer → Bool → Tokenizer → Type 0) (weight : StateName → Tokenizer → ℕ) → Within ready ends weight → (T : Tokenizer) → T.attempts ≡ [] → IsOpen N.Data T → GoesOn ready ends weight (weight_at 2 T) (inside_ends T) (inside_step T)
+inside-law ready ends weight within T alone token =
+    let n : ℕ = weight_at 2 T in
+    let P : Stepped → Type 0 = GoesOn ready ends weight n (inside_ends T) in
+    let X : Tokenizer = done (Exit N.Data ∷ []) T in
+    let leave : stretch_of T ≡ [] → P (leaving T) = λ h.
+    Goes-ops ready ends weight n (inside_ends T) (Retry DataAtBreak) (Exit N.Data ∷ []) T alone (within.at_break_ready X) (rw within.at_break_weight (omega (arith, left-done (Exit N.Data ∷ []) T (omega arith)))) (λ ok U k. stretch-ends T h ok U (within.at_break_end X ok U k)) in
+    code-step P (current_of T) (λ o. inside_at o T)
+    (λ e. leave (ap (λ cs. (up_to_break (markers_of T) cs).0) (ahead-none T e)))
+    (λ v e. if-step P ((v == 10) || marks (markers_of T) v) (leaving T) (stepped (Next DataInside) (done (Consume ∷ []) T))
+    (λ h. leave (stretch-stops T v e h))
+    (λ h. let Y : Tokenizer = done (Consume ∷ []) T in
+    let less : codes_left Y + 1 ≡ codes_left T = left-done (Consume ∷ []) T (one-ahead T v e) in
+    Goes-ops ready ends weight n (inside_ends T) (Next DataInside) (Consume ∷ []) T alone (within.inside_ready Y (stack-consumed T token)) (rw within.inside_weight (omega (arith, less))) (λ ok U k. stretch-goes T v e h ok U (within.inside_end Y ok U k))))

@@ -1,0 +1,11 @@
+pub mod LineLemmas
+pub mod DataLaws
+pub mod RunLemmas
+pub mod BlankLemmas
+pub mod LeafLemmas
+pub mod SpacingLemmas
+pub mod SpaceLaws
+pub mod EolLaws
+pub mod AskedLaws
+pub mod MergeMarks
+pub mod MergeLaws

@@ -1,0 +1,180 @@
+-- the laws of the states of whitespace on one line
+use Rattle.std.proofs.Common.{◌≡◌, ℕ, zero, suc, ◌+◌, ◌-◌, ◌<◌, ◌&&◌, nat_lt, nat_le, Bool, true, false, Option, List, [], ◌∷◌, ◌++◌, length, drop, take, refl, sym, ap, subst, ◌∙◌, arith}
+use Rattle.markdown_engine.specs.Codes.{Code, is_blank}
+use Rattle.markdown_engine.specs.Ops.{current_of, consumed, exited, scratched, ahead, applied, Exit, Consume, IsOpen}
+use Rattle.markdown_engine.specs.Past.{EndsAs, entered_leaf, link_before, past, passed}
+use Rattle.markdown_engine.specs.Place.{ahead_at}
+use Rattle.markdown_engine.specs.Runs.{Stepped, GoesOn, Goes, settled}
+use Rattle.markdown_engine.specs.Tree.{leaf_codes}
+use Rattle.markdown_engine.specs.Weights.{codes_left, weight_at}
+use Rattle.markdown_engine.specs.declared.event.Content.{Content}
+use Rattle.markdown_engine.specs.declared.event.Name.{Name}
+use Rattle.markdown_engine.specs.declared.state.State.TheVariants.{Next, Retry, Nok}
+use Rattle.markdown_engine.specs.declared.state.State.TheVariants as State
+use Rattle.markdown_engine.specs.declared.state.StateName.{StateName}
+use Rattle.markdown_engine.specs.declared.state.StateName.TheVariants.{SpaceOrTabInside, SpaceOrTabAfter}
+use Rattle.markdown_engine.specs.declared.tokenizer.TokenizeState.{TokenizeState}
+use Rattle.markdown_engine.specs.declared.tokenizer.Tokenizer.{Tokenizer}
+use Rattle.markdown_engine.proofs.Laws.{Goes-plain, if-step}
+use Rattle.markdown_engine.proofs.OpRules.{attempts-applied, attempts-scratched, left-applied, left-scratched, left-ahead}
+use Rattle.markdown_engine.proofs.OpsLemmas.{and-left, and-right}
+use Rattle.markdown_engine.proofs.TreeLemmas.{leaf-past, ahead-past, past-empty, Fails-past}
+use Rattle.markdown_model.specs.Grammar.{span}
+use Rattle.markdown_model.specs.Lines.{linked_leaf}
+use Rattle.markdown_model.specs.Whitespace.{space_or_tab}
+use Rattle.markdown_partial.specs.SpaceSteps.{at_blank, sized, rested, start_step, inside_step, ended, after_step, StartReady, start_ends, taken, inside_ends, after_ends}
+use Rattle.markdown_partial.proofs.LeafLemmas.{linked-codes, entered-cursor, entered-scratch, entered-attempts, entered-open, entered-left}
+use Rattle.markdown_partial.proofs.BlankLemmas.{Here, here, blank-ahead, taken-parts, taken-first, taken-none}
+use Rattle.markdown_partial.proofs.SpacingLemmas.{space-holds, space-refused}
+
+-- what the layer says of the states of whitespace
+pub record Within (ready : StateName → Tokenizer → Type 0) (ends : StateName → Tokenizer → Bool → Tokenizer → Type 0) (weight : StateName → Tokenizer → ℕ) : Type 0 where
+  pub inside_ready : (T : Tokenizer) → IsOpen T.tokenize_state.space_or_tab_token T → ready SpaceOrTabInside T
+  pub inside_end : (T : Tokenizer) (ok : Bool) (U : Tokenizer) → ends SpaceOrTabInside T ok U → inside_ends T ok U
+  pub inside_weight : (T : Tokenizer) → weight SpaceOrTabInside T ≡ weight_at 2 T
+  pub after_ready : (T : Tokenizer) → ready SpaceOrTabAfter T
+  pub after_end : (T : Tokenizer) (ok : Bool) (U : Tokenizer) → ends SpaceOrTabAfter T ok U → after_ends T ok U
+  pub after_weight : (T : Tokenizer) → weight SpaceOrTabAfter T ≡ weight_at 1 T
+
+-- a step that ends, by a test
+pub Goes-ended : (ready : StateName → Tokenizer → Type 0) (ends : StateName → Tokenizer → Bool → Tokenizer → Type 0) (weight : StateName → Tokenizer → ℕ) (n : ℕ) (End : Bool → Tokenizer → Type 0) (b : Bool) (T : Tokenizer) → T.attempts ≡ [] → 0 < n → ((ok : Bool) (U : Tokenizer) → (ok ≡ b) × (U ≡ T) → End ok U) → Goes ready ends weight n End T.attempts (ended b) (settled T)
+Goes-ended ready ends weight n End true T alone h closed = Goes-plain ready ends weight n End State.Ok T alone tt h closed
+Goes-ended ready ends weight n End false T alone h closed = Goes-plain ready ends weight n End Nok T alone tt h closed
+
+pub after-law : (ready : StateName → Tokenizer → Type 0) (ends : StateName → Tokenizer → Bool → Tokenizer → Type 0) (weight : StateName → Tokenizer → ℕ) (T : Tokenizer) → T.attempts ≡ [] → GoesOn ready ends weight (weight_at 1 T) (after_ends T) (after_step T)
+after-law ready ends weight T alone =
+    Goes-ended ready ends weight (weight_at 1 T) (after_ends T) _ (scratched (rested T.tokenize_state) T) (attempts-scratched _ T ∙ alone) (omega arith) (λ ok U k. k)
+
+-- Inside.
+
+abbrev more : Tokenizer → Tokenizer
+more T = scratched (sized (T.tokenize_state.space_or_tab_size + 1) T.tokenize_state) (consumed T)
+
+taken-more : (s : TokenizeState) (c : Code) (cs : List Code) → s.space_or_tab_size < s.space_or_tab_max → is_blank c ≡ true → taken s (c ∷ cs) ≡ c ∷ taken (sized (s.space_or_tab_size + 1) s) cs
+taken-more s c cs h e =
+    let less : s.space_or_tab_max - s.space_or_tab_size ≡ suc (s.space_or_tab_max - (s.space_or_tab_size + 1)) = omega arith in
+    ap (λ n. take n (span is_blank (c ∷ cs)).0) less ∙ taken-first (s.space_or_tab_max - (s.space_or_tab_size + 1)) is_blank c cs e
+
+lt-gap : (a b : ℕ) → nat_lt a b ≡ nat_lt 0 (b - a)
+lt-gap a b = grind arith
+
+lt-true : (a b : ℕ) → nat_lt a b ≡ true → a < b
+lt-true a b e = grind arith
+
+ahead-more : (T : Tokenizer) → ahead (more T) ≡ ahead (consumed T)
+unfolding scratched
+ahead-more T = refl
+
+inside-more : (T : Tokenizer) → T.tokenize_state.space_or_tab_size < T.tokenize_state.space_or_tab_max → Here is_blank T → (ok : Bool) (U : Tokenizer) → inside_ends (more T) ok U → inside_ends T ok U
+unfolding scratched applied passed
+inside-more T l b ok U k =
+    let s : TokenizeState = T.tokenize_state in
+    let ws : List Code = taken (sized (s.space_or_tab_size + 1) s) (ahead (consumed T)) in
+    let whole : taken s (ahead T) ≡ b.code ∷ ws = ap (taken s) b.whole ∙ taken-more s b.code (ahead (consumed T)) l b.passes in
+    let size : (s.space_or_tab_size + 1) + length ws ≡ s.space_or_tab_size + length (taken s (ahead T)) = omega (arith, ap length whole) in
+    (k.0 ∙ ap (nat_le s.space_or_tab_min) size, k.1 ∙ ap (λ xs. scratched (rested s) (exited s.space_or_tab_token (passed xs T))) (sym whole))
+
+inside-stop : (T : Tokenizer) → taken T.tokenize_state (ahead T) ≡ [] → (ok : Bool) (U : Tokenizer) → after_ends (exited T.tokenize_state.space_or_tab_token T) ok U → inside_ends T ok U
+unfolding scratched applied passed
+inside-stop T e ok U k =
+    let s : TokenizeState = T.tokenize_state in
+    let size : s.space_or_tab_size ≡ s.space_or_tab_size + length (taken s (ahead T)) = omega (arith, ap length e) in
+    (k.0 ∙ ap (nat_le s.space_or_tab_min) size, k.1 ∙ ap (λ xs. scratched (rested s) (exited s.space_or_tab_token (passed xs T))) (sym e))
+
+open-still : (T : Tokenizer) → IsOpen T.tokenize_state.space_or_tab_token T → IsOpen (more T).tokenize_state.space_or_tab_token (more T)
+unfolding scratched applied
+open-still T h = h
+
+-- past a code at hand fewer are left
+pub fewer : (p : Code → Bool) (T : Tokenizer) → Here p T → codes_left (consumed T) + 1 ≡ codes_left T
+fewer p T b = omega (arith, left-ahead T, left-ahead (consumed T), ap length b.whole)
+
+pub inside-law : (ready : StateName → Tokenizer → Type 0) (ends : StateName → Tokenizer → Bool → Tokenizer → Type 0) (weight : StateName → Tokenizer → ℕ) → Within ready ends weight → (T : Tokenizer) → T.attempts ≡ [] → IsOpen T.tokenize_state.space_or_tab_token T → GoesOn ready ends weight (weight_at 2 T) (inside_ends T) (inside_step T)
+inside-law ready ends weight within T alone token =
+    let s : TokenizeState = T.tokenize_state in
+    let n : ℕ = weight_at 2 T in
+    let P : Stepped → Type 0 = GoesOn ready ends weight n (inside_ends T) in
+    if-step P (at_blank (current_of T) && nat_lt s.space_or_tab_size s.space_or_tab_max) _ _
+    (λ h. let b : Here is_blank T = here is_blank T (sym (blank-ahead T) ∙ and-left _ _ h) in
+    Goes-plain ready ends weight n (inside_ends T) (Next SpaceOrTabInside) (more T) (attempts-scratched _ (consumed T) ∙ attempts-applied Consume T ∙ alone) (within.inside_ready (more T) (open-still T token))
+    (rw within.inside_weight (omega (arith, fewer is_blank T b, left-scratched (sized (s.space_or_tab_size + 1) s) (consumed T))))
+    (λ ok U k. inside-more T (lt-true _ _ (and-right _ _ h)) b ok U (within.inside_end (more T) ok U k)))
+    (λ h. let none : taken s (ahead T) ≡ [] =
+    taken-none (s.space_or_tab_max - s.space_or_tab_size) is_blank (ahead T) (ap (λ b. b && nat_lt 0 (s.space_or_tab_max - s.space_or_tab_size)) (sym (blank-ahead T)) ∙ ap (λ b. at_blank (current_of T) && b) (sym (lt-gap s.space_or_tab_size s.space_or_tab_max)) ∙ h) in
+    let V : Tokenizer = exited s.space_or_tab_token T in
+    Goes-plain ready ends weight n (inside_ends T) (Retry SpaceOrTabAfter) V (attempts-applied (Exit s.space_or_tab_token) T ∙ alone) (within.after_ready V)
+    (rw within.after_weight (omega (arith, left-applied (Exit s.space_or_tab_token) T refl)))
+    (λ ok U k. inside-stop T none ok U (within.after_end V ok U k)))
+
+-- From the start.
+
+space-closed : (name : Name) (link : Option Content) (min max : ℕ) (previous : Option ℕ) (s : TokenizeState) (T : Tokenizer) (ok : Bool) (U : Tokenizer) → ok ≡ nat_le min (length (take max (span is_blank (ahead T)).0)) → U ≡ past previous (linked_leaf name link (take max (span is_blank (ahead T)).0)) (scratched s T) → EndsAs (space_or_tab name link min max) previous s T ok U
+unfolding scratched
+space-closed name link min max previous s T true U h k =
+    let ws : List Code = take max (span is_blank (ahead T)).0 in
+    let rest : List Code = drop (length ws) (ahead T) in
+    let whole : ahead T ≡ leaf_codes (linked_leaf name link ws) ++ rest = taken-parts max is_blank (ahead T) ∙ ap (λ x. x ++ rest) (sym (linked-codes name link ws)) in
+    record { tree = linked_leaf name link ws; rest = rest; holds = space-holds name link min max (ahead T) (sym h); left = k; whole = whole; after = ap ahead k ∙ ahead-past previous (linked_leaf name link ws) (scratched s T) rest whole }
+space-closed name link min max previous s T false U h k =
+    record { refused = space-refused name link min max (ahead T) (sym h); fails = Fails-past previous _ s T U k }
+
+taken-some : (n : ℕ) (T : Tokenizer) → 0 < n → (b : Here is_blank T) → (ws : List Code) × (take n (span is_blank (ahead T)).0 ≡ b.code ∷ ws)
+taken-some zero T h b = absurd (omega arith)
+taken-some (suc n) T h b = (take n (span is_blank (ahead (consumed T))).0, ap (λ cs. take (suc n) (span is_blank cs).0) b.whole ∙ taken-first n is_blank b.code (ahead (consumed T)) b.passes)
+
+abbrev entered_space : TokenizeState → Tokenizer → Tokenizer
+entered_space s T = entered_leaf s.space_or_tab_token s.space_or_tab_content s.space_or_tab_connect T
+
+start-inside : (T : Tokenizer) → 0 < T.tokenize_state.space_or_tab_max → T.tokenize_state.space_or_tab_size ≡ 0 → Here is_blank T → (ok : Bool) (U : Tokenizer) → inside_ends (entered_space T.tokenize_state T) ok U → start_ends T ok U
+unfolding scratched applied passed past
+start-inside T l z b ok U k =
+    let s : TokenizeState = T.tokenize_state in
+    let name : Name = s.space_or_tab_token in
+    let link : Option Content = s.space_or_tab_content in
+    let previous : Option ℕ = link_before s.space_or_tab_connect T in
+    let E : Tokenizer = entered_space s T in
+    let ws : List Code = take s.space_or_tab_max (span is_blank (ahead T)).0 in
+    let P : TokenizeState → Type 0 = λ q. (ok ≡ nat_le q.space_or_tab_min (q.space_or_tab_size + length (taken q (ahead E)))) × (U ≡ scratched (rested q) (exited q.space_or_tab_token (passed (taken q (ahead E)) E))) in
+    let now : P s = subst P (entered-scratch name link s.space_or_tab_connect T) k in
+    let gap : s.space_or_tab_max - s.space_or_tab_size ≡ s.space_or_tab_max = omega arith in
+    let all : taken s (ahead E) ≡ ws = ap (λ p. taken s (ahead_at p)) (entered-cursor name link s.space_or_tab_connect T) ∙ ap (λ n. take n (span is_blank (ahead T)).0) gap in
+    let count : s.space_or_tab_size + length (taken s (ahead E)) ≡ length ws = omega (arith, ap length all) in
+    let first = taken-some s.space_or_tab_max T l b in
+    let whole : ahead T ≡ (b.code ∷ first.0) ++ drop (length ws) (ahead T) = taken-parts s.space_or_tab_max is_blank (ahead T) ∙ ap (λ x. x ++ drop (length ws) (ahead T)) first.1 in
+    let law : exited name (passed (b.code ∷ first.0) E) ≡ past previous (linked_leaf name link (b.code ∷ first.0)) T = leaf-past name link s.space_or_tab_connect b.code first.0 (drop (length ws) (ahead T)) T whole in
+    let left : exited name (passed ws E) ≡ past previous (linked_leaf name link ws) T =
+    subst (λ xs. exited name (passed xs E) ≡ past previous (linked_leaf name link xs) T) (sym first.1) law in
+    space-closed name link s.space_or_tab_min s.space_or_tab_max previous (rested s) T ok U
+    (now.0 ∙ ap (nat_le s.space_or_tab_min) count)
+    (now.1 ∙ ap (λ xs. scratched (rested s) (exited name (passed xs E))) all ∙ ap (scratched (rested s)) left)
+
+start-after : (T : Tokenizer) → T.tokenize_state.space_or_tab_size ≡ 0 → take T.tokenize_state.space_or_tab_max (span is_blank (ahead T)).0 ≡ [] → (ok : Bool) (U : Tokenizer) → after_ends T ok U → start_ends T ok U
+start-after T z e ok U k =
+    let s : TokenizeState = T.tokenize_state in
+    let previous : Option ℕ = link_before s.space_or_tab_connect T in
+    let count : s.space_or_tab_size ≡ length (take s.space_or_tab_max (span is_blank (ahead T)).0) = z ∙ ap length (sym e) in
+    space-closed s.space_or_tab_token s.space_or_tab_content s.space_or_tab_min s.space_or_tab_max previous (rested s) T ok U
+    (k.0 ∙ ap (nat_le s.space_or_tab_min) count)
+    (k.1 ∙ sym (past-empty previous (scratched (rested s) T)) ∙ ap (λ xs. past previous (linked_leaf s.space_or_tab_token s.space_or_tab_content xs) (scratched (rested s) T)) (sym e))
+
+open-entered : (T : Tokenizer) → IsOpen (entered_space T.tokenize_state T).tokenize_state.space_or_tab_token (entered_space T.tokenize_state T)
+open-entered T =
+    let s : TokenizeState = T.tokenize_state in
+    let E : Tokenizer = entered_space s T in
+    let P : TokenizeState → Type 0 = λ q. IsOpen q.space_or_tab_token E in
+    subst P (sym (entered-scratch s.space_or_tab_token s.space_or_tab_content s.space_or_tab_connect T)) (entered-open s.space_or_tab_token s.space_or_tab_content s.space_or_tab_connect T)
+
+pub start-law : (ready : StateName → Tokenizer → Type 0) (ends : StateName → Tokenizer → Bool → Tokenizer → Type 0) (weight : StateName → Tokenizer → ℕ) → Within ready ends weight → (T : Tokenizer) → T.attempts ≡ [] → StartReady T → GoesOn ready ends weight (weight_at 3 T) (start_ends T) (start_step T)
+start-law ready ends weight within T alone on =
+    let s : TokenizeState = T.tokenize_state in
+    let n : ℕ = weight_at 3 T in
+    let P : Stepped → Type 0 = GoesOn ready ends weight n (start_ends T) in
+    let E : Tokenizer = entered_space s T in
+    let same : codes_left E ≡ codes_left T = entered-left s.space_or_tab_token s.space_or_tab_content s.space_or_tab_connect T in
+    if-step P (at_blank (current_of T) && nat_lt 0 s.space_or_tab_max) _ _
+    (λ h. let b : Here is_blank T = here is_blank T (sym (blank-ahead T) ∙ and-left _ _ h) in
+    Goes-plain ready ends weight n (start_ends T) (Retry SpaceOrTabInside) E (entered-attempts s.space_or_tab_token s.space_or_tab_content s.space_or_tab_connect T ∙ alone) (within.inside_ready E (open-entered T))
+    (rw within.inside_weight (omega (arith, same)))
+    (λ ok U k. start-inside T (lt-true _ _ (and-right _ _ h)) on.none_yet b ok U (within.inside_end E ok U k)))
+    (λ h. let none : take s.space_or_tab_max (span is_blank (ahead T)).0 ≡ [] = taken-none s.space_or_tab_max is_blank (ahead T) (ap (λ b. b && nat_lt 0 s.space_or_tab_max) (sym (blank-ahead T)) ∙ h) in
+    Goes-plain ready ends weight n (start_ends T) (Retry SpaceOrTabAfter) T alone (within.after_ready T) (rw within.after_weight (omega arith)) (λ ok U k. start-after T on.none_yet none ok U (within.after_end T ok U k)))

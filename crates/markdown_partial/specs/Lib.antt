@@ -1,0 +1,4 @@
+pub mod DataSteps
+pub mod SpaceSteps
+pub mod EolSteps
+pub mod Merge

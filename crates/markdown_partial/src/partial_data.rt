@@ -1,0 +1,184 @@
+// Data: text that means itself.
+#![tactic(auto, using(markdown_engine::proofs::OpRules::op_rules))]
+
+ghost use Rattle.std.specs.Prelude.{◌≡◌, ◌-◌, ◌<◌, ◌≤◌, ◌++◌, IfOk, OnOk, OnErr, IsTrue, Some, None, [], drop, length};
+ghost use Rattle.markdown_engine.specs.Ops.{IsOpen, current_of};
+ghost use Rattle.markdown_engine.specs.declared.event.Name.TheVariants.{Data};
+ghost use Rattle.markdown_engine.specs.Edits.{edited};
+ghost use Rattle.markdown_engine.specs.Past.{appended_from};
+ghost use Rattle.markdown_engine.specs.Tree.{Forest};
+ghost use Rattle.markdown_model.specs.Passes.{merged};
+ghost use Rattle.markdown_partial.specs.DataSteps.{marks, passing, start_step, at_break_step, inside_step};
+ghost use Rattle.markdown_partial.specs.Merge.{opens_data, closes_data, joint, marked, joints, HasData};
+
+use markdown_engine::event::{Event, Kind, Name};
+use markdown_engine::events::Events;
+use markdown_engine::state::{State, StateName};
+use markdown_engine::subtokenize::Subresult;
+use markdown_engine::tokenizer::{Markers, Tokenizer};
+use markdown_engine::util::edit_map::EditMap;
+use std::alloc::{AllocError, Global};
+
+// Whether data stops at this byte.
+fn is_marker(markers: &Markers, byte: u8) -> bool
+    ensures { result ≡ marks markers.now byte }
+{
+    markers.as_slice().iter().any(|marker| byte == *marker)
+}
+
+// Passes the code at hand, a line ending or the first code of a stretch.
+fn pass(tokenizer: &mut Tokenizer, byte: u8) -> Result<State, AllocError>
+    requires { current_of tokenizer.old ≡ Some byte }
+    ensures ok { IfOk result (λ s. passing byte tokenizer.old ≡ record { state = s; left = tokenizer.new }) }
+    ensures err { OnErr result (IsTrue tokenizer.new.failed) }
+{
+    if byte == b'\n' {
+        tokenizer.enter(Name::LineEnding)?;
+        tokenizer.consume();
+        tokenizer.exit(Name::LineEnding)?;
+        Ok(State::Next(StateName::DataAtBreak))
+    } else {
+        tokenizer.enter(Name::Data)?;
+        tokenizer.consume();
+        Ok(State::Next(StateName::DataInside))
+    }
+}
+
+/// At the start of data: the code at hand belongs to it, whatever it is.
+///
+/// The error comes where a growth is refused; then `failed` is true.
+pub fn start(tokenizer: &mut Tokenizer) -> Result<State, AllocError>
+    ensures ok { IfOk result (λ s. start_step tokenizer.old ≡ record { state = s; left = tokenizer.new }) }
+    ensures err { OnErr result (IsTrue tokenizer.new.failed) }
+{
+    match tokenizer.current() {
+        None => Ok(State::Ok),
+        Some(byte) => pass(tokenizer, byte),
+    }
+}
+
+/// Between two stretches: at a line ending, a marker or the end, or at the start of a line.
+///
+/// The error comes where a growth is refused; then `failed` is true.
+pub fn at_break(tokenizer: &mut Tokenizer) -> Result<State, AllocError>
+    ensures ok { IfOk result (λ s. at_break_step tokenizer.old ≡ record { state = s; left = tokenizer.new }) }
+    ensures err { OnErr result (IsTrue tokenizer.new.failed) }
+{
+    match tokenizer.current() {
+        Some(byte) if !is_marker(&tokenizer.tokenize_state.markers, byte) => pass(tokenizer, byte),
+        _ => Ok(State::Ok),
+    }
+}
+
+/// In a stretch of data, which ends before a line ending, a marker or the end.
+///
+/// The error comes where a growth is refused; then `failed` is true.
+pub fn inside(tokenizer: &mut Tokenizer) -> Result<State, AllocError>
+    requires { IsOpen Data tokenizer.old }
+    ensures ok { IfOk result (λ s. inside_step tokenizer.old ≡ record { state = s; left = tokenizer.new }) }
+    ensures err { OnErr result (IsTrue tokenizer.new.failed) }
+{
+    match tokenizer.current() {
+        Some(byte) if byte != b'\n' && !is_marker(&tokenizer.tokenize_state.markers, byte) => {
+            tokenizer.consume();
+            Ok(State::Next(StateName::DataInside))
+        }
+        _ => {
+            tokenizer.exit(Name::Data)?;
+            Ok(State::Retry(StateName::DataAtBreak))
+        }
+    }
+}
+
+// Whether this is the Enter of data without a link.
+fn opens_data(event: &Event) -> bool
+    ensures { result ≡ opens_data event.now }
+{
+    matches!(
+        event,
+        Event {
+            kind: Kind::Enter,
+            name: Name::Data,
+            link: None,
+            ..
+        }
+    )
+}
+
+// Whether this is the Exit of data.
+fn closes_data(event: &Event) -> bool
+    ensures { result ≡ closes_data event.now }
+{
+    matches!(
+        event,
+        Event {
+            kind: Kind::Exit,
+            name: Name::Data,
+            link: None,
+            ..
+        }
+    )
+}
+
+// Whether data without a link begins two events before this one, and such data stands behind it.
+fn is_joint(events: &Events, index: usize) -> bool
+    requires from_two { 2 ≤ index }
+    requires within { index < length events.now }
+    ensures { result ≡ joint (drop (index - 2) events.now) }
+{
+    let first = events.bare_at(index - 2);
+    let second = events.bare_at(index - 1);
+    let third = events.bare_at(index);
+    opens_data(&first) & closes_data(&second) & opens_data(&third)
+}
+
+// Where data stands behind data: marks the Exit of the one and the Enter of the other to go.
+fn mark(alloc: Global, events: &Events, map: &mut EditMap, index: usize) -> Result<(), AllocError>
+    requires from_two { 2 ≤ index }
+    requires within { index < length events.now }
+    ensures { OnOk result (map.new ≡ map.old ++ marked (joint (drop (index - 2) events.now)) (index - 1)) }
+{
+    if is_joint(events, index) {
+        map.add(index - 1, 2, Vec::new(alloc))?;
+    }
+    Ok(())
+}
+
+// Marks what is to go where data stands behind data.
+fn mark_joints(alloc: Global, events: &Events, map: &mut EditMap) -> Result<(), AllocError>
+    requires { map.old ≡ [] }
+    ensures { OnOk result (map.new ≡ joints 0 events.now) }
+{
+    for index in 2..events.len() {
+        mark(alloc, events, map, index)?;
+    }
+    Ok(())
+}
+
+// Merges neighbouring data in a list of events.
+fn merge(alloc: Global, events: &mut Events, map: &mut EditMap) -> Result<(), AllocError>
+    requires { map.old ≡ [] }
+    ensures merged { (t : Forest) → HasData t → events.old ≡ appended_from 0 None t → OnOk result (events.new ≡ appended_from 0 None (merged t)) }
+    ensures map { OnOk result (map.new ≡ []) }
+{
+    mark_joints(alloc, events, map)?;
+    map.consume(events)
+}
+
+/// Merges neighbouring data that carry no link.
+///
+/// The work is that of the events. The error comes where memory is refused; then `failed` is true.
+pub fn resolve(tokenizer: &mut Tokenizer) -> Result<Option<Subresult>, AllocError>
+    requires { tokenizer.old.map ≡ [] }
+    ensures none { IfOk result (λ r. r ≡ None) }
+    ensures same { OnOk result (tokenizer.new ≡ record tokenizer.old { events = tokenizer.new.events }) }
+    ensures merged { (t : Forest) → HasData t → tokenizer.old.events ≡ appended_from 0 None t → OnOk result (tokenizer.new.events ≡ appended_from 0 None (merged t)) }
+    ensures err { OnErr result (IsTrue tokenizer.new.failed) }
+{
+    let merged = merge(tokenizer.alloc, &mut tokenizer.events, &mut tokenizer.map);
+    if merged.is_err() {
+        tokenizer.fail();
+    }
+    merged?;
+    Ok(None)
+}

@@ -1,0 +1,229 @@
+// Whitespace with at most one line ending: blank codes on one line, or a line ending with the blank codes around it.
+#![tactic(auto, using(markdown_engine::proofs::OpRules::op_rules), unfolding(markdown_engine::specs::Ops::scratched, markdown_engine::specs::Ops::attempted, markdown_engine::specs::Ops::frame_of))]
+
+ghost use Rattle.std.specs.Prelude.{◌≡◌, IfOk, OnErr, IsTrue, true, false, None, []};
+ghost use Rattle.markdown_engine.specs.Ops.{LinkedBefore, scratched};
+ghost use Rattle.markdown_engine.specs.declared.state.StateName.TheVariants.{SpaceOrTabStart, SpaceOrTabEolStart};
+ghost use Rattle.markdown_partial.specs.EolSteps.{eol_asked, space_asked, eol_rested, start_step, after_first_step, at_eol_step, after_eol_step, after_more_step};
+
+use crate::leaf::enter_leaf;
+use crate::partial_space_or_tab;
+use markdown_engine::event::{Content, Name};
+use markdown_engine::state::{State, StateName};
+use markdown_engine::tokenizer::Tokenizer;
+use std::alloc::AllocError;
+
+/// What whitespace with a line ending is asked for.
+#[derive(Debug, Drop)]
+pub struct Options {
+    /// Whether it is linked to the event just before. That asks for a content, and for a linked event there.
+    pub connect: bool,
+    /// How it is to be read where it is part of a linked text. That asks for a line ending as the code at hand.
+    pub content: Option<Content>,
+}
+
+/// Asks for whitespace with at most one line ending, and answers the state to start with.
+///
+/// Only the scratch fields change. Takes no memory.
+pub fn space_or_tab_eol(tokenizer: &mut Tokenizer) -> StateName
+    ensures start { result ≡ SpaceOrTabEolStart }
+    ensures asked { tokenizer.new ≡ scratched (eol_asked false None tokenizer.old.tokenize_state) tokenizer.old }
+{
+    space_or_tab_eol_with_options(
+        tokenizer,
+        Options {
+            connect: false,
+            content: None,
+        },
+    )
+}
+
+/// Asks for whitespace with at most one line ending as the options say, and answers the state to start with.
+///
+/// Only the scratch fields change. Takes no memory.
+pub fn space_or_tab_eol_with_options(tokenizer: &mut Tokenizer, options: Options) -> StateName
+    ensures start { result ≡ SpaceOrTabEolStart }
+    ensures asked { tokenizer.new ≡ scratched (eol_asked options.connect options.content tokenizer.old.tokenize_state) tokenizer.old }
+{
+    tokenizer.tokenize_state.space_or_tab_eol_connect = options.connect;
+    tokenizer.tokenize_state.space_or_tab_eol_content = options.content;
+    StateName::SpaceOrTabEolStart
+}
+
+// Asks for the blank codes at hand, one or more, and answers the state to start with.
+fn ask_for_blank(tokenizer: &mut Tokenizer) -> StateName
+    ensures start { result ≡ SpaceOrTabStart }
+    ensures asked { tokenizer.new ≡ scratched (space_asked tokenizer.old.tokenize_state) tokenizer.old }
+{
+    let connect = tokenizer.tokenize_state.space_or_tab_eol_connect;
+    let content = tokenizer.tokenize_state.space_or_tab_eol_content;
+    partial_space_or_tab::space_or_tab_with_options(
+        tokenizer,
+        partial_space_or_tab::Options {
+            min: 1,
+            max: usize::MAX,
+            kind: Name::SpaceOrTab,
+            connect,
+            content,
+        },
+    )
+}
+
+// Puts the own fields to rest.
+fn rest(tokenizer: &mut Tokenizer)
+    ensures { tokenizer.new ≡ scratched (eol_rested tokenizer.old.tokenize_state) tokenizer.old }
+{
+    tokenizer.tokenize_state.space_or_tab_eol_content = None;
+    tokenizer.tokenize_state.space_or_tab_eol_connect = false;
+    tokenizer.tokenize_state.space_or_tab_eol_ok = false;
+}
+
+/// At the start: blank codes, or the line ending.
+///
+/// The error comes where a growth is refused; then `failed` is true.
+pub fn start(tokenizer: &mut Tokenizer) -> Result<State, AllocError>
+    ensures ok { IfOk result (λ s. start_step tokenizer.old ≡ record { state = s; left = tokenizer.new }) }
+    ensures err { OnErr result (IsTrue tokenizer.new.failed) }
+{
+    match tokenizer.current() {
+        Some(b' ' | b'\t') => {
+            let blank = ask_for_blank(tokenizer);
+            tokenizer.attempt(
+                State::Next(StateName::SpaceOrTabEolAfterFirst),
+                State::Next(StateName::SpaceOrTabEolAtEol),
+            )?;
+            Ok(State::Retry(blank))
+        }
+        _ => Ok(State::Retry(StateName::SpaceOrTabEolAtEol)),
+    }
+}
+
+/// After the blank codes before the line ending, which are enough by themselves.
+///
+/// The error comes where a growth is refused; then `failed` is true.
+pub fn after_first(tokenizer: &mut Tokenizer) -> Result<State, AllocError>
+    ensures ok { IfOk result (λ s. after_first_step tokenizer.old ≡ record { state = s; left = tokenizer.new }) }
+    ensures err { OnErr result (IsTrue tokenizer.new.failed) }
+{
+    tokenizer.tokenize_state.space_or_tab_eol_ok = true;
+    Ok(State::Retry(StateName::SpaceOrTabEolAtEol))
+}
+
+/// At the line ending, if there is one.
+///
+/// The error comes where a growth is refused; then `failed` is true.
+pub fn at_eol(tokenizer: &mut Tokenizer) -> Result<State, AllocError>
+    requires { tokenizer.old.tokenize_state.space_or_tab_eol_connect ≡ true → LinkedBefore tokenizer.old }
+    ensures ok { IfOk result (λ s. at_eol_step tokenizer.old ≡ record { state = s; left = tokenizer.new }) }
+    ensures err { OnErr result (IsTrue tokenizer.new.failed) }
+{
+    match tokenizer.current() {
+        Some(b'\n') => {
+            let content = tokenizer.tokenize_state.space_or_tab_eol_content;
+            let connect = tokenizer.tokenize_state.space_or_tab_eol_connect;
+            enter_leaf(tokenizer, Name::LineEnding, content, connect)?;
+            tokenizer.consume();
+            tokenizer.exit(Name::LineEnding)?;
+            if content.is_some() {
+                tokenizer.tokenize_state.space_or_tab_eol_connect = true;
+            }
+            Ok(State::Next(StateName::SpaceOrTabEolAfterEol))
+        }
+        _ => {
+            let is_enough = tokenizer.tokenize_state.space_or_tab_eol_ok;
+            rest(tokenizer);
+            Ok(if is_enough { State::Ok } else { State::Nok })
+        }
+    }
+}
+
+/// After the line ending: the blank codes of the next line.
+///
+/// The error comes where a growth is refused; then `failed` is true.
+pub fn after_eol(tokenizer: &mut Tokenizer) -> Result<State, AllocError>
+    ensures ok { IfOk result (λ s. after_eol_step tokenizer.old ≡ record { state = s; left = tokenizer.new }) }
+    ensures err { OnErr result (IsTrue tokenizer.new.failed) }
+{
+    match tokenizer.current() {
+        Some(b' ' | b'\t') => {
+            let blank = ask_for_blank(tokenizer);
+            tokenizer.attempt(State::Next(StateName::SpaceOrTabEolAfterMore), State::Nok)?;
+            Ok(State::Retry(blank))
+        }
+        _ => Ok(State::Retry(StateName::SpaceOrTabEolAfterMore)),
+    }
+}
+
+/// After the blank codes of the next line, which must not be a blank line. The scratch fields are at rest from here on.
+///
+/// The error comes where a growth is refused; then `failed` is true.
+pub fn after_more(tokenizer: &mut Tokenizer) -> Result<State, AllocError>
+    ensures ok { IfOk result (λ s. after_more_step tokenizer.old ≡ record { state = s; left = tokenizer.new }) }
+    ensures err { OnErr result (IsTrue tokenizer.new.failed) }
+{
+    rest(tokenizer);
+    match tokenizer.current() {
+        None | Some(b'\n') => Ok(State::Nok),
+        Some(_) => Ok(State::Ok),
+    }
+}
+
+#[cfg(test)]
+mod tests {
+    use super::*;
+    use markdown_engine::configuration::ParseOptions;
+    use markdown_engine::parser::ParseState;
+    use std::alloc::Global;
+
+    // A document without text.
+    fn nothing(alloc: Global, options: &ParseOptions) -> ParseState<'_>
+        ensures { result.bytes.now ≡ [] }
+    {
+        ParseState {
+            bytes: b"",
+            options,
+            definitions: Vec::new(alloc),
+            gfm_footnote_definitions: Vec::new(alloc),
+        }
+    }
+
+    #[test]
+    fn asks_for_what_the_options_say(rt: HostRuntime) {
+        let options = ParseOptions::default();
+        let parse_state = nothing(rt.alloc(), &options);
+        let mut tokenizer = Tokenizer::new(rt.alloc(), &parse_state, &[]);
+        let asked = Options {
+            connect: true,
+            content: Some(Content::String),
+        };
+        let _ = space_or_tab_eol_with_options(&mut tokenizer, asked);
+        assert_eq!(rt;
+            tokenizer.tokenize_state.space_or_tab_eol_content,
+            Some(Content::String)
+        );
+        assert!(rt; tokenizer.tokenize_state.space_or_tab_eol_connect);
+        let _ = space_or_tab_eol(&mut tokenizer);
+        assert_eq!(rt; tokenizer.tokenize_state.space_or_tab_eol_content, None);
+        assert!(rt; !tokenizer.tokenize_state.space_or_tab_eol_connect);
+    }
+
+    #[test]
+    fn reads_nothing(rt: HostRuntime) -> Result<(), AllocError> {
+        let options = ParseOptions::default();
+        let parse_state = nothing(rt.alloc(), &options);
+        let mut tokenizer = Tokenizer::new(rt.alloc(), &parse_state, &[]);
+        let _ = space_or_tab_eol(&mut tokenizer);
+        assert_eq!(rt;
+            start(&mut tokenizer)?,
+            State::Retry(StateName::SpaceOrTabEolAtEol)
+        );
+        assert_eq!(rt; at_eol(&mut tokenizer)?, State::Nok);
+        let _ = after_first(&mut tokenizer)?;
+        assert!(rt; tokenizer.tokenize_state.space_or_tab_eol_ok);
+        let _ = after_eol(&mut tokenizer)?;
+        assert_eq!(rt; after_more(&mut tokenizer)?, State::Nok);
+        assert!(rt; !tokenizer.tokenize_state.space_or_tab_eol_ok);
+        assert!(rt; tokenizer.events.is_empty());
+        Ok(())
+    }
+}
