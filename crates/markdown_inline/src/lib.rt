@@ -7,6 +7,11 @@ pub mod run;
 pub mod state;
 pub mod string;
 
+pub use markdown_leaf::autolink;
 pub use markdown_leaf::character_escape;
+pub use markdown_leaf::character_reference;
+pub use markdown_leaf::hard_break_escape;
 pub use markdown_partial::partial_data;
+pub use markdown_partial::partial_space_or_tab;
+pub use markdown_partial::partial_space_or_tab_eol;
 pub use markdown_util::util;
