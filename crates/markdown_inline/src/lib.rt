@@ -7,11 +7,8 @@ pub mod run;
 pub mod state;
 pub mod string;
 
-pub use markdown_leaf::autolink;
-pub use markdown_leaf::character_escape;
-pub use markdown_leaf::character_reference;
-pub use markdown_leaf::hard_break_escape;
-pub use markdown_partial::partial_data;
-pub use markdown_partial::partial_space_or_tab;
-pub use markdown_partial::partial_space_or_tab_eol;
+pub use markdown_leaf::{
+    autolink, character_escape, character_reference, hard_break_escape, raw_text,
+};
+pub use markdown_partial::{partial_data, partial_space_or_tab, partial_space_or_tab_eol};
 pub use markdown_util::util;

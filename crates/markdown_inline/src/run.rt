@@ -7,6 +7,7 @@ ghost use Rattle.markdown_inline.specs.Settings.{setting_of};
 ghost use Rattle.markdown_model.specs.Inline.{string_events};
 
 use crate::state::Inline;
+pub use markdown_engine::content::is_content;
 use markdown_engine::cursor::Cursor;
 use markdown_engine::event::Event;
 use markdown_engine::parser::ParseState;

@@ -1,352 +1,360 @@
 -- The laws of the states of an autolink.
-use Rattle.std.proofs.Common.{◌≡◌, ℕ, ◌+◌, ◌≤◌, ◌==◌, ◌&&◌, nat_lt, Bool, true, false, Some, None, List, [], ◌∷◌, ◌++◌, drop, refl, sym, ap, subst, ◌∙◌, arith, append-nil}
+use Rattle.std.proofs.Common.{◌≡◌, ℕ, ◌+◌, ◌<◌, ◌≤◌, ◌==◌, ◌&&◌, ◌||◌, nat_lt, Bool, true, false, Option, Some, None, List, [], ◌∷◌, length, drop, refl, sym, ap, subst, ◌∙◌, arith}
+use Rattle.std.proofs.lemmas.Bool.{eqb-true}
+use Rattle.std.proofs.lemmas.Bool.Decides.{nat_tests}
+use Rattle.std.proofs.lemmas.Grind.{common_steps}
 use Rattle.markdown_engine.specs.Codes.{Code}
 use Rattle.markdown_engine.specs.Lists.{rest_of}
-use Rattle.markdown_engine.specs.Ops.{Op, Consume, applied, frame_of, current_of, ahead, done, scratched}
-use Rattle.markdown_engine.specs.Past.{TreeReading}
-use Rattle.markdown_engine.specs.Runs.{Stepped, GoesOn, stepped, restored}
+use Rattle.markdown_engine.specs.Ops.{Op, Consume, current_of, ahead, applied, done, scratched}
+use Rattle.markdown_engine.specs.Runs.{Stepped, GoesOn, stepped}
 use Rattle.markdown_engine.specs.Weights.{weight_at}
 use Rattle.markdown_engine.specs.declared.event.Name.{Name}
 use Rattle.markdown_engine.specs.declared.event.Name.TheVariants as N
-use Rattle.markdown_engine.specs.declared.state.State.{State}
-use Rattle.markdown_engine.specs.declared.state.State.TheVariants as St
-use Rattle.markdown_engine.specs.declared.state.State.TheVariants.{Next, Retry, Nok}
+use Rattle.markdown_engine.specs.declared.state.State.TheVariants.{Next, Retry}
+use Rattle.markdown_engine.specs.declared.state.State.TheVariants as State
 use Rattle.markdown_engine.specs.declared.state.StateName.{StateName}
 use Rattle.markdown_engine.specs.declared.state.StateName.TheVariants.{AutolinkOpen, AutolinkSchemeOrEmailAtext, AutolinkSchemeInsideOrEmailAtext, AutolinkUrlInside, AutolinkEmailAtext, AutolinkEmailAtSignOrDot, AutolinkEmailLabel, AutolinkEmailValue}
 use Rattle.markdown_engine.specs.declared.tokenizer.TokenizeState.{TokenizeState}
 use Rattle.markdown_engine.specs.declared.tokenizer.Tokenizer.{Tokenizer}
-use Rattle.markdown_engine.proofs.EndsLemmas.{scratched-same}
-use Rattle.markdown_engine.proofs.Laws.{if-step, code-step, Goes-attempt, Follows, restored-fails}
-use Rattle.markdown_engine.proofs.OpRules.{law_rules, ahead-none, ahead-some}
-use Rattle.markdown_engine.proofs.OpsLemmas.{scratch-done}
-use Rattle.markdown_model.specs.CodeTests.{is_value, is_alphanumeric, next_is}
-use Rattle.markdown_model.specs.Grammar.{Reading, ◌>>◌, provided}
-use Rattle.markdown_model.specs.Leaf.{autolink, in_angle_brackets, uri, email_address}
-use Rattle.markdown_leaf.specs.Autolink.{AreOpen, IsAtRest, InScheme, InLabel, AtLabel, is_on, sized, opening, closing, is_scheme_byte, is_uri_byte, is_local_byte, is_alphanumeric_byte, start_at, start_step, uri_at, uri_step, scheme_at, scheme_step, url_at, url_step, email_at, email_step, atext_at, atext_step, at_sign_at, at_sign_step, label_at, label_step, value_at, value_step, autolink_here, url_program, scheme_program, domain_program, atext_program, label_program, start_ends, uri_ends, email_ends, url_ends, scheme_ends, at_sign_ends, atext_ends, label_ends, value_ends}
-use Rattle.markdown_leaf.specs.Program.{Program, preceded, tree_ops, program_of, Does, Stops, DoesAs, KeepsAs}
-use Rattle.markdown_leaf.proofs.AutolinkReading.{no-brackets, uri-gives, email-gives, uri-start, email-start, uri-code, url-close, url-more, url-stop, url-end, further, scheme-more, scheme-colon, scheme-end, scheme-stop, local-code, at-code, atext-end, atext-more, atext-at, atext-stop, domain-here, domain-stop, label-more, label-not, label-dot, label-close, label-on, label-stop, label-letter, label-hyphen, hyphen-letter, alphanumeric-code, preceded-nothing}
-use Rattle.markdown_leaf.proofs.ProgramLemmas.{GoesOn-map, Goes-on, Goes-kept, Goes-next, Goes-ok, Goes-yes, Goes-nok, Goes-no, EndsAs-program, some-codes, no-codes, scratch-scratched, none-read, ops-read}
-use Rattle.markdown_leaf.proofs.ReadingLemmas.{either-some, either-second, switched-on, switched-off, and-left, and-right, and-false}
-use Rattle.markdown_leaf.proofs.WholeReadings.{Gives, Covers, IsSome, Gives-bind, Gives-either, Gives-switched, Gives-one, Gives-gives, Covers-group, Covers-row, Covers-leaf, some-first}
+use Rattle.markdown_engine.proofs.Laws.{if-step, code-step}
+use Rattle.markdown_engine.proofs.OpRules.{ahead-none, ahead-some, Begins}
+use Rattle.markdown_model.specs.CodeTests.{is_value, is_alphanumeric, is_letter, next_is}
+use Rattle.markdown_model.specs.Grammar.{any_number}
+use Rattle.markdown_model.specs.Leaf.{uri, email_address, is_scheme_code, is_uri_code, is_local_code}
+use Rattle.markdown_leaf.specs.Autolink.{letter_value, alphanumeric_value, scheme_value, local_value, uri_value, is_on, opening, ending, start_at, start_step, open_at, open_step, scheme_or_at, scheme_or_step, scheme_inside_at, scheme_inside_step, url_inside_at, url_inside_step, email_atext_at, email_atext_step, email_at_sign_or_dot_at, email_at_sign_or_dot_step, in_label_at, email_value_step, email_label_at, email_label_step, InsideReady, SchemeReady, LabelReady, link_here, start_ends, ended, up_to_bracket, or_else, scheme_rest, local_rest, domains, is_label_code, label_rest, open_naming, scheme_naming, open_ends, scheme_or_ends, scheme_inside_ends, url_inside_ends, email_atext_ends, email_at_sign_or_dot_ends, email_label_ends, email_value_ends}
+use Rattle.markdown_leaf.specs.Program.{Program, preceded, program_of, DoesAs, KeepsAs}
+use Rattle.markdown_leaf.specs.RawText.{with_size}
+use Rattle.markdown_leaf.specs.Renaming.{Naming, NamesAs, renamed, preceded_by, opening_of}
+use Rattle.markdown_leaf.proofs.AutolinkReadings.{bracket-next, or-next, scheme-more, scheme-colon, scheme-here, scheme-other, scheme-long, uri-first, uri-none, url-more, url-end, local-more, local-at, local-other, email-first, email-none, label-more, label-long, label-unended, label-ended, domains-first, domains-none}
+use Rattle.markdown_leaf.proofs.AutolinkWhole.{whole-link, ended-here, ended-other, more-none, more-dot, bracket_ops, link-here, no-link}
+use Rattle.markdown_leaf.proofs.NamingLemmas.{renamed-entered, renamed-consumed, renamed-scratched, Goes-inside, Goes-inside-kept, Goes-over, Goes-refused, Goes-named, Goes-to, DoesAs-entered}
+use Rattle.markdown_leaf.proofs.ProgramLemmas.{GoesOn-map, Goes-no, EndsAs-program, DoesAs-then, kept, some-codes}
+use Rattle.markdown_leaf.proofs.RawTextReady.{some-event}
+use Rattle.markdown_leaf.proofs.ReadingLemmas.{and-left, and-right, and-false}
 
 -- what the layer says of these states
 pub record Within (ready : StateName → Tokenizer → Type 0) (ends : StateName → Tokenizer → Bool → Tokenizer → Type 0) (weight : StateName → Tokenizer → ℕ) : Type 0 where
-  pub uri_ready : (T : Tokenizer) → IsAtRest T → ready AutolinkSchemeOrEmailAtext T
-  pub uri_end : (T : Tokenizer) (ok : Bool) (U : Tokenizer) → ends AutolinkSchemeOrEmailAtext T ok U → uri_ends T ok U
-  pub uri_weight : (T : Tokenizer) → weight AutolinkSchemeOrEmailAtext T ≡ weight_at 2 T
-  pub email_ready : (T : Tokenizer) → IsAtRest T → ready AutolinkOpen T
-  pub email_end : (T : Tokenizer) (ok : Bool) (U : Tokenizer) → ends AutolinkOpen T ok U → email_ends T ok U
-  pub email_weight : (T : Tokenizer) → weight AutolinkOpen T ≡ weight_at 2 T
-  pub scheme_ready : (T : Tokenizer) → InScheme T → ready AutolinkSchemeInsideOrEmailAtext T
-  pub scheme_end : (T : Tokenizer) (ok : Bool) (U : Tokenizer) → ends AutolinkSchemeInsideOrEmailAtext T ok U → scheme_ends T ok U
-  pub scheme_weight : (T : Tokenizer) → weight AutolinkSchemeInsideOrEmailAtext T ≡ weight_at 1 T
-  pub url_ready : (T : Tokenizer) → AreOpen N.AutolinkProtocol T → ready AutolinkUrlInside T
-  pub url_end : (T : Tokenizer) (ok : Bool) (U : Tokenizer) → ends AutolinkUrlInside T ok U → url_ends T ok U
-  pub url_weight : (T : Tokenizer) → weight AutolinkUrlInside T ≡ weight_at 1 T
-  pub atext_ready : (T : Tokenizer) → AreOpen N.AutolinkEmail T → ready AutolinkEmailAtext T
-  pub atext_end : (T : Tokenizer) (ok : Bool) (U : Tokenizer) → ends AutolinkEmailAtext T ok U → atext_ends T ok U
-  pub atext_weight : (T : Tokenizer) → weight AutolinkEmailAtext T ≡ weight_at 1 T
-  pub at_sign_ready : (T : Tokenizer) → AtLabel T → ready AutolinkEmailAtSignOrDot T
-  pub at_sign_end : (T : Tokenizer) (ok : Bool) (U : Tokenizer) → ends AutolinkEmailAtSignOrDot T ok U → at_sign_ends T ok U
-  pub at_sign_weight : (T : Tokenizer) → weight AutolinkEmailAtSignOrDot T ≡ weight_at 2 T
-  pub label_ready : (T : Tokenizer) → InLabel 1 T → ready AutolinkEmailLabel T
-  pub label_end : (T : Tokenizer) (ok : Bool) (U : Tokenizer) → ends AutolinkEmailLabel T ok U → label_ends T ok U
-  pub label_weight : (T : Tokenizer) → weight AutolinkEmailLabel T ≡ weight_at 2 T
-  pub value_ready : (T : Tokenizer) → InLabel 0 T → ready AutolinkEmailValue T
-  pub value_end : (T : Tokenizer) (ok : Bool) (U : Tokenizer) → ends AutolinkEmailValue T ok U → value_ends T ok U
-  pub value_weight : (T : Tokenizer) → weight AutolinkEmailValue T ≡ weight_at 1 T
+  pub open_ready : (T : Tokenizer) → InsideReady T → ready AutolinkOpen T
+  pub open_end : (T : Tokenizer) (ok : Bool) (U : Tokenizer) → ends AutolinkOpen T ok U → open_ends T ok U
+  pub open_weight : (T : Tokenizer) → weight AutolinkOpen T ≡ weight_at 2 T
+  pub scheme_or_ready : (T : Tokenizer) → InsideReady T → ready AutolinkSchemeOrEmailAtext T
+  pub scheme_or_end : (T : Tokenizer) (ok : Bool) (U : Tokenizer) → ends AutolinkSchemeOrEmailAtext T ok U → scheme_or_ends T ok U
+  pub scheme_or_weight : (T : Tokenizer) → weight AutolinkSchemeOrEmailAtext T ≡ weight_at 2 T
+  pub scheme_inside_ready : (T : Tokenizer) → SchemeReady T → ready AutolinkSchemeInsideOrEmailAtext T
+  pub scheme_inside_end : (T : Tokenizer) (ok : Bool) (U : Tokenizer) → ends AutolinkSchemeInsideOrEmailAtext T ok U → scheme_inside_ends T ok U
+  pub scheme_inside_weight : (T : Tokenizer) → weight AutolinkSchemeInsideOrEmailAtext T ≡ weight_at 2 T
+  pub url_inside_ready : (T : Tokenizer) → InsideReady T → ready AutolinkUrlInside T
+  pub url_inside_end : (T : Tokenizer) (ok : Bool) (U : Tokenizer) → ends AutolinkUrlInside T ok U → url_inside_ends T ok U
+  pub url_inside_weight : (T : Tokenizer) → weight AutolinkUrlInside T ≡ weight_at 1 T
+  pub email_atext_ready : (T : Tokenizer) → InsideReady T → ready AutolinkEmailAtext T
+  pub email_atext_end : (T : Tokenizer) (ok : Bool) (U : Tokenizer) → ends AutolinkEmailAtext T ok U → email_atext_ends T ok U
+  pub email_atext_weight : (T : Tokenizer) → weight AutolinkEmailAtext T ≡ weight_at 1 T
+  pub email_at_sign_or_dot_ready : (T : Tokenizer) → InsideReady T → ready AutolinkEmailAtSignOrDot T
+  pub email_at_sign_or_dot_end : (T : Tokenizer) (ok : Bool) (U : Tokenizer) → ends AutolinkEmailAtSignOrDot T ok U → email_at_sign_or_dot_ends T ok U
+  pub email_at_sign_or_dot_weight : (T : Tokenizer) → weight AutolinkEmailAtSignOrDot T ≡ weight_at 1 T
+  pub email_label_ready : (T : Tokenizer) → LabelReady T → ready AutolinkEmailLabel T
+  pub email_label_end : (T : Tokenizer) (ok : Bool) (U : Tokenizer) → ends AutolinkEmailLabel T ok U → email_label_ends T ok U
+  pub email_label_weight : (T : Tokenizer) → weight AutolinkEmailLabel T ≡ weight_at 1 T
+  pub email_value_ready : (T : Tokenizer) → LabelReady T → ready AutolinkEmailValue T
+  pub email_value_end : (T : Tokenizer) (ok : Bool) (U : Tokenizer) → ends AutolinkEmailValue T ok U → email_value_ends T ok U
+  pub email_value_weight : (T : Tokenizer) → weight AutolinkEmailValue T ≡ weight_at 1 T
 
--- What an autolink passes.
+-- Tests.
 
-brackets-whole : (inside : Reading (List Code)) (name : Name) → Gives IsSome inside → Gives Covers (in_angle_brackets inside name)
-unfolding in_angle_brackets
-brackets-whole inside name g =
-    Gives-bind _ _ IsSome Covers (Gives-one (is_value 60)) (λ front ws p.
-    Gives-bind _ _ IsSome _ g (λ text vs q.
-    Gives-bind _ _ IsSome _ (Gives-one (is_value 62)) (λ back us u.
-    Gives-gives _ _
-    (Covers-group N.Autolink _ _ (some-first ws _ (λ e. p.1 (p.0 ∙ e)))
-    (Covers-row _ _ ws _ (Covers-leaf _ front ws p.0)
-    (Covers-row _ _ vs (us ++ []) (Covers-leaf _ text vs q.0) (Covers-leaf _ back (us ++ []) (u.0 ∙ sym (append-nil us)))))))))
+or-first : (a b : Bool) → a ≡ true → a || b ≡ true
+or-first true b e = refl
+or-first false b e = cc
 
-whole : (on : Bool) → Gives Covers (provided on >> autolink)
-unfolding autolink
-whole on =
-    Gives-switched on autolink Covers
-    (Gives-either _ _ Covers (brackets-whole uri N.AutolinkProtocol uri-gives) (brackets-whole email_address N.AutolinkEmail email-gives))
+letter-local : (c : Code) → is_letter c ≡ true → is_local_code c ≡ true
+letter-local c h = or-first (is_alphanumeric c) _ (or-first (is_letter c) _ h)
 
-abbrev uri_tree : TreeReading
-uri_tree = in_angle_brackets uri N.AutolinkProtocol
+or-here : (a b e : Bool) → a || b ≡ true → (a ≡ true → e ≡ true) → (b ≡ true → e ≡ true) → e ≡ true
+or-here true b e h f g = f refl
+or-here false b e h f g = g h
 
-abbrev email_tree : TreeReading
-email_tree = in_angle_brackets email_address N.AutolinkEmail
+value-local : (n v : ℕ) → local_value n ≡ true → (v == n) ≡ true → local_value v ≡ true
+value-local n v h e = ap local_value (eqb-true v n e) ∙ h
 
-first-tree : (on : Bool) (cs : List Code) (os : List Op) → on ≡ true → program_of uri_tree cs ≡ Some os → program_of (provided on >> autolink) cs ≡ Some os
-unfolding autolink
-first-tree on cs os e h =
-    let x = ops-read (uri_tree cs) os h in
-    ap tree_ops (switched-on autolink on cs e ∙ either-some uri_tree email_tree cs x.0 x.1.0) ∙ ap (λ o. Some o) (sym x.1.1)
+-- a code of a scheme may stand in an address
+scheme-local : (v : ℕ) → scheme_value v ≡ true → local_value v ≡ true
+scheme-local v h =
+    or-here (alphanumeric_value v) _ (local_value v) h (λ e. or-first (alphanumeric_value v) _ e) (λ e.
+    or-here (v == 43) _ (local_value v) e (λ f. value-local 43 v refl f) (λ f.
+    or-here (v == 45) _ (local_value v) f (λ g. value-local 45 v refl g) (λ g.
+    or-here (v == 46) false (local_value v) g (λ i. value-local 46 v refl i) (λ i. cc))))
 
-second-tree : (on : Bool) (cs : List Code) → on ≡ true → program_of uri_tree cs ≡ None → program_of (provided on >> autolink) cs ≡ program_of email_tree cs
-unfolding autolink
-second-tree on cs e h = ap tree_ops (switched-on autolink on cs e ∙ either-second uri_tree email_tree cs (none-read (uri_tree cs) h))
+or-both : (os : List Op) (a b x y : Option (Name × List Op)) → a ≡ preceded_by os x → b ≡ preceded_by os y → or_else a b ≡ preceded_by os (or_else x y)
+or-both os a b x y e f = ap (λ z. or_else z b) e ∙ ap (λ z. or_else (preceded_by os x) z) f ∙ or-next os x y
 
-no-autolink : (on : Bool) (cs : List Code) → on && next_is (is_value 60) cs ≡ false → program_of (provided on >> autolink) cs ≡ None
-unfolding autolink
-no-autolink false cs e = ap tree_ops (switched-off autolink false cs refl)
-no-autolink true cs e =
-    ap tree_ops (switched-on autolink true cs refl ∙ either-second uri_tree email_tree cs (no-brackets uri N.AutolinkProtocol cs e) ∙ no-brackets email_address N.AutolinkEmail cs e)
+or-right : (a b x : Option (Name × List Op)) → a ≡ None → b ≡ x → or_else a b ≡ x
+or-right a b x e f = ap (λ z. or_else z b) e ∙ f
 
--- two programs that say the same here
-DoesAs-same : (d : ℕ) (p q : Program) (s : TokenizeState) (T : Tokenizer) → p (ahead T) ≡ q (ahead T) → (ok : Bool) (U : Tokenizer) → DoesAs d q s T ok U → DoesAs d p s T ok U
-DoesAs-same d p q s T e true U k = record { ops = k.ops; holds = e ∙ k.holds; left = k.left }
-DoesAs-same d p q s T e false U k = record { none = e ∙ k.none; grown = k.grown; scratch = k.scratch }
+or-none : (a : Option (Name × List Op)) → or_else a None ≡ a
+or-none None = refl
+or-none (Some x) = refl
 
--- The scratch fields.
+or-left : (a b x : Option (Name × List Op)) → a ≡ x → b ≡ None → or_else a b ≡ x
+or-left a b x e f = ap (λ z. or_else a z) f ∙ or-none a ∙ e
 
-sized-same : (s : TokenizeState) → s.size ≡ 0 → sized 0 s ≡ s
-sized-same s e = subst (λ n. record s { size = n } ≡ s) e refl
+left-test : (t a b : Bool) → (t && a) ≡ false → (t && b) ≡ false → (a || b) ≡ true → t ≡ false
+left-test false a b e f g = refl
+left-test true true b e f g = cc
+left-test true false b e f g = sym g ∙ f
 
--- at the first code in the brackets
-from-start : (q : ℕ → Program) (V : Tokenizer) (s : TokenizeState) → V.tokenize_state ≡ s → s.size ≡ 0 → (ok : Bool) (U : Tokenizer) → DoesAs 2 (q V.tokenize_state.size) (sized 0 V.tokenize_state) V ok U → DoesAs 2 (q 0) s V ok U
-from-start q V s e z ok U k =
-    let there : DoesAs 2 (q s.size) (sized 0 s) V ok U = subst (λ (x : TokenizeState). DoesAs 2 (q x.size) (sized 0 x) V ok U) e k in
-    subst (λ (x : TokenizeState). DoesAs 2 (q 0) x V ok U) (sized-same s z) (subst (λ n. DoesAs 2 (q n) (sized 0 s) V ok U) z there)
+not-below : (k n : ℕ) → nat_lt k n ≡ false → n ≤ k
+not-below k n h = grind (arith, nat_tests, common_steps)
 
-size-done : (os : List Op) (T : Tokenizer) → IsAtRest T → (done os T).tokenize_state.size ≡ 0
-size-done os T r = ap (λ (s : TokenizeState). s.size) (scratch-done os T) ∙ r
+below : (k n : ℕ) → nat_lt k n ≡ true → k < n
+below k n h = grind (arith, nat_tests, common_steps)
 
-opened : (name : Name) (T : Tokenizer) → AreOpen name (done (opening name) T)
-opened name T = record { inside = grind (arith, law_rules); whole = grind (arith, law_rules) }
+-- Between the brackets.
 
--- a code further on
-abbrev onto : ℕ → Tokenizer → Tokenizer
-onto n T = scratched (sized n T.tokenize_state) (done (Consume ∷ []) T)
-
-onto-open : (name : Name) (n : ℕ) (T : Tokenizer) → AreOpen name T → AreOpen name (onto n T)
-unfolding scratched applied
-onto-open name n T o = record { inside = o.inside; whole = o.whole }
-
-consumed-open : (name : Name) (T : Tokenizer) → AreOpen name T → AreOpen name (done (Consume ∷ []) T)
+inside-kept : (T : Tokenizer) → InsideReady T → InsideReady (done (Consume ∷ []) T)
 unfolding applied
-consumed-open name T o = record { inside = o.inside; whole = o.whole }
+inside-kept T k = record { stand_open = k.stand_open; some = k.some; entered = renamed-consumed N.AutolinkProtocol T ∙ ap (λ (x : Tokenizer). applied Consume x) k.entered }
 
-onto-scratch : (n : ℕ) (T : Tokenizer) → (onto n T).tokenize_state ≡ sized n T.tokenize_state
-onto-scratch n T = scratch-scratched (sized n T.tokenize_state) (done (Consume ∷ []) T)
+inside-next : (r : TokenizeState) (T : Tokenizer) → InsideReady T → InsideReady (scratched r (done (Consume ∷ []) T))
+unfolding applied scratched
+inside-next r T k =
+    record {
+      stand_open = k.stand_open;
+      some = k.some;
+      entered = renamed-scratched N.AutolinkProtocol r (applied Consume T) ∙ ap (λ (x : Tokenizer). scratched r x) (renamed-consumed N.AutolinkProtocol T ∙ ap (λ (x : Tokenizer). applied Consume x) k.entered);
+    }
 
-onto-size : (n : ℕ) (T : Tokenizer) → (onto n T).tokenize_state.size ≡ n
-onto-size n T = ap (λ (s : TokenizeState). s.size) (onto-scratch n T)
+inside-entered : (T : Tokenizer) → InsideReady (done opening T)
+unfolding applied
+inside-entered T =
+    record { stand_open = refl; some = some-event (done bracket_ops T) N.AutolinkProtocol; entered = renamed-entered N.AutolinkProtocol N.AutolinkProtocol (done bracket_ops T) }
 
--- and the run from there
-from-onto : (q : ℕ → Program) (n : ℕ) (T : Tokenizer) (ok : Bool) (U : Tokenizer) → DoesAs 2 (q (onto n T).tokenize_state.size) (sized 0 (onto n T).tokenize_state) (onto n T) ok U → DoesAs 2 (q n) (sized 0 T.tokenize_state) (onto n T) ok U
-from-onto q n T ok U k = subst (λ (x : TokenizeState). DoesAs 2 (q x.size) (sized 0 x) (onto n T) ok U) (onto-scratch n T) k
-
--- a program at the codes after the first
-behind-first : (p q : Program) (cs rest : List Code) (c : Code) → cs ≡ c ∷ rest → p (c ∷ rest) ≡ preceded (Consume ∷ []) (q rest) → p cs ≡ preceded (Consume ∷ []) (q (drop 1 cs))
-behind-first p q cs rest c e h = ap p e ∙ h ∙ ap (λ xs. preceded (Consume ∷ []) (q (drop 1 xs))) (sym e)
-
--- The states.
-
-less-more : (n max : ℕ) → nat_lt n max ≡ true → n + 1 ≤ max
-less-more n max e = grind arith
+-- what the run after the bracket says
+open-says : (T : Tokenizer) (ok : Bool) (U : Tokenizer) → T.tokenize_state.size ≡ 0 → open_ends (done opening T) ok U → NamesAs 1 open_naming T.tokenize_state (done opening T) ok U
+unfolding applied
+open-says T ok U k x = subst (λ (s : TokenizeState). NamesAs 1 open_naming s (done opening T) ok U) (ap (λ n. with_size n T.tokenize_state) (sym k)) x
 
 module _ (ready : StateName → Tokenizer → Type 0) (ends : StateName → Tokenizer → Bool → Tokenizer → Type 0) (weight : StateName → Tokenizer → ℕ) (within : Within ready ends weight) where
-  pub start-law : (T : Tokenizer) → T.attempts ≡ [] → IsAtRest T → GoesOn ready ends weight (weight_at 3 T) (start_ends T) (start_step T)
-  start-law T alone rest =
-      let p : Program = program_of (autolink_here T) in
+  pub open-law : (T : Tokenizer) → T.attempts ≡ [] → InsideReady T → GoesOn ready ends weight (weight_at 2 T) (open_ends T) (open_step T)
+  unfolding applied scratched
+  open-law T alone k =
+      let s : TokenizeState = with_size 0 T.tokenize_state in
+      let P : Stepped → Type 0 = GoesOn ready ends weight (weight_at 2 T) (open_ends T) in
+      let none : (cs : List Code) → next_is is_letter cs ≡ false → next_is is_local_code cs ≡ false → open_naming cs ≡ None = λ cs h l. or-right (up_to_bracket N.AutolinkProtocol uri cs) (up_to_bracket N.AutolinkEmail email_address cs) None (ap (ended N.AutolinkProtocol) (uri-none cs h)) (ap (ended N.AutolinkEmail) (email-none cs l)) in
+      code-step P (current_of T) (λ o. open_at o T)
+      (λ e. Goes-refused ready ends weight 2 1 open_naming s T alone (ap open_naming (ahead-none T e) ∙ none [] refl refl))
+      (λ c e.
+      let b : Begins c (ahead T) = ahead-some T c e in
+      let cs : List Code = rest_of (ahead T) in
+      let more : 1 ≤ length (ahead T) = some-codes T c e in
+      if-step P (letter_value c) _ _
+      (λ h. let letter : is_letter b.code ≡ true = ap letter_value b.value ∙ h in
+      Goes-inside-kept ready ends weight 2 2 1 open_naming (scheme_naming 1) s T (Next AutolinkSchemeOrEmailAtext) alone refl more (omega arith)
+      (ap open_naming b.whole ∙ or-both (Consume ∷ []) _ _ _ _ (bracket-next N.AutolinkProtocol uri (scheme_rest 1) b.code cs (uri-first b.code cs letter)) (bracket-next N.AutolinkEmail email_address local_rest b.code cs (email-first b.code cs (letter-local b.code letter))))
+      (within.scheme_or_ready _ (inside-kept T k)) (within.scheme_or_weight _) (λ ok U x. within.scheme_or_end _ ok U x))
+      (λ h. let letter : is_letter b.code ≡ false = ap letter_value b.value ∙ h in
+      if-step P (local_value c) _ _
+      (λ l. Goes-inside-kept ready ends weight 2 1 1 open_naming (up_to_bracket N.AutolinkEmail local_rest) s T (Next AutolinkEmailAtext) alone refl more (omega arith)
+      (ap open_naming b.whole ∙ or-right _ _ _ (ap (ended N.AutolinkProtocol) (uri-none (b.code ∷ cs) letter)) (bracket-next N.AutolinkEmail email_address local_rest b.code cs (email-first b.code cs (ap local_value b.value ∙ l))))
+      (within.email_atext_ready _ (inside-kept T k)) (within.email_atext_weight _) (λ ok U x. within.email_atext_end _ ok U x))
+      (λ l. Goes-refused ready ends weight 2 1 open_naming s T alone (ap open_naming b.whole ∙ none (b.code ∷ cs) letter (ap local_value b.value ∙ l)))))
+
+  pub scheme_or-law : (T : Tokenizer) → T.attempts ≡ [] → InsideReady T → GoesOn ready ends weight (weight_at 2 T) (scheme_or_ends T) (scheme_or_step T)
+  unfolding applied scratched
+  scheme_or-law T alone k =
+      let s : TokenizeState = with_size 0 T.tokenize_state in
+      let P : Stepped → Type 0 = GoesOn ready ends weight (weight_at 2 T) (scheme_or_ends T) in
+      let other : next_is is_scheme_code (ahead T) ≡ false → P (stepped (Retry AutolinkEmailAtext) T) = λ h.
+      Goes-over ready ends weight 2 1 1 (scheme_naming 1) (up_to_bracket N.AutolinkEmail local_rest) s T (Retry AutolinkEmailAtext) alone (omega arith)
+      (or-right _ _ _ (ap (ended N.AutolinkProtocol) (scheme-here 1 (ahead T) h)) refl)
+      (within.email_atext_ready _ k) (within.email_atext_weight _) (λ ok U x. within.email_atext_end _ ok U x) in
+      code-step P (current_of T) (λ o. scheme_or_at o T)
+      (λ e. other (ap (λ cs. next_is is_scheme_code cs) (ahead-none T e)))
+      (λ c e.
+      let b : Begins c (ahead T) = ahead-some T c e in
+      let cs : List Code = rest_of (ahead T) in
+      if-step P (scheme_value c) _ _
+      (λ h. let here : is_scheme_code b.code ≡ true = ap scheme_value b.value ∙ h in
+      Goes-inside ready ends weight 2 2 1 (scheme_naming 1) (scheme_naming 2) s (with_size 2 T.tokenize_state) T (Next AutolinkSchemeInsideOrEmailAtext) alone refl (some-codes T c e) (omega arith)
+      (ap (scheme_naming 1) b.whole ∙ or-both (Consume ∷ []) _ _ _ _ (bracket-next N.AutolinkProtocol (scheme_rest 1) (scheme_rest 2) b.code cs (scheme-more 1 b.code cs here)) (bracket-next N.AutolinkEmail local_rest local_rest b.code cs (local-more b.code cs (scheme-local b.code.value here))))
+      (within.scheme_inside_ready _ (record { inside = inside-next (with_size 2 T.tokenize_state) T k; least = omega arith; most = omega arith })) (within.scheme_inside_weight _) (λ ok U x. within.scheme_inside_end _ ok U x))
+      (λ h. other (ap (λ xs. next_is is_scheme_code xs) b.whole ∙ ap scheme_value b.value ∙ h)))
+
+  pub scheme_inside-law : (T : Tokenizer) → T.attempts ≡ [] → SchemeReady T → GoesOn ready ends weight (weight_at 2 T) (scheme_inside_ends T) (scheme_inside_step T)
+  unfolding applied scratched
+  scheme_inside-law T alone k =
+      let n : ℕ = T.tokenize_state.size in
+      let s : TokenizeState = with_size 0 T.tokenize_state in
+      let P : Stepped → Type 0 = GoesOn ready ends weight (weight_at 2 T) (scheme_inside_ends T) in
+      let other : scheme_rest n (ahead T) ≡ None → P (stepped (Retry AutolinkEmailAtext) T) = λ h.
+      Goes-over ready ends weight 2 1 1 (scheme_naming n) (up_to_bracket N.AutolinkEmail local_rest) s T (Retry AutolinkEmailAtext) alone (omega arith)
+      (or-right _ _ _ (ap (ended N.AutolinkProtocol) h) refl)
+      (within.email_atext_ready _ k.inside) (within.email_atext_weight _) (λ ok U x. within.email_atext_end _ ok U x) in
+      code-step P (current_of T) (λ o. scheme_inside_at o T)
+      (λ e. other (ap (scheme_rest n) (ahead-none T e) ∙ scheme-other n [] refl refl))
+      (λ c e.
+      let b : Begins c (ahead T) = ahead-some T c e in
+      let cs : List Code = rest_of (ahead T) in
+      let more : 1 ≤ length (ahead T) = some-codes T c e in
+      if-step P (c == 58) _ _
+      (λ h. let colon : is_value 58 b.code ≡ true = ap (λ v. v == 58) b.value ∙ h in
+      Goes-inside-kept ready ends weight 2 1 1 (scheme_naming n) (up_to_bracket N.AutolinkProtocol (any_number is_uri_code)) s T (Next AutolinkUrlInside) alone refl more (omega arith)
+      (ap (scheme_naming n) b.whole ∙ or-left _ _ _ (bracket-next N.AutolinkProtocol (scheme_rest n) (any_number is_uri_code) b.code cs (scheme-colon n b.code cs colon k.least k.most)) (ap (ended N.AutolinkEmail) (local-other (b.code ∷ cs) (ap local_value (eqb-true b.code.value 58 colon)) (ap (λ v. v == 64) (eqb-true b.code.value 58 colon)))))
+      (within.url_inside_ready _ (inside-kept T k.inside)) (within.url_inside_weight _) (λ ok U x. within.url_inside_end _ ok U x))
+      (λ g. if-step P (scheme_value c && nat_lt n 32) _ _
+      (λ h. let here : is_scheme_code b.code ≡ true = ap scheme_value b.value ∙ and-left (scheme_value c) _ h in
+      let less : n < 32 = below n 32 (and-right (scheme_value c) _ h) in
+      Goes-inside ready ends weight 2 2 1 (scheme_naming n) (scheme_naming (n + 1)) s (with_size (n + 1) T.tokenize_state) T (Next AutolinkSchemeInsideOrEmailAtext) alone refl more (omega arith)
+      (ap (scheme_naming n) b.whole ∙ or-both (Consume ∷ []) _ _ _ _ (bracket-next N.AutolinkProtocol (scheme_rest n) (scheme_rest (n + 1)) b.code cs (scheme-more n b.code cs here)) (bracket-next N.AutolinkEmail local_rest local_rest b.code cs (local-more b.code cs (scheme-local b.code.value here))))
+      (within.scheme_inside_ready _ (record { inside = inside-next (with_size (n + 1) T.tokenize_state) T k.inside; least = omega (arith, k.least); most = omega (arith, less) })) (within.scheme_inside_weight _) (λ ok U x. within.scheme_inside_end _ ok U x))
+      (λ h. other (ap (scheme_rest n) b.whole ∙ (elim (is_scheme_code b.code) as (λ z. is_scheme_code b.code ≡ z → scheme_rest n (b.code ∷ cs) ≡ None) [
+        | true ↦ λ i. scheme-long n b.code cs i (not-below n 32 (ap (λ z. z && nat_lt n 32) (sym (sym (ap scheme_value b.value) ∙ i)) ∙ h))
+        | false ↦ λ i. scheme-other n (b.code ∷ cs) i (ap (λ v. v == 58) b.value ∙ g)
+      ] refl)))))
+
+  pub url_inside-law : (T : Tokenizer) → T.attempts ≡ [] → InsideReady T → GoesOn ready ends weight (weight_at 1 T) (url_inside_ends T) (url_inside_step T)
+  unfolding applied scratched
+  url_inside-law T alone k =
+      let s : TokenizeState = with_size 0 T.tokenize_state in
+      let p : Naming = up_to_bracket N.AutolinkProtocol (any_number is_uri_code) in
+      let P : Stepped → Type 0 = GoesOn ready ends weight (weight_at 1 T) (url_inside_ends T) in
+      let none : (cs : List Code) → next_is is_uri_code cs ≡ false → next_is (is_value 62) cs ≡ false → p cs ≡ None = λ cs h l. ap (ended N.AutolinkProtocol) (url-end cs h) ∙ ended-other N.AutolinkProtocol cs l in
+      code-step P (current_of T) (λ o. url_inside_at o T)
+      (λ e. Goes-refused ready ends weight 1 1 p s T alone (ap p (ahead-none T e) ∙ none [] refl refl))
+      (λ c e.
+      let b : Begins c (ahead T) = ahead-some T c e in
+      let cs : List Code = rest_of (ahead T) in
+      if-step P (c == 62) _ _
+      (λ h. let here : is_value 62 b.code ≡ true = ap (λ v. v == 62) b.value ∙ h in
+      subst (λ (x : Tokenizer). P (stepped State.Ok (scratched s (done (ending N.AutolinkProtocol) x)))) k.entered
+      (Goes-named ready ends weight 1 1 p N.AutolinkProtocol (ending N.AutolinkProtocol) s T alone
+      (ap p b.whole ∙ ap (ended N.AutolinkProtocol) (url-end (b.code ∷ cs) (ap uri_value (eqb-true b.code.value 62 here))) ∙ ended-here N.AutolinkProtocol b.code cs here)))
+      (λ g. if-step P (uri_value c) _ _
+      (λ h. Goes-inside-kept ready ends weight 1 1 1 p p s T (Next AutolinkUrlInside) alone refl (some-codes T c e) (omega arith)
+      (ap p b.whole ∙ bracket-next N.AutolinkProtocol (any_number is_uri_code) (any_number is_uri_code) b.code cs (url-more b.code cs (ap uri_value b.value ∙ h)))
+      (within.url_inside_ready _ (inside-kept T k)) (within.url_inside_weight _) (λ ok U x. within.url_inside_end _ ok U x))
+      (λ h. Goes-refused ready ends weight 1 1 p s T alone (ap p b.whole ∙ none (b.code ∷ cs) (ap uri_value b.value ∙ h) (ap (λ v. v == 62) b.value ∙ g)))))
+
+  pub email_atext-law : (T : Tokenizer) → T.attempts ≡ [] → InsideReady T → GoesOn ready ends weight (weight_at 1 T) (email_atext_ends T) (email_atext_step T)
+  unfolding applied scratched
+  email_atext-law T alone k =
+      let s : TokenizeState = with_size 0 T.tokenize_state in
+      let p : Naming = up_to_bracket N.AutolinkEmail local_rest in
+      let P : Stepped → Type 0 = GoesOn ready ends weight (weight_at 1 T) (email_atext_ends T) in
+      code-step P (current_of T) (λ o. email_atext_at o T)
+      (λ e. Goes-refused ready ends weight 1 1 p s T alone (ap p (ahead-none T e) ∙ ap (ended N.AutolinkEmail) (local-other [] refl refl)))
+      (λ c e.
+      let b : Begins c (ahead T) = ahead-some T c e in
+      let cs : List Code = rest_of (ahead T) in
+      let more : 1 ≤ length (ahead T) = some-codes T c e in
+      if-step P (c == 64) _ _
+      (λ h. Goes-inside-kept ready ends weight 1 1 1 p (up_to_bracket N.AutolinkEmail domains) s T (Next AutolinkEmailAtSignOrDot) alone refl more (omega arith)
+      (ap p b.whole ∙ bracket-next N.AutolinkEmail local_rest domains b.code cs (local-at b.code cs (ap (λ v. v == 64) b.value ∙ h)))
+      (within.email_at_sign_or_dot_ready _ (inside-kept T k)) (within.email_at_sign_or_dot_weight _) (λ ok U x. within.email_at_sign_or_dot_end _ ok U x))
+      (λ g. if-step P (local_value c) _ _
+      (λ h. Goes-inside-kept ready ends weight 1 1 1 p p s T (Next AutolinkEmailAtext) alone refl more (omega arith)
+      (ap p b.whole ∙ bracket-next N.AutolinkEmail local_rest local_rest b.code cs (local-more b.code cs (ap local_value b.value ∙ h)))
+      (within.email_atext_ready _ (inside-kept T k)) (within.email_atext_weight _) (λ ok U x. within.email_atext_end _ ok U x))
+      (λ h. Goes-refused ready ends weight 1 1 p s T alone (ap p b.whole ∙ ap (ended N.AutolinkEmail) (local-other (b.code ∷ cs) (ap local_value b.value ∙ h) (ap (λ v. v == 64) b.value ∙ g))))))
+
+  pub email_at_sign_or_dot-law : (T : Tokenizer) → T.attempts ≡ [] → InsideReady T → GoesOn ready ends weight (weight_at 1 T) (email_at_sign_or_dot_ends T) (email_at_sign_or_dot_step T)
+  unfolding applied scratched
+  email_at_sign_or_dot-law T alone k =
+      let s : TokenizeState = with_size 0 T.tokenize_state in
+      let p : Naming = up_to_bracket N.AutolinkEmail domains in
+      let P : Stepped → Type 0 = GoesOn ready ends weight (weight_at 1 T) (email_at_sign_or_dot_ends T) in
+      code-step P (current_of T) (λ o. email_at_sign_or_dot_at o T)
+      (λ e. Goes-refused ready ends weight 1 1 p s T alone (ap p (ahead-none T e) ∙ ap (ended N.AutolinkEmail) (domains-none [] refl)))
+      (λ c e.
+      let b : Begins c (ahead T) = ahead-some T c e in
+      let cs : List Code = rest_of (ahead T) in
+      if-step P (alphanumeric_value c) _ _
+      (λ h. Goes-inside ready ends weight 1 1 1 p (up_to_bracket N.AutolinkEmail (label_rest 1 true)) s (with_size 1 T.tokenize_state) T (Next AutolinkEmailLabel) alone refl (some-codes T c e) (omega arith)
+      (ap p b.whole ∙ bracket-next N.AutolinkEmail domains (label_rest 1 true) b.code cs (domains-first b.code cs (ap alphanumeric_value b.value ∙ h)))
+      (within.email_label_ready _ (record { inside = inside-next (with_size 1 T.tokenize_state) T k; most = omega arith })) (within.email_label_weight _) (λ ok U x. within.email_label_end _ ok U x))
+      (λ h. Goes-refused ready ends weight 1 1 p s T alone (ap p b.whole ∙ ap (ended N.AutolinkEmail) (domains-none (b.code ∷ cs) (ap alphanumeric_value b.value ∙ h)))))
+
+  -- at a code of a label, where the link does not hold at any other
+  in-label : (well : Bool) (T : Tokenizer) → T.attempts ≡ [] → LabelReady T → (next_is is_label_code (ahead T) ≡ false → up_to_bracket N.AutolinkEmail (label_rest T.tokenize_state.size well) (ahead T) ≡ None) → GoesOn ready ends weight (weight_at 1 T) (NamesAs 1 (up_to_bracket N.AutolinkEmail (label_rest T.tokenize_state.size well)) (with_size 0 T.tokenize_state) T) (in_label_at (current_of T) T)
+  unfolding applied scratched
+  in-label well T alone k end =
+      let n : ℕ = T.tokenize_state.size in
+      let s : TokenizeState = with_size 0 T.tokenize_state in
+      let p : Naming = up_to_bracket N.AutolinkEmail (label_rest n well) in
+      let P : Stepped → Type 0 = GoesOn ready ends weight (weight_at 1 T) (NamesAs 1 p s T) in
+      code-step P (current_of T) (λ o. in_label_at o T)
+      (λ e. Goes-refused ready ends weight 1 1 p s T alone (end (ap (λ cs. next_is is_label_code cs) (ahead-none T e))))
+      (λ c e.
+      let b : Begins c (ahead T) = ahead-some T c e in
+      let cs : List Code = rest_of (ahead T) in
+      let more : 1 ≤ length (ahead T) = some-codes T c e in
+      if-step P (nat_lt n 63 && alphanumeric_value c) _ _
+      (λ h. let less : n < 63 = below n 63 (and-left (nat_lt n 63) _ h) in
+      let here : is_alphanumeric b.code ≡ true = ap alphanumeric_value b.value ∙ and-right (nat_lt n 63) _ h in
+      Goes-inside ready ends weight 1 1 1 p (up_to_bracket N.AutolinkEmail (label_rest (n + 1) true)) s (with_size (n + 1) T.tokenize_state) T (Next AutolinkEmailLabel) alone refl more (omega arith)
+      (ap p b.whole ∙ bracket-next N.AutolinkEmail (label_rest n well) (label_rest (n + 1) (is_alphanumeric b.code)) b.code cs (label-more n well b.code cs (ap (λ z. z || is_value 45 b.code) here)) ∙ ap (λ z. preceded_by (Consume ∷ []) (up_to_bracket N.AutolinkEmail (label_rest (n + 1) z) cs)) here)
+      (within.email_label_ready _ (record { inside = inside-next (with_size (n + 1) T.tokenize_state) T k.inside; most = omega (arith, less) })) (within.email_label_weight _) (λ ok U x. within.email_label_end _ ok U x))
+      (λ g. if-step P (nat_lt n 63 && (c == 45)) _ _
+      (λ h. let less : n < 63 = below n 63 (and-left (nat_lt n 63) _ h) in
+      let hyphen : is_value 45 b.code ≡ true = ap (λ v. v == 45) b.value ∙ and-right (nat_lt n 63) _ h in
+      let other : is_alphanumeric b.code ≡ false = ap alphanumeric_value (eqb-true b.code.value 45 hyphen) in
+      Goes-inside ready ends weight 1 1 1 p (up_to_bracket N.AutolinkEmail (label_rest (n + 1) false)) s (with_size (n + 1) T.tokenize_state) T (Next AutolinkEmailValue) alone refl more (omega arith)
+      (ap p b.whole ∙ bracket-next N.AutolinkEmail (label_rest n well) (label_rest (n + 1) (is_alphanumeric b.code)) b.code cs (label-more n well b.code cs (ap (λ z. z || is_value 45 b.code) other ∙ hyphen)) ∙ ap (λ z. preceded_by (Consume ∷ []) (up_to_bracket N.AutolinkEmail (label_rest (n + 1) z) cs)) other)
+      (within.email_value_ready _ (record { inside = inside-next (with_size (n + 1) T.tokenize_state) T k.inside; most = omega (arith, less) })) (within.email_value_weight _) (λ ok U x. within.email_value_end _ ok U x))
+      (λ h. Goes-refused ready ends weight 1 1 p s T alone (elim (is_label_code b.code) as (λ z. is_label_code b.code ≡ z → p (ahead T) ≡ None) [
+        | true ↦ λ i. ap p b.whole ∙ ap (ended N.AutolinkEmail) (label-long n well b.code cs i (not-below n 63 (left-test (nat_lt n 63) (alphanumeric_value c) (c == 45) g h (sym (ap (λ v. alphanumeric_value v || v == 45) b.value) ∙ i))))
+        | false ↦ λ i. end (ap (λ xs. next_is is_label_code xs) b.whole ∙ i)
+      ] refl))))
+
+  pub email_value-law : (T : Tokenizer) → T.attempts ≡ [] → LabelReady T → GoesOn ready ends weight (weight_at 1 T) (email_value_ends T) (email_value_step T)
+  email_value-law T alone k = in-label false T alone k (λ h. ap (ended N.AutolinkEmail) (label-unended T.tokenize_state.size (ahead T) h))
+
+  pub email_label-law : (T : Tokenizer) → T.attempts ≡ [] → LabelReady T → GoesOn ready ends weight (weight_at 1 T) (email_label_ends T) (email_label_step T)
+  unfolding applied scratched renamed
+  email_label-law T alone k =
+      let n : ℕ = T.tokenize_state.size in
+      let s : TokenizeState = with_size 0 T.tokenize_state in
+      let p : Naming = up_to_bracket N.AutolinkEmail (label_rest n true) in
+      let P : Stepped → Type 0 = GoesOn ready ends weight (weight_at 1 T) (email_label_ends T) in
+      let end : (cs : List Code) → next_is is_label_code cs ≡ false → next_is (is_value 46) cs ≡ false → next_is (is_value 62) cs ≡ false → p cs ≡ None = λ cs h i j. ap (ended N.AutolinkEmail) (label-ended n cs h k.most ∙ more-none cs i) ∙ ended-other N.AutolinkEmail cs j in
+      code-step P (current_of T) (λ o. email_label_at o T)
+      (λ e. Goes-refused ready ends weight 1 1 p s T alone (ap p (ahead-none T e) ∙ end [] refl refl refl))
+      (λ c e.
+      let b : Begins c (ahead T) = ahead-some T c e in
+      let cs : List Code = rest_of (ahead T) in
+      if-step P (c == 46) _ _
+      (λ h. let dot : is_value 46 b.code ≡ true = ap (λ v. v == 46) b.value ∙ h in
+      Goes-inside-kept ready ends weight 1 1 1 p (up_to_bracket N.AutolinkEmail domains) s T (Next AutolinkEmailAtSignOrDot) alone refl (some-codes T c e) (omega arith)
+      (ap p b.whole ∙ ap (ended N.AutolinkEmail) (label-ended n (b.code ∷ cs) (ap (λ v. alphanumeric_value v || v == 45) (eqb-true b.code.value 46 dot)) k.most) ∙ more-dot b.code cs dot)
+      (within.email_at_sign_or_dot_ready _ (inside-kept T k.inside)) (within.email_at_sign_or_dot_weight _) (λ ok U x. within.email_at_sign_or_dot_end _ ok U x))
+      (λ g. if-step P (c == 62) _ _
+      (λ h. let here : is_value 62 b.code ≡ true = ap (λ v. v == 62) b.value ∙ h in
+      Goes-named ready ends weight 1 1 p N.AutolinkEmail (ending N.AutolinkEmail) s T alone
+      (ap p b.whole ∙ ap (ended N.AutolinkEmail) (label-ended n (b.code ∷ cs) (ap (λ v. alphanumeric_value v || v == 45) (eqb-true b.code.value 62 here)) k.most ∙ more-none (b.code ∷ cs) (ap (λ v. v == 46) (eqb-true b.code.value 62 here))) ∙ ended-here N.AutolinkEmail b.code cs here))
+      (λ h. subst (λ (o : Option ℕ). P (in_label_at o T)) e (in-label true T alone k (λ i. ap p b.whole ∙ end (b.code ∷ cs) (sym (ap (λ xs. next_is is_label_code xs) b.whole) ∙ i) (ap (λ v. v == 46) b.value ∙ g) (ap (λ v. v == 62) b.value ∙ h))))))
+
+  -- past the bracket, the leaf entered
+  link-opened : (T : Tokenizer) → 1 ≤ length (ahead T) → T.attempts ≡ [] → T.tokenize_state.size ≡ 0 → program_of (link_here T) (ahead T) ≡ preceded bracket_ops (opening_of open_naming (drop 1 (ahead T))) → GoesOn ready ends weight (weight_at 3 T) (KeepsAs 0 (program_of (link_here T)) T) (stepped (Next AutolinkOpen) (done opening T))
+  link-opened T more alone k e =
       let s : TokenizeState = T.tokenize_state in
+      let p : Program = program_of (link_here T) in
+      let E : Bool → Tokenizer → Type 0 = KeepsAs 0 p T in
+      subst (λ (V : Tokenizer). ready AutolinkOpen V → weight AutolinkOpen V ≡ weight_at 2 V → ((ok : Bool) (U : Tokenizer) → ends AutolinkOpen V ok U → E ok U) → GoesOn ready ends weight (weight_at 3 T) E (stepped (Next AutolinkOpen) V)) (kept opening T)
+      (Goes-to ready ends weight 3 2 E opening s T T (Next AutolinkOpen) alone refl more (omega arith))
+      (within.open_ready _ (inside-entered T))
+      (within.open_weight _)
+      (λ ok U x. DoesAs-then 0 p (opening_of open_naming) bracket_ops s s T refl e ok U
+      (subst (λ (V : Tokenizer). DoesAs 1 (opening_of open_naming) s V ok U) (sym (kept bracket_ops T))
+      (DoesAs-entered 1 (opening_of open_naming) open_naming N.AutolinkProtocol s (done bracket_ops T) refl ok U (open-says T ok U k (within.open_end _ ok U x)))))
+
+  pub start-law : (T : Tokenizer) → T.attempts ≡ [] → T.tokenize_state.size ≡ 0 → GoesOn ready ends weight (weight_at 3 T) (start_ends T) (start_step T)
+  start-law T alone k =
+      let p : Program = program_of (link_here T) in
       let E : Bool → Tokenizer → Type 0 = KeepsAs 0 p T in
       let P : Stepped → Type 0 = GoesOn ready ends weight (weight_at 3 T) E in
-      let nok : State = Retry AutolinkOpen in
-      GoesOn-map ready ends weight (weight_at 3 T) E (start_ends T) (start_step T) (λ ok U k. EndsAs-program (autolink_here T) (whole (is_on T)) s T ok U k)
-      (code-step P (current_of T) (λ o. start_at (is_on T) o T)
-      (λ e. Goes-no ready ends weight 3 0 p T alone (ap p (ahead-none T e) ∙ no-autolink (is_on T) [] (and-false (is_on T))))
-      (λ c e. let b = ahead-some T c e in
+      GoesOn-map ready ends weight (weight_at 3 T) E (start_ends T) (start_step T) (λ ok U x. EndsAs-program (link_here T) (whole-link (is_on T)) T.tokenize_state T ok U x)
+      (code-step P (current_of T) (λ o. start_at o T)
+      (λ e. Goes-no ready ends weight 3 0 p T alone (ap p (ahead-none T e) ∙ no-link (is_on T) [] (and-false (is_on T))))
+      (λ c e.
+      let b : Begins c (ahead T) = ahead-some T c e in
       if-step P (is_on T && (c == 60)) _ _
-      (λ h. Goes-attempt ready ends weight (weight_at 3 T) E (Retry AutolinkSchemeOrEmailAtext) St.Ok nok T alone
-      (within.uri_ready T rest)
-      (rw within.uri_weight (omega arith))
-      (λ U now k. let d : Does (program_of uri_tree) s T U = within.uri_end T true U k in
-      record {
-        goes_on = tt;
-        falls = omega arith;
-        closed = λ ok V x. subst (λ a. E a V) (sym x.0) (subst (λ (Y : Tokenizer). E true Y) (sym x.1) (record { ops = d.ops; holds = first-tree (is_on T) (ahead T) d.ops (and-left _ _ h) d.holds; left = d.left }));
-      })
-      (λ U now k. let d : Stops 0 (program_of uri_tree) s T U = within.uri_end T false U k in
-      let same : restored (frame_of false St.Ok nok T) U ≡ T = restored-fails false St.Ok nok s T U (record { grown = d.grown; scratch = d.scratch }) ∙ scratched-same T in
-      subst (λ (Y : Tokenizer). Follows ready ends weight (weight_at 3 T) E nok Y) (sym same)
-      (record {
-        goes_on = within.email_ready T rest;
-        falls = rw within.email_weight (omega arith);
-        closed = λ ok V x. DoesAs-same 0 p (program_of email_tree) s T (second-tree (is_on T) (ahead T) (and-left _ _ h) d.none) ok V (within.email_end T ok V x);
-      })))
-      (λ h. Goes-no ready ends weight 3 0 p T alone (ap p b.whole ∙ no-autolink (is_on T) (b.code ∷ rest_of (ahead T)) (ap (λ v. is_on T && (v == 60)) b.value ∙ h)))))
-
-  pub uri-law : (T : Tokenizer) → T.attempts ≡ [] → IsAtRest T → GoesOn ready ends weight (weight_at 2 T) (uri_ends T) (uri_step T)
-  uri-law T alone rest =
-      let p : Program = program_of uri_tree in
-      let P : Stepped → Type 0 = GoesOn ready ends weight (weight_at 2 T) (uri_ends T) in
-      let V : Tokenizer = done (opening N.AutolinkProtocol) T in
-      let size : V.tokenize_state.size ≡ 0 = size-done (opening N.AutolinkProtocol) T rest in
-      code-step P (current_of T) (λ o. uri_at o T)
-      (λ e. Goes-no ready ends weight 2 0 p T alone (ap p (ahead-none T e) ∙ ap tree_ops (no-brackets uri N.AutolinkProtocol [] refl)))
-      (λ c e. let b = ahead-some T c e in
-      if-step P (c == 60) _ _
-      (λ h. Goes-kept ready ends weight 2 1 0 p (scheme_program 0) (opening N.AutolinkProtocol) T.tokenize_state T (Next AutolinkSchemeInsideOrEmailAtext) alone refl (some-codes T c e) (omega arith)
-      (ap p b.whole ∙ uri-start b.code (rest_of (ahead T)) (ap (λ v. v == 60) b.value ∙ h))
-      (within.scheme_ready V (record { are_open = opened N.AutolinkProtocol T; size = omega (arith, size) }))
-      (within.scheme_weight V)
-      (λ ok U k. from-start scheme_program V T.tokenize_state (scratch-done (opening N.AutolinkProtocol) T) rest ok U (within.scheme_end V ok U k)))
-      (λ h. Goes-no ready ends weight 2 0 p T alone (ap p b.whole ∙ ap tree_ops (no-brackets uri N.AutolinkProtocol (b.code ∷ rest_of (ahead T)) (ap (λ v. v == 60) b.value ∙ h)))))
-
-  pub email-law : (T : Tokenizer) → T.attempts ≡ [] → IsAtRest T → GoesOn ready ends weight (weight_at 2 T) (email_ends T) (email_step T)
-  email-law T alone rest =
-      let p : Program = program_of email_tree in
-      let P : Stepped → Type 0 = GoesOn ready ends weight (weight_at 2 T) (email_ends T) in
-      let V : Tokenizer = done (opening N.AutolinkEmail) T in
-      code-step P (current_of T) (λ o. email_at o T)
-      (λ e. Goes-no ready ends weight 2 0 p T alone (ap p (ahead-none T e) ∙ ap tree_ops (no-brackets email_address N.AutolinkEmail [] refl)))
-      (λ c e. let b = ahead-some T c e in
-      if-step P (c == 60) _ _
-      (λ h. Goes-kept ready ends weight 2 1 0 p (atext_program 0) (opening N.AutolinkEmail) T.tokenize_state T (Next AutolinkEmailAtext) alone refl (some-codes T c e) (omega arith)
-      (ap p b.whole ∙ email-start b.code (rest_of (ahead T)) (ap (λ v. v == 60) b.value ∙ h))
-      (within.atext_ready V (opened N.AutolinkEmail T))
-      (within.atext_weight V)
-      (λ ok U k. from-start atext_program V T.tokenize_state (scratch-done (opening N.AutolinkEmail) T) rest ok U (within.atext_end V ok U k)))
-      (λ h. Goes-no ready ends weight 2 0 p T alone (ap p b.whole ∙ ap tree_ops (no-brackets email_address N.AutolinkEmail (b.code ∷ rest_of (ahead T)) (ap (λ v. v == 60) b.value ∙ h)))))
-
-  pub scheme-law : (T : Tokenizer) → T.attempts ≡ [] → InScheme T → GoesOn ready ends weight (weight_at 1 T) (scheme_ends T) (scheme_step T)
-  scheme-law T alone i =
-      let s : TokenizeState = T.tokenize_state in
-      let n : ℕ = s.size in
-      let p : Program = scheme_program n in
-      let P : Stepped → Type 0 = GoesOn ready ends weight (weight_at 1 T) (scheme_ends T) in
-      code-step P (current_of T) (λ o. scheme_at o T)
-      (λ e. Goes-nok ready ends weight 1 2 p (sized 0 s) T alone (ap p (ahead-none T e) ∙ scheme-end n))
-      (λ c e. let b = ahead-some T c e in
-      if-step P ((c == 58) && nat_lt 1 n) _ _
-      (λ h. Goes-on ready ends weight 1 1 2 p url_program (Consume ∷ []) (sized 0 s) (sized 0 s) T (Next AutolinkUrlInside) alone refl (some-codes T c e) (omega arith)
-      (behind-first p url_program (ahead T) (rest_of (ahead T)) b.code b.whole (scheme-colon n b.code (rest_of (ahead T)) (ap (λ v. v == 58) b.value ∙ and-left _ _ h) (and-right _ _ h) i.size))
-      (within.url_ready (onto 0 T) (onto-open N.AutolinkProtocol 0 T i.are_open))
-      (within.url_weight (onto 0 T))
-      (λ ok U k. subst (λ (x : TokenizeState). DoesAs 2 url_program x (onto 0 T) ok U) (onto-scratch 0 T) (within.url_end (onto 0 T) ok U k)))
-      (λ h. if-step P (is_scheme_byte n c) _ _
-      (λ t. let f = further n b.code (ap (is_scheme_byte n) b.value ∙ t) in
-      let room : n + 1 ≤ 32 = less-more n 32 f.fits in
-      Goes-on ready ends weight 1 1 2 p (scheme_program (n + 1)) (Consume ∷ []) (sized 0 s) (sized (n + 1) s) T (Next AutolinkSchemeInsideOrEmailAtext) alone refl (some-codes T c e) (omega arith)
-      (behind-first p (scheme_program (n + 1)) (ahead T) (rest_of (ahead T)) b.code b.whole (scheme-more n b.code (rest_of (ahead T)) f))
-      (within.scheme_ready (onto (n + 1) T) (record { are_open = onto-open N.AutolinkProtocol (n + 1) T i.are_open; size = omega (arith, onto-size (n + 1) T) }))
-      (within.scheme_weight (onto (n + 1) T))
-      (λ ok U k. from-onto scheme_program (n + 1) T ok U (within.scheme_end (onto (n + 1) T) ok U k)))
-      (λ t. Goes-nok ready ends weight 1 2 p (sized 0 s) T alone (ap p b.whole ∙ scheme-stop n b.code (rest_of (ahead T)) (ap (λ v. (v == 58) && nat_lt 1 n) b.value ∙ h) (ap (is_scheme_byte n) b.value ∙ t)))))
-
-  pub url-law : (T : Tokenizer) → T.attempts ≡ [] → AreOpen N.AutolinkProtocol T → GoesOn ready ends weight (weight_at 1 T) (url_ends T) (url_step T)
-  url-law T alone o =
-      let p : Program = url_program in
-      let P : Stepped → Type 0 = GoesOn ready ends weight (weight_at 1 T) (url_ends T) in
-      let V : Tokenizer = done (Consume ∷ []) T in
-      code-step P (current_of T) (λ x. url_at x T)
-      (λ e. Goes-no ready ends weight 1 2 p T alone (ap p (ahead-none T e) ∙ url-end))
-      (λ c e. let b = ahead-some T c e in
-      if-step P (c == 62) _ _
-      (λ h. Goes-yes ready ends weight 1 2 p (closing N.AutolinkProtocol) T alone (ap p b.whole ∙ url-close b.code (rest_of (ahead T)) (ap (λ v. v == 62) b.value ∙ h)))
-      (λ h. if-step P (is_uri_byte c) _ _
-      (λ t. Goes-next ready ends weight 1 1 2 p p (Consume ∷ []) T (Next AutolinkUrlInside) alone refl (some-codes T c e) (omega arith)
-      (behind-first p p (ahead T) (rest_of (ahead T)) b.code b.whole (url-more b.code (rest_of (ahead T)) (uri-code b.code ∙ ap is_uri_byte b.value ∙ t)))
-      (within.url_ready V (consumed-open N.AutolinkProtocol T o))
-      (within.url_weight V)
-      (within.url_end V))
-      (λ t. Goes-no ready ends weight 1 2 p T alone (ap p b.whole ∙ url-stop b.code (rest_of (ahead T)) (ap (λ v. v == 62) b.value ∙ h) (uri-code b.code ∙ ap is_uri_byte b.value ∙ t)))))
-
-  pub atext-law : (T : Tokenizer) → T.attempts ≡ [] → AreOpen N.AutolinkEmail T → GoesOn ready ends weight (weight_at 1 T) (atext_ends T) (atext_step T)
-  atext-law T alone o =
-      let s : TokenizeState = T.tokenize_state in
-      let n : ℕ = s.size in
-      let p : Program = atext_program n in
-      let P : Stepped → Type 0 = GoesOn ready ends weight (weight_at 1 T) (atext_ends T) in
-      code-step P (current_of T) (λ x. atext_at x T)
-      (λ e. Goes-nok ready ends weight 1 2 p (sized 0 s) T alone (ap p (ahead-none T e) ∙ atext-end n))
-      (λ c e. let b = ahead-some T c e in
-      if-step P ((c == 64) && nat_lt 0 n) _ _
-      (λ h. let at : (b.code.value == 64) ≡ true = ap (λ v. v == 64) b.value ∙ and-left _ _ h in
-      Goes-on ready ends weight 1 2 2 p domain_program (Consume ∷ []) (sized 0 s) (sized 0 s) T (Next AutolinkEmailAtSignOrDot) alone refl (some-codes T c e) (omega arith)
-      (behind-first p domain_program (ahead T) (rest_of (ahead T)) b.code b.whole (atext-at n b.code (rest_of (ahead T)) at (and-right _ _ h) (at-code b.code at)))
-      (within.at_sign_ready (onto 0 T) (record { are_open = onto-open N.AutolinkEmail 0 T o; rest = onto-size 0 T }))
-      (within.at_sign_weight (onto 0 T))
-      (λ ok U k. subst (λ (x : TokenizeState). DoesAs 2 domain_program (sized 0 x) (onto 0 T) ok U) (onto-scratch 0 T) (within.at_sign_end (onto 0 T) ok U k)))
-      (λ h. if-step P (is_local_byte c) _ _
-      (λ t. Goes-on ready ends weight 1 1 2 p (atext_program 1) (Consume ∷ []) (sized 0 s) (sized 1 s) T (Next AutolinkEmailAtext) alone refl (some-codes T c e) (omega arith)
-      (behind-first p (atext_program 1) (ahead T) (rest_of (ahead T)) b.code b.whole (atext-more n b.code (rest_of (ahead T)) (local-code b.code ∙ ap is_local_byte b.value ∙ t)))
-      (within.atext_ready (onto 1 T) (onto-open N.AutolinkEmail 1 T o))
-      (within.atext_weight (onto 1 T))
-      (λ ok U k. from-onto atext_program 1 T ok U (within.atext_end (onto 1 T) ok U k)))
-      (λ t. Goes-nok ready ends weight 1 2 p (sized 0 s) T alone (ap p b.whole ∙ atext-stop n b.code (rest_of (ahead T)) (ap (λ v. (v == 64) && nat_lt 0 n) b.value ∙ h) (local-code b.code ∙ ap is_local_byte b.value ∙ t)))))
-
-  pub at_sign-law : (T : Tokenizer) → T.attempts ≡ [] → AtLabel T → GoesOn ready ends weight (weight_at 2 T) (at_sign_ends T) (at_sign_step T)
-  at_sign-law T alone a =
-      let s : TokenizeState = T.tokenize_state in
-      let p : Program = domain_program in
-      let P : Stepped → Type 0 = GoesOn ready ends weight (weight_at 2 T) (at_sign_ends T) in
-      let fails : p (ahead T) ≡ None → P (stepped Nok T) = λ x. subst (λ (q : TokenizeState). GoesOn ready ends weight (weight_at 2 T) (DoesAs 2 p q T) (stepped Nok T)) (sym (sized-same s a.rest)) (Goes-no ready ends weight 2 2 p T alone x) in
-      code-step P (current_of T) (λ x. at_sign_at x T)
-      (λ e. fails (ap p (ahead-none T e) ∙ domain-stop [] refl))
-      (λ c e. let b = ahead-some T c e in
-      if-step P (is_alphanumeric_byte c) _ _
-      (λ h. Goes-kept ready ends weight 2 1 2 p (label_program false 0) [] (sized 0 s) T (Retry AutolinkEmailValue) alone refl (no-codes T) (omega arith)
-      (ap p b.whole ∙ domain-here b.code (rest_of (ahead T)) (alphanumeric-code b.code ∙ ap is_alphanumeric_byte b.value ∙ h) ∙ sym (preceded-nothing (label_program false 0 (b.code ∷ rest_of (ahead T)))) ∙ ap (λ xs. preceded [] (label_program false 0 xs)) (sym b.whole))
-      (within.value_ready T (record { are_open = a.are_open; size = omega arith; most = omega (arith, a.rest) }))
-      (within.value_weight T)
-      (λ ok U k. subst (λ n. DoesAs 2 (label_program false n) (sized 0 s) T ok U) a.rest (within.value_end T ok U k)))
-      (λ h. fails (ap p b.whole ∙ domain-stop (b.code ∷ rest_of (ahead T)) (alphanumeric-code b.code ∙ ap is_alphanumeric_byte b.value ∙ h))))
-
-  pub label-law : (T : Tokenizer) → T.attempts ≡ [] → InLabel 1 T → GoesOn ready ends weight (weight_at 2 T) (label_ends T) (label_step T)
-  label-law T alone i =
-      let s : TokenizeState = T.tokenize_state in
-      let n : ℕ = s.size in
-      let p : Program = label_program true n in
-      let P : Stepped → Type 0 = GoesOn ready ends weight (weight_at 2 T) (label_ends T) in
-      let further_on : p (ahead T) ≡ label_program false n (ahead T) → P (stepped (Retry AutolinkEmailValue) T) =
-      λ x. Goes-kept ready ends weight 2 1 2 p (label_program false n) [] (sized 0 s) T (Retry AutolinkEmailValue) alone refl (no-codes T) (omega arith)
-      (x ∙ sym (preceded-nothing (label_program false n (ahead T))))
-      (within.value_ready T (record { are_open = i.are_open; size = omega arith; most = i.most }))
-      (within.value_weight T)
-      (within.value_end T) in
-      code-step P (current_of T) (λ x. label_at x T)
-      (λ e. further_on (label-on n (ahead T) i.size i.most (ap (next_is (is_value 46)) (ahead-none T e)) (ap (next_is (is_value 62)) (ahead-none T e))))
-      (λ c e. let b = ahead-some T c e in
-      if-step P (c == 46) _ _
-      (λ h. Goes-on ready ends weight 2 2 2 p domain_program (Consume ∷ []) (sized 0 s) (sized 0 s) T (Next AutolinkEmailAtSignOrDot) alone refl (some-codes T c e) (omega arith)
-      (behind-first p domain_program (ahead T) (rest_of (ahead T)) b.code b.whole (label-dot n b.code (rest_of (ahead T)) i.size i.most (ap (λ v. v == 46) b.value ∙ h)))
-      (within.at_sign_ready (onto 0 T) (record { are_open = onto-open N.AutolinkEmail 0 T i.are_open; rest = onto-size 0 T }))
-      (within.at_sign_weight (onto 0 T))
-      (λ ok U k. subst (λ (x : TokenizeState). DoesAs 2 domain_program (sized 0 x) (onto 0 T) ok U) (onto-scratch 0 T) (within.at_sign_end (onto 0 T) ok U k)))
-      (λ h. if-step P (c == 62) _ _
-      (λ t. Goes-ok ready ends weight 2 2 p (closing N.AutolinkEmail) (sized 0 s) T alone (ap p b.whole ∙ label-close n b.code (rest_of (ahead T)) i.size i.most (ap (λ v. v == 62) b.value ∙ t)))
-      (λ t. further_on (label-on n (ahead T) i.size i.most (ap (next_is (is_value 46)) b.whole ∙ ap (λ v. v == 46) b.value ∙ h) (ap (next_is (is_value 62)) b.whole ∙ ap (λ v. v == 62) b.value ∙ t)))))
-
-  pub value-law : (T : Tokenizer) → T.attempts ≡ [] → InLabel 0 T → GoesOn ready ends weight (weight_at 1 T) (value_ends T) (value_step T)
-  value-law T alone i =
-      let s : TokenizeState = T.tokenize_state in
-      let n : ℕ = s.size in
-      let p : Program = label_program false n in
-      let P : Stepped → Type 0 = GoesOn ready ends weight (weight_at 1 T) (value_ends T) in
-      code-step P (current_of T) (λ x. value_at x T)
-      (λ e. Goes-nok ready ends weight 1 2 p (sized 0 s) T alone (ap p (ahead-none T e) ∙ label-not n [] refl))
-      (λ c e. let b = ahead-some T c e in
-      if-step P (nat_lt n 63 && is_alphanumeric_byte c) _ _
-      (λ h. let letter : is_alphanumeric b.code ≡ true = alphanumeric-code b.code ∙ ap is_alphanumeric_byte b.value ∙ and-right (nat_lt n 63) (is_alphanumeric_byte c) h in
-      let room : n + 1 ≤ 63 = less-more n 63 (and-left (nat_lt n 63) (is_alphanumeric_byte c) h) in
-      Goes-on ready ends weight 1 2 2 p (label_program true (n + 1)) (Consume ∷ []) (sized 0 s) (sized (n + 1) s) T (Next AutolinkEmailLabel) alone refl (some-codes T c e) (omega arith)
-      (behind-first p (label_program true (n + 1)) (ahead T) (rest_of (ahead T)) b.code b.whole (label-more false n b.code (rest_of (ahead T)) (label-letter b.code letter) ∙ ap (λ x. preceded (Consume ∷ []) (label_program x (n + 1) (rest_of (ahead T)))) letter))
-      (within.label_ready (onto (n + 1) T) (record { are_open = onto-open N.AutolinkEmail (n + 1) T i.are_open; size = omega (arith, onto-size (n + 1) T); most = omega (arith, onto-size (n + 1) T) }))
-      (within.label_weight (onto (n + 1) T))
-      (λ ok U k. from-onto (label_program true) (n + 1) T ok U (within.label_end (onto (n + 1) T) ok U k)))
-      (λ h. if-step P (nat_lt n 63 && (c == 45)) _ _
-      (λ t. let hyphen : (b.code.value == 45) ≡ true = ap (λ v. v == 45) b.value ∙ and-right (nat_lt n 63) (c == 45) t in
-      let room : n + 1 ≤ 63 = less-more n 63 (and-left (nat_lt n 63) (c == 45) t) in
-      Goes-on ready ends weight 1 1 2 p (label_program false (n + 1)) (Consume ∷ []) (sized 0 s) (sized (n + 1) s) T (Next AutolinkEmailValue) alone refl (some-codes T c e) (omega arith)
-      (behind-first p (label_program false (n + 1)) (ahead T) (rest_of (ahead T)) b.code b.whole (label-more false n b.code (rest_of (ahead T)) (label-hyphen b.code hyphen) ∙ ap (λ x. preceded (Consume ∷ []) (label_program x (n + 1) (rest_of (ahead T)))) (hyphen-letter b.code hyphen)))
-      (within.value_ready (onto (n + 1) T) (record { are_open = onto-open N.AutolinkEmail (n + 1) T i.are_open; size = omega arith; most = omega (arith, onto-size (n + 1) T) }))
-      (within.value_weight (onto (n + 1) T))
-      (λ ok U k. from-onto (label_program false) (n + 1) T ok U (within.value_end (onto (n + 1) T) ok U k)))
-      (λ t. Goes-nok ready ends weight 1 2 p (sized 0 s) T alone (ap p b.whole ∙ label-stop n b.code (rest_of (ahead T)) (ap (λ x. nat_lt n 63 && x) (alphanumeric-code b.code ∙ ap is_alphanumeric_byte b.value) ∙ h) (ap (λ v. nat_lt n 63 && (v == 45)) b.value ∙ t)))))
+      (λ h. link-opened T (some-codes T c e) alone k (ap p b.whole ∙ link-here (is_on T) b.code (rest_of (ahead T)) (and-left (is_on T) _ h) (ap (λ v. v == 60) b.value ∙ and-right (is_on T) _ h)))
+      (λ h. Goes-no ready ends weight 3 0 p T alone (ap p b.whole ∙ no-link (is_on T) (b.code ∷ rest_of (ahead T)) (ap (λ v. is_on T && (v == 60)) b.value ∙ h)))))

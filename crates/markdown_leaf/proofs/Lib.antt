@@ -6,5 +6,16 @@ pub mod HardBreakEscapeLaws
 pub mod NameLemmas
 pub mod CharacterReferenceReading
 pub mod CharacterReferenceLaws
-pub mod AutolinkReading
+pub mod StretchLemmas
+pub mod EscapeEvents
+pub mod RenamingLemmas
+pub mod NamingLemmas
+pub mod ContentSize
+pub mod RawTextReadings
+pub mod RawTextWhole
+pub mod RawTextReady
+pub mod RawTextLaws
+pub mod RepeatedReadings
+pub mod AutolinkReadings
+pub mod AutolinkWhole
 pub mod AutolinkLaws

@@ -1,250 +1,246 @@
 -- What the states of an autolink do, and how runs from them end.
-use Rattle.std.specs.Prelude.{◌≡◌, ℕ, ◌+◌, ◌≤◌, Bool, true, false, not, ◌&&◌, ◌||◌, ◌==◌, nat_lt, if◌then◌else◌, Option, Some, None, List, [], ◌∷◌, ◌++◌, length}
+use Rattle.std.specs.Prelude.{◌≡◌, ℕ, ◌+◌, ◌≤◌, Bool, true, false, ◌&&◌, ◌||◌, not, codes, nat_le, nat_lt, ◌==◌, if◌then◌else◌, Option, Some, None, List, [], ◌∷◌, ◌++◌, length}
+use Rattle.std.specs.List.{list_any}
 use Rattle.markdown_engine.specs.Codes.{Code}
-use Rattle.markdown_engine.specs.Lists.{rest_of}
-use Rattle.markdown_engine.specs.Ops.{Op, Enter, Exit, Consume, done, current_of, IsOpen, attempted, scratched}
+use Rattle.markdown_engine.specs.Ops.{Op, Enter, Exit, Consume, done, current_of, scratched}
 use Rattle.markdown_engine.specs.Past.{EndsAs, TreeReading}
 use Rattle.markdown_engine.specs.Runs.{Stepped, stepped}
 use Rattle.markdown_engine.specs.TreeOps.{consumes}
-use Rattle.markdown_model.specs.CodeTests.{is_value, is_between, is_alphanumeric, is_letter, is_empty, next_is}
-use Rattle.markdown_model.specs.Grammar.{Reading, ◌>>◌, provided, span, one, ◌then_◌, repeatedly}
-use Rattle.markdown_model.specs.Leaf.{autolink, in_angle_brackets, uri, email_address, is_scheme_code, is_uri_code, is_local_code, domain_label}
-use Rattle.markdown_leaf.specs.Program.{Program, preceded, program_of, DoesAs, KeepsAs}
+use Rattle.markdown_model.specs.CodeTests.{is_value, is_between, is_alphanumeric, is_some_code, last_code, next_is}
+use Rattle.markdown_model.specs.Grammar.{Reading, ◌>>◌, ◌then_◌, one, provided, any_number, span, repeatedly}
+use Rattle.markdown_model.specs.Leaf.{autolink, uri, email_address, domain_label, is_scheme_code, is_uri_code, is_local_code}
+use Rattle.markdown_leaf.specs.RawText.{AreOpen, with_size}
+use Rattle.markdown_leaf.specs.Renaming.{Naming, NamesAs, renamed, HasEvent}
 use Rattle.markdown_engine.specs.declared.event.Name.{Name}
 use Rattle.markdown_engine.specs.declared.event.Name.TheVariants as N
 use Rattle.markdown_engine.specs.declared.state.State.TheVariants.{Next, Retry, Nok}
 use Rattle.markdown_engine.specs.declared.state.State.TheVariants as State
 use Rattle.markdown_engine.specs.declared.state.StateName.TheVariants.{AutolinkOpen, AutolinkSchemeOrEmailAtext, AutolinkSchemeInsideOrEmailAtext, AutolinkUrlInside, AutolinkEmailAtext, AutolinkEmailAtSignOrDot, AutolinkEmailLabel, AutolinkEmailValue}
-use Rattle.markdown_engine.specs.declared.tokenizer.TokenizeState.{TokenizeState}
 use Rattle.markdown_engine.specs.declared.tokenizer.Tokenizer.{Tokenizer}
 
--- how many codes of a part are passed
-abbrev pub sized : ℕ → TokenizeState → TokenizeState
-sized n s = record s { size = n }
+-- Tests on the value of a code.
 
--- the autolink is open, and in it what is in the brackets
-pub record AreOpen (name : Name) (T : Tokenizer) : Type 0 where
-  pub inside : IsOpen name T
-  pub whole : rest_of T.stack ≡ N.Autolink ∷ rest_of (rest_of T.stack)
+abbrev pub letter_value : ℕ → Bool
+letter_value v = is_between 65 90 v || is_between 97 122 v
 
--- Operations.
+abbrev pub alphanumeric_value : ℕ → Bool
+alphanumeric_value v = letter_value v || is_between 48 57 v
 
-abbrev pub opening : Name → List Op
-opening name = Enter N.Autolink ∷ Enter N.AutolinkMarker ∷ Consume ∷ Exit N.AutolinkMarker ∷ Enter name ∷ []
+abbrev pub among_values : List ℕ → ℕ → Bool
+among_values ns v = list_any (λ n. v == n) ns
 
-abbrev pub closing : Name → List Op
-closing name = Exit name ∷ Enter N.AutolinkMarker ∷ Consume ∷ Exit N.AutolinkMarker ∷ Exit N.Autolink ∷ []
+abbrev pub scheme_value : ℕ → Bool
+scheme_value v = alphanumeric_value v || among_values (codes "+-.") v
 
--- Tests on one code.
+abbrev pub local_value : ℕ → Bool
+local_value v = alphanumeric_value v || among_values (codes "#$%&'*+-./=?^_`{|}~") v
 
-unfoldable pub is_letter_byte : ℕ → Bool
-is_letter_byte c = is_between 65 90 c || is_between 97 122 c
-
--- a scheme of so many codes goes on with this one: the first is a letter
-unfoldable pub is_scheme_byte : ℕ → ℕ → Bool
-is_scheme_byte n c = nat_lt n 32 && (is_letter_byte c || (nat_lt 0 n && (is_between 48 57 c || (c == 43 || (c == 45 || c == 46)))))
-
-unfoldable pub is_uri_byte : ℕ → Bool
-is_uri_byte c = not (c == 0 || (c == 32 || (c == 60 || c == 62)) || (is_between 1 31 c || c == 127))
-
-unfoldable pub is_alphanumeric_byte : ℕ → Bool
-is_alphanumeric_byte c = (is_between 65 90 c || is_between 97 122 c) || is_between 48 57 c
-
-unfoldable pub is_local_byte : ℕ → Bool
-is_local_byte c =
-    is_between 35 39 c || is_between 42 43 c || is_between 45 57 c || c == 61 || c == 63 || is_between 65 90 c || is_between 94 126 c
-
--- The states, by the current code.
+abbrev pub uri_value : ℕ → Bool
+uri_value v = not (among_values (codes "\0 <>") v || (is_between 1 31 v || v == 127))
 
 abbrev pub is_on : Tokenizer → Bool
 is_on T = T.parse_state.now.options.now.constructs.autolink
 
-abbrev pub start_at : Bool → Option ℕ → Tokenizer → Stepped
-start_at on None T = stepped Nok T
-start_at on (Some c) T =
-    if on && (c == 60) then stepped (Retry AutolinkSchemeOrEmailAtext) (attempted false State.Ok (Retry AutolinkOpen) T) else stepped Nok T
+-- What the states do.
+
+abbrev pub opening : List Op
+opening = Enter N.Autolink ∷ Enter N.AutolinkMarker ∷ Consume ∷ Exit N.AutolinkMarker ∷ Enter N.AutolinkProtocol ∷ []
+
+-- after what stands between the brackets
+abbrev pub ending : Name → List Op
+ending name = Exit name ∷ Enter N.AutolinkMarker ∷ Consume ∷ Exit N.AutolinkMarker ∷ Exit N.Autolink ∷ []
+
+abbrev pub refused : Tokenizer → Stepped
+refused T = stepped Nok (scratched (with_size 0 T.tokenize_state) T)
+
+abbrev pub finished : Name → Tokenizer → Stepped
+finished name T = stepped State.Ok (scratched (with_size 0 T.tokenize_state) (done (ending name) T))
+
+abbrev pub start_at : Option ℕ → Tokenizer → Stepped
+start_at None T = stepped Nok T
+start_at (Some c) T = if is_on T && (c == 60) then stepped (Next AutolinkOpen) (done opening T) else stepped Nok T
 
 abbrev pub start_step : Tokenizer → Stepped
-start_step T = start_at (is_on T) (current_of T) T
+start_step T = start_at (current_of T) T
 
-abbrev pub uri_at : Option ℕ → Tokenizer → Stepped
-uri_at None T = stepped Nok T
-uri_at (Some c) T = if c == 60 then stepped (Next AutolinkSchemeInsideOrEmailAtext) (done (opening N.AutolinkProtocol) T) else stepped Nok T
+abbrev pub open_at : Option ℕ → Tokenizer → Stepped
+open_at None T = refused T
+open_at (Some c) T =
+    if letter_value c then stepped (Next AutolinkSchemeOrEmailAtext) (done (Consume ∷ []) T)
+    else (if local_value c then stepped (Next AutolinkEmailAtext) (done (Consume ∷ []) T) else refused T)
 
-abbrev pub uri_step : Tokenizer → Stepped
-uri_step T = uri_at (current_of T) T
+abbrev pub open_step : Tokenizer → Stepped
+open_step T = open_at (current_of T) T
 
-abbrev pub scheme_at : Option ℕ → Tokenizer → Stepped
-scheme_at None T = stepped Nok (scratched (sized 0 T.tokenize_state) T)
-scheme_at (Some c) T =
-    if (c == 58) && nat_lt 1 T.tokenize_state.size
-    then stepped (Next AutolinkUrlInside) (scratched (sized 0 T.tokenize_state) (done (Consume ∷ []) T))
-    else (if is_scheme_byte T.tokenize_state.size c
-    then stepped (Next AutolinkSchemeInsideOrEmailAtext) (scratched (sized (T.tokenize_state.size + 1) T.tokenize_state) (done (Consume ∷ []) T))
-    else stepped Nok (scratched (sized 0 T.tokenize_state) T))
+abbrev pub scheme_or_at : Option ℕ → Tokenizer → Stepped
+scheme_or_at None T = stepped (Retry AutolinkEmailAtext) T
+scheme_or_at (Some c) T =
+    if scheme_value c then stepped (Next AutolinkSchemeInsideOrEmailAtext) (scratched (with_size 2 T.tokenize_state) (done (Consume ∷ []) T))
+    else stepped (Retry AutolinkEmailAtext) T
 
-abbrev pub scheme_step : Tokenizer → Stepped
-scheme_step T = scheme_at (current_of T) T
+abbrev pub scheme_or_step : Tokenizer → Stepped
+scheme_or_step T = scheme_or_at (current_of T) T
 
-abbrev pub url_at : Option ℕ → Tokenizer → Stepped
-url_at None T = stepped Nok T
-url_at (Some c) T =
-    if c == 62
-    then stepped State.Ok (done (closing N.AutolinkProtocol) T)
-    else (if is_uri_byte c then stepped (Next AutolinkUrlInside) (done (Consume ∷ []) T) else stepped Nok T)
+abbrev pub scheme_inside_at : Option ℕ → Tokenizer → Stepped
+scheme_inside_at None T = stepped (Retry AutolinkEmailAtext) T
+scheme_inside_at (Some c) T =
+    if c == 58 then stepped (Next AutolinkUrlInside) (done (Consume ∷ []) T)
+    else (if scheme_value c && nat_lt T.tokenize_state.size 32
+    then stepped (Next AutolinkSchemeInsideOrEmailAtext) (scratched (with_size (T.tokenize_state.size + 1) T.tokenize_state) (done (Consume ∷ []) T))
+    else stepped (Retry AutolinkEmailAtext) T)
 
-abbrev pub url_step : Tokenizer → Stepped
-url_step T = url_at (current_of T) T
+abbrev pub scheme_inside_step : Tokenizer → Stepped
+scheme_inside_step T = scheme_inside_at (current_of T) T
 
-abbrev pub email_at : Option ℕ → Tokenizer → Stepped
-email_at None T = stepped Nok T
-email_at (Some c) T = if c == 60 then stepped (Next AutolinkEmailAtext) (done (opening N.AutolinkEmail) T) else stepped Nok T
+abbrev pub url_inside_at : Option ℕ → Tokenizer → Stepped
+url_inside_at None T = refused T
+url_inside_at (Some c) T =
+    if c == 62 then finished N.AutolinkProtocol T
+    else (if uri_value c then stepped (Next AutolinkUrlInside) (done (Consume ∷ []) T) else refused T)
 
-abbrev pub email_step : Tokenizer → Stepped
-email_step T = email_at (current_of T) T
+abbrev pub url_inside_step : Tokenizer → Stepped
+url_inside_step T = url_inside_at (current_of T) T
 
-abbrev pub atext_at : Option ℕ → Tokenizer → Stepped
-atext_at None T = stepped Nok (scratched (sized 0 T.tokenize_state) T)
-atext_at (Some c) T =
-    if (c == 64) && nat_lt 0 T.tokenize_state.size
-    then stepped (Next AutolinkEmailAtSignOrDot) (scratched (sized 0 T.tokenize_state) (done (Consume ∷ []) T))
-    else (if is_local_byte c
-    then stepped (Next AutolinkEmailAtext) (scratched (sized 1 T.tokenize_state) (done (Consume ∷ []) T))
-    else stepped Nok (scratched (sized 0 T.tokenize_state) T))
+abbrev pub email_atext_at : Option ℕ → Tokenizer → Stepped
+email_atext_at None T = refused T
+email_atext_at (Some c) T =
+    if c == 64 then stepped (Next AutolinkEmailAtSignOrDot) (done (Consume ∷ []) T)
+    else (if local_value c then stepped (Next AutolinkEmailAtext) (done (Consume ∷ []) T) else refused T)
 
-abbrev pub atext_step : Tokenizer → Stepped
-atext_step T = atext_at (current_of T) T
+abbrev pub email_atext_step : Tokenizer → Stepped
+email_atext_step T = email_atext_at (current_of T) T
 
-abbrev pub at_sign_at : Option ℕ → Tokenizer → Stepped
-at_sign_at None T = stepped Nok T
-at_sign_at (Some c) T = if is_alphanumeric_byte c then stepped (Retry AutolinkEmailValue) T else stepped Nok T
+abbrev pub email_at_sign_or_dot_at : Option ℕ → Tokenizer → Stepped
+email_at_sign_or_dot_at None T = refused T
+email_at_sign_or_dot_at (Some c) T =
+    if alphanumeric_value c then stepped (Next AutolinkEmailLabel) (scratched (with_size 1 T.tokenize_state) (done (Consume ∷ []) T)) else refused T
 
-abbrev pub at_sign_step : Tokenizer → Stepped
-at_sign_step T = at_sign_at (current_of T) T
+abbrev pub email_at_sign_or_dot_step : Tokenizer → Stepped
+email_at_sign_or_dot_step T = email_at_sign_or_dot_at (current_of T) T
 
-abbrev pub label_at : Option ℕ → Tokenizer → Stepped
-label_at None T = stepped (Retry AutolinkEmailValue) T
-label_at (Some c) T =
-    if c == 46
-    then stepped (Next AutolinkEmailAtSignOrDot) (scratched (sized 0 T.tokenize_state) (done (Consume ∷ []) T))
-    else (if c == 62
-    then stepped State.Ok (scratched (sized 0 T.tokenize_state) (done (closing N.AutolinkEmail) T))
-    else stepped (Retry AutolinkEmailValue) T)
-
-abbrev pub label_step : Tokenizer → Stepped
-label_step T = label_at (current_of T) T
-
-abbrev pub value_at : Option ℕ → Tokenizer → Stepped
-value_at None T = stepped Nok (scratched (sized 0 T.tokenize_state) T)
-value_at (Some c) T =
-    if nat_lt T.tokenize_state.size 63 && is_alphanumeric_byte c
-    then stepped (Next AutolinkEmailLabel) (scratched (sized (T.tokenize_state.size + 1) T.tokenize_state) (done (Consume ∷ []) T))
+-- at a code of a label
+abbrev pub in_label_at : Option ℕ → Tokenizer → Stepped
+in_label_at None T = refused T
+in_label_at (Some c) T =
+    if nat_lt T.tokenize_state.size 63 && alphanumeric_value c
+    then stepped (Next AutolinkEmailLabel) (scratched (with_size (T.tokenize_state.size + 1) T.tokenize_state) (done (Consume ∷ []) T))
     else (if nat_lt T.tokenize_state.size 63 && (c == 45)
-    then stepped (Next AutolinkEmailValue) (scratched (sized (T.tokenize_state.size + 1) T.tokenize_state) (done (Consume ∷ []) T))
-    else stepped Nok (scratched (sized 0 T.tokenize_state) T))
+    then stepped (Next AutolinkEmailValue) (scratched (with_size (T.tokenize_state.size + 1) T.tokenize_state) (done (Consume ∷ []) T))
+    else refused T)
 
-abbrev pub value_step : Tokenizer → Stepped
-value_step T = value_at (current_of T) T
+abbrev pub email_value_step : Tokenizer → Stepped
+email_value_step T = in_label_at (current_of T) T
+
+abbrev pub email_label_at : Option ℕ → Tokenizer → Stepped
+email_label_at None T = refused T
+email_label_at (Some c) T =
+    if c == 46 then stepped (Next AutolinkEmailAtSignOrDot) (done (Consume ∷ []) T)
+    else (if c == 62 then finished N.AutolinkEmail (renamed N.AutolinkEmail T)
+    else in_label_at (Some c) T)
+
+abbrev pub email_label_step : Tokenizer → Stepped
+email_label_step T = email_label_at (current_of T) T
+
+-- When they may be called.
+
+-- between the brackets
+pub record InsideReady (T : Tokenizer) : Type 0 where
+  pub stand_open : AreOpen N.AutolinkProtocol N.Autolink T
+  pub some : HasEvent T
+  pub entered : renamed N.AutolinkProtocol T ≡ T
+
+pub record SchemeReady (T : Tokenizer) : Type 0 where
+  pub inside : InsideReady T
+  pub least : 2 ≤ T.tokenize_state.size
+  pub most : T.tokenize_state.size ≤ 32
+
+pub record LabelReady (T : Tokenizer) : Type 0 where
+  pub inside : InsideReady T
+  pub most : T.tokenize_state.size ≤ 63
 
 -- How runs end.
 
--- the codes at hand read as an autolink, where these are on
-abbrev pub autolink_here : Tokenizer → TreeReading
-autolink_here T = provided (is_on T) >> autolink
+abbrev pub link_here : Tokenizer → TreeReading
+link_here T = provided (is_on T) >> autolink
 
 abbrev pub start_ends : Tokenizer → Bool → Tokenizer → Type 0
-start_ends T ok U = EndsAs (autolink_here T) None T.tokenize_state T ok U
+start_ends T ok U = EndsAs (link_here T) None T.tokenize_state T ok U
 
-abbrev pub uri_ends : Tokenizer → Bool → Tokenizer → Type 0
-uri_ends T ok U = KeepsAs 0 (program_of (in_angle_brackets uri N.AutolinkProtocol)) T ok U
+-- these codes, and then those of a reading
+abbrev pub after : List Code → Option (List Code × List Code) → Option (List Code × List Code)
+after front None = None
+after front (Some r) = Some (front ++ r.0, r.1)
 
-abbrev pub email_ends : Tokenizer → Bool → Tokenizer → Type 0
-email_ends T ok U = KeepsAs 0 (program_of (in_angle_brackets email_address N.AutolinkEmail)) T ok U
+-- a URI after this many codes of its scheme
+abbrev pub scheme_rest : ℕ → Reading (List Code)
+scheme_rest passed cs =
+    let s = span is_scheme_code cs in
+    if is_between 2 32 (passed + length s.0) then after s.0 ((one (is_value 58) then_ any_number is_uri_code) s.1) else None
 
--- the rest of what is in the brackets, where it is read so, and the `>`
-abbrev pub after_text : Name → Option (List Code × List Code) → Option (List Op)
-after_text name None = None
-after_text name (Some r) = if next_is (is_value 62) r.1 then Some (consumes r.0 ++ closing name) else None
+abbrev pub more_labels : Reading (List Code)
+more_labels = repeatedly (one (is_value 46) then_ domain_label)
 
--- after the colon of a URI
-abbrev pub url_program : Program
-url_program cs = after_text N.AutolinkProtocol (Some (span is_uri_code cs))
+-- after the `@`
+abbrev pub domains : Reading (List Code)
+domains = domain_label then_ more_labels
 
-abbrev pub url_ends : Tokenizer → Bool → Tokenizer → Type 0
-url_ends T ok U = KeepsAs 2 url_program T ok U
+-- an address after some codes before its `@`
+abbrev pub local_rest : Reading (List Code)
+local_rest cs = let s = span is_local_code cs in after s.0 ((one (is_value 64) then_ domains) s.1)
 
--- the rest of a scheme of so many codes, and the colon
-abbrev pub scheme_of : ℕ → List Code × List Code → Option (List Op)
-scheme_of n s =
-    if is_between 2 32 (n + length s.0) && next_is (is_value 58) s.1 then preceded (consumes s.0 ++ Consume ∷ []) (url_program (rest_of s.1)) else None
-
-abbrev pub scheme_program : ℕ → Program
-scheme_program n cs = if nat_lt 0 n || next_is is_letter cs then scheme_of n (span is_scheme_code cs) else None
-
-abbrev pub scheme_ends : Tokenizer → Bool → Tokenizer → Type 0
-scheme_ends T ok U = DoesAs 2 (scheme_program T.tokenize_state.size) (sized 0 T.tokenize_state) T ok U
-
--- a dot and a label, and the labels of a domain
-abbrev pub dotted : Reading (List Code)
-dotted = one (is_value 46) then_ domain_label
-
-abbrev pub domain_program : Program
-domain_program cs = after_text N.AutolinkEmail ((domain_label then_ repeatedly dotted) cs)
-
--- after a label
-abbrev pub dots_program : Program
-dots_program cs = after_text N.AutolinkEmail (repeatedly dotted cs)
-
-abbrev pub at_sign_ends : Tokenizer → Bool → Tokenizer → Type 0
-at_sign_ends T ok U = DoesAs 2 domain_program (sized 0 T.tokenize_state) T ok U
-
--- the rest of what stands before the `@`, where something may have been passed of it
-abbrev pub atext_of : ℕ → List Code × List Code → Option (List Op)
-atext_of n s =
-    if (nat_lt 0 n || not (is_empty s.0)) && next_is (is_value 64) s.1 then preceded (consumes s.0 ++ Consume ∷ []) (domain_program (rest_of s.1)) else None
-
-abbrev pub atext_program : ℕ → Program
-atext_program n cs = atext_of n (span is_local_code cs)
-
-abbrev pub atext_ends : Tokenizer → Bool → Tokenizer → Type 0
-atext_ends T ok U = DoesAs 2 (atext_program T.tokenize_state.size) (sized 0 T.tokenize_state) T ok U
-
--- a code of a label
 abbrev pub is_label_code : Code → Bool
 is_label_code c = is_alphanumeric c || is_value 45 c
 
--- the last code is a letter or a digit; the test says it of the code before
+-- these codes do not end in a hyphen; `well` says so of those before, where there are none
 abbrev pub ends_well : Bool → List Code → Bool
-ends_well before [] = before
-ends_well before (c ∷ cs) = ends_well (is_alphanumeric c) cs
+ends_well well [] = well
+ends_well well (c ∷ cs) = is_some_code is_alphanumeric (last_code (c ∷ cs))
 
--- the rest of a label of so many codes, and what follows it
-abbrev pub label_of : Bool → ℕ → List Code × List Code → Option (List Op)
-label_of before n s = if is_between 1 63 (n + length s.0) && ends_well before s.0 then preceded (consumes s.0) (dots_program s.1) else None
+-- an address after this many codes of a label
+abbrev pub label_rest : ℕ → Bool → Reading (List Code)
+label_rest passed well cs =
+    let s = span is_label_code cs in
+    if nat_le (passed + length s.0) 63 && ends_well well s.0 then after s.0 (more_labels s.1) else None
 
-abbrev pub label_program : Bool → ℕ → Program
-label_program before n cs = label_of before n (span is_label_code cs)
+-- what stands between the brackets from here on, and the end of the link
+abbrev pub ended : Name → Option (List Code × List Code) → Option (Name × List Op)
+ended name None = None
+ended name (Some r) = if next_is (is_value 62) r.1 then Some (name, consumes r.0 ++ ending name) else None
 
-abbrev pub label_ends : Tokenizer → Bool → Tokenizer → Type 0
-label_ends T ok U = DoesAs 2 (label_program true T.tokenize_state.size) (sized 0 T.tokenize_state) T ok U
+abbrev pub up_to_bracket : Name → Reading (List Code) → Naming
+up_to_bracket name inside cs = ended name (inside cs)
 
-abbrev pub value_ends : Tokenizer → Bool → Tokenizer → Type 0
-value_ends T ok U = DoesAs 2 (label_program false T.tokenize_state.size) (sized 0 T.tokenize_state) T ok U
+-- the first where it holds, else the second
+abbrev pub or_else : Option (Name × List Op) → Option (Name × List Op) → Option (Name × List Op)
+or_else None b = b
+or_else (Some x) b = Some x
 
--- When the states may be called.
+abbrev pub open_naming : Naming
+open_naming cs = or_else (up_to_bracket N.AutolinkProtocol uri cs) (up_to_bracket N.AutolinkEmail email_address cs)
 
-abbrev pub IsAtRest : Tokenizer → Type 0
-IsAtRest T = T.tokenize_state.size ≡ 0
+abbrev pub scheme_naming : ℕ → Naming
+scheme_naming passed cs = or_else (up_to_bracket N.AutolinkProtocol (scheme_rest passed) cs) (up_to_bracket N.AutolinkEmail local_rest cs)
 
-pub record InScheme (T : Tokenizer) : Type 0 where
-  pub are_open : AreOpen N.AutolinkProtocol T
-  pub size : T.tokenize_state.size ≤ 32
+abbrev pub open_ends : Tokenizer → Bool → Tokenizer → Type 0
+open_ends T ok U = NamesAs 1 open_naming (with_size 0 T.tokenize_state) T ok U
 
-pub record InLabel (least : ℕ) (T : Tokenizer) : Type 0 where
-  pub are_open : AreOpen N.AutolinkEmail T
-  pub size : least ≤ T.tokenize_state.size
-  pub most : T.tokenize_state.size ≤ 63
+abbrev pub scheme_or_ends : Tokenizer → Bool → Tokenizer → Type 0
+scheme_or_ends T ok U = NamesAs 1 (scheme_naming 1) (with_size 0 T.tokenize_state) T ok U
 
-pub record AtLabel (T : Tokenizer) : Type 0 where
-  pub are_open : AreOpen N.AutolinkEmail T
-  pub rest : IsAtRest T
+abbrev pub scheme_inside_ends : Tokenizer → Bool → Tokenizer → Type 0
+scheme_inside_ends T ok U = NamesAs 1 (scheme_naming T.tokenize_state.size) (with_size 0 T.tokenize_state) T ok U
+
+abbrev pub url_inside_ends : Tokenizer → Bool → Tokenizer → Type 0
+url_inside_ends T ok U = NamesAs 1 (up_to_bracket N.AutolinkProtocol (any_number is_uri_code)) (with_size 0 T.tokenize_state) T ok U
+
+abbrev pub email_atext_ends : Tokenizer → Bool → Tokenizer → Type 0
+email_atext_ends T ok U = NamesAs 1 (up_to_bracket N.AutolinkEmail local_rest) (with_size 0 T.tokenize_state) T ok U
+
+abbrev pub email_at_sign_or_dot_ends : Tokenizer → Bool → Tokenizer → Type 0
+email_at_sign_or_dot_ends T ok U = NamesAs 1 (up_to_bracket N.AutolinkEmail domains) (with_size 0 T.tokenize_state) T ok U
+
+abbrev pub email_label_ends : Tokenizer → Bool → Tokenizer → Type 0
+email_label_ends T ok U = NamesAs 1 (up_to_bracket N.AutolinkEmail (label_rest T.tokenize_state.size true)) (with_size 0 T.tokenize_state) T ok U
+
+abbrev pub email_value_ends : Tokenizer → Bool → Tokenizer → Type 0
+email_value_ends T ok U = NamesAs 1 (up_to_bracket N.AutolinkEmail (label_rest T.tokenize_state.size false)) (with_size 0 T.tokenize_state) T ok U

@@ -1,20 +1,50 @@
 // Autolinks.
 //
-// CommonMark 6.5: in angle brackets a URI, which begins with a scheme and a colon, or else an email address. The URI is tried first.
-#![tactic(auto, using(markdown_engine::proofs::OpRules::op_rules), unfolding(markdown_engine::specs::Ops::scratched, markdown_engine::specs::Ops::attempted, markdown_engine::specs::Ops::frame_of))]
+// CommonMark 6.5: between `<` and `>` a URI, whose scheme has 2 to 32 codes, or an email address, whose labels have 1 to 63 codes
+// each and neither start nor end with a hyphen.
+#![tactic(auto, using(markdown_engine::proofs::OpRules::law_rules), unfolding(markdown_engine::specs::Ops::scratched))]
 
-ghost use Rattle.std.specs.Prelude.{◌≡◌, ◌<◌, IfOk, OnOk, OnErr, IsTrue};
-ghost use Rattle.markdown_engine.specs.Ops.{HasCode, done, scratched};
-ghost use Rattle.markdown_engine.specs.declared.event.Name.TheVariants.{Autolink, AutolinkProtocol, AutolinkEmail};
-ghost use Rattle.markdown_leaf.specs.Autolink.{AreOpen, opening, closing, is_scheme_byte, is_letter_byte, is_uri_byte, is_local_byte, is_alphanumeric_byte, sized, start_step, uri_step, scheme_step, url_step, email_step, atext_step, at_sign_step, label_step, value_step};
+ghost use Rattle.std.specs.Prelude.{◌≡◌, IfOk, OnErr, IsTrue};
+ghost use Rattle.markdown_engine.specs.Ops.{HasCode, current_of};
+ghost use Rattle.markdown_engine.specs.declared.event.Name.TheVariants.{Autolink};
+ghost use Rattle.markdown_leaf.specs.RawText.{AreOpen};
+ghost use Rattle.markdown_leaf.specs.Autolink.{letter_value, alphanumeric_value, scheme_value, local_value, uri_value, refused, finished, start_step, open_step, scheme_or_step, scheme_inside_step, url_inside_step, email_atext_step, email_at_sign_or_dot_step, in_label_at, email_value_step, email_label_step, InsideReady, SchemeReady, LabelReady};
 
+use crate::renaming::rename_entered;
 use markdown_engine::event::Name;
 use markdown_engine::state::{State, StateName};
 use markdown_engine::tokenizer::Tokenizer;
-use markdown_util::util::constant::{AUTOLINK_DOMAIN_SIZE_MAX, AUTOLINK_SCHEME_SIZE_MAX};
 use std::alloc::AllocError;
 
-/// At the start of an autolink: the `<`. What follows is tried as a URI, and then as an email address.
+const SCHEME_SIZE_MAX: usize = 32;
+
+const LABEL_SIZE_MAX: usize = 63;
+
+// The link does not hold.
+fn refuse(tokenizer: &mut Tokenizer) -> State
+    ensures { refused tokenizer.old ≡ record { state = result; left = tokenizer.new } }
+{
+    tokenizer.tokenize_state.size = 0;
+    State::Nok
+}
+
+// The link ends at the bracket at hand.
+fn finish(tokenizer: &mut Tokenizer, name: Name) -> Result<State, AllocError>
+    requires open { AreOpen name Autolink tokenizer.old }
+    requires code { HasCode tokenizer.old }
+    ensures ok { IfOk result (λ s. finished name tokenizer.old ≡ record { state = s; left = tokenizer.new }) }
+    ensures err { OnErr result (IsTrue tokenizer.new.failed) }
+{
+    tokenizer.exit(name)?;
+    tokenizer.enter(Name::AutolinkMarker)?;
+    tokenizer.consume();
+    tokenizer.exit(Name::AutolinkMarker)?;
+    tokenizer.exit(Name::Autolink)?;
+    tokenizer.tokenize_state.size = 0;
+    Ok(State::Ok)
+}
+
+/// At the start of an autolink: the bracket.
 ///
 /// The error comes where a growth is refused; then `failed` is true.
 pub fn start(tokenizer: &mut Tokenizer) -> Result<State, AllocError>
@@ -22,237 +52,222 @@ pub fn start(tokenizer: &mut Tokenizer) -> Result<State, AllocError>
     ensures err { OnErr result (IsTrue tokenizer.new.failed) }
 {
     if tokenizer.parse_state.options.constructs.autolink && tokenizer.current() == Some(b'<') {
-        tokenizer.attempt(State::Ok, State::Retry(StateName::AutolinkOpen))?;
-        Ok(State::Retry(StateName::AutolinkSchemeOrEmailAtext))
+        tokenizer.enter(Name::Autolink)?;
+        tokenizer.enter(Name::AutolinkMarker)?;
+        tokenizer.consume();
+        tokenizer.exit(Name::AutolinkMarker)?;
+        tokenizer.enter(Name::AutolinkProtocol)?;
+        Ok(State::Next(StateName::AutolinkOpen))
     } else {
         Ok(State::Nok)
     }
 }
 
-/// At the `<` of a URI.
-///
-/// The error comes where a growth is refused; then `failed` is true.
-pub fn scheme_or_email_atext(tokenizer: &mut Tokenizer) -> Result<State, AllocError>
-    ensures ok { IfOk result (λ s. uri_step tokenizer.old ≡ record { state = s; left = tokenizer.new }) }
-    ensures err { OnErr result (IsTrue tokenizer.new.failed) }
-{
-    if tokenizer.current() != Some(b'<') {
-        return Ok(State::Nok);
-    }
-    enter_brackets(tokenizer, Name::AutolinkProtocol)?;
-    Ok(State::Next(StateName::AutolinkSchemeInsideOrEmailAtext))
-}
-
-/// In a scheme, `size` codes of which are passed: the colon, or a further code.
-///
-/// The error comes where a growth is refused; then `failed` is true.
-pub fn scheme_inside_or_email_atext(tokenizer: &mut Tokenizer) -> Result<State, AllocError>
-    ensures ok { IfOk result (λ s. scheme_step tokenizer.old ≡ record { state = s; left = tokenizer.new }) }
-    ensures err { OnErr result (IsTrue tokenizer.new.failed) }
-{
-    let size = tokenizer.tokenize_state.size;
-    let Some(byte) = tokenizer.current() else {
-        tokenizer.tokenize_state.size = 0;
-        return Ok(State::Nok);
-    };
-    if byte == b':' && size > 1 {
-        tokenizer.consume();
-        tokenizer.tokenize_state.size = 0;
-        Ok(State::Next(StateName::AutolinkUrlInside))
-    } else if goes_on_with_scheme(size, byte) {
-        tokenizer.consume();
-        tokenizer.tokenize_state.size = size + 1;
-        Ok(State::Next(StateName::AutolinkSchemeInsideOrEmailAtext))
-    } else {
-        tokenizer.tokenize_state.size = 0;
-        Ok(State::Nok)
-    }
-}
-
-/// In a URI, after its colon: the `>`, or a further code.
-///
-/// The error comes where a growth is refused; then `failed` is true.
-pub fn url_inside(tokenizer: &mut Tokenizer) -> Result<State, AllocError>
-    requires { AreOpen AutolinkProtocol tokenizer.old }
-    ensures ok { IfOk result (λ s. url_step tokenizer.old ≡ record { state = s; left = tokenizer.new }) }
-    ensures err { OnErr result (IsTrue tokenizer.new.failed) }
-{
-    let Some(byte) = tokenizer.current() else {
-        return Ok(State::Nok);
-    };
-    if byte == b'>' {
-        exit_brackets(tokenizer, Name::AutolinkProtocol)?;
-        Ok(State::Ok)
-    } else if is_of_uri(byte) {
-        tokenizer.consume();
-        Ok(State::Next(StateName::AutolinkUrlInside))
-    } else {
-        Ok(State::Nok)
-    }
-}
-
-/// At the `<` of an email address.
+/// After the bracket: a scheme or an address.
 ///
 /// The error comes where a growth is refused; then `failed` is true.
 pub fn open(tokenizer: &mut Tokenizer) -> Result<State, AllocError>
-    ensures ok { IfOk result (λ s. email_step tokenizer.old ≡ record { state = s; left = tokenizer.new }) }
-    ensures err { OnErr result (IsTrue tokenizer.new.failed) }
-{
-    if tokenizer.current() != Some(b'<') {
-        return Ok(State::Nok);
-    }
-    enter_brackets(tokenizer, Name::AutolinkEmail)?;
-    Ok(State::Next(StateName::AutolinkEmailAtext))
-}
-
-/// Before the `@` of an email address; `size` is 0 where nothing of it is passed yet.
-///
-/// The error comes where a growth is refused; then `failed` is true.
-pub fn email_atext(tokenizer: &mut Tokenizer) -> Result<State, AllocError>
-    ensures ok { IfOk result (λ s. atext_step tokenizer.old ≡ record { state = s; left = tokenizer.new }) }
-    ensures err { OnErr result (IsTrue tokenizer.new.failed) }
-{
-    let Some(byte) = tokenizer.current() else {
-        tokenizer.tokenize_state.size = 0;
-        return Ok(State::Nok);
-    };
-    if byte == b'@' && tokenizer.tokenize_state.size > 0 {
-        tokenizer.consume();
-        tokenizer.tokenize_state.size = 0;
-        Ok(State::Next(StateName::AutolinkEmailAtSignOrDot))
-    } else if is_of_local(byte) {
-        tokenizer.consume();
-        tokenizer.tokenize_state.size = 1;
-        Ok(State::Next(StateName::AutolinkEmailAtext))
-    } else {
-        tokenizer.tokenize_state.size = 0;
-        Ok(State::Nok)
-    }
-}
-
-/// After the `@` or a dot: a label begins with a letter or a digit.
-///
-/// The error comes where a growth is refused; then `failed` is true.
-pub fn email_at_sign_or_dot(tokenizer: &mut Tokenizer) -> Result<State, AllocError>
-    ensures ok { IfOk result (λ s. at_sign_step tokenizer.old ≡ record { state = s; left = tokenizer.new }) }
+    requires { InsideReady tokenizer.old }
+    ensures ok { IfOk result (λ s. open_step tokenizer.old ≡ record { state = s; left = tokenizer.new }) }
     ensures err { OnErr result (IsTrue tokenizer.new.failed) }
 {
     match tokenizer.current() {
-        Some(byte) if is_alphanumeric(byte) => Ok(State::Retry(StateName::AutolinkEmailValue)),
-        _ => Ok(State::Nok),
+        Some(code) if is_letter(code) => {
+            tokenizer.consume();
+            Ok(State::Next(StateName::AutolinkSchemeOrEmailAtext))
+        }
+        Some(code) if is_local(code) => {
+            tokenizer.consume();
+            Ok(State::Next(StateName::AutolinkEmailAtext))
+        }
+        _ => Ok(refuse(tokenizer)),
     }
 }
 
-/// After a letter or a digit of a label, `size` codes of which are passed: a dot, the `>`, or a further code.
+/// After one letter: a scheme goes on, or an address.
 ///
 /// The error comes where a growth is refused; then `failed` is true.
+pub fn scheme_or_email_atext(tokenizer: &mut Tokenizer) -> Result<State, AllocError>
+    requires { InsideReady tokenizer.old }
+    ensures ok { IfOk result (λ s. scheme_or_step tokenizer.old ≡ record { state = s; left = tokenizer.new }) }
+    ensures err { OnErr result (IsTrue tokenizer.new.failed) }
+{
+    match tokenizer.current() {
+        Some(code) if is_scheme(code) => {
+            tokenizer.consume();
+            tokenizer.tokenize_state.size = 2;
+            Ok(State::Next(StateName::AutolinkSchemeInsideOrEmailAtext))
+        }
+        _ => Ok(State::Retry(StateName::AutolinkEmailAtext)),
+    }
+}
+
+/// In a scheme, which may be the front of an address.
+///
+/// The error comes where a growth is refused; then `failed` is true.
+pub fn scheme_inside_or_email_atext(tokenizer: &mut Tokenizer) -> Result<State, AllocError>
+    requires { SchemeReady tokenizer.old }
+    ensures ok { IfOk result (λ s. scheme_inside_step tokenizer.old ≡ record { state = s; left = tokenizer.new }) }
+    ensures err { OnErr result (IsTrue tokenizer.new.failed) }
+{
+    match tokenizer.current() {
+        Some(b':') => {
+            tokenizer.consume();
+            Ok(State::Next(StateName::AutolinkUrlInside))
+        }
+        Some(code) if is_scheme(code) && tokenizer.tokenize_state.size < SCHEME_SIZE_MAX => {
+            let passed = tokenizer.tokenize_state.size + 1;
+            tokenizer.consume();
+            tokenizer.tokenize_state.size = passed;
+            Ok(State::Next(StateName::AutolinkSchemeInsideOrEmailAtext))
+        }
+        _ => Ok(State::Retry(StateName::AutolinkEmailAtext)),
+    }
+}
+
+/// After the colon of a URI.
+///
+/// The error comes where a growth is refused; then `failed` is true.
+pub fn url_inside(tokenizer: &mut Tokenizer) -> Result<State, AllocError>
+    requires { InsideReady tokenizer.old }
+    ensures ok { IfOk result (λ s. url_inside_step tokenizer.old ≡ record { state = s; left = tokenizer.new }) }
+    ensures err { OnErr result (IsTrue tokenizer.new.failed) }
+{
+    match tokenizer.current() {
+        Some(b'>') => finish(tokenizer, Name::AutolinkProtocol),
+        Some(code) if is_uri(code) => {
+            tokenizer.consume();
+            Ok(State::Next(StateName::AutolinkUrlInside))
+        }
+        _ => Ok(refuse(tokenizer)),
+    }
+}
+
+/// In an address before its `@`.
+///
+/// The error comes where a growth is refused; then `failed` is true.
+pub fn email_atext(tokenizer: &mut Tokenizer) -> Result<State, AllocError>
+    requires { InsideReady tokenizer.old }
+    ensures ok { IfOk result (λ s. email_atext_step tokenizer.old ≡ record { state = s; left = tokenizer.new }) }
+    ensures err { OnErr result (IsTrue tokenizer.new.failed) }
+{
+    match tokenizer.current() {
+        Some(b'@') => {
+            tokenizer.consume();
+            Ok(State::Next(StateName::AutolinkEmailAtSignOrDot))
+        }
+        Some(code) if is_local(code) => {
+            tokenizer.consume();
+            Ok(State::Next(StateName::AutolinkEmailAtext))
+        }
+        _ => Ok(refuse(tokenizer)),
+    }
+}
+
+/// After the `@` or a dot: a label, which starts with a letter or a digit.
+///
+/// The error comes where a growth is refused; then `failed` is true.
+pub fn email_at_sign_or_dot(tokenizer: &mut Tokenizer) -> Result<State, AllocError>
+    requires { InsideReady tokenizer.old }
+    ensures ok { IfOk result (λ s. email_at_sign_or_dot_step tokenizer.old ≡ record { state = s; left = tokenizer.new }) }
+    ensures err { OnErr result (IsTrue tokenizer.new.failed) }
+{
+    match tokenizer.current() {
+        Some(code) if is_alphanumeric(code) => {
+            tokenizer.consume();
+            tokenizer.tokenize_state.size = 1;
+            Ok(State::Next(StateName::AutolinkEmailLabel))
+        }
+        _ => Ok(refuse(tokenizer)),
+    }
+}
+
+// At a code of a label, which may have so many.
+fn in_label(tokenizer: &mut Tokenizer) -> State
+    requires { LabelReady tokenizer.old }
+    ensures { in_label_at (current_of tokenizer.old) tokenizer.old ≡ record { state = result; left = tokenizer.new } }
+{
+    let size = tokenizer.tokenize_state.size;
+    match tokenizer.current() {
+        Some(code) if size < LABEL_SIZE_MAX && is_alphanumeric(code) => {
+            tokenizer.consume();
+            tokenizer.tokenize_state.size = size + 1;
+            State::Next(StateName::AutolinkEmailLabel)
+        }
+        Some(b'-') if size < LABEL_SIZE_MAX => {
+            tokenizer.consume();
+            tokenizer.tokenize_state.size = size + 1;
+            State::Next(StateName::AutolinkEmailValue)
+        }
+        _ => refuse(tokenizer),
+    }
+}
+
+/// In a label, after a letter or a digit: the label may end.
+///
+/// The error comes where a growth is refused; then `failed` is true.
+#[tactic(auto, using(crate::proofs::RenamingLemmas::rename_rules), unfolding(markdown_engine::specs::Ops::scratched))]
 pub fn email_label(tokenizer: &mut Tokenizer) -> Result<State, AllocError>
-    requires { AreOpen AutolinkEmail tokenizer.old }
-    ensures ok { IfOk result (λ s. label_step tokenizer.old ≡ record { state = s; left = tokenizer.new }) }
+    requires { LabelReady tokenizer.old }
+    ensures ok { IfOk result (λ s. email_label_step tokenizer.old ≡ record { state = s; left = tokenizer.new }) }
     ensures err { OnErr result (IsTrue tokenizer.new.failed) }
 {
     match tokenizer.current() {
         Some(b'.') => {
             tokenizer.consume();
-            tokenizer.tokenize_state.size = 0;
             Ok(State::Next(StateName::AutolinkEmailAtSignOrDot))
         }
         Some(b'>') => {
-            exit_brackets(tokenizer, Name::AutolinkEmail)?;
-            tokenizer.tokenize_state.size = 0;
-            Ok(State::Ok)
+            rename_entered(tokenizer, Name::AutolinkEmail)?;
+            finish(tokenizer, Name::AutolinkEmail)
         }
-        _ => Ok(State::Retry(StateName::AutolinkEmailValue)),
+        _ => Ok(in_label(tokenizer)),
     }
 }
 
-/// In a label, `size` codes of which are passed: a letter, a digit or a hyphen, which may not be the last.
+/// In a label, after a hyphen: the label goes on.
 ///
 /// The error comes where a growth is refused; then `failed` is true.
 pub fn email_value(tokenizer: &mut Tokenizer) -> Result<State, AllocError>
-    ensures ok { IfOk result (λ s. value_step tokenizer.old ≡ record { state = s; left = tokenizer.new }) }
+    requires { LabelReady tokenizer.old }
+    ensures ok { IfOk result (λ s. email_value_step tokenizer.old ≡ record { state = s; left = tokenizer.new }) }
     ensures err { OnErr result (IsTrue tokenizer.new.failed) }
 {
-    let size = tokenizer.tokenize_state.size;
-    let Some(byte) = tokenizer.current() else {
-        tokenizer.tokenize_state.size = 0;
-        return Ok(State::Nok);
-    };
-    if size < AUTOLINK_DOMAIN_SIZE_MAX && is_alphanumeric(byte) {
-        tokenizer.consume();
-        tokenizer.tokenize_state.size = size + 1;
-        Ok(State::Next(StateName::AutolinkEmailLabel))
-    } else if size < AUTOLINK_DOMAIN_SIZE_MAX && byte == b'-' {
-        tokenizer.consume();
-        tokenizer.tokenize_state.size = size + 1;
-        Ok(State::Next(StateName::AutolinkEmailValue))
-    } else {
-        tokenizer.tokenize_state.size = 0;
-        Ok(State::Nok)
-    }
+    Ok(in_label(tokenizer))
 }
 
-// Enters the autolink, passes the `<` and enters what is in the brackets.
-fn enter_brackets(tokenizer: &mut Tokenizer, name: Name) -> Result<(), AllocError>
-    requires { HasCode tokenizer.old }
-    ensures ok { OnOk result (tokenizer.new ≡ done (opening name) tokenizer.old) }
-    ensures err { OnErr result (IsTrue tokenizer.new.failed) }
+// Whether it is an ASCII letter.
+fn is_letter(code: u8) -> bool
+    ensures { result ≡ letter_value code }
 {
-    tokenizer.enter(Name::Autolink)?;
-    tokenizer.enter(Name::AutolinkMarker)?;
-    tokenizer.consume();
-    tokenizer.exit(Name::AutolinkMarker)?;
-    tokenizer.enter(name)
+    matches!(code, b'A'..=b'Z' | b'a'..=b'z')
 }
 
-// Exits what is in the brackets, passes the `>` and exits the autolink.
-fn exit_brackets(tokenizer: &mut Tokenizer, name: Name) -> Result<(), AllocError>
-    requires code { HasCode tokenizer.old }
-    requires stack { AreOpen name tokenizer.old }
-    ensures ok { OnOk result (tokenizer.new ≡ done (closing name) tokenizer.old) }
-    ensures err { OnErr result (IsTrue tokenizer.new.failed) }
+// Whether it is an ASCII letter or digit.
+fn is_alphanumeric(code: u8) -> bool
+    ensures { result ≡ alphanumeric_value code }
 {
-    tokenizer.exit(name)?;
-    tokenizer.enter(Name::AutolinkMarker)?;
-    tokenizer.consume();
-    tokenizer.exit(Name::AutolinkMarker)?;
-    tokenizer.exit(Name::Autolink)
+    is_letter(code) || matches!(code, b'0'..=b'9')
 }
 
-// Whether a scheme of so many codes goes on with this one.
-#[tactic(auto, unfolding(crate::specs::Autolink::is_scheme_byte, crate::specs::Autolink::is_letter_byte))]
-fn goes_on_with_scheme(size: usize, byte: u8) -> bool
-    ensures test { result ≡ is_scheme_byte size byte }
-    ensures room { IsTrue result → size < 32 }
+// Whether a scheme may have it.
+fn is_scheme(code: u8) -> bool
+    ensures { result ≡ scheme_value code }
 {
-    size < AUTOLINK_SCHEME_SIZE_MAX
-        && match byte {
-            b'A'..=b'Z' | b'a'..=b'z' => true,
-            b'0'..=b'9' | b'+' | b'-' | b'.' => size > 0,
-            _ => false,
-        }
+    is_alphanumeric(code) || matches!(code, b'+' | b'-' | b'.')
 }
 
-// Whether a URI may hold this code after its colon.
-#[tactic(auto, unfolding(crate::specs::Autolink::is_uri_byte))]
-fn is_of_uri(byte: u8) -> bool
-    ensures { result ≡ is_uri_byte byte }
+// Whether an address may have it before its `@`.
+fn is_local(code: u8) -> bool
+    ensures { result ≡ local_value code }
 {
-    !matches!(byte, 0..=31 | b' ' | b'<' | b'>' | 127)
+    is_alphanumeric(code)
+        || matches!(code, b'#'..=b'\'' | b'*'..=b'+' | b'-'..=b'/' | b'=' | b'?' | b'^'..=b'`' | b'{'..=b'~')
 }
 
-// Whether an email address may hold this code before its `@`.
-#[tactic(auto, unfolding(crate::specs::Autolink::is_local_byte))]
-fn is_of_local(byte: u8) -> bool
-    ensures { result ≡ is_local_byte byte }
+// Whether a URI may have it: no control, no space, no angle bracket.
+fn is_uri(code: u8) -> bool
+    ensures { result ≡ uri_value code }
 {
-    matches!(byte, b'#'..=b'\'' | b'*' | b'+' | b'-'..=b'9' | b'=' | b'?' | b'A'..=b'Z' | b'^'..=b'~')
-}
-
-// Whether this code is a letter or a digit.
-#[tactic(auto, unfolding(crate::specs::Autolink::is_alphanumeric_byte))]
-fn is_alphanumeric(byte: u8) -> bool
-    ensures { result ≡ is_alphanumeric_byte byte }
-{
-    matches!(byte, b'0'..=b'9' | b'A'..=b'Z' | b'a'..=b'z')
+    !matches!(code, 0..=b' ' | b'<' | b'>' | 0x7f)
 }

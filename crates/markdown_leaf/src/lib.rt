@@ -5,3 +5,5 @@ pub mod autolink;
 pub mod character_escape;
 pub mod character_reference;
 pub mod hard_break_escape;
+pub mod raw_text;
+mod renaming;

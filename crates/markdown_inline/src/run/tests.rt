@@ -1,7 +1,7 @@
 // Runs over small documents, and single constructs.
 ghost use Rattle.std.specs.Prelude.{◌≡◌};
 
-use super::{construct, string, whole_document};
+use super::{Piece, construct, is_content, string, whole_document};
 use markdown_engine::configuration::ParseOptions;
 use markdown_engine::event::{Event, Kind, Name};
 use markdown_engine::parser::ParseState;
@@ -102,5 +102,33 @@ fn reads_single_data(rt: HostRuntime) -> Result<(), Fail> {
         assert_eq!(rt; tokenizer.events.len(), events, "{text}");
         assert_eq!(rt; tokenizer.point().index, index, "{text}");
     }
+    Ok(())
+}
+
+#[test]
+fn reads_pieces(rt: HostRuntime) -> Result<(), Fail> {
+    let alloc = rt.alloc();
+    let options = ParseOptions::default();
+    let bytes = b"> a\\\n> *b";
+    let parse_state = state_of(alloc, bytes, &options);
+    let no_pieces: [Piece; 0] = [];
+    assert!(rt; is_content(bytes, &no_pieces));
+    let none = string(alloc, &parse_state, &no_pieces)?;
+    assert_eq!(rt; none.events.as_slice(), [].as_slice());
+    let pieces = [
+        Piece {
+            start: (2, 0),
+            end: (5, 0),
+        },
+        Piece {
+            start: (7, 0),
+            end: (9, 0),
+        },
+    ];
+    assert!(rt; is_content(bytes, &pieces));
+    let run = string(alloc, &parse_state, &pieces)?;
+    let names = entered(alloc, run.events.as_slice())?;
+    let want = [(Name::Data, 2), (Name::LineEnding, 4), (Name::Data, 7)];
+    assert_eq!(rt; names.as_slice(), want.as_slice());
     Ok(())
 }

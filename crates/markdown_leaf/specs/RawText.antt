@@ -1,0 +1,267 @@
+-- What the states of code spans and math spans do, and how runs from them end.
+use Rattle.std.specs.Prelude.{◌≡◌, ℕ, ◌+◌, ◌<◌, ◌^◌, Bool, true, false, ◌&&◌, ◌||◌, not, nat_lt, ◌==◌, if◌then◌else◌, Option, Some, None, List, [], ◌∷◌, ◌++◌, length, drop}
+use Rattle.markdown_engine.specs.Codes.{Code, is_line_ending}
+use Rattle.markdown_engine.specs.Ops.{Op, Enter, Exit, Consume, IsOpen, done, current_of, previous_of, scratched}
+use Rattle.markdown_engine.specs.Past.{EndsAs, TreeReading}
+use Rattle.markdown_engine.specs.Place.{last_of}
+use Rattle.markdown_engine.specs.Runs.{Stepped, stepped}
+use Rattle.markdown_engine.specs.Tree.{◌⊕◌, leaf}
+use Rattle.markdown_engine.specs.TreeOps.{consumes, ops_of}
+use Rattle.markdown_engine.specs.Weights.{codes_left}
+use Rattle.markdown_model.specs.CodeTests.{is_value}
+use Rattle.markdown_model.specs.Grammar.{◌>>◌, provided, either, span}
+use Rattle.markdown_model.specs.Leaf.{SpanNames, code_names, math_names, span_here, closing}
+use Rattle.markdown_model.specs.Lines.{line_leaves}
+use Rattle.markdown_leaf.specs.Program.{Program, preceded, DoesAs}
+use Rattle.markdown_leaf.specs.Renaming.{Naming, NamesAs, under, renamed, HasEvent}
+use Rattle.markdown_engine.specs.declared.event.Event.{Event}
+use Rattle.markdown_engine.specs.declared.event.Kind.{Kind}
+use Rattle.markdown_engine.specs.declared.event.Name.{Name}
+use Rattle.markdown_engine.specs.declared.event.Name.TheVariants as N
+use Rattle.markdown_engine.specs.declared.state.State.TheVariants.{Next, Retry, Nok}
+use Rattle.markdown_engine.specs.declared.state.State.TheVariants as State
+use Rattle.markdown_engine.specs.declared.state.StateName.TheVariants.{RawTextSequenceOpen, RawTextBetween, RawTextData, RawTextSequenceClose}
+use Rattle.markdown_engine.specs.declared.tokenizer.TokenizeState.{TokenizeState}
+use Rattle.markdown_engine.specs.declared.tokenizer.Tokenizer.{Tokenizer}
+
+-- The scratch fields.
+
+abbrev pub names_in : TokenizeState → SpanNames
+names_in s = record { whole = s.token_1; sequence = s.token_2; text = s.token_3 }
+
+-- for a span of this marker and these names, past its first marker
+abbrev pub begun : ℕ → SpanNames → TokenizeState → TokenizeState
+begun marker names s = record s { marker = marker; size = 1; token_1 = names.whole; token_2 = names.sequence; token_3 = names.text }
+
+-- at rest
+abbrev pub rested : TokenizeState → TokenizeState
+rested s = record s { marker = 0; size = 0; size_b = 0; token_1 = N.Data; token_2 = N.Data; token_3 = N.Data }
+
+abbrev pub with_size : ℕ → TokenizeState → TokenizeState
+with_size n s = record s { size = n }
+
+abbrev pub with_size_b : ℕ → TokenizeState → TokenizeState
+with_size_b n s = record s { size_b = n }
+
+-- Where a span may start.
+
+abbrev pub is_exit : Kind → Bool
+is_exit Kind.Exit = true
+is_exit Kind.Enter = false
+
+abbrev pub is_escape : Name → Bool
+is_escape N.CharacterEscape = true
+is_escape _ = false
+
+abbrev pub ends_escape : Event → Bool
+ends_escape e = is_exit e.kind && is_escape e.name
+
+-- the last event is the end of an escape
+abbrev pub follows_escape : List Event → Bool
+follows_escape [] = false
+follows_escape (e ∷ es) = elim es [ [] ↦ ends_escape e | x ∷ xs ↦ follows_escape es ]
+
+abbrev pub is_same : ℕ → Option ℕ → Bool
+is_same n None = false
+is_same n (Some m) = m == n
+
+-- the marker stands before, and is not the value of an escape
+abbrev pub is_barred : ℕ → Tokenizer → Bool
+is_barred marker T = is_same marker (previous_of T) && not (follows_escape T.events)
+
+abbrev pub code_is_on : Tokenizer → Bool
+code_is_on T = T.parse_state.now.options.now.constructs.code_text
+
+abbrev pub math_is_on : Tokenizer → Bool
+math_is_on T = T.parse_state.now.options.now.constructs.math_text
+
+abbrev pub single_dollar : Tokenizer → Bool
+single_dollar T = T.parse_state.now.options.now.math_text_single_dollar
+
+-- What the states do.
+
+abbrev pub opened : ℕ → SpanNames → Tokenizer → Stepped
+opened marker names T =
+    stepped (Next RawTextSequenceOpen) (scratched (begun marker names T.tokenize_state) (done (Enter names.whole ∷ Enter names.sequence ∷ Consume ∷ []) T))
+
+-- by the current code
+abbrev pub start_at : Option ℕ → Tokenizer → Stepped
+start_at None T = stepped Nok T
+start_at (Some c) T =
+    if c == 96 && (code_is_on T && not (is_barred 96 T)) then opened 96 code_names T
+    else (if c == 36 && (math_is_on T && not (is_barred 36 T)) then opened 36 math_names T
+    else stepped Nok T)
+
+abbrev pub start_step : Tokenizer → Stepped
+start_step T = start_at (current_of T) T
+
+-- a dollar alone, where that opens nothing
+abbrev pub is_too_short : Bool → TokenizeState → Bool
+is_too_short single s = s.marker == 36 && (s.size == 1 && not single)
+
+abbrev pub after_opening : Tokenizer → Stepped
+after_opening T =
+    if is_too_short (single_dollar T) T.tokenize_state then stepped Nok (scratched (rested T.tokenize_state) T)
+    else stepped (Retry RawTextBetween) (done (Exit T.tokenize_state.token_2 ∷ []) T)
+
+abbrev pub sequence_open_at : Option ℕ → Tokenizer → Stepped
+sequence_open_at None T = after_opening T
+sequence_open_at (Some c) T =
+    if c == T.tokenize_state.marker
+    then stepped (Next RawTextSequenceOpen) (scratched (with_size (T.tokenize_state.size + 1) T.tokenize_state) (done (Consume ∷ []) T))
+    else after_opening T
+
+abbrev pub sequence_open_step : Tokenizer → Stepped
+sequence_open_step T = sequence_open_at (current_of T) T
+
+abbrev pub between_at : Option ℕ → Tokenizer → Stepped
+between_at None T = stepped Nok (scratched (rested T.tokenize_state) T)
+between_at (Some c) T =
+    if c == 10 then stepped (Next RawTextBetween) (done (Enter N.LineEnding ∷ Consume ∷ Exit N.LineEnding ∷ []) T)
+    else (if c == T.tokenize_state.marker
+    then stepped (Next RawTextSequenceClose) (scratched (with_size_b 1 T.tokenize_state) (done (Enter T.tokenize_state.token_2 ∷ Consume ∷ []) T))
+    else stepped (Next RawTextData) (done (Enter T.tokenize_state.token_3 ∷ Consume ∷ []) T))
+
+abbrev pub between_step : Tokenizer → Stepped
+between_step T = between_at (current_of T) T
+
+abbrev pub after_data : Tokenizer → Stepped
+after_data T = stepped (Retry RawTextBetween) (done (Exit T.tokenize_state.token_3 ∷ []) T)
+
+abbrev pub data_at : Option ℕ → Tokenizer → Stepped
+data_at None T = after_data T
+data_at (Some c) T =
+    if c == 10 || c == T.tokenize_state.marker then after_data T
+    else stepped (Next RawTextData) (done (Consume ∷ []) T)
+
+abbrev pub data_step : Tokenizer → Stepped
+data_step T = data_at (current_of T) T
+
+abbrev pub after_run : Tokenizer → Stepped
+after_run T =
+    if T.tokenize_state.size_b == T.tokenize_state.size
+    then stepped State.Ok (scratched (rested T.tokenize_state) (done (Exit T.tokenize_state.token_2 ∷ Exit T.tokenize_state.token_1 ∷ []) T))
+    else stepped (Retry RawTextBetween) (scratched (with_size_b 0 T.tokenize_state) (done (Exit T.tokenize_state.token_3 ∷ []) (renamed T.tokenize_state.token_3 T)))
+
+abbrev pub sequence_close_at : Option ℕ → Tokenizer → Stepped
+sequence_close_at None T = after_run T
+sequence_close_at (Some c) T =
+    if c == T.tokenize_state.marker
+    then stepped (Next RawTextSequenceClose) (scratched (with_size_b (T.tokenize_state.size_b + 1) T.tokenize_state) (done (Consume ∷ []) T))
+    else after_run T
+
+abbrev pub sequence_close_step : Tokenizer → Stepped
+sequence_close_step T = sequence_close_at (current_of T) T
+
+-- When they may be called.
+
+-- as many codes as a `usize` can count, with these
+abbrev pub Fits : ℕ → Tokenizer → Type 0
+Fits n T = n + codes_left T < 2 ^ 64
+
+-- these two are the innermost open events
+abbrev pub AreOpen : Name → Name → Tokenizer → Type 0
+AreOpen n m T = T.stack ≡ n ∷ m ∷ drop 2 T.stack
+
+pub record StartReady (T : Tokenizer) : Type 0 where
+  pub rest : T.tokenize_state ≡ rested T.tokenize_state
+  pub fits : Fits 0 T
+
+-- the marker is no line ending
+abbrev pub HasMarker : Tokenizer → Type 0
+HasMarker T = (T.tokenize_state.marker == 10) ≡ false
+
+pub record SequenceOpenReady (T : Tokenizer) : Type 0 where
+  pub marker : HasMarker T
+  pub stand_open : AreOpen T.tokenize_state.token_2 T.tokenize_state.token_1 T
+  pub fits : Fits T.tokenize_state.size T
+
+pub record BetweenReady (T : Tokenizer) : Type 0 where
+  pub marker : HasMarker T
+  pub stand_open : IsOpen T.tokenize_state.token_1 T
+  pub fits : Fits 0 T
+
+pub record DataReady (T : Tokenizer) : Type 0 where
+  pub marker : HasMarker T
+  pub stand_open : AreOpen T.tokenize_state.token_3 T.tokenize_state.token_1 T
+  pub fits : Fits 0 T
+
+pub record SequenceCloseReady (T : Tokenizer) : Type 0 where
+  pub marker : HasMarker T
+  pub stand_open : AreOpen T.tokenize_state.token_2 T.tokenize_state.token_1 T
+  pub some : HasEvent T
+  pub entered : renamed T.tokenize_state.token_2 T ≡ T
+  pub fits : Fits T.tokenize_state.size_b T
+
+-- How runs end.
+
+-- the code before, with its places
+abbrev pub code_just_before : Tokenizer → Option Code
+code_just_before T = last_of T.cursor.codes T.cursor.at
+
+-- the codes at hand read as a code span or as a math span, where these are on
+abbrev pub span_at : Tokenizer → TreeReading
+span_at T =
+    either (provided (code_is_on T) >> span_here 96 code_names (λ n. true) (follows_escape T.events) (code_just_before T))
+    (provided (math_is_on T) >> span_here 36 math_names (λ n. single_dollar T || nat_lt 1 n) (follows_escape T.events) (code_just_before T))
+
+abbrev pub start_ends : Tokenizer → Bool → Tokenizer → Type 0
+start_ends T ok U = EndsAs (span_at T) None T.tokenize_state T ok U
+
+-- what is inside a span and its closing run, and the span's end
+abbrev pub closed_ops : SpanNames → Option ((List (List Code) × List Code) × List Code) → Option (List Op)
+closed_ops names None = None
+closed_ops names (Some r) = Some (ops_of (line_leaves names.text r.0.0 ⊕ leaf names.sequence r.0.1) ++ Exit names.whole ∷ [])
+
+-- a span of this marker, these names, and an opening run of this size
+module _ (marker : ℕ) (names : SpanNames) (size : ℕ) where
+  -- after its opening run or any stretch inside
+  abbrev pub inside_program : Program
+  inside_program cs = closed_ops names (closing (is_value marker) size cs)
+
+  abbrev pub is_data : Code → Bool
+  is_data c = not (is_line_ending c || is_value marker c)
+
+  -- inside data: the rest of it
+  abbrev pub data_program : Program
+  data_program cs = let s = span is_data cs in preceded (consumes s.0 ++ Exit names.text ∷ []) (inside_program s.1)
+
+  -- inside a run of markers, so many of which are passed: the closing run where the sizes are the same, else data
+  abbrev pub run_naming : ℕ → Naming
+  run_naming passed cs =
+      let s = span (is_value marker) cs in
+      if passed + length s.0 == size
+      then Some (names.sequence, consumes s.0 ++ Exit names.sequence ∷ Exit names.whole ∷ [])
+      else under names.text (preceded (consumes s.0 ++ Exit names.text ∷ []) (inside_program s.1))
+
+-- an opening run of this size will do
+abbrev pub opens : Bool → ℕ → ℕ → Bool
+opens single marker n = not (marker == 36 && (n == 1 && not single))
+
+-- inside the opening run, so many markers of which are passed
+abbrev pub opening_program : Bool → ℕ → SpanNames → ℕ → Program
+opening_program single marker names passed cs =
+    let s = span (is_value marker) cs in
+    if opens single marker (passed + length s.0)
+    then preceded (consumes s.0 ++ Exit names.sequence ∷ []) (inside_program marker names (passed + length s.0) s.1)
+    else None
+
+abbrev pub sequence_open_ends : Tokenizer → Bool → Tokenizer → Type 0
+sequence_open_ends T ok U =
+    let s : TokenizeState = T.tokenize_state in
+    DoesAs 2 (opening_program (single_dollar T) s.marker (names_in s) s.size) (rested s) T ok U
+
+abbrev pub between_ends : Tokenizer → Bool → Tokenizer → Type 0
+between_ends T ok U =
+    let s : TokenizeState = T.tokenize_state in
+    DoesAs 1 (inside_program s.marker (names_in s) s.size) (rested s) T ok U
+
+abbrev pub data_ends : Tokenizer → Bool → Tokenizer → Type 0
+data_ends T ok U =
+    let s : TokenizeState = T.tokenize_state in
+    DoesAs 2 (data_program s.marker (names_in s) s.size) (rested s) T ok U
+
+abbrev pub sequence_close_ends : Tokenizer → Bool → Tokenizer → Type 0
+sequence_close_ends T ok U =
+    let s : TokenizeState = T.tokenize_state in
+    NamesAs 1 (run_naming s.marker (names_in s) s.size s.size_b) (rested s) T ok U

@@ -1,0 +1,232 @@
+// Code spans and math spans.
+//
+// CommonMark 6.1: a run of backticks opens a span that ends at the next run of equal length. Line endings and runs of another
+// length inside are leaves of their own. Math spans are the same with dollars.
+#![tactic(auto, using(markdown_engine::proofs::OpRules::law_rules), unfolding(markdown_engine::specs::Ops::scratched))]
+
+ghost use Rattle.std.specs.Prelude.{◌≡◌, IfOk, OnErr, IsTrue};
+ghost use Rattle.markdown_engine.specs.Ops.{HasCode, scratched};
+ghost use Rattle.markdown_leaf.specs.RawText.{start_step, sequence_open_step, between_step, data_step, sequence_close_step, after_opening, after_run, opened, is_barred, ends_escape, follows_escape, rested, names_in, SequenceOpenReady, BetweenReady, DataReady, SequenceCloseReady};
+
+use crate::renaming::rename_entered;
+use markdown_engine::event::{Event, Kind, Name};
+use markdown_engine::state::{State, StateName};
+use markdown_engine::tokenizer::Tokenizer;
+use std::alloc::AllocError;
+
+// Whether the event ends an escape.
+fn ends_escape(event: Event) -> bool
+    ensures { result ≡ ends_escape event }
+{
+    matches!(event.kind, Kind::Exit) && matches!(event.name, Name::CharacterEscape)
+}
+
+// Whether the last event ends an escape.
+fn follows_escape(tokenizer: &Tokenizer) -> bool
+    ensures { result ≡ follows_escape tokenizer.now.events }
+{
+    let len = tokenizer.events.len();
+    if len == 0 {
+        return false;
+    }
+    ends_escape(tokenizer.events.bare_at(len - 1))
+}
+
+// Whether the marker stands before, and is not the value of an escape.
+fn is_barred(tokenizer: &Tokenizer, marker: u8) -> bool
+    ensures { result ≡ is_barred marker tokenizer.now }
+{
+    tokenizer.previous() == Some(marker) && !follows_escape(tokenizer)
+}
+
+// Enters a span of this marker, and passes the first one.
+fn open(
+    tokenizer: &mut Tokenizer,
+    marker: u8,
+    whole: Name,
+    sequence: Name,
+    text: Name,
+) -> Result<State, AllocError>
+    requires { HasCode tokenizer.old }
+    ensures ok { IfOk result (λ s. opened marker (record { whole = whole; sequence = sequence; text = text }) tokenizer.old ≡ record { state = s; left = tokenizer.new }) }
+    ensures err { OnErr result (IsTrue tokenizer.new.failed) }
+{
+    tokenizer.enter(whole)?;
+    tokenizer.enter(sequence)?;
+    tokenizer.consume();
+    tokenizer.tokenize_state.marker = marker;
+    tokenizer.tokenize_state.size = 1;
+    tokenizer.tokenize_state.token_1 = whole;
+    tokenizer.tokenize_state.token_2 = sequence;
+    tokenizer.tokenize_state.token_3 = text;
+    Ok(State::Next(StateName::RawTextSequenceOpen))
+}
+
+// Puts the scratch fields to rest.
+fn rest(tokenizer: &mut Tokenizer)
+    ensures { tokenizer.new ≡ scratched (rested tokenizer.old.tokenize_state) tokenizer.old }
+{
+    tokenizer.tokenize_state.marker = 0;
+    tokenizer.tokenize_state.size = 0;
+    tokenizer.tokenize_state.size_b = 0;
+    tokenizer.tokenize_state.token_1 = Name::Data;
+    tokenizer.tokenize_state.token_2 = Name::Data;
+    tokenizer.tokenize_state.token_3 = Name::Data;
+}
+
+/// At the start of a span: its first marker.
+///
+/// A span does not start after the same marker, unless that is escaped. The error comes where a growth is refused; then `failed`
+/// is true.
+pub fn start(tokenizer: &mut Tokenizer) -> Result<State, AllocError>
+    ensures ok { IfOk result (λ s. start_step tokenizer.old ≡ record { state = s; left = tokenizer.new }) }
+    ensures err { OnErr result (IsTrue tokenizer.new.failed) }
+{
+    let constructs = &tokenizer.parse_state.options.constructs;
+    match tokenizer.current() {
+        Some(b'`') if constructs.code_text && !is_barred(tokenizer, b'`') => open(
+            tokenizer,
+            b'`',
+            Name::CodeText,
+            Name::CodeTextSequence,
+            Name::CodeTextData,
+        ),
+        Some(b'$') if constructs.math_text && !is_barred(tokenizer, b'$') => open(
+            tokenizer,
+            b'$',
+            Name::MathText,
+            Name::MathTextSequence,
+            Name::MathTextData,
+        ),
+        _ => Ok(State::Nok),
+    }
+}
+
+// After the opening run: it has to be long enough.
+fn after_opening(tokenizer: &mut Tokenizer) -> Result<State, AllocError>
+    requires { SequenceOpenReady tokenizer.old }
+    ensures ok { IfOk result (λ s. after_opening tokenizer.old ≡ record { state = s; left = tokenizer.new }) }
+    ensures err { OnErr result (IsTrue tokenizer.new.failed) }
+{
+    if tokenizer.tokenize_state.marker == b'$'
+        && tokenizer.tokenize_state.size == 1
+        && !tokenizer.parse_state.options.math_text_single_dollar
+    {
+        rest(tokenizer);
+        Ok(State::Nok)
+    } else {
+        tokenizer.exit(tokenizer.tokenize_state.token_2)?;
+        Ok(State::Retry(StateName::RawTextBetween))
+    }
+}
+
+/// In the opening run.
+///
+/// The error comes where a growth is refused; then `failed` is true.
+pub fn sequence_open(tokenizer: &mut Tokenizer) -> Result<State, AllocError>
+    requires { SequenceOpenReady tokenizer.old }
+    ensures ok { IfOk result (λ s. sequence_open_step tokenizer.old ≡ record { state = s; left = tokenizer.new }) }
+    ensures err { OnErr result (IsTrue tokenizer.new.failed) }
+{
+    match tokenizer.current() {
+        Some(code) if code == tokenizer.tokenize_state.marker => {
+            let passed = tokenizer.tokenize_state.size + 1;
+            tokenizer.consume();
+            tokenizer.tokenize_state.size = passed;
+            Ok(State::Next(StateName::RawTextSequenceOpen))
+        }
+        _ => after_opening(tokenizer),
+    }
+}
+
+/// After the opening run, a line ending, data or a run of another length.
+///
+/// The error comes where a growth is refused; then `failed` is true.
+pub fn between(tokenizer: &mut Tokenizer) -> Result<State, AllocError>
+    requires { BetweenReady tokenizer.old }
+    ensures ok { IfOk result (λ s. between_step tokenizer.old ≡ record { state = s; left = tokenizer.new }) }
+    ensures err { OnErr result (IsTrue tokenizer.new.failed) }
+{
+    match tokenizer.current() {
+        None => {
+            rest(tokenizer);
+            Ok(State::Nok)
+        }
+        Some(b'\n') => {
+            tokenizer.enter(Name::LineEnding)?;
+            tokenizer.consume();
+            tokenizer.exit(Name::LineEnding)?;
+            Ok(State::Next(StateName::RawTextBetween))
+        }
+        Some(code) if code == tokenizer.tokenize_state.marker => {
+            tokenizer.enter(tokenizer.tokenize_state.token_2)?;
+            tokenizer.consume();
+            tokenizer.tokenize_state.size_b = 1;
+            Ok(State::Next(StateName::RawTextSequenceClose))
+        }
+        Some(_) => {
+            tokenizer.enter(tokenizer.tokenize_state.token_3)?;
+            tokenizer.consume();
+            Ok(State::Next(StateName::RawTextData))
+        }
+    }
+}
+
+/// In data.
+///
+/// The error comes where a growth is refused; then `failed` is true.
+pub fn data(tokenizer: &mut Tokenizer) -> Result<State, AllocError>
+    requires { DataReady tokenizer.old }
+    ensures ok { IfOk result (λ s. data_step tokenizer.old ≡ record { state = s; left = tokenizer.new }) }
+    ensures err { OnErr result (IsTrue tokenizer.new.failed) }
+{
+    match tokenizer.current() {
+        Some(code) if code != b'\n' && code != tokenizer.tokenize_state.marker => {
+            tokenizer.consume();
+            Ok(State::Next(StateName::RawTextData))
+        }
+        _ => {
+            tokenizer.exit(tokenizer.tokenize_state.token_3)?;
+            Ok(State::Retry(StateName::RawTextBetween))
+        }
+    }
+}
+
+// After a run of markers: the span ends where it is as long as the opening run; else the run is data.
+#[tactic(auto, using(crate::proofs::RenamingLemmas::rename_rules), unfolding(markdown_engine::specs::Ops::scratched))]
+fn after_run(tokenizer: &mut Tokenizer) -> Result<State, AllocError>
+    requires { SequenceCloseReady tokenizer.old }
+    ensures ok { IfOk result (λ s. after_run tokenizer.old ≡ record { state = s; left = tokenizer.new }) }
+    ensures err { OnErr result (IsTrue tokenizer.new.failed) }
+{
+    if tokenizer.tokenize_state.size_b == tokenizer.tokenize_state.size {
+        tokenizer.exit(tokenizer.tokenize_state.token_2)?;
+        tokenizer.exit(tokenizer.tokenize_state.token_1)?;
+        rest(tokenizer);
+        Ok(State::Ok)
+    } else {
+        rename_entered(tokenizer, tokenizer.tokenize_state.token_3)?;
+        tokenizer.exit(tokenizer.tokenize_state.token_3)?;
+        tokenizer.tokenize_state.size_b = 0;
+        Ok(State::Retry(StateName::RawTextBetween))
+    }
+}
+
+/// In a run of markers after the opening one.
+///
+/// The error comes where a growth is refused; then `failed` is true.
+pub fn sequence_close(tokenizer: &mut Tokenizer) -> Result<State, AllocError>
+    requires { SequenceCloseReady tokenizer.old }
+    ensures ok { IfOk result (λ s. sequence_close_step tokenizer.old ≡ record { state = s; left = tokenizer.new }) }
+    ensures err { OnErr result (IsTrue tokenizer.new.failed) }
+{
+    match tokenizer.current() {
+        Some(code) if code == tokenizer.tokenize_state.marker => {
+            let passed = tokenizer.tokenize_state.size_b + 1;
+            tokenizer.consume();
+            tokenizer.tokenize_state.size_b = passed;
+            Ok(State::Next(StateName::RawTextSequenceClose))
+        }
+        _ => after_run(tokenizer),
+    }
+}
