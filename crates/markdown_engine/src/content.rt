@@ -208,6 +208,31 @@ mod tests {
     }
 
     #[test]
+    fn tells_pieces_that_are_none(rt: HostRuntime) {
+        assert!(rt; !is_content("é".as_bytes(), &[piece((0, 0), (1, 0))]));
+        assert!(rt; !is_content(b"a\r\nb", &[piece((0, 0), (2, 0))]));
+        assert!(rt; !is_content(&[0xFF], &[piece((0, 0), (1, 0))]));
+        assert!(rt; !is_content(b"ab", &[piece((0, 0), (1, 0)), piece((1, 0), (2, 0))]));
+        assert!(rt; !is_content(b"ab", &[piece((1, 0), (0, 0))]));
+        assert!(rt; !is_content(b"ab", &[piece((0, 0), (3, 0))]));
+        let blank_between = [piece((0, 0), (2, 0)), piece((3, 0), (4, 0))];
+        assert!(rt; !is_content(b"a\n\nb", blank_between.as_slice()));
+        let empty_between = [
+            piece((0, 0), (2, 0)),
+            piece((2, 0), (2, 0)),
+            piece((2, 0), (3, 0)),
+        ];
+        assert!(rt; !is_content(b"a\nb", empty_between.as_slice()));
+    }
+
+    #[test]
+    fn tells_a_last_piece_that_is_empty(rt: HostRuntime) {
+        let pieces = [piece((0, 0), (2, 0)), piece((4, 0), (4, 0))];
+        assert!(rt; is_content(b"a\n> ", pieces.as_slice()));
+        assert!(rt; !is_text(b"a\n> ", pieces.as_slice()));
+    }
+
+    #[test]
     fn tells_texts(rt: HostRuntime) {
         assert!(rt; is_text(b"", &[]));
         assert!(rt; is_text(b"a\nb", &[piece((0, 0), (3, 0))]));

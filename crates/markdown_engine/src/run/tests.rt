@@ -38,6 +38,19 @@ fn pass_connected(rt: &impl Abort, tokenizer: &mut Tokenizer) -> Result<(), Allo
     tokenizer.exit(Name::Data)
 }
 
+// Opens a check, and hands it over.
+#[tactic(auto, unfolding(crate::specs::Ops::attempted, crate::specs::Runs::settled))]
+fn checked<'a>(
+    rt: &impl Abort,
+    tokenizer: &mut Tokenizer<'a>,
+    nok: StateName,
+) -> Result<Attempt<'a>, AllocError>
+    ensures { OnOk result (tokenizer.new.events ≡ tokenizer.old.events) }
+{
+    tokenizer.check(State::Ok, State::Next(nok))?;
+    Ok(tokenizer.take_attempts().pop().expect(rt, "an attempt"))
+}
+
 // Opens an attempt, and hands it over.
 #[tactic(auto, unfolding(crate::specs::Ops::attempted, crate::specs::Runs::settled))]
 fn opened<'a>(
@@ -86,7 +99,7 @@ fn failed_attempts_restore(rt: HostRuntime) -> Result<(), Fail> {
     pass_linked(&rt, &mut tokenizer)?;
     let outer = opened(&rt, &mut tokenizer, StateName::DataStart)?;
     pass_connected(&rt, &mut tokenizer)?;
-    let inner = opened(&rt, &mut tokenizer, StateName::DataInside)?;
+    let inner = checked(&rt, &mut tokenizer, StateName::DataInside)?;
     tokenizer.enter(Name::LineEnding)?;
     assert_eq!(rt;
         resume(&mut tokenizer, inner, false),
