@@ -2,8 +2,9 @@
 ghost use Rattle.std.specs.Prelude.{◌≡◌, ◌++◌, ◌∷◌, [], OnOk, OnErr, IsTrue, true, false, Some, None};
 ghost use Rattle.markdown_engine.specs.Ops.{applied, Enter, Exit, EnterLink, EnterConnected, Consume, attempted, registered, registered_before, is_registered, refused, current_of, previous_of, IsOpen, HasCode, link_back, enter_event, LinkedBefore};
 ghost use Rattle.markdown_engine.specs.Content.{IsContent};
-ghost use Rattle.markdown_engine.specs.Place.{point_of, start_of_content};
+ghost use Rattle.markdown_engine.specs.Place.{point_of};
 ghost use Rattle.markdown_engine.specs.Chain.{IsFresh};
+ghost use Rattle.markdown_engine.specs.Begun.{begun};
 ghost use Rattle.markdown_engine.specs.Rest.{at_rest};
 ghost use Rattle.markdown_engine.specs.Runs.{settled};
 
@@ -232,7 +233,7 @@ impl<'a> Tokenizer<'a> {
     /// A run at the start of a content: no events, all scratch fields at rest. Takes no memory.
     pub fn new(alloc: Global, parse_state: &'a ParseState<'a>, pieces: &'a [Piece]) -> Tokenizer<'a>
         requires { IsContent parse_state.now.bytes.now pieces.now }
-        ensures { result ≡ record { alloc = alloc; parse_state = parse_state.entry; events = []; map = []; stack = []; cursor = start_of_content parse_state.entry.now.bytes.now pieces.entry.now; tokenize_state = at_rest; resolvers = []; attempts = []; failed = false } }
+        ensures { result ≡ begun alloc parse_state.entry pieces.entry.now }
     {
         Tokenizer {
             alloc,

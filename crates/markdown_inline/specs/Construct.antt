@@ -1,27 +1,63 @@
 -- Single constructs: what is read at a tokenizer's place, by the name of the state that starts it.
-use Rattle.std.specs.Prelude.{◌≡◌, Bool, true, false, None}
-use Rattle.markdown_engine.specs.Ops.{ahead}
-use Rattle.markdown_engine.specs.Past.{TreeReading, Reads}
+use Rattle.std.specs.Prelude.{◌≡◌, ℕ, Bool, true, false, Option, None}
+use Rattle.markdown_engine.specs.Ops.{ahead, scratched}
+use Rattle.markdown_engine.specs.Past.{TreeReading, Reads, link_before}
 use Rattle.markdown_engine.specs.declared.state.StateName.{StateName}
-use Rattle.markdown_engine.specs.declared.state.StateName.TheVariants.{CharacterEscapeStart, DataStart}
+use Rattle.markdown_engine.specs.declared.state.StateName.TheVariants.{AutolinkStart, CharacterEscapeStart, CharacterReferenceStart, DataStart, HardBreakEscapeStart, RawTextStart, SpaceOrTabStart, SpaceOrTabEolStart}
+use Rattle.markdown_engine.specs.declared.tokenizer.TokenizeState.{TokenizeState}
 use Rattle.markdown_engine.specs.declared.tokenizer.Tokenizer.{Tokenizer}
+use Rattle.markdown_leaf.specs.CharacterReference as R
+use Rattle.markdown_leaf.specs.RawText as X
 use Rattle.markdown_model.specs.Grammar.{◌>>◌, provided}
-use Rattle.markdown_model.specs.Leaf.{escape}
+use Rattle.markdown_model.specs.Leaf.{escape, reference, hard_break_escape, autolink}
 use Rattle.markdown_model.specs.Lines.{data_up_to}
+use Rattle.markdown_model.specs.Whitespace.{space_or_tab, spacing}
+use Rattle.markdown_partial.specs.EolSteps as L
+use Rattle.markdown_partial.specs.SpaceSteps as W
+use Rattle.markdown_util.specs.Reference.{html_5_rows}
 
--- the states that start a construct
-abbrev pub IsConstruct : StateName → Type 0
-IsConstruct CharacterEscapeStart = Unit {0}
-IsConstruct DataStart = Unit {0}
-IsConstruct _ = ⊥
+-- The states that start a construct, each with what it asks for: the scratch fields that it counts in are at rest. A span asks for a content
+-- of fewer codes than a `usize` counts, which each content is; and whitespace for the fields of what it reads, as its setter leaves them:
+-- where it is to go on with a chain, a linked event stands just before, and where it is linked, it begins with the line ending.
+abbrev pub IsConstruct : StateName → Tokenizer → Type 0
+IsConstruct CharacterEscapeStart T = Unit {0}
+IsConstruct CharacterReferenceStart T = R.IsAtRest T
+IsConstruct HardBreakEscapeStart T = Unit {0}
+IsConstruct AutolinkStart T = T.tokenize_state.size ≡ 0
+IsConstruct RawTextStart T = X.StartReady T
+IsConstruct DataStart T = Unit {0}
+IsConstruct SpaceOrTabStart T = W.StartReady T
+IsConstruct SpaceOrTabEolStart T = L.StartReady T
+IsConstruct _ T = ⊥
 
--- what is read: an escape, where escapes are looked for, or data up to the next marker
+-- what is read: what stands in the standard under the construct's name, where it is looked for; data up to the next marker; or the
+-- whitespace that is asked for
 abbrev pub construct_reading : StateName → Tokenizer → TreeReading
 construct_reading CharacterEscapeStart T = provided T.parse_state.now.options.now.constructs.character_escape >> escape
+construct_reading CharacterReferenceStart T = provided T.parse_state.now.options.now.constructs.character_reference >> reference html_5_rows
+construct_reading HardBreakEscapeStart T = provided T.parse_state.now.options.now.constructs.hard_break_escape >> hard_break_escape
+construct_reading AutolinkStart T = provided T.parse_state.now.options.now.constructs.autolink >> autolink
+construct_reading RawTextStart T = X.span_at T
 construct_reading DataStart T = data_up_to T.tokenize_state.markers
+construct_reading SpaceOrTabStart T =
+    let s : TokenizeState = T.tokenize_state in
+    space_or_tab s.space_or_tab_token s.space_or_tab_content s.space_or_tab_min s.space_or_tab_max
+construct_reading SpaceOrTabEolStart T = spacing T.tokenize_state.space_or_tab_eol_content
 construct_reading _ T = λ cs. None
 
--- either the codes at the place are read so, and U is T past the tree, with the scratch fields as they were; or they are not, and U is T
-abbrev pub ReadsOrStays : TreeReading → Tokenizer → Bool → Tokenizer → Type 0
-ReadsOrStays reading T true U = Reads reading None T.tokenize_state T U
-ReadsOrStays reading T false U = (reading (ahead T) ≡ None) × (U ≡ T)
+-- the event of the chain that the first linked event goes on with
+abbrev pub chain_before : StateName → Tokenizer → Option ℕ
+chain_before SpaceOrTabStart T = link_before T.tokenize_state.space_or_tab_connect T
+chain_before SpaceOrTabEolStart T = link_before T.tokenize_state.space_or_tab_eol_connect T
+chain_before _ T = None
+
+-- the scratch fields after: whitespace puts its own to rest, the others leave all as they were
+abbrev pub fields_after : StateName → TokenizeState → TokenizeState
+fields_after SpaceOrTabStart s = W.rested s
+fields_after SpaceOrTabEolStart s = L.eol_rested s
+fields_after _ s = s
+
+-- either the codes at the place are read so, and U is T past the tree, with these scratch fields; or they are not, and U is T with them
+abbrev pub ReadsOrStays : TreeReading → Option ℕ → TokenizeState → Tokenizer → Bool → Tokenizer → Type 0
+ReadsOrStays reading previous s T true U = Reads reading previous s T U
+ReadsOrStays reading previous s T false U = (reading (ahead T) ≡ None) × (U ≡ scratched s T)

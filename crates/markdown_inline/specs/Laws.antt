@@ -5,14 +5,113 @@ pub mod StringPasts
 pub mod StringLaws
 use Rattle.std.proofs.Common.{◌≡◌, [], refl}
 use Rattle.markdown_engine.specs.Runs.{Lawful}
-use Rattle.markdown_engine.specs.declared.state.StateName.TheVariants.{CharacterEscapeStart, CharacterEscapeInside, DataStart, DataAtBreak, DataInside, StringStart, StringBefore, StringBeforeData}
+use Rattle.markdown_engine.specs.declared.state.StateName.TheVariants.{CharacterEscapeStart, CharacterEscapeInside, CharacterReferenceStart, CharacterReferenceOpen, CharacterReferenceNumeric, CharacterReferenceValue, HardBreakEscapeStart, HardBreakEscapeAfter, AutolinkStart, AutolinkOpen, AutolinkSchemeOrEmailAtext, AutolinkSchemeInsideOrEmailAtext, AutolinkUrlInside, AutolinkEmailAtext, AutolinkEmailAtSignOrDot, AutolinkEmailLabel, AutolinkEmailValue, RawTextStart, RawTextSequenceOpen, RawTextBetween, RawTextData, RawTextSequenceClose, SpaceOrTabStart, SpaceOrTabInside, SpaceOrTabAfter, SpaceOrTabEolStart, SpaceOrTabEolAfterFirst, SpaceOrTabEolAtEol, SpaceOrTabEolAfterEol, SpaceOrTabEolAfterMore, DataStart, DataAtBreak, DataInside, StringStart, StringBefore, StringBeforeData}
+use Rattle.markdown_leaf.proofs.AutolinkLaws as A
 use Rattle.markdown_leaf.proofs.CharacterEscapeLaws as E
+use Rattle.markdown_leaf.proofs.CharacterReferenceLaws as R
+use Rattle.markdown_leaf.proofs.HardBreakEscapeLaws as B
+use Rattle.markdown_leaf.proofs.RawTextLaws as X
 use Rattle.markdown_partial.proofs.DataLaws as D
+use Rattle.markdown_partial.proofs.EolLaws as L
+use Rattle.markdown_partial.proofs.SpaceLaws as W
 use Rattle.markdown_inline.specs.Laws.StringLaws as S
 use Rattle.markdown_inline.specs.Layer.{ready_of, step_of, ends_of, weight_of}
 
 escape-within : E.Within ready_of ends_of weight_of
 escape-within = record { inside_ready = λ T h. h; inside_end = λ T ok U h. h; inside_weight = λ T. refl }
+
+reference-within : R.Within ready_of ends_of weight_of
+reference-within = record {
+  open_ready = λ T h. h;
+  open_end = λ T ok U h. h;
+  open_weight = λ T. refl;
+  numeric_ready = λ T h. h;
+  numeric_end = λ T ok U h. h;
+  numeric_weight = λ T. refl;
+  value_ready = λ T h. h;
+  value_end = λ T ok U h. h;
+  value_weight = λ T. refl;
+}
+
+break-within : B.Within ready_of ends_of weight_of
+break-within = record {
+  after_ready = λ T h. h;
+  after_end = λ T ok U h. h;
+  after_weight = λ T. refl;
+}
+
+autolink-within : A.Within ready_of ends_of weight_of
+autolink-within = record {
+  open_ready = λ T h. h;
+  open_end = λ T ok U h. h;
+  open_weight = λ T. refl;
+  scheme_or_ready = λ T h. h;
+  scheme_or_end = λ T ok U h. h;
+  scheme_or_weight = λ T. refl;
+  scheme_inside_ready = λ T h. h;
+  scheme_inside_end = λ T ok U h. h;
+  scheme_inside_weight = λ T. refl;
+  url_inside_ready = λ T h. h;
+  url_inside_end = λ T ok U h. h;
+  url_inside_weight = λ T. refl;
+  email_atext_ready = λ T h. h;
+  email_atext_end = λ T ok U h. h;
+  email_atext_weight = λ T. refl;
+  email_at_sign_or_dot_ready = λ T h. h;
+  email_at_sign_or_dot_end = λ T ok U h. h;
+  email_at_sign_or_dot_weight = λ T. refl;
+  email_label_ready = λ T h. h;
+  email_label_end = λ T ok U h. h;
+  email_label_weight = λ T. refl;
+  email_value_ready = λ T h. h;
+  email_value_end = λ T ok U h. h;
+  email_value_weight = λ T. refl;
+}
+
+raw_text-within : X.Within ready_of ends_of weight_of
+raw_text-within = record {
+  sequence_open_ready = λ T h. h;
+  sequence_open_end = λ T ok U h. h;
+  sequence_open_weight = λ T. refl;
+  between_ready = λ T h. h;
+  between_end = λ T ok U h. h;
+  between_weight = λ T. refl;
+  data_ready = λ T h. h;
+  data_end = λ T ok U h. h;
+  data_weight = λ T. refl;
+  sequence_close_ready = λ T h. h;
+  sequence_close_end = λ T ok U h. h;
+  sequence_close_weight = λ T. refl;
+}
+
+space-within : W.Within ready_of ends_of weight_of
+space-within = record {
+  inside_ready = λ T h. h;
+  inside_end = λ T ok U h. h;
+  inside_weight = λ T. refl;
+  after_ready = λ T. tt;
+  after_end = λ T ok U h. h;
+  after_weight = λ T. refl;
+}
+
+eol-within : L.Within ready_of ends_of weight_of
+eol-within = record {
+  space_ready = λ T h. h;
+  space_end = λ T ok U h. h;
+  space_weight = λ T. refl;
+  after_first_ready = λ T h. h;
+  after_first_end = λ T ok U h. h;
+  after_first_weight = λ T. refl;
+  at_eol_ready = λ T h. h;
+  at_eol_end = λ T ok U h. h;
+  at_eol_weight = λ T. refl;
+  after_eol_ready = λ T h. h;
+  after_eol_end = λ T ok U h. h;
+  after_eol_weight = λ T. refl;
+  after_more_ready = λ T. tt;
+  after_more_end = λ T ok U h. h;
+  after_more_weight = λ T. refl;
+}
 
 data-within : D.Within ready_of ends_of weight_of
 data-within = record { at_break_ready = λ T. tt; at_break_end = λ T ok U h. h; at_break_weight = λ T. refl; inside_ready = λ T h. h; inside_end = λ T ok U h. h; inside_weight = λ T. refl }
@@ -36,6 +135,34 @@ string-within = record {
 pub laws_of : Lawful ready_of step_of ends_of weight_of
 laws_of CharacterEscapeStart T alone r = E.start-law ready_of ends_of weight_of escape-within T alone
 laws_of CharacterEscapeInside T alone r = E.inside-law ready_of ends_of weight_of T alone
+laws_of CharacterReferenceStart T alone r = R.start-law ready_of ends_of weight_of reference-within T alone r
+laws_of CharacterReferenceOpen T alone r = R.open-law ready_of ends_of weight_of reference-within T alone r
+laws_of CharacterReferenceNumeric T alone r = R.numeric-law ready_of ends_of weight_of reference-within T alone r
+laws_of CharacterReferenceValue T alone r = R.value-law ready_of ends_of weight_of reference-within T alone r
+laws_of HardBreakEscapeStart T alone r = B.start-law ready_of ends_of weight_of break-within T alone
+laws_of HardBreakEscapeAfter T alone r = B.after-law ready_of ends_of weight_of T alone
+laws_of AutolinkStart T alone r = A.start-law ready_of ends_of weight_of autolink-within T alone r
+laws_of AutolinkOpen T alone r = A.open-law ready_of ends_of weight_of autolink-within T alone r
+laws_of AutolinkSchemeOrEmailAtext T alone r = A.scheme_or-law ready_of ends_of weight_of autolink-within T alone r
+laws_of AutolinkSchemeInsideOrEmailAtext T alone r = A.scheme_inside-law ready_of ends_of weight_of autolink-within T alone r
+laws_of AutolinkUrlInside T alone r = A.url_inside-law ready_of ends_of weight_of autolink-within T alone r
+laws_of AutolinkEmailAtext T alone r = A.email_atext-law ready_of ends_of weight_of autolink-within T alone r
+laws_of AutolinkEmailAtSignOrDot T alone r = A.email_at_sign_or_dot-law ready_of ends_of weight_of autolink-within T alone r
+laws_of AutolinkEmailLabel T alone r = A.email_label-law ready_of ends_of weight_of autolink-within T alone r
+laws_of AutolinkEmailValue T alone r = A.email_value-law ready_of ends_of weight_of autolink-within T alone r
+laws_of RawTextStart T alone r = X.start-law ready_of ends_of weight_of raw_text-within T alone r
+laws_of RawTextSequenceOpen T alone r = X.sequence_open-law ready_of ends_of weight_of raw_text-within T alone r
+laws_of RawTextBetween T alone r = X.between-law ready_of ends_of weight_of raw_text-within T alone r
+laws_of RawTextData T alone r = X.data-law ready_of ends_of weight_of raw_text-within T alone r
+laws_of RawTextSequenceClose T alone r = X.sequence_close-law ready_of ends_of weight_of raw_text-within T alone r
+laws_of SpaceOrTabStart T alone r = W.start-law ready_of ends_of weight_of space-within T alone r
+laws_of SpaceOrTabInside T alone r = W.inside-law ready_of ends_of weight_of space-within T alone r
+laws_of SpaceOrTabAfter T alone r = W.after-law ready_of ends_of weight_of T alone
+laws_of SpaceOrTabEolStart T alone r = L.start-law ready_of ends_of weight_of eol-within T alone r
+laws_of SpaceOrTabEolAfterFirst T alone r = L.after_first-law ready_of ends_of weight_of eol-within T alone r
+laws_of SpaceOrTabEolAtEol T alone r = L.at_eol-law ready_of ends_of weight_of eol-within T alone r
+laws_of SpaceOrTabEolAfterEol T alone r = L.after_eol-law ready_of ends_of weight_of eol-within T alone r
+laws_of SpaceOrTabEolAfterMore T alone r = L.after_more-law ready_of ends_of weight_of T alone
 laws_of DataStart T alone r = D.start-law ready_of ends_of weight_of data-within T alone
 laws_of DataAtBreak T alone r = D.at_break-law ready_of ends_of weight_of data-within T alone
 laws_of DataInside T alone r = D.inside-law ready_of ends_of weight_of data-within T alone r

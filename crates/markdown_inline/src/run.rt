@@ -1,6 +1,6 @@
 //! Runs over a content.
 ghost use Rattle.std.specs.Prelude.{◌≡◌, ◌-◌, ◌≤◌, IsUtf8, false, true, [], ◌∷◌, take, drop, length, IfOk, IsErr, OnErr, IsTrue};
-ghost use Rattle.markdown_inline.specs.Construct.{IsConstruct, construct_reading, ReadsOrStays};
+ghost use Rattle.markdown_inline.specs.Construct.{IsConstruct, construct_reading, chain_before, fields_after, ReadsOrStays};
 ghost use Rattle.markdown_engine.specs.Content.{IsContent, content_of, document_limit};
 ghost use Rattle.markdown_inline.specs.LineEdges.{has_bare_line_endings};
 ghost use Rattle.markdown_inline.specs.Settings.{setting_of};
@@ -71,15 +71,21 @@ fn put_back<'a>(
     tokenizer.cursor = cursor;
 }
 
-/// Reads one construct at the tokenizer's place, by the name of the state that starts it: `CharacterEscapeStart` or `DataStart`, which
-/// takes the bytes at which it stops from the scratch field `markers`, and holds everywhere.
+/// Reads one construct at the tokenizer's place, by the name of the state that starts it: `CharacterEscapeStart`, `CharacterReferenceStart`,
+/// `HardBreakEscapeStart`, `AutolinkStart`, `RawTextStart` (a code span, or a math span); `DataStart`, which takes the bytes at which it stops
+/// from the scratch field `markers`, and holds everywhere; `SpaceOrTabStart` or `SpaceOrTabEolStart`, after the setter that asks for it.
 ///
 /// Where the construct holds, its events are appended, and the tokenizer stands at its end; otherwise it is as before. The scratch fields are
-/// as before in either case. The error comes where a growth is refused; then `failed` is true. It comes at once where `failed` is true already.
+/// as before in either case, but that whitespace puts its own fields to rest. The error comes where a growth is refused; then `failed` is
+/// true. It comes at once where `failed` is true already.
+///
+/// The scratch fields that a construct counts in are at rest before, as they are in a new tokenizer. `RawTextStart` and `SpaceOrTabEolStart`
+/// ask that fewer codes are left than a `usize` counts, which holds over every content: it has at most four codes for each byte. Whitespace
+/// that is to be connected asks for a linked event just before; with a line ending, if it is linked, no blank code is at hand.
 pub fn construct(name: StateName, tokenizer: &mut Tokenizer) -> Result<bool, AllocError>
-    requires construct { IsConstruct name }
+    requires construct { IsConstruct name tokenizer.old }
     requires alone { tokenizer.old.attempts ≡ [] }
-    ensures reads { IfOk result (λ ok. ReadsOrStays (construct_reading name tokenizer.old) tokenizer.old ok tokenizer.new) }
+    ensures reads { IfOk result (λ ok. ReadsOrStays (construct_reading name tokenizer.old) (chain_before name tokenizer.old) (fields_after name tokenizer.old.tokenize_state) tokenizer.old ok tokenizer.new) }
     ensures failed { IsTrue tokenizer.old.failed → IsErr result }
     ensures err { OnErr result (IsTrue tokenizer.new.failed) }
 {

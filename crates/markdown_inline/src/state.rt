@@ -10,8 +10,8 @@ use markdown_engine::resolve::ResolveName;
 use markdown_engine::state::{State, StateName};
 use markdown_engine::subtokenize::Subresult;
 use markdown_engine::tokenizer::Tokenizer;
-use markdown_leaf::character_escape;
-use markdown_partial::partial_data;
+use markdown_leaf::{autolink, character_escape, character_reference, hard_break_escape, raw_text};
+use markdown_partial::{partial_data, partial_space_or_tab, partial_space_or_tab_eol};
 use std::alloc::AllocError;
 
 // Calls the state of this name, one of those that are built.
@@ -23,6 +23,36 @@ fn dispatch(name: StateName, tokenizer: &mut Tokenizer) -> Result<State, AllocEr
     match name {
         StateName::CharacterEscapeStart => character_escape::start(tokenizer),
         StateName::CharacterEscapeInside => character_escape::inside(tokenizer),
+        StateName::CharacterReferenceStart => character_reference::start(tokenizer),
+        StateName::CharacterReferenceOpen => character_reference::open(tokenizer),
+        StateName::CharacterReferenceNumeric => character_reference::numeric(tokenizer),
+        StateName::CharacterReferenceValue => character_reference::value(tokenizer),
+        StateName::HardBreakEscapeStart => hard_break_escape::start(tokenizer),
+        StateName::HardBreakEscapeAfter => hard_break_escape::after(tokenizer),
+        StateName::AutolinkStart => autolink::start(tokenizer),
+        StateName::AutolinkOpen => autolink::open(tokenizer),
+        StateName::AutolinkSchemeOrEmailAtext => autolink::scheme_or_email_atext(tokenizer),
+        StateName::AutolinkSchemeInsideOrEmailAtext => autolink::scheme_inside_or_email_atext(
+            tokenizer,
+        ),
+        StateName::AutolinkUrlInside => autolink::url_inside(tokenizer),
+        StateName::AutolinkEmailAtext => autolink::email_atext(tokenizer),
+        StateName::AutolinkEmailAtSignOrDot => autolink::email_at_sign_or_dot(tokenizer),
+        StateName::AutolinkEmailLabel => autolink::email_label(tokenizer),
+        StateName::AutolinkEmailValue => autolink::email_value(tokenizer),
+        StateName::RawTextStart => raw_text::start(tokenizer),
+        StateName::RawTextSequenceOpen => raw_text::sequence_open(tokenizer),
+        StateName::RawTextBetween => raw_text::between(tokenizer),
+        StateName::RawTextData => raw_text::data(tokenizer),
+        StateName::RawTextSequenceClose => raw_text::sequence_close(tokenizer),
+        StateName::SpaceOrTabStart => partial_space_or_tab::start(tokenizer),
+        StateName::SpaceOrTabInside => partial_space_or_tab::inside(tokenizer),
+        StateName::SpaceOrTabAfter => partial_space_or_tab::after(tokenizer),
+        StateName::SpaceOrTabEolStart => partial_space_or_tab_eol::start(tokenizer),
+        StateName::SpaceOrTabEolAfterFirst => partial_space_or_tab_eol::after_first(tokenizer),
+        StateName::SpaceOrTabEolAtEol => partial_space_or_tab_eol::at_eol(tokenizer),
+        StateName::SpaceOrTabEolAfterEol => partial_space_or_tab_eol::after_eol(tokenizer),
+        StateName::SpaceOrTabEolAfterMore => partial_space_or_tab_eol::after_more(tokenizer),
         StateName::DataStart => partial_data::start(tokenizer),
         StateName::DataAtBreak => partial_data::at_break(tokenizer),
         StateName::DataInside => partial_data::inside(tokenizer),
