@@ -4,3 +4,4 @@ pub mod StringRun
 pub mod WholeDocument
 pub mod ConstructLemmas
 pub mod WordLemmas
+pub mod StartLemmas

@@ -1,0 +1,36 @@
+-- At the start of a content every construct may be read.
+use Rattle.std.proofs.Common.{◌≡◌, ℕ, ◌≤◌, true, false, Option, Some, None, is_some, List, refl, ap, sym, ◌∙◌, arith}
+use Rattle.markdown_engine.specs.Content.{IsContent}
+use Rattle.markdown_engine.specs.Ops.{Consume, applied, current_of, scratched}
+use Rattle.markdown_engine.specs.Place.{start_of_content}
+use Rattle.markdown_engine.specs.Rest.{at_rest}
+use Rattle.markdown_engine.specs.Weights.{left_at, codes_left}
+use Rattle.markdown_engine.specs.declared.parser.Piece.{Piece}
+use Rattle.markdown_engine.specs.declared.event.Name.TheVariants as N
+use Rattle.markdown_engine.specs.declared.tokenizer.Tokenizer.{Tokenizer}
+use Rattle.markdown_engine.proofs.OpRules.{left-consumed}
+use Rattle.markdown_leaf.proofs.ContentSize.{codes-fit}
+use Rattle.markdown_leaf.specs.RawText as X
+use Rattle.markdown_partial.proofs.AskedLaws.{asked-ready, eol-asked-ready}
+use Rattle.markdown_partial.specs.EolSteps as L
+use Rattle.markdown_partial.specs.SpaceSteps as W
+use Rattle.markdown_partial.specs.SpaceSteps.{most}
+
+pub start-fits : (bytes : List ℕ) (pieces : List Piece) (T : Tokenizer) → IsContent bytes pieces → T.cursor ≡ start_of_content bytes pieces → codes_left T ≤ most
+start-fits bytes pieces T k e = omega (arith, codes-fit bytes pieces k, ap left_at e)
+
+pub start-spans : (T : Tokenizer) → T.tokenize_state ≡ at_rest → codes_left T ≤ most → X.StartReady T
+start-spans T e fits = record { rest = e ∙ ap X.rested (sym e); fits = omega (arith, fits) }
+
+-- Whitespace that is asked for, where nothing is.
+
+pub start-space : (min max : ℕ) (T : Tokenizer) → T.tokenize_state ≡ at_rest → W.StartReady (scratched (W.asked min max N.SpaceOrTab false None T.tokenize_state) T)
+start-space min max T e = asked-ready min max N.SpaceOrTab false None T (ap W.rested e ∙ sym e) (λ h. cc)
+
+pub start-spacing : (T : Tokenizer) → T.tokenize_state ≡ at_rest → codes_left T ≤ most → L.StartReady (scratched (L.eol_asked false None T.tokenize_state) T)
+start-spacing T e fits =
+    eol-asked-ready false None T fits (record { space = ap W.rested e ∙ sym e; eol = ap L.eol_rested e ∙ sym e }) (λ h. cc) (λ h. cc) (λ h. refl)
+
+pub past-fits : (o : Option ℕ) (T : Tokenizer) → o ≡ current_of T → is_some o ≡ true → codes_left T ≤ most → codes_left (applied Consume T) ≤ most
+past-fits None T e h fits = cc
+past-fits (Some v) T e h fits = omega (arith, left-consumed T v (sym e), fits)
