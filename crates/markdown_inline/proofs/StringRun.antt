@@ -17,7 +17,6 @@ use Rattle.markdown_engine.proofs.ChainTree.{chained-whole}
 use Rattle.markdown_engine.proofs.EndsLemmas.{row-empty}
 use Rattle.markdown_model.specs.Passes.{merged}
 use Rattle.markdown_model.specs.Inline.{string_events}
-use Rattle.markdown_leaf.specs.CharacterEscape.{is_on}
 use Rattle.markdown_partial.specs.Merge.{HasData}
 use Rattle.markdown_inline.specs.LineEdges.{has_bare_line_endings}
 use Rattle.markdown_inline.specs.Onto.{merged_onto}
@@ -25,7 +24,7 @@ use Rattle.markdown_inline.specs.Resolve.{MergesData, may_resolve_of, resolves_o
 use Rattle.markdown_inline.specs.Settings.{setting_of}
 use Rattle.markdown_inline.specs.StringItems.{Item, AreItems, items_row}
 use Rattle.markdown_inline.proofs.StringTree.{tree-of-string}
-use Rattle.markdown_inline.specs.StringSteps.{string_marked, string_passed, BeforeEnd, start_ends}
+use Rattle.markdown_inline.specs.StringSteps.{is_on, string_marked, string_passed, BeforeEnd, start_ends}
 use Rattle.markdown_inline.specs.Laws.MergeLemmas.{merged-row}
 
 abbrev string_passes : List ResolveName
@@ -87,21 +86,21 @@ string-codes : (T : Tokenizer) (bytes : List ℕ) (pieces : List Piece) → T.cu
 unfolding scratched start_of_content ahead_at
 string-codes T bytes pieces e = ap ahead_at e
 
-string-on : (T : Tokenizer) (p : ParseState) → T.parse_state.now ≡ p → is_on (string_marked T) ≡ p.options.now.constructs.character_escape
+string-on : (T : Tokenizer) (p : ParseState) → T.parse_state.now ≡ p → is_on (string_marked T) ≡ p.options.now.constructs
 unfolding scratched
-string-on T p e = ap (λ (x : ParseState). x.options.now.constructs.character_escape) e
+string-on T p e = ap (λ (x : ParseState). x.options.now.constructs) e
 
-items-events : (p : ParseState) (pieces : List Piece) (is : List Item) → p.options.now.constructs.character_reference ≡ false → has_bare_line_endings (content_of p.bytes.now pieces) ≡ true → AreItems p.options.now.constructs.character_escape is (content_of p.bytes.now pieces) → events_of (merged (items_row is)) ≡ string_events (setting_of p) pieces
-items-events p pieces is off bare are = ap events_of (sym (tree-of-string (setting_of p) is (content_of p.bytes.now pieces) off bare are))
+items-events : (p : ParseState) (pieces : List Piece) (is : List Item) → has_bare_line_endings (content_of p.bytes.now pieces) ≡ true → AreItems p.options.now.constructs is (content_of p.bytes.now pieces) → events_of (merged (items_row is)) ≡ string_events (setting_of p) pieces
+items-events p pieces is bare are = ap events_of (sym (tree-of-string (setting_of p) is (content_of p.bytes.now pieces) refl bare are))
 
 -- the events after a run over a string and its passes
-pub string-run : (p : ParseState) (pieces : List Piece) (T U V : Tokenizer) (ok : Bool) → T.parse_state.now ≡ p → T.cursor ≡ start_of_content p.bytes.now pieces → T.events ≡ [] → T.resolvers ≡ [] → start_ends T ok U → Resolves resolves_of U.resolvers (unregistered U) V → p.options.now.constructs.character_reference ≡ false → has_bare_line_endings (content_of p.bytes.now pieces) ≡ true → chained V.events ≡ string_events (setting_of p) pieces
-string-run p pieces T U V true input place e f k r off bare =
-    let on : is_on (string_marked T) ≡ p.options.now.constructs.character_escape = string-on T p input in
-    let are : AreItems p.options.now.constructs.character_escape k.items (content_of p.bytes.now pieces) =
+pub string-run : (p : ParseState) (pieces : List Piece) (T U V : Tokenizer) (ok : Bool) → T.parse_state.now ≡ p → T.cursor ≡ start_of_content p.bytes.now pieces → T.events ≡ [] → T.resolvers ≡ [] → start_ends T ok U → Resolves resolves_of U.resolvers (unregistered U) V → has_bare_line_endings (content_of p.bytes.now pieces) ≡ true → chained V.events ≡ string_events (setting_of p) pieces
+string-run p pieces T U V true input place e f k r bare =
+    let on : is_on (string_marked T) ≡ p.options.now.constructs = string-on T p input in
+    let are : AreItems p.options.now.constructs k.items (content_of p.bytes.now pieces) =
     subst (λ b. AreItems b k.items (content_of p.bytes.now pieces)) on (subst (λ cs. AreItems (is_on (string_marked T)) k.items cs) (string-codes T p.bytes.now pieces place) k.are_items) in
     ap chained (resolved T U V e f k r).events
     ∙ chained-whole (merged k.tree)
     ∙ ap events_of (merged-onto-nothing k.tree ∙ k.reads_as empty ∙ sym (merged-onto-nothing (items_row k.items)))
-    ∙ items-events p pieces k.items off bare are
-string-run p pieces T U V false input place e f k r off bare = absurd k
+    ∙ items-events p pieces k.items bare are
+string-run p pieces T U V false input place e f k r bare = absurd k

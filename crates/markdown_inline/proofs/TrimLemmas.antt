@@ -4,6 +4,7 @@ use Rattle.std.specs.Prelude.{reverse}
 use Rattle.std.proofs.lemmas.Grind.{reverse_onto}
 use Rattle.std.proofs.lemmas.List.{reverse-reverse}
 use Rattle.markdown_engine.specs.Codes.{Code, is_blank, is_line_ending}
+use Rattle.markdown_engine.specs.declared.configuration.Constructs.{Constructs}
 use Rattle.markdown_engine.specs.Tree.{Forest, empty, leaf_then, group_then, leaf, ◌⊕◌}
 use Rattle.markdown_engine.specs.declared.event.Name.TheVariants as N
 use Rattle.markdown_model.specs.CodeTests.{next_is, is_some_code, first_code, last_code}
@@ -11,7 +12,7 @@ use Rattle.markdown_model.specs.Grammar.{span}
 use Rattle.markdown_model.specs.Passes.{merged, data_onto, trimmed, trimmed_data, begins_line_ending, blank_name}
 use Rattle.markdown_inline.specs.LineEdges.{has_bare_line_endings}
 use Rattle.markdown_inline.specs.Onto.{merged_onto}
-use Rattle.markdown_inline.specs.StringItems.{Item, Escaped, Single, AreItems, code_tree, item_tree, items_row}
+use Rattle.markdown_inline.specs.StringItems.{Item, Escaped, Referenced, Single, AreItems, code_tree, item_tree, item_codes, items_row}
 use Rattle.markdown_inline.specs.Laws.MergeLemmas.{merged-row}
 
 -- Rows that have nothing to trim.
@@ -186,7 +187,37 @@ escaped-trims : (a b : Code) (cs : List Code) (m : Forest) → Trims cs m → Tr
 unfolding begins_blank merged
 escaped-trims a b cs m k = record { trimmed = (tt, k.trimmed); ending = λ h. cc; blank = λ h. cc }
 
-items-trims : (on : Bool) (is : List Item) (cs : List Code) → AreItems on is cs → has_bare_line_endings cs ≡ true → Trims cs (merged (items_row is))
+-- the leaves inside a reference are none that is trimmed
+semi-trims : (b : List Code) → IsTrimmed (merged (leaf N.CharacterReferenceMarkerSemi b))
+unfolding merged
+semi-trims [] = tt
+semi-trims (c ∷ cs) = tt
+
+value-trims : (v : List Code) (rest : Forest) → IsTrimmed (merged rest) → IsTrimmed (merged (leaf N.CharacterReferenceValue v ⊕ rest))
+unfolding merged
+value-trims [] rest k = k
+value-trims (c ∷ cs) rest k = k
+
+hexadecimal-trims : (h : List Code) (rest : Forest) → IsTrimmed (merged rest) → IsTrimmed (merged (leaf N.CharacterReferenceMarkerHexadecimal h ⊕ rest))
+unfolding merged
+hexadecimal-trims [] rest k = k
+hexadecimal-trims (c ∷ cs) rest k = k
+
+number-trims : (n : List Code) (rest : Forest) → IsTrimmed (merged rest) → IsTrimmed (merged (leaf N.CharacterReferenceMarkerNumeric n ⊕ rest))
+unfolding merged
+number-trims [] rest k = k
+number-trims (c ∷ cs) rest k = k
+
+referenced-trims : (a : Code) (n h v b cs : List Code) (m : Forest) → Trims cs m → Trims (item_codes (Referenced a n h v b) ++ cs) (merged_onto (item_tree (Referenced a n h v b)) m)
+unfolding begins_blank merged
+referenced-trims a n h v b cs m k =
+    record { trimmed = (number-trims n _ (hexadecimal-trims h _ (value-trims v _ (semi-trims b))), k.trimmed); ending = λ e. cc; blank = λ e. cc }
+
+bare-after : (xs cs : List Code) → has_bare_line_endings (xs ++ cs) ≡ true → has_bare_line_endings cs ≡ true
+bare-after [] cs e = e
+bare-after (x ∷ xs) cs e = bare-after xs cs (bare-more x (xs ++ cs) e)
+
+items-trims : (on : Constructs) (is : List Item) (cs : List Code) → AreItems on is cs → has_bare_line_endings cs ≡ true → Trims cs (merged (items_row is))
 unfolding begins_blank merged
 items-trims on [] cs k e = record { trimmed = tt; ending = λ h. cc; blank = λ h. cc }
 items-trims on (Single c ∷ is) cs k e =
@@ -199,7 +230,13 @@ items-trims on (Escaped a b ∷ is) cs k e =
     let bare : has_bare_line_endings (a ∷ b ∷ k.0) ≡ true = ap has_bare_line_endings (sym whole) ∙ e in
     let now : Trims (a ∷ b ∷ k.0) (merged_onto (item_tree (Escaped a b)) (merged (items_row is))) = escaped-trims a b k.0 (merged (items_row is)) (items-trims on is k.0 k.1.1.1 (bare-more b k.0 (bare-more a (b ∷ k.0) bare))) in
     subst (λ x. Trims x (merged (items_row (Escaped a b ∷ is)))) (sym whole) (subst (λ x. Trims (a ∷ b ∷ k.0) x) (sym (merged-row (item_tree (Escaped a b)) (items_row is))) now)
+items-trims on (Referenced a n h v b ∷ is) cs k e =
+    let i : Item = Referenced a n h v b in
+    let whole : cs ≡ item_codes i ++ k.0 = k.1.1.0 in
+    let bare : has_bare_line_endings (item_codes i ++ k.0) ≡ true = ap has_bare_line_endings (sym whole) ∙ e in
+    let now : Trims (item_codes i ++ k.0) (merged_onto (item_tree i) (merged (items_row is))) = referenced-trims a n h v b k.0 (merged (items_row is)) (items-trims on is k.0 k.1.1.1 (bare-after (item_codes i) k.0 bare)) in
+    subst (λ x. Trims x (merged (items_row (i ∷ is)))) (sym whole) (subst (λ x. Trims (item_codes i ++ k.0) x) (sym (merged-row (item_tree i) (items_row is))) now)
 
 -- the merged row of a string without blank codes beside its line endings
-pub trimmed-items : (on : Bool) (is : List Item) (cs : List Code) → AreItems on is cs → has_bare_line_endings cs ≡ true → trimmed false false false (merged (items_row is)) ≡ merged (items_row is)
+pub trimmed-items : (on : Constructs) (is : List Item) (cs : List Code) → AreItems on is cs → has_bare_line_endings cs ≡ true → trimmed false false false (merged (items_row is)) ≡ merged (items_row is)
 trimmed-items on is cs k e = trimmed-same false (merged (items_row is)) (λ h. cc) (items-trims on is cs k e).trimmed

@@ -16,9 +16,10 @@ use Rattle.markdown_partial.specs.EolSteps as L
 use Rattle.markdown_partial.specs.SpaceSteps as W
 use Rattle.markdown_util.specs.Reference.{html_5_rows}
 
--- The states that start a construct, each with what it asks for: the scratch fields that it counts in are at rest. A span asks for a content
--- of fewer codes than a `usize` counts, which each content is; and whitespace for the fields of what it reads, as its setter leaves them:
--- where it is to go on with a chain, a linked event stands just before, and where it is linked, it begins with the line ending.
+-- The states that start a construct, each with what it asks for: the scratch fields that it counts in are at rest. A span, and whitespace
+-- with a line ending, ask that fewer codes are left than a `usize` counts, which holds over every content. Whitespace has the fields of what
+-- it reads as its setter leaves them: where it is to go on with a chain, a linked event stands just before, and where whitespace with a line
+-- ending is linked, no blank code is at hand.
 abbrev pub IsConstruct : StateName → Tokenizer → Type 0
 IsConstruct CharacterEscapeStart T = Unit {0}
 IsConstruct CharacterReferenceStart T = R.IsAtRest T

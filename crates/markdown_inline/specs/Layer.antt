@@ -52,7 +52,7 @@ ready_of SpaceOrTabEolAfterMore T = Unit {0}
 ready_of DataStart T = Unit {0}
 ready_of DataAtBreak T = Unit {0}
 ready_of DataInside T = IsOpen N.Data T
-ready_of StringStart T = Unit {0}
+ready_of StringStart T = R.IsAtRest T
 ready_of StringBefore T = S.BeforeReady T
 ready_of StringBeforeData T = S.BeforeDataReady T
 ready_of _ T = ⊥
@@ -170,9 +170,9 @@ rank_of SpaceOrTabEolAfterMore = 4
 rank_of DataStart = 1
 rank_of DataAtBreak = 1
 rank_of DataInside = 2
-rank_of StringStart = 5
-rank_of StringBefore = 4
-rank_of StringBeforeData = 3
+rank_of StringStart = 7
+rank_of StringBefore = 6
+rank_of StringBeforeData = 5
 rank_of _ = 0
 
 abbrev pub weight_of : StateName → Tokenizer → ℕ

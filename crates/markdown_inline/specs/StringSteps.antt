@@ -4,11 +4,13 @@ use Rattle.markdown_engine.specs.Ops.{attempted, scratched, registered, current_
 use Rattle.markdown_engine.specs.Past.{past}
 use Rattle.markdown_engine.specs.Runs.{Stepped, stepped}
 use Rattle.markdown_engine.specs.Tree.{Forest}
+use Rattle.markdown_engine.specs.declared.configuration.Constructs.{Constructs}
 use Rattle.markdown_engine.specs.declared.resolve.ResolveName.TheVariants as R
 use Rattle.markdown_engine.specs.declared.state.State.TheVariants.{Next, Retry, Ok, Nok}
-use Rattle.markdown_engine.specs.declared.state.StateName.TheVariants.{CharacterEscapeStart, DataStart, StringBefore, StringBeforeData}
+use Rattle.markdown_engine.specs.declared.state.StateName.TheVariants.{CharacterEscapeStart, CharacterReferenceStart, DataStart, StringBefore, StringBeforeData}
 use Rattle.markdown_engine.specs.declared.tokenizer.Tokenizer.{Tokenizer}
-use Rattle.markdown_leaf.specs.CharacterEscape.{is_on, escape_here}
+use Rattle.markdown_leaf.specs.CharacterEscape.{escape_here}
+use Rattle.markdown_leaf.specs.CharacterReference.{IsAtRest, reference_here}
 use Rattle.markdown_partial.specs.Merge.{HasData}
 use Rattle.markdown_inline.specs.Onto.{merged_onto}
 use Rattle.markdown_inline.specs.StringItems.{Item, AreItems, items_row}
@@ -33,7 +35,9 @@ before_at None T = stepped Ok (string_passed T)
 before_at (Some c) T =
     if c == 92
     then stepped (Retry CharacterEscapeStart) (attempted false (Next StringBefore) (Next StringBeforeData) T)
-    else stepped (Retry StringBeforeData) T
+    else (if c == 38
+    then stepped (Retry CharacterReferenceStart) (attempted false (Next StringBefore) (Next StringBeforeData) T)
+    else stepped (Retry StringBeforeData) T)
 
 abbrev pub before_step : Tokenizer → Stepped
 before_step T = before_at (current_of T) T
@@ -43,16 +47,23 @@ before_data_step T = stepped (Retry DataStart) (attempted false (Next StringBefo
 
 -- When they may be called.
 
-abbrev pub BeforeReady : Tokenizer → Type 0
-BeforeReady T = T.tokenize_state.markers ≡ string_markers
-
--- a code stands at the place, and no escape
-pub record BeforeDataReady (T : Tokenizer) : Type 0 where
+-- data stops at the markers of a string, and the fields in which a reference counts are at rest
+pub record BeforeReady (T : Tokenizer) : Type 0 where
   pub marked : T.tokenize_state.markers ≡ string_markers
+  pub rest : IsAtRest T
+
+-- a code stands at the place, and neither an escape nor a reference
+pub record BeforeDataReady (T : Tokenizer) : Type 0 where
+  pub before : BeforeReady T
   pub some_code : current_of T ≢ None
   pub no_escape : escape_here T (ahead T) ≡ None
+  pub no_reference : reference_here T (ahead T) ≡ None
 
 -- How runs end.
+
+-- which constructs are looked for
+abbrev pub is_on : Tokenizer → Constructs
+is_on T = T.parse_state.now.options.now.constructs
 
 -- the codes from T on are these items, and U is T past a row that merges to the row of the items
 pub record BeforeEnd (T U : Tokenizer) : Type 0 where

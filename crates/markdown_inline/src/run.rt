@@ -1,5 +1,5 @@
 //! Runs over a content.
-ghost use Rattle.std.specs.Prelude.{◌≡◌, ◌-◌, ◌≤◌, IsUtf8, false, true, [], ◌∷◌, take, drop, length, IfOk, IsErr, OnErr, IsTrue};
+ghost use Rattle.std.specs.Prelude.{◌≡◌, ◌-◌, ◌≤◌, IsUtf8, true, [], ◌∷◌, take, drop, length, IfOk, IsErr, OnErr, IsTrue};
 ghost use Rattle.markdown_inline.specs.Construct.{IsConstruct, construct_reading, chain_before, fields_after, ReadsOrStays};
 ghost use Rattle.markdown_engine.specs.Content.{IsContent, content_of, document_limit};
 ghost use Rattle.markdown_inline.specs.LineEdges.{has_bare_line_endings};
@@ -42,7 +42,7 @@ pub(crate) fn whole_document(bytes: &[u8]) -> Piece
 /// The error comes only where memory is refused.
 pub fn string(alloc: Global, parse_state: &ParseState, pieces: &[Piece]) -> Result<Run, AllocError>
     requires { IsContent parse_state.now.bytes.now pieces.now }
-    ensures events { parse_state.now.options.now.constructs.character_reference ≡ false → has_bare_line_endings (content_of parse_state.now.bytes.now pieces.now) ≡ true → IfOk result (λ run. run.events.items ≡ string_events (setting_of parse_state.now) pieces.now) }
+    ensures events { has_bare_line_endings (content_of parse_state.now.bytes.now pieces.now) ≡ true → IfOk result (λ run. run.events.items ≡ string_events (setting_of parse_state.now) pieces.now) }
     ensures probes { IfOk result (λ run. run.probes ≡ 0) }
 {
     let mut tokenizer = Tokenizer::new(alloc, parse_state, pieces);
@@ -81,7 +81,8 @@ fn put_back<'a>(
 ///
 /// The scratch fields that a construct counts in are at rest before, as they are in a new tokenizer. `RawTextStart` and `SpaceOrTabEolStart`
 /// ask that fewer codes are left than a `usize` counts, which holds over every content: it has at most four codes for each byte. Whitespace
-/// that is to be connected asks for a linked event just before; with a line ending, if it is linked, no blank code is at hand.
+/// that is to be connected asks for a linked event just before, and with a line ending for a content too; and where whitespace with a line
+/// ending has a content, no blank code is at hand.
 pub fn construct(name: StateName, tokenizer: &mut Tokenizer) -> Result<bool, AllocError>
     requires construct { IsConstruct name tokenizer.old }
     requires alone { tokenizer.old.attempts ≡ [] }

@@ -45,6 +45,13 @@ pub fn before(tokenizer: &mut Tokenizer) -> Result<State, AllocError>
             )?;
             Ok(State::Retry(StateName::CharacterEscapeStart))
         }
+        Some(b'&') => {
+            tokenizer.attempt(
+                State::Next(StateName::StringBefore),
+                State::Next(StateName::StringBeforeData),
+            )?;
+            Ok(State::Retry(StateName::CharacterReferenceStart))
+        }
         _ => Ok(State::Retry(StateName::StringBeforeData)),
     }
 }

@@ -6,14 +6,17 @@ use Rattle.markdown_engine.specs.Lists.{first_of}
 use Rattle.markdown_engine.specs.Ops.{ahead, current_of}
 use Rattle.markdown_engine.specs.Place.{value_of}
 use Rattle.markdown_engine.specs.Past.{past, last_link, Reads}
-use Rattle.markdown_engine.specs.Tree.{Forest, empty, leaf_then, group_then, ◌⊕◌}
+use Rattle.markdown_engine.specs.Tree.{Forest, empty, leaf, leaf_then, group_then, ◌⊕◌}
 use Rattle.markdown_engine.specs.Weights.{codes_left}
+use Rattle.markdown_engine.specs.declared.configuration.Constructs.{Constructs}
+use Rattle.markdown_engine.specs.declared.event.Name.{Name}
 use Rattle.markdown_engine.specs.declared.event.Name.TheVariants as N
 use Rattle.markdown_engine.specs.declared.tokenizer.Tokenizer.{Tokenizer}
 use Rattle.markdown_engine.proofs.EndsLemmas.{scratched-same}
 use Rattle.markdown_engine.proofs.OpRules.{left-ahead, current-ahead}
 use Rattle.markdown_engine.proofs.TreeLemmas.{past-past}
-use Rattle.markdown_leaf.specs.CharacterEscape.{is_on, escape_here}
+use Rattle.markdown_leaf.specs.CharacterEscape.{escape_here}
+use Rattle.markdown_leaf.specs.CharacterReference.{reference_here}
 use Rattle.markdown_leaf.proofs.WholeReadings.{both-parts}
 use Rattle.markdown_model.specs.CodeTests.{is_among}
 use Rattle.markdown_engine.specs.Codes.{is_line_ending}
@@ -22,11 +25,11 @@ use Rattle.markdown_model.specs.Lines.{data_up_to, line_leaves, line_leaf, lines
 use Rattle.markdown_model.specs.Leaf.{escape_tree}
 use Rattle.markdown_model.specs.LabelEnd.{plain}
 use Rattle.markdown_partial.proofs.LineLemmas.{span-parts}
-use Rattle.markdown_partial.specs.Merge.{HasData}
+use Rattle.markdown_partial.specs.Merge.{HasData, is_data}
 use Rattle.markdown_inline.specs.Onto.{merged_onto}
-use Rattle.markdown_inline.specs.StringItems.{Item, Escaped, Single, AreItems, item_tree, items_row}
-use Rattle.markdown_inline.specs.StringSteps.{string_markers, string_passed, BeforeReady, BeforeEnd, before_ends}
-use Rattle.markdown_inline.specs.Laws.ItemLemmas.{escape-parts, escaped-element, single-element, data-items}
+use Rattle.markdown_inline.specs.StringItems.{Item, Escaped, Referenced, Single, AreItems, item_tree, item_codes, items_row}
+use Rattle.markdown_inline.specs.StringSteps.{is_on, string_markers, string_passed, BeforeReady, BeforeEnd, before_ends}
+use Rattle.markdown_inline.specs.Laws.ItemLemmas.{escape-parts, reference-parts, escaped-element, referenced-element, single-element, data-items}
 use Rattle.markdown_inline.specs.Laws.MergeLemmas.{onto-row, lines-singles, leaf_by, line-leaf}
 
 -- U stands past the first items of the codes from T on
@@ -60,7 +63,11 @@ on-past t T U e = ap is_on e
 
 ready-past : (t : Forest) (T U : Tokenizer) → U ≡ past None t T → BeforeReady T → BeforeReady U
 unfolding past
-ready-past t T U e r = ap (λ (x : Tokenizer). x.tokenize_state.markers) e ∙ r
+ready-past t T U e r =
+    record {
+      marked = ap (λ (x : Tokenizer). x.tokenize_state.markers) e ∙ r.marked;
+      rest = record { marker = ap (λ (x : Tokenizer). x.tokenize_state.marker) e ∙ r.rest.marker; size = ap (λ (x : Tokenizer). x.tokenize_state.size) e ∙ r.rest.size };
+    }
 
 pub passes-ready : (T U : Tokenizer) → Passes T U → BeforeReady T → BeforeReady U
 passes-ready T U p r = ready-past p.tree T U p.left r
@@ -97,7 +104,7 @@ shorter T U c cs rest e f = omega (arith, left-ahead T, left-ahead U, ap length 
 
 escape-passes : (T U : Tokenizer) (t : Forest) (rest : List Code) → escape_here T (ahead T) ≡ Some (t, rest) → U ≡ past None t T → ahead U ≡ rest → Passes T U
 escape-passes T U t rest holds e after =
-    let k = escape-parts (is_on T) (ahead T) t rest holds in
+    let k = escape-parts (is_on T).character_escape (ahead T) t rest holds in
     let a : Code = k.holds.0 in
     let b : Code = k.holds.1.0 in
     let is : t ≡ escape_tree (a ∷ []) (b ∷ []) = k.holds.1.1.0 in
@@ -115,6 +122,38 @@ escape-passes T U t rest holds e after =
 
 pub escape-past : (T U : Tokenizer) → Reads (escape_here T) None T.tokenize_state T U → Passes T U
 escape-past T U k = escape-passes T U k.tree k.rest k.holds (k.left ∙ ap (past None k.tree) (scratched-same T)) k.after
+
+-- A reference.
+
+HasData-other : (n : Name) (cs : List Code) → is_data n ≡ false → HasData (leaf n cs)
+HasData-other n [] e = tt
+HasData-other n (c ∷ cs) e = (λ h. cc, tt)
+
+HasData-reference : (a : Code) (n h v b : List Code) → HasData (item_tree (Referenced a n h v b))
+HasData-reference a n h v b =
+    let last : HasData (leaf N.CharacterReferenceValue v ⊕ leaf N.CharacterReferenceMarkerSemi b) = HasData-row (leaf N.CharacterReferenceValue v) (leaf N.CharacterReferenceMarkerSemi b) (HasData-other N.CharacterReferenceValue v refl) (HasData-other N.CharacterReferenceMarkerSemi b refl) in
+    let more : HasData (leaf N.CharacterReferenceMarkerHexadecimal h ⊕ leaf N.CharacterReferenceValue v ⊕ leaf N.CharacterReferenceMarkerSemi b) =
+    HasData-row (leaf N.CharacterReferenceMarkerHexadecimal h) (leaf N.CharacterReferenceValue v ⊕ leaf N.CharacterReferenceMarkerSemi b) (HasData-other N.CharacterReferenceMarkerHexadecimal h refl) last in
+    (refl, (((λ e. cc), HasData-row (leaf N.CharacterReferenceMarkerNumeric n) _ (HasData-other N.CharacterReferenceMarkerNumeric n refl) more), tt))
+
+reference-passes : (T U : Tokenizer) (t : Forest) (rest : List Code) → escape_here T (ahead T) ≡ None → reference_here T (ahead T) ≡ Some (t, rest) → U ≡ past None t T → ahead U ≡ rest → Passes T U
+reference-passes T U t rest none holds e after =
+    let k = reference-parts (is_on T).character_reference (ahead T) t rest holds in
+    let i : Item = Referenced k.holds.front k.holds.number k.holds.hexadecimal k.holds.value k.holds.back in
+    let whole : ahead T ≡ item_codes i ++ rest = k.whole ∙ ap (λ xs. xs ++ rest) (sym k.holds.whole) in
+    record {
+      items = i ∷ [];
+      tree = t;
+      goes_on = λ more h. (rest, (referenced-element (is_on T) (ahead T) t rest none holds ∙ ap (λ x. Some (plain x, rest)) k.holds.is, (whole, subst (λ xs. AreItems (is_on T) more xs) after h)));
+      reads_as = λ m. ap (λ x. merged_onto x m) k.holds.is;
+      has_data = subst HasData (sym k.holds.is) (HasData-reference k.holds.front k.holds.number k.holds.hexadecimal k.holds.value k.holds.back);
+      unlinked = ap (λ x. last_link (length T.events) None x) k.holds.is;
+      left = e;
+      less = shorter T U k.holds.front (k.holds.number ++ (k.holds.hexadecimal ++ (k.holds.value ++ k.holds.back))) rest whole after;
+    }
+
+pub reference-past : (T U : Tokenizer) → escape_here T (ahead T) ≡ None → Reads (reference_here T) None T.tokenize_state T U → Passes T U
+reference-past T U none k = reference-passes T U k.tree k.rest none k.holds (k.left ∙ ap (past None k.tree) (scratched-same T)) k.after
 
 -- Data.
 
@@ -142,13 +181,14 @@ HasData-lines ([] ∷ ss) = HasData-lines ss
 HasData-lines ((c ∷ cs) ∷ ss) =
     HasData-row (line_leaf N.Data None (c ∷ cs)) (line_leaves N.Data ss) (subst HasData (sym (line-leaf (is_line_ending c) c cs refl)) (HasData-leaf (is_line_ending c) c cs)) (HasData-lines ss)
 
-data-passes : (T U : Tokenizer) (c : Code) (cs : List Code) (t : Forest) (rest : List Code) → escape_here T (ahead T) ≡ None → ahead T ≡ c ∷ cs → line_leaves N.Data (lines_of (c ∷ (unmarked_span cs).0)) ≡ t → (unmarked_span cs).1 ≡ rest → U ≡ past None t T → ahead U ≡ rest → Passes T U
-data-passes T U c cs t rest none whole is from e after =
-    let on : Bool = is_on T in
+data-passes : (T U : Tokenizer) (c : Code) (cs : List Code) (t : Forest) (rest : List Code) → escape_here T (ahead T) ≡ None → reference_here T (ahead T) ≡ None → ahead T ≡ c ∷ cs → line_leaves N.Data (lines_of (c ∷ (unmarked_span cs).0)) ≡ t → (unmarked_span cs).1 ≡ rest → U ≡ past None t T → ahead U ≡ rest → Passes T U
+data-passes T U c cs t rest none plain_code whole is from e after =
+    let on : Constructs = is_on T in
     let s : List Code × List Code = unmarked_span cs in
     let no_escape : escape_here T (c ∷ cs) ≡ None = ap (escape_here T) (sym whole) ∙ none in
+    let no_reference : reference_here T (c ∷ cs) ≡ None = ap (reference_here T) (sym whole) ∙ plain_code in
     let goes : (more : List Item) → AreItems on more s.1 → AreItems on (map Single (c ∷ s.0) ++ more) (c ∷ cs) =
-    λ more h. (cs, (single-element on c cs no_escape, (refl, data-items on cs more h))) in
+    λ more h. (cs, (single-element on c cs no_escape no_reference, (refl, data-items on cs more h))) in
     record {
       items = map Single (c ∷ s.0);
       tree = t;
@@ -168,9 +208,9 @@ some-ahead : (T : Tokenizer) (cs : List Code) → ahead T ≡ cs → current_of 
 some-ahead T [] e h = absurd (h (current-ahead T ∙ ap (λ xs. value_of (first_of xs)) e))
 some-ahead T (c ∷ xs) e h = (c, (xs, refl))
 
-pub data-past : (T U : Tokenizer) → T.tokenize_state.markers ≡ string_markers → current_of T ≢ None → escape_here T (ahead T) ≡ None → Reads (data_up_to T.tokenize_state.markers) None T.tokenize_state T U → Passes T U
-data-past T U marked some none k =
+pub data-past : (T U : Tokenizer) → T.tokenize_state.markers ≡ string_markers → current_of T ≢ None → escape_here T (ahead T) ≡ None → reference_here T (ahead T) ≡ None → Reads (data_up_to T.tokenize_state.markers) None T.tokenize_state T U → Passes T U
+data-past T U marked some none plain_code k =
     let a = some-ahead T (ahead T) refl some in
     let holds : data_up_to string_markers (ahead T) ≡ Some (k.tree, k.rest) = ap (λ ns. data_up_to ns (ahead T)) (sym marked) ∙ k.holds in
     let d = data-reads (ahead T) a.0 a.1.0 k.tree k.rest a.1.1 holds in
-    data-passes T U a.0 a.1.0 k.tree k.rest none a.1.1 d.0 d.1 (k.left ∙ ap (past None k.tree) (scratched-same T)) k.after
+    data-passes T U a.0 a.1.0 k.tree k.rest none plain_code a.1.1 d.0 d.1 (k.left ∙ ap (past None k.tree) (scratched-same T)) k.after

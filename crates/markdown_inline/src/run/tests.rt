@@ -122,6 +122,49 @@ fn reads_a_string(rt: HostRuntime) -> Result<(), Fail> {
 }
 
 #[test]
+fn reads_a_reference_in_a_string(rt: HostRuntime) -> Result<(), Fail> {
+    let alloc = rt.alloc();
+    let options = ParseOptions::default();
+    let text = "&#x41;";
+    assert!(rt; text.len() < 100);
+    let parse_state = state_of(alloc, text.as_bytes(), &options);
+    let pieces = [whole_document(text.as_bytes())];
+    let run = string(alloc, &parse_state, &pieces)?;
+    let names = entered(alloc, run.events.as_slice())?;
+    let want = [
+        (Name::CharacterReference, 0),
+        (Name::CharacterReferenceMarker, 0),
+        (Name::CharacterReferenceMarkerNumeric, 1),
+        (Name::CharacterReferenceMarkerHexadecimal, 2),
+        (Name::CharacterReferenceValue, 3),
+        (Name::CharacterReferenceMarkerSemi, 5),
+    ];
+    assert_eq!(rt; names.as_slice(), want.as_slice());
+    Ok(())
+}
+
+#[test]
+fn reads_references_in_strings(rt: HostRuntime) -> Result<(), Fail> {
+    let alloc = rt.alloc();
+    let options = ParseOptions::default();
+    for (text, events) in [
+        ("&amp;", 8),
+        ("&#12345678;", 2),
+        ("&nosuch;", 2),
+        ("&#xFFFFFFF;", 2),
+        ("&#;", 2),
+        ("&amp", 2),
+    ] {
+        assert!(rt; text.len() < 100);
+        let parse_state = state_of(alloc, text.as_bytes(), &options);
+        let pieces = [whole_document(text.as_bytes())];
+        let run = string(alloc, &parse_state, &pieces)?;
+        assert_eq!(rt; run.events.len(), events, "{text}");
+    }
+    Ok(())
+}
+
+#[test]
 fn reads_single_escapes(rt: HostRuntime) -> Result<(), Fail> {
     let alloc = rt.alloc();
     let options = ParseOptions::default();

@@ -11,7 +11,7 @@ resolve_all-requires c =
     c.in_ok-run_state.ensures.ends
 
 pub returns-clause-events : goal.returns-clause-events
-returns-clause-events c = λ off bare.
+returns-clause-events c = λ bare.
     c.into_vec.ensures
     ∙ string-run c.args.parse_state.now c.args.pieces.now c.new-tokenizer.result c.run_state.new.self c.resolve_all.new.self c.in_ok-run_state.field-0
     (ap (λ (x : Tokenizer). x.parse_state.now) c.new-tokenizer.ensures)
@@ -20,7 +20,7 @@ returns-clause-events c = λ off bare.
     (ap (λ (x : Tokenizer). x.resolvers) c.new-tokenizer.ensures)
     c.in_ok-run_state.ensures.ends
     c.in_ok-resolve_all.ensures.ok
-    off bare
+    bare
 
 pub returns-clause-probes : goal.returns-clause-probes
 returns-clause-probes c =

@@ -1,5 +1,4 @@
-use Rattle.std.proofs.Common.{◌≡◌, ap}
-use Rattle.markdown_engine.specs.Rest.{at_rest}
+use Rattle.std.proofs.Common.{ap}
 use Rattle.markdown_engine.specs.declared.tokenizer.Tokenizer.{Tokenizer}
 use Rattle.markdown_inline.proofs.StartLemmas.{start-fits, start-spans}
 use Rattle.markdown_inline.proofs.run.tests.at_start.Goals as goal
