@@ -9,3 +9,7 @@ pub mod EolLaws
 pub mod AskedLaws
 pub mod MergeMarks
 pub mod MergeLaws
+pub mod TrimWalks
+pub mod TrimRows
+pub mod TrimMarks
+pub mod TrimLaws

@@ -433,7 +433,7 @@ drop-whole k [] ys l = let same : k ≡ 0 = sym l in ap (λ i. drop i ys) same
 drop-whole zero (x ∷ xs) ys l = absurd (omega (arith, l))
 drop-whole (suc k) (x ∷ xs) ys l = drop-whole k xs ys (omega (arith, l))
 
-drop-part : {A : Type 0} → (n k : ℕ) (es xs ys : List A) → drop n es ≡ xs ++ ys → length xs ≡ k → drop (n + k) es ≡ ys
+pub drop-part : {A : Type 0} → (n k : ℕ) (es xs ys : List A) → drop n es ≡ xs ++ ys → length xs ≡ k → drop (n + k) es ≡ ys
 drop-part n k es xs ys h l = sym (drop-drop k n es) ∙ ap (drop k) h ∙ drop-whole k xs ys l
 
 law-group : (es : List Event) (name : Name) (a b : Point) (inside rest : Forest) → Law es inside → Law es rest → Law es (group_then name a b inside rest)

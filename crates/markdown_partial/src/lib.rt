@@ -5,3 +5,4 @@ mod leaf;
 pub mod partial_data;
 pub mod partial_space_or_tab;
 pub mod partial_space_or_tab_eol;
+pub mod partial_whitespace;

@@ -91,7 +91,7 @@ pub fn inside(tokenizer: &mut Tokenizer) -> Result<State, AllocError>
 }
 
 // Whether this is the Enter of data without a link.
-fn opens_data(event: &Event) -> bool
+pub(crate) fn opens_data(event: &Event) -> bool
     ensures { result ≡ opens_data event.now }
 {
     matches!(

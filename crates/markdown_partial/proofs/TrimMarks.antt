@@ -1,0 +1,309 @@
+-- the edits of data, one by one
+use Rattle.std.proofs.Common.{◌≡◌, ℕ, zero, suc, ◌+◌, ◌<◌, ◌≤◌, ◌==◌, ◌&&◌, not, Bool, true, false, List, [], ◌∷◌, ◌++◌, length, drop, get_or, refl, sym, ap, subst, ◌∙◌, arith, append_assoc, append-nil, inl, inr, if◌then◌else◌}
+use Rattle.std.proofs.lemmas.List.{drop_more, drop_all}
+use Rattle.std.proofs.lemmas.Bool.{cases_lt, cases_Bool}
+use Rattle.std.proofs.lemmas.Bool.Decides.{nat_tests}
+use Rattle.std.proofs.lemmas.List.Elements.{All-nil, All-cons}
+use Rattle.std.specs.List.{All}
+use Rattle.markdown_engine.specs.Chain.{has_link, linked_at}
+use Rattle.markdown_engine.specs.Edits.{removed_at, front_at, back_at, added_at, is_removed, CanEdit}
+use Rattle.markdown_engine.specs.declared.event.Event.{Event}
+use Rattle.markdown_engine.specs.declared.util.edit_map.Edit.{Edit}
+use Rattle.markdown_engine.proofs.EditFacts.{stays-where, goes-where}
+use Rattle.markdown_partial.specs.Merge.{is_enter, is_data, opens_data}
+use Rattle.markdown_partial.specs.Trim.{trimmed_events, IsStretch}
+use Rattle.markdown_partial.specs.TrimEvents.{opens_ending, closes_ending, goes_before, trim, trim_first, trims, ClosesAt, FirstHasPlaces, HasPlaces}
+use Rattle.markdown_partial.proofs.TrimWalks.{bool-clash}
+
+-- At the first event.
+
+pub goes-end : (whole : Bool) (i : ℕ) (es : List Event) → length es ≤ i → whole ≡ goes_before whole (drop i es)
+goes-end whole i es l = ap (goes_before whole) (sym (drop_all i es l))
+
+pub goes-here : (whole : Bool) (i : ℕ) (es : List Event) (e : Event) → i < length es → e ≡ get_or es i e → opens_ending e ≡ goes_before whole (drop i es)
+goes-here whole i es e l h = ap (goes_before whole) (sym (drop_more es i e l ∙ ap (λ x. x ∷ drop (i + 1) es) (sym h)))
+
+pub first-plain : (bytes : List ℕ) (whole : Bool) (n : ℕ) (front : Bool) (e : Event) (es : List Event) → opens_data e ≡ false → trim_first bytes whole n front (e ∷ es) ≡ []
+first-plain bytes whole n front e [] h = refl
+first-plain bytes whole n front e (x ∷ es) h = ap (λ b. if b then trim bytes whole n front e x es ∷ [] else []) h
+
+pub first-data : (bytes : List ℕ) (whole : Bool) (n : ℕ) (front : Bool) (e x : Event) (es : List Event) → opens_data e ≡ true → trim_first bytes whole n front (e ∷ x ∷ es) ≡ trim bytes whole n front e x es ∷ []
+first-data bytes whole n front e x es h = ap (λ b. if b then trim bytes whole n front e x es ∷ [] else []) h
+
+pub head-drop : (i : ℕ) (es : List Event) (e : Event) → i < length es → e ≡ get_or es i e → drop i es ≡ e ∷ drop (i + 1) es
+head-drop i es e l h = drop_more es i e l ∙ ap (λ x. x ∷ drop (i + 1) es) (sym h)
+
+pub closes-first : (bytes : List ℕ) (i : ℕ) (es : List Event) (e : Event) → i < length es → e ≡ get_or es i e → opens_data e ≡ true → FirstHasPlaces bytes (drop i es) → ClosesAt bytes e (drop (i + 1) es)
+closes-first bytes i es e l h o p = let q = subst (λ (xs : List Event). FirstHasPlaces bytes xs) (head-drop i es e l h) p in q o
+
+some-left : (bytes : List ℕ) (e : Event) (xs : List Event) → ClosesAt bytes e xs → 0 < length xs
+some-left bytes e [] h = absurd h
+some-left bytes e (x ∷ xs) h = omega arith
+
+pub next-within : (bytes : List ℕ) (i : ℕ) (es : List Event) (e : Event) → ClosesAt bytes e (drop (i + 1) es) → i + 1 < length es
+next-within bytes i es e h =
+    elim (cases_lt (i + 1) (length es)) [
+      | inl l ↦ l
+      | inr l ↦ absurd (let m = some-left bytes e (drop (i + 1) es) h in let none = ap length (drop_all (i + 1) es l) in omega (arith, none, m))
+    ]
+
+pub next-stretch : (bytes : List ℕ) (i : ℕ) (es : List Event) (e x : Event) → ClosesAt bytes e (drop (i + 1) es) → i + 1 < length es → x ≡ get_or es (i + 1) x → IsStretch bytes e.point x.point
+next-stretch bytes i es e x h l k = (subst (λ (xs : List Event). ClosesAt bytes e xs) (head-drop (i + 1) es x l k) h).0
+
+pub first-marked : (bytes : List ℕ) (whole : Bool) (i : ℕ) (front back : Bool) (es : List Event) (e x : Event) (old new : List Edit) (ts : List Event) → i < length es → e ≡ get_or es i e → opens_data e ≡ true → i + 1 < length es → x ≡ get_or es (i + 1) x → back ≡ goes_before whole (drop (i + 2) es) → ts ≡ trimmed_events front back bytes e.point x.point → new ≡ old ++ (record { at = i; remove = 2; events = ts; before = false }) ∷ [] → new ≡ old ++ trim_first bytes whole i front (drop i es)
+first-marked bytes whole i front back es e x old new ts l h o m k b t g =
+    let same : i + 1 + 1 ≡ i + 2 = omega arith in
+    let two : drop i es ≡ e ∷ x ∷ drop (i + 2) es = head-drop i es e l h ∙ ap (λ xs. e ∷ xs) (head-drop (i + 1) es x m k ∙ ap (λ j. x ∷ drop j es) same) in
+    g
+    ∙ ap (λ (ys : List Event). old ++ (record { at = i; remove = 2; events = ys; before = false }) ∷ []) (t ∙ ap (λ c. trimmed_events front c bytes e.point x.point) b)
+    ∙ ap (λ ys. old ++ ys) (sym (first-data bytes whole i front e x (drop (i + 2) es) o) ∙ ap (trim_first bytes whole i front) (sym two))
+
+pub first-unmarked : (bytes : List ℕ) (whole : Bool) (i : ℕ) (front : Bool) (es : List Event) (e : Event) (old : List Edit) → i < length es → e ≡ get_or es i e → opens_data e ≡ false → old ≡ old ++ trim_first bytes whole i front (drop i es)
+first-unmarked bytes whole i front es e old l h o =
+    sym (append-nil old) ∙ ap (λ ys. old ++ ys) (sym (first-plain bytes whole i front e (drop (i + 1) es) o) ∙ ap (trim_first bytes whole i front) (sym (head-drop i es e l h)))
+
+-- One after the other.
+
+pub first-places : (bytes : List ℕ) (es : List Event) → HasPlaces bytes es → FirstHasPlaces bytes es
+first-places bytes [] h = tt
+first-places bytes (e ∷ es) h = h.0
+
+pub places-more : (bytes : List ℕ) (i : ℕ) (es : List Event) (e : Event) → i < length es → e ≡ get_or es i e → HasPlaces bytes (drop i es) → HasPlaces bytes (drop (i + 1) es)
+places-more bytes i es e l h p = (subst (λ (xs : List Event). HasPlaces bytes xs) (head-drop i es e l h) p).1
+
+pub trims-more : (bytes : List ℕ) (whole : Bool) (i : ℕ) (front more : Bool) (es : List Event) (e : Event) (old new all : List Edit) → i < length es → e ≡ get_or es i e → more ≡ closes_ending e → new ≡ old ++ trim_first bytes whole i front (drop i es) → old ++ trims bytes whole i front (drop i es) ≡ all → new ++ trims bytes whole (i + 1) more (drop (i + 1) es) ≡ all
+trims-more bytes whole i front more es e old new all l h c g k =
+    let here : List Edit = trim_first bytes whole i front (drop i es) in
+    let rest : List Edit = trims bytes whole (i + 1) more (drop (i + 1) es) in
+    let one : suc i ≡ i + 1 = omega arith in
+    let step : trims bytes whole i front (drop i es) ≡ here ++ rest =
+    ap (trims bytes whole i front) (head-drop i es e l h)
+    ∙ ap (λ ys. trim_first bytes whole i front ys ++ trims bytes whole (suc i) (closes_ending e) (drop (i + 1) es)) (sym (head-drop i es e l h))
+    ∙ ap (λ j. here ++ trims bytes whole j (closes_ending e) (drop (i + 1) es)) one
+    ∙ ap (λ b. here ++ trims bytes whole (i + 1) b (drop (i + 1) es)) (sym c) in
+    ap (λ ys. ys ++ rest) g ∙ append_assoc old here rest ∙ ap (λ ys. old ++ ys) (sym step) ∙ k
+
+pub trims-end : (bytes : List ℕ) (whole : Bool) (i : ℕ) (front : Bool) (es : List Event) (log all : List Edit) → length es ≤ i → log ++ trims bytes whole i front (drop i es) ≡ all → log ≡ all
+trims-end bytes whole i front es log all l k = sym (append-nil log) ∙ ap (λ ys. log ++ trims bytes whole i front ys) (sym (drop_all i es l)) ∙ k
+
+-- What the edits collect at a place.
+
+-- the events begin with data
+abbrev pub begins_data : List Event → Bool
+begins_data [] = false
+begins_data (e ∷ []) = false
+begins_data (e ∷ x ∷ es) = opens_data e
+
+abbrev pub comes : List ℕ → Bool → Bool → List Event → List Event
+comes bytes whole front [] = []
+comes bytes whole front (e ∷ []) = []
+comes bytes whole front (e ∷ x ∷ es) = if opens_data e then trimmed_events front (goes_before whole es) bytes e.point x.point else []
+
+-- whether blank codes behind what stands before event k go
+abbrev pub flag : ℕ → Bool → List Event → Bool
+flag zero front es = front
+flag (suc k) front [] = front
+flag (suc k) front (e ∷ es) = flag k (closes_ending e) es
+
+abbrev pub two : Bool → ℕ
+two true = 2
+two false = 0
+
+abbrev none : List Event
+none = []
+
+zero-plus : (n : ℕ) → n ≡ 0 + n
+zero-plus n = omega arith
+
+no-front : (b : Bool) (xs : List Event) → (if b && false then xs else []) ≡ []
+no-front true xs = refl
+no-front false xs = refl
+
+yes-back : (b : Bool) (xs : List Event) → (if b && true then xs else []) ≡ (if b then xs else [])
+yes-back true xs = refl
+yes-back false xs = refl
+
+never : (b : Bool) → (if b then none else none) ≡ none
+never true = refl
+never false = refl
+
+abbrev zero_if : Bool → ℕ
+zero_if b = if b then 0 else 0
+
+zero-if : (b : Bool) → zero_if b ≡ 0
+zero-if true = refl
+zero-if false = refl
+
+linked-drop : (k j : ℕ) (es : List Event) (i : ℕ) → i ≡ j + k → linked_at es i ≡ linked_at (drop j es) k
+linked-drop k zero es i e = let same : i ≡ k = omega (arith, e) in ap (linked_at es) same
+linked-drop k (suc j) [] i e = refl
+linked-drop k (suc j) (x ∷ es) zero e = absurd (omega (arith, e))
+linked-drop k (suc j) (x ∷ es) (suc i) e = linked-drop k j es i (omega (arith, e))
+
+opens-unlinked : (a b l : Bool) → a && (b && not l) ≡ true → l ≡ false
+opens-unlinked true true true h = cc
+opens-unlinked true true false h = refl
+opens-unlinked true false l h = cc
+opens-unlinked false b l h = cc
+
+module _ (bytes : List ℕ) (whole : Bool) where
+  front-by : (i n : ℕ) (front : Bool) (e x : Event) (es : List Event) (log : List Edit) (b : Bool) → front_at i log ≡ [] → front_at i ((if b then trim bytes whole n front e x es ∷ [] else []) ++ log) ≡ []
+  front-by i n front e x es log true h = ap (λ xs. xs ++ (if (n == i) && false then trimmed_events front (goes_before whole es) bytes e.point x.point else [])) h ∙ no-front (n == i) (trimmed_events front (goes_before whole es) bytes e.point x.point)
+  front-by i n front e x es log false h = h
+
+  front-first : (i n : ℕ) (front : Bool) (es : List Event) (log : List Edit) → front_at i log ≡ [] → front_at i (trim_first bytes whole n front es ++ log) ≡ []
+  front-first i n front [] log h = h
+  front-first i n front (e ∷ []) log h = h
+  front-first i n front (e ∷ x ∷ es) log h = front-by i n front e x es log (opens_data e) h
+
+  front-trims : (i n : ℕ) (front : Bool) (es : List Event) → front_at i (trims bytes whole n front es) ≡ []
+  front-trims i n front [] = refl
+  front-trims i n front (e ∷ es) = front-first i n front (e ∷ es) (trims bytes whole (suc n) (closes_ending e) es) (front-trims i (suc n) (closes_ending e) es)
+
+  back-by : (i n : ℕ) (front : Bool) (e x : Event) (es : List Event) (log : List Edit) (b : Bool) → back_at i ((if b then trim bytes whole n front e x es ∷ [] else []) ++ log) ≡ (if n == i then (if b then trimmed_events front (goes_before whole es) bytes e.point x.point else []) else []) ++ back_at i log
+  back-by i n front e x es log true = ap (λ xs. xs ++ back_at i log) (yes-back (n == i) (trimmed_events front (goes_before whole es) bytes e.point x.point))
+  back-by i n front e x es log false = ap (λ xs. xs ++ back_at i log) (sym (never (n == i)))
+
+  back-first : (i n : ℕ) (front : Bool) (es : List Event) (log : List Edit) → back_at i (trim_first bytes whole n front es ++ log) ≡ (if n == i then comes bytes whole front es else []) ++ back_at i log
+  back-first i n front [] log = ap (λ xs. xs ++ back_at i log) (sym (never (n == i)))
+  back-first i n front (e ∷ []) log = ap (λ xs. xs ++ back_at i log) (sym (never (n == i)))
+  back-first i n front (e ∷ x ∷ es) log = back-by i n front e x es log (opens_data e)
+
+  removed-by : (i n : ℕ) (front : Bool) (e x : Event) (es : List Event) (log : List Edit) (b : Bool) → removed_at i ((if b then trim bytes whole n front e x es ∷ [] else []) ++ log) ≡ (if n == i then two b else 0) + removed_at i log
+  removed-by i n front e x es log true = refl
+  removed-by i n front e x es log false = zero-plus (removed_at i log) ∙ ap (λ k. k + removed_at i log) (sym (zero-if (n == i)))
+
+  removed-first : (i n : ℕ) (front : Bool) (es : List Event) (log : List Edit) → removed_at i (trim_first bytes whole n front es ++ log) ≡ (if n == i then two (begins_data es) else 0) + removed_at i log
+  removed-first i n front [] log = zero-plus (removed_at i log) ∙ ap (λ k. k + removed_at i log) (sym (zero-if (n == i)))
+  removed-first i n front (e ∷ []) log = zero-plus (removed_at i log) ∙ ap (λ k. k + removed_at i log) (sym (zero-if (n == i)))
+  removed-first i n front (e ∷ x ∷ es) log = removed-by i n front e x es log (opens_data e)
+
+  differs : (n i : ℕ) → (n ≡ i → ⊥) → (n == i) ≡ false
+  differs n i h = grind (arith, nat_tests)
+
+  agrees : (n i : ℕ) → n ≡ i → (n == i) ≡ true
+  agrees n i h = grind (arith, nat_tests)
+
+  back-earlier : (i n : ℕ) (front : Bool) (es : List Event) → i < n → back_at i (trims bytes whole n front es) ≡ []
+  back-earlier i n front [] l = refl
+  back-earlier i n front (e ∷ es) l =
+      back-first i n front (e ∷ es) (trims bytes whole (suc n) (closes_ending e) es)
+      ∙ ap (λ b. (if b then comes bytes whole front (e ∷ es) else []) ++ back_at i (trims bytes whole (suc n) (closes_ending e) es)) (differs n i (λ h. omega (arith, h)))
+      ∙ back-earlier i (suc n) (closes_ending e) es (omega arith)
+
+  removed-earlier : (i n : ℕ) (front : Bool) (es : List Event) → i < n → removed_at i (trims bytes whole n front es) ≡ 0
+  removed-earlier i n front [] l = refl
+  removed-earlier i n front (e ∷ es) l =
+      removed-first i n front (e ∷ es) (trims bytes whole (suc n) (closes_ending e) es)
+      ∙ ap (λ b. (if b then two (begins_data (e ∷ es)) else 0) + removed_at i (trims bytes whole (suc n) (closes_ending e) es)) (differs n i (λ h. omega (arith, h)))
+      ∙ sym (zero-plus (removed_at i (trims bytes whole (suc n) (closes_ending e) es)))
+      ∙ removed-earlier i (suc n) (closes_ending e) es (omega arith)
+
+  back-place : (i n k : ℕ) (front : Bool) (es : List Event) → i ≡ n + k → back_at i (trims bytes whole n front es) ≡ comes bytes whole (flag k front es) (drop k es)
+  back-place i n zero front [] e = refl
+  back-place i n (suc k) front [] e = refl
+  back-place i n zero front (x ∷ es) e =
+      back-first i n front (x ∷ es) (trims bytes whole (suc n) (closes_ending x) es)
+      ∙ ap (λ b. (if b then comes bytes whole front (x ∷ es) else []) ++ back_at i (trims bytes whole (suc n) (closes_ending x) es)) (agrees n i (omega (arith, e)))
+      ∙ ap (λ xs. comes bytes whole front (x ∷ es) ++ xs) (back-earlier i (suc n) (closes_ending x) es (omega (arith, e)))
+      ∙ append-nil (comes bytes whole front (x ∷ es))
+  back-place i n (suc k) front (x ∷ es) e =
+      back-first i n front (x ∷ es) (trims bytes whole (suc n) (closes_ending x) es)
+      ∙ ap (λ b. (if b then comes bytes whole front (x ∷ es) else []) ++ back_at i (trims bytes whole (suc n) (closes_ending x) es)) (differs n i (λ h. omega (arith, e, h)))
+      ∙ back-place i (suc n) k (closes_ending x) es (omega (arith, e))
+
+  removed-place : (i n k : ℕ) (front : Bool) (es : List Event) → i ≡ n + k → removed_at i (trims bytes whole n front es) ≡ two (begins_data (drop k es))
+  removed-place i n zero front [] e = refl
+  removed-place i n (suc k) front [] e = refl
+  removed-place i n zero front (x ∷ es) e =
+      removed-first i n front (x ∷ es) (trims bytes whole (suc n) (closes_ending x) es)
+      ∙ ap (λ b. (if b then two (begins_data (x ∷ es)) else 0) + removed_at i (trims bytes whole (suc n) (closes_ending x) es)) (agrees n i (omega (arith, e)))
+      ∙ ap (λ j. two (begins_data (x ∷ es)) + j) (removed-earlier i (suc n) (closes_ending x) es (omega (arith, e)))
+      ∙ omega arith
+  removed-place i n (suc k) front (x ∷ es) e =
+      removed-first i n front (x ∷ es) (trims bytes whole (suc n) (closes_ending x) es)
+      ∙ ap (λ b. (if b then two (begins_data (x ∷ es)) else 0) + removed_at i (trims bytes whole (suc n) (closes_ending x) es)) (differs n i (λ h. omega (arith, e, h)))
+      ∙ sym (zero-plus (removed_at i (trims bytes whole (suc n) (closes_ending x) es)))
+      ∙ removed-place i (suc n) k (closes_ending x) es (omega (arith, e))
+
+  abbrev pub log_of : List Event → List Edit
+  log_of es = trims bytes whole 0 whole es
+
+  pub added-here : (k : ℕ) (es : List Event) → added_at k (log_of es) ≡ comes bytes whole (flag k whole es) (drop k es)
+  added-here k es = ap (λ xs. xs ++ back_at k (log_of es)) (front-trims k 0 whole es) ∙ back-place k 0 k whole es (omega arith)
+
+  pub removed-here : (k : ℕ) (es : List Event) → removed_at k (log_of es) ≡ two (begins_data (drop k es))
+  removed-here k es = removed-place k 0 k whole es (omega arith)
+
+  two-most : (b : Bool) → two b ≤ 2
+  two-most true = omega arith
+  two-most false = omega arith
+
+  -- what no data stands at, or just before, stays
+  pub stays-here : (j : ℕ) (es : List Event) → begins_data (drop j es) ≡ false → ((p : ℕ) → suc p ≡ j → begins_data (drop p es) ≡ false) → is_removed (log_of es) j ≡ false
+  stays-here j es h k = stays-where (log_of es) j (λ p l. reach p l)
+    where
+      reach : (p : ℕ) → p ≤ j → p + removed_at p (log_of es) ≤ j
+      reach p l =
+          elim (cases_lt (p + 1) j) [
+            | inl far ↦ let most = two-most (begins_data (drop p es)) in let r = removed-here p es in omega (arith, far, most, r)
+            | inr near ↦
+                elim (cases_lt p j) [
+                  | inl below ↦ let next : suc p ≡ j = omega (arith, near, below) in let r = removed-here p es ∙ ap two (k p next) in omega (arith, r, next)
+                  | inr at ↦ let same : p ≡ j = omega (arith, at, l) in let r = removed-here p es ∙ ap (λ i. two (begins_data (drop i es))) same ∙ ap two h in omega (arith, r, same)
+                ]
+          ]
+
+  pub goes-first : (j : ℕ) (es : List Event) → begins_data (drop j es) ≡ true → is_removed (log_of es) j ≡ true
+  goes-first j es h = let r = removed-here j es ∙ ap two h in goes-where (log_of es) j j (omega arith) (omega (arith, r))
+
+  pub goes-second : (j : ℕ) (es : List Event) → begins_data (drop j es) ≡ true → is_removed (log_of es) (suc j) ≡ true
+  goes-second j es h = let r = removed-here j es ∙ ap two h in goes-where (log_of es) (suc j) j (omega arith) (omega (arith, r))
+
+  -- The edits may be made.
+
+  within-by : (n m : ℕ) (front : Bool) (e x : Event) (es : List Event) (log : List Edit) (b : Bool) → n ≤ m → All (λ d. d.at ≤ m) log → All (λ d. d.at ≤ m) ((if b then trim bytes whole n front e x es ∷ [] else []) ++ log)
+  within-by n m front e x es log true h a = All-cons (λ d. d.at ≤ m) (trim bytes whole n front e x es) log h a
+  within-by n m front e x es log false h a = a
+
+  within-first : (n m : ℕ) (front : Bool) (es : List Event) (log : List Edit) → n ≤ m → All (λ d. d.at ≤ m) log → All (λ d. d.at ≤ m) (trim_first bytes whole n front es ++ log)
+  within-first n m front [] log h a = a
+  within-first n m front (e ∷ []) log h a = a
+  within-first n m front (e ∷ x ∷ es) log h a = within-by n m front e x es log (opens_data e) h a
+
+  within : (n m : ℕ) (front : Bool) (es : List Event) → n + length es ≤ m → All (λ d. d.at ≤ m) (trims bytes whole n front es)
+  within n m front [] h = All-nil (λ d. d.at ≤ m)
+  within n m front (e ∷ es) h = within-first n m front (e ∷ es) (trims bytes whole (suc n) (closes_ending e) es) (omega arith) (within (suc n) m (closes_ending e) es (omega arith))
+
+  places-drop : (j : ℕ) (es : List Event) → HasPlaces bytes es → HasPlaces bytes (drop j es)
+  places-drop zero es h = h
+  places-drop (suc j) [] h = h
+  places-drop (suc j) (e ∷ es) h = places-drop j es h.1
+
+  first-linked-none : (xs : List Event) → begins_data xs ≡ true → HasPlaces bytes xs → linked_at xs 0 ≡ false
+  first-linked-none [] h p = refl
+  first-linked-none (e ∷ []) h p = cc
+  first-linked-none (e ∷ x ∷ xs) h p = opens-unlinked (is_enter e.kind) (is_data e.name) (has_link e.link) h
+
+  second-linked-none : (xs : List Event) → begins_data xs ≡ true → HasPlaces bytes xs → linked_at xs 1 ≡ false
+  second-linked-none [] h p = refl
+  second-linked-none (e ∷ []) h p = refl
+  second-linked-none (e ∷ x ∷ xs) h p = ap has_link (p.0 h).1
+
+  goes-unlinked : (j : ℕ) (es : List Event) → HasPlaces bytes es → is_removed (log_of es) j ≡ true → linked_at es j ≡ false
+  goes-unlinked j es p h =
+      elim (cases_Bool (begins_data (drop j es))) [
+        | inl b ↦ linked-drop 0 j es j (omega arith) ∙ first-linked-none (drop j es) b (places-drop j es p)
+        | inr b ↦ unlinked-before j es p h b
+      ]
+    where
+      unlinked-before : (j : ℕ) (es : List Event) → HasPlaces bytes es → is_removed (log_of es) j ≡ true → begins_data (drop j es) ≡ false → linked_at es j ≡ false
+      unlinked-before zero es p h b = bool-clash (is_removed (log_of es) zero) h (stays-here zero es b (λ q e. absurd (omega (arith, e))))
+      unlinked-before (suc j) es p h b =
+          elim (cases_Bool (begins_data (drop j es))) [
+            | inl d ↦ linked-drop 1 j es (suc j) (omega arith) ∙ second-linked-none (drop j es) d (places-drop j es p)
+            | inr d ↦ bool-clash (is_removed (log_of es) (suc j)) h (stays-here (suc j) es b (λ q e. let same : q ≡ j = omega (arith, e) in ap (λ i. begins_data (drop i es)) same ∙ d))
+          ]
+
+  pub can-trim : (es : List Event) → HasPlaces bytes es → CanEdit (log_of es) es
+  can-trim es p = record { places = within 0 (length es) whole es (omega arith); unlinked = λ j h. goes-unlinked j es p h }

@@ -1,0 +1,70 @@
+-- Trimming a list of events: which data loses its blank codes, and of which lists and trees this is said.
+use Rattle.std.specs.Prelude.{◌≡◌, ◌≢◌, ℕ, suc, Bool, true, false, ◌&&◌, not, List, [], ◌∷◌, ◌++◌, None, if◌then◌else◌}
+use Rattle.markdown_engine.specs.Chain.{IsUnlinked}
+use Rattle.markdown_engine.specs.Codes.{Code, codes_of}
+use Rattle.markdown_engine.specs.Tree.{Forest, empty, leaf_then, group_then}
+use Rattle.markdown_engine.specs.declared.event.Event.{Event}
+use Rattle.markdown_engine.specs.declared.event.Name.{Name}
+use Rattle.markdown_engine.specs.declared.event.Name.TheVariants as N
+use Rattle.markdown_engine.specs.declared.util.edit_map.Edit.{Edit}
+use Rattle.markdown_partial.specs.Merge.{is_data, is_enter, opens_data}
+use Rattle.markdown_partial.specs.Trim.{IsStretch, trimmed_events}
+
+abbrev pub is_ending : Name → Bool
+is_ending N.LineEnding = true
+is_ending _ = false
+
+abbrev pub opens_ending : Event → Bool
+opens_ending e = is_enter e.kind && is_ending e.name
+
+abbrev pub closes_ending : Event → Bool
+closes_ending e = not (is_enter e.kind) && is_ending e.name
+
+-- blank codes before these events go: a line ending follows, or nothing does and the whole is trimmed
+abbrev pub goes_before : Bool → List Event → Bool
+goes_before whole [] = whole
+goes_before whole (e ∷ es) = opens_ending e
+
+-- the Enter and the Exit of data go, and the events of what is left of it come
+abbrev pub trim : List ℕ → Bool → ℕ → Bool → Event → Event → List Event → Edit
+trim bytes whole n front e x es =
+    record { at = n; remove = 2; events = trimmed_events front (goes_before whole es) bytes e.point x.point; before = false }
+
+-- the edit of the first two events, where they are data; the first has this number, and `front` says that blank codes behind what
+-- stands before it go
+abbrev pub trim_first : List ℕ → Bool → ℕ → Bool → List Event → List Edit
+trim_first bytes whole n front [] = []
+trim_first bytes whole n front (e ∷ []) = []
+trim_first bytes whole n front (e ∷ x ∷ es) = if opens_data e then trim bytes whole n front e x es ∷ [] else []
+
+-- one edit for each data
+abbrev pub trims : List ℕ → Bool → ℕ → Bool → List Event → List Edit
+trims bytes whole n front [] = []
+trims bytes whole n front (e ∷ es) = trim_first bytes whole n front (e ∷ es) ++ trims bytes whole (suc n) (closes_ending e) es
+
+-- an Exit without a link stands behind the Enter of data, and the two are places of the document in order
+abbrev pub ClosesAt : List ℕ → Event → List Event → Type 0
+ClosesAt bytes e [] = ⊥
+ClosesAt bytes e (x ∷ es) = IsStretch bytes e.point x.point × IsUnlinked x
+
+abbrev pub FirstHasPlaces : List ℕ → List Event → Type 0
+FirstHasPlaces bytes [] = Unit {0}
+FirstHasPlaces bytes (e ∷ es) = opens_data e ≡ true → ClosesAt bytes e es
+
+-- and so behind each
+abbrev pub HasPlaces : List ℕ → List Event → Type 0
+HasPlaces bytes [] = Unit {0}
+HasPlaces bytes (e ∷ es) = FirstHasPlaces bytes (e ∷ es) × HasPlaces bytes es
+
+-- codes that follow one another in the document, at least one
+pub record IsPart (bytes : List ℕ) (cs : List Code) : Type 0 where
+  pub before : List Code
+  pub after : List Code
+  pub whole : codes_of bytes ≡ before ++ (cs ++ after)
+  pub some : cs ≢ []
+
+-- each data of the tree is part of the document, and no group is named as data or as a line ending
+abbrev pub HasParts : List ℕ → Forest → Type 0
+HasParts bytes empty = Unit {0}
+HasParts bytes (leaf_then name link cs rest) = (is_data name ≡ true → link ≡ None → IsPart bytes cs) × HasParts bytes rest
+HasParts bytes (group_then name enter exit inside rest) = ((is_data name ≡ false) × (is_ending name ≡ false)) × (HasParts bytes inside × HasParts bytes rest)

@@ -1,0 +1,256 @@
+// Trimming: data beside a line ending loses its blank codes there.
+#![tactic(auto)]
+
+ghost use Rattle.std.specs.Prelude.{◌≡◌, false, ◌^◌, ◌<◌, ◌≤◌, ◌==◌, ◌&&◌, not, ◌++◌, IfOk, OnOk, OnErr, IsTrue, IsSome, Some, None, [], length, drop};
+ghost use Rattle.std.specs.List.{All};
+ghost use Rattle.markdown_engine.specs.Chain.{IsUnlinked};
+ghost use Rattle.markdown_engine.specs.Content.{document_limit};
+ghost use Rattle.markdown_engine.specs.Walk.{value_from, IsPoint};
+ghost use Rattle.markdown_partial.specs.SpaceSteps.{at_blank};
+ghost use Rattle.markdown_partial.specs.Trim.{between, IsStretch, end_of_kept, end_of_lead, is_same_place, leaf_events, trimmed_events};
+ghost use Rattle.markdown_partial.specs.TrimEvents.{opens_ending, closes_ending, goes_before, trim_first, trims, FirstHasPlaces, HasPlaces, HasParts};
+ghost use Rattle.markdown_engine.specs.Past.{appended_from};
+ghost use Rattle.markdown_engine.specs.Tree.{Forest};
+ghost use Rattle.markdown_model.specs.Passes.{trimmed};
+
+use crate::partial_data::opens_data;
+use markdown_engine::event::{Event, Kind, Name, Point};
+use markdown_engine::events::Events;
+use markdown_engine::tokenizer::Tokenizer;
+use markdown_engine::util::edit_map::EditMap;
+use markdown_engine::walk::{code_from, past_code};
+use std::alloc::{AllocError, Global};
+
+// Whether this is a space, a tab or a column of a tab.
+fn is_blank(bytes: &[u8], point: Point) -> bool
+    requires is_point { IsPoint bytes.now point }
+    requires begins { point.index < length bytes.now }
+    ensures { result ≡ at_blank (value_from bytes.now point) }
+{
+    matches!(code_from(bytes, point), b' ' | b'\t')
+}
+
+// Whether two points are one place.
+fn is_same_place(left: Point, right: Point) -> bool
+    ensures { result ≡ is_same_place left right }
+{
+    left.index == right.index && left.vs == right.vs
+}
+
+// Answers where the codes of a stretch end, without the blank ones at its back.
+fn kept_end(bytes: &[u8], from: Point, to: Point) -> Point
+    requires fits { length bytes.now ≤ document_limit }
+    requires stretch { IsStretch bytes.now from to }
+    ensures { result ≡ end_of_kept from (between bytes.now from to) }
+{
+    let mut kept = from;
+    let mut point = from;
+    while !is_same_place(point, to) {
+        let blank = is_blank(bytes, point);
+        point = past_code(bytes, point);
+        if !blank {
+            kept = point;
+        }
+    }
+    kept
+}
+
+// Answers where the blank codes in front of a stretch end.
+fn lead_end(bytes: &[u8], from: Point, to: Point) -> Point
+    requires fits { length bytes.now ≤ document_limit }
+    requires stretch { IsStretch bytes.now from to }
+    ensures { result ≡ end_of_lead from (between bytes.now from to) }
+{
+    let mut point = from;
+    while !is_same_place(point, to) && is_blank(bytes, point) {
+        point = past_code(bytes, point);
+    }
+    point
+}
+
+// Appends the events of a leaf, where it has a code.
+fn push_leaf(events: &mut Vec<Event>, name: Name, from: Point, to: Point) -> Result<(), AllocError>
+    ensures { OnOk result (events.new.items ≡ events.old.items ++ leaf_events name from to) }
+{
+    if !is_same_place(from, to) {
+        events.push(Event {
+            kind: Kind::Enter,
+            name,
+            point: from,
+            link: None,
+        })?;
+        events.push(Event {
+            kind: Kind::Exit,
+            name,
+            point: to,
+            link: None,
+        })?;
+    }
+    Ok(())
+}
+
+// Answers the events of data that loses its blank codes in front, at its back, or both, the back first.
+fn trimmed_data(
+    alloc: Global,
+    bytes: &[u8],
+    front: bool,
+    back: bool,
+    from: Point,
+    to: Point,
+) -> Result<Vec<Event>, AllocError>
+    requires fits { length bytes.now ≤ document_limit }
+    requires stretch { IsStretch bytes.now from to }
+    ensures { IfOk result (λ v. v.items ≡ trimmed_events front back bytes.now from to) }
+{
+    let end = if back { kept_end(bytes, from, to) } else { to };
+    let start = if front {
+        lead_end(bytes, from, end)
+    } else {
+        from
+    };
+    let mut events = Vec::new(alloc);
+    push_leaf(&mut events, Name::SpaceOrTab, from, start)?;
+    push_leaf(&mut events, Name::Data, start, end)?;
+    push_leaf(&mut events, Name::SpaceOrTab, end, to)?;
+    Ok(events)
+}
+
+// Whether this is the Enter of a line ending.
+fn opens_ending(event: &Event) -> bool
+    ensures { result ≡ opens_ending event.now }
+{
+    matches!(
+        event,
+        Event {
+            kind: Kind::Enter,
+            name: Name::LineEnding,
+            ..
+        }
+    )
+}
+
+// Whether this is the Exit of a line ending.
+fn closes_ending(event: &Event) -> bool
+    ensures { result ≡ closes_ending event.now }
+{
+    matches!(
+        event,
+        Event {
+            kind: Kind::Exit,
+            name: Name::LineEnding,
+            ..
+        }
+    )
+}
+
+// Whether blank codes before the event of this number go.
+fn goes_before(events: &Events, index: usize, whole: bool) -> bool
+    requires { index ≤ length events.now }
+    ensures { result ≡ goes_before whole (drop index events.now) }
+{
+    if index == events.len() {
+        whole
+    } else {
+        opens_ending(&events.bare_at(index))
+    }
+}
+
+// Where data begins at this event: puts its trimmed events in place of its own.
+fn trim_first(
+    alloc: Global,
+    bytes: &[u8],
+    events: &Events,
+    map: &mut EditMap,
+    index: usize,
+    front: bool,
+    whole: bool,
+) -> Result<(), AllocError>
+    requires fits { length bytes.now ≤ document_limit }
+    requires within { index < length events.now }
+    requires counted { length events.now < 2 ^ 64 }
+    requires places { FirstHasPlaces bytes.now (drop index events.now) }
+    ensures { OnOk result (map.new ≡ map.old ++ trim_first bytes.now whole index front (drop index events.now)) }
+{
+    let enter = events.bare_at(index);
+    if opens_data(&enter) {
+        let exit = events.bare_at(index + 1);
+        let back = goes_before(events, index + 2, whole);
+        let trimmed = trimmed_data(alloc, bytes, front, back, enter.point, exit.point)?;
+        map.add(index, 2, trimmed)?;
+    }
+    Ok(())
+}
+
+// Collects the edits of all data.
+fn trim_each(
+    alloc: Global,
+    bytes: &[u8],
+    events: &Events,
+    map: &mut EditMap,
+    whole: bool,
+) -> Result<(), AllocError>
+    requires fits { length bytes.now ≤ document_limit }
+    requires places { HasPlaces bytes.now events.now }
+    requires empty { map.old ≡ [] }
+    ensures { OnOk result (map.new ≡ trims bytes.now whole 0 whole events.now) }
+{
+    let mut front = whole;
+    for index in 0..events.len() {
+        trim_first(alloc, bytes, events, map, index, front, whole)?;
+        front = closes_ending(&events.bare_at(index));
+    }
+    Ok(())
+}
+
+// Trims the data in a list of events.
+fn trim(
+    alloc: Global,
+    bytes: &[u8],
+    events: &mut Events,
+    map: &mut EditMap,
+    whole: bool,
+) -> Result<(), AllocError>
+    requires fits { length bytes.now ≤ document_limit }
+    requires places { HasPlaces bytes.now events.old }
+    requires empty { map.old ≡ [] }
+    ensures trimmed { (t : Forest) → HasParts bytes.now t → events.old ≡ appended_from 0 None t → OnOk result (events.new ≡ appended_from 0 None (trimmed false whole whole t)) }
+    ensures map { OnOk result (map.new ≡ []) }
+{
+    trim_each(alloc, bytes, events, map, whole)?;
+    map.consume(events)
+}
+
+/// Trims data that carries no link: beside a line ending it loses its blank codes there, and where `trim_whole` is true the whole
+/// loses those at its start and at its end.
+///
+/// Blank codes that go become whitespace of their own; data that is all blank is renamed. Hard breaks are not looked for: `hard_break`
+/// is false. The document has at most `usize::MAX / 8` bytes, the edits are empty before and after, and each data stands at places of
+/// the document. The work is that of the events and of the codes of the data. The error comes where memory is refused; then `failed`
+/// is true.
+pub fn resolve_whitespace(
+    tokenizer: &mut Tokenizer,
+    hard_break: bool,
+    trim_whole: bool,
+) -> Result<(), AllocError>
+    requires map { tokenizer.old.map ≡ [] }
+    requires fits { length tokenizer.old.parse_state.now.bytes.now ≤ document_limit }
+    requires places { HasPlaces tokenizer.old.parse_state.now.bytes.now tokenizer.old.events }
+    requires soft { hard_break ≡ false }
+    ensures same { OnOk result (tokenizer.new ≡ record tokenizer.old { events = tokenizer.new.events }) }
+    ensures trimmed { (t : Forest) → HasParts tokenizer.old.parse_state.now.bytes.now t → tokenizer.old.events ≡ appended_from 0 None t → OnOk result (tokenizer.new.events ≡ appended_from 0 None (trimmed hard_break trim_whole trim_whole t)) }
+    ensures err { OnErr result (IsTrue tokenizer.new.failed) }
+{
+    prove!(!hard_break);
+    let bytes = tokenizer.parse_state.bytes;
+    let trimmed = trim(
+        tokenizer.alloc,
+        bytes,
+        &mut tokenizer.events,
+        &mut tokenizer.map,
+        trim_whole,
+    );
+    if trimmed.is_err() {
+        tokenizer.fail();
+    }
+    trimmed
+}
