@@ -1,7 +1,11 @@
-pub mod TrimLemmas
 pub mod StringTree
 pub mod StringRun
 pub mod WholeDocument
 pub mod ConstructLemmas
 pub mod WordLemmas
 pub mod StartLemmas
+pub mod ContentParts
+pub mod PassesRun
+pub mod TextTree
+pub mod RunEnds
+pub mod TextRun

@@ -1,11 +1,16 @@
 -- The laws of inline content, joined. What they need is proved in the files beside: a trait's law is a part of a contract.
 pub mod MergeLemmas
-pub mod ItemLemmas
+pub mod NodeLemmas
+pub mod ElementLemmas
+pub mod StringElements
+pub mod TextElements
 pub mod StringPasts
 pub mod StringLaws
+pub mod TextTries
+pub mod TextLaws
 use Rattle.std.proofs.Common.{◌≡◌, [], refl}
 use Rattle.markdown_engine.specs.Runs.{Lawful}
-use Rattle.markdown_engine.specs.declared.state.StateName.TheVariants.{CharacterEscapeStart, CharacterEscapeInside, CharacterReferenceStart, CharacterReferenceOpen, CharacterReferenceNumeric, CharacterReferenceValue, HardBreakEscapeStart, HardBreakEscapeAfter, AutolinkStart, AutolinkOpen, AutolinkSchemeOrEmailAtext, AutolinkSchemeInsideOrEmailAtext, AutolinkUrlInside, AutolinkEmailAtext, AutolinkEmailAtSignOrDot, AutolinkEmailLabel, AutolinkEmailValue, RawTextStart, RawTextSequenceOpen, RawTextBetween, RawTextData, RawTextSequenceClose, SpaceOrTabStart, SpaceOrTabInside, SpaceOrTabAfter, SpaceOrTabEolStart, SpaceOrTabEolAfterFirst, SpaceOrTabEolAtEol, SpaceOrTabEolAfterEol, SpaceOrTabEolAfterMore, DataStart, DataAtBreak, DataInside, StringStart, StringBefore, StringBeforeData}
+use Rattle.markdown_engine.specs.declared.state.StateName.TheVariants.{CharacterEscapeStart, CharacterEscapeInside, CharacterReferenceStart, CharacterReferenceOpen, CharacterReferenceNumeric, CharacterReferenceValue, HardBreakEscapeStart, HardBreakEscapeAfter, AutolinkStart, AutolinkOpen, AutolinkSchemeOrEmailAtext, AutolinkSchemeInsideOrEmailAtext, AutolinkUrlInside, AutolinkEmailAtext, AutolinkEmailAtSignOrDot, AutolinkEmailLabel, AutolinkEmailValue, RawTextStart, RawTextSequenceOpen, RawTextBetween, RawTextData, RawTextSequenceClose, SpaceOrTabStart, SpaceOrTabInside, SpaceOrTabAfter, SpaceOrTabEolStart, SpaceOrTabEolAfterFirst, SpaceOrTabEolAtEol, SpaceOrTabEolAfterEol, SpaceOrTabEolAfterMore, DataStart, DataAtBreak, DataInside, StringStart, StringBefore, StringBeforeData, TextStart, TextBefore, TextBeforeHtml, TextBeforeHardBreakEscape, TextBeforeLabelStartLink, TextBeforeData, AttentionStart, GfmAutolinkLiteralProtocolStart, GfmAutolinkLiteralWwwStart, GfmLabelStartFootnoteStart, GfmTaskListItemCheckStart, HtmlTextStart, LabelEndStart, LabelStartImageStart, LabelStartLinkStart}
 use Rattle.markdown_leaf.proofs.AutolinkLaws as A
 use Rattle.markdown_leaf.proofs.CharacterEscapeLaws as E
 use Rattle.markdown_leaf.proofs.CharacterReferenceLaws as R
@@ -15,6 +20,7 @@ use Rattle.markdown_partial.proofs.DataLaws as D
 use Rattle.markdown_partial.proofs.EolLaws as L
 use Rattle.markdown_partial.proofs.SpaceLaws as W
 use Rattle.markdown_inline.specs.Laws.StringLaws as S
+use Rattle.markdown_inline.specs.Laws.TextLaws as M
 use Rattle.markdown_inline.specs.Layer.{ready_of, step_of, ends_of, weight_of}
 
 escape-within : E.Within ready_of ends_of weight_of
@@ -172,4 +178,19 @@ laws_of DataInside T alone r = D.inside-law ready_of ends_of weight_of data-with
 laws_of StringStart T alone r = S.start-law ready_of ends_of weight_of string-within T alone r
 laws_of StringBefore T alone r = S.before-law ready_of ends_of weight_of string-within T alone r
 laws_of StringBeforeData T alone r = S.before_data-law ready_of ends_of weight_of string-within T alone r
+laws_of TextStart T alone r = M.start-law T alone r
+laws_of TextBefore T alone r = M.before-law T alone r
+laws_of TextBeforeHtml T alone r = M.before_html-law T alone r
+laws_of TextBeforeHardBreakEscape T alone r = M.before_hard_break_escape-law T alone r
+laws_of TextBeforeLabelStartLink T alone r = M.before_label_start_link-law T alone r
+laws_of TextBeforeData T alone r = M.before_data-law T alone r
+laws_of AttentionStart T alone r = M.never-law T alone
+laws_of GfmAutolinkLiteralProtocolStart T alone r = M.never-law T alone
+laws_of GfmAutolinkLiteralWwwStart T alone r = M.never-law T alone
+laws_of GfmLabelStartFootnoteStart T alone r = M.never-law T alone
+laws_of GfmTaskListItemCheckStart T alone r = M.never-law T alone
+laws_of HtmlTextStart T alone r = M.never-law T alone
+laws_of LabelEndStart T alone r = M.never-law T alone
+laws_of LabelStartImageStart T alone r = M.never-law T alone
+laws_of LabelStartLinkStart T alone r = M.never-law T alone
 laws_of _ T alone r = absurd r

@@ -6,7 +6,7 @@ use Rattle.markdown_engine.specs.Weights.{weight_at}
 use Rattle.markdown_engine.specs.declared.event.Name.TheVariants as N
 use Rattle.markdown_engine.specs.declared.state.State.TheVariants.{Nok}
 use Rattle.markdown_engine.specs.declared.state.StateName.{StateName}
-use Rattle.markdown_engine.specs.declared.state.StateName.TheVariants.{CharacterEscapeStart, CharacterEscapeInside, CharacterReferenceStart, CharacterReferenceOpen, CharacterReferenceNumeric, CharacterReferenceValue, HardBreakEscapeStart, HardBreakEscapeAfter, AutolinkStart, AutolinkOpen, AutolinkSchemeOrEmailAtext, AutolinkSchemeInsideOrEmailAtext, AutolinkUrlInside, AutolinkEmailAtext, AutolinkEmailAtSignOrDot, AutolinkEmailLabel, AutolinkEmailValue, RawTextStart, RawTextSequenceOpen, RawTextBetween, RawTextData, RawTextSequenceClose, SpaceOrTabStart, SpaceOrTabInside, SpaceOrTabAfter, SpaceOrTabEolStart, SpaceOrTabEolAfterFirst, SpaceOrTabEolAtEol, SpaceOrTabEolAfterEol, SpaceOrTabEolAfterMore, DataStart, DataAtBreak, DataInside, StringStart, StringBefore, StringBeforeData}
+use Rattle.markdown_engine.specs.declared.state.StateName.TheVariants.{CharacterEscapeStart, CharacterEscapeInside, CharacterReferenceStart, CharacterReferenceOpen, CharacterReferenceNumeric, CharacterReferenceValue, HardBreakEscapeStart, HardBreakEscapeAfter, AutolinkStart, AutolinkOpen, AutolinkSchemeOrEmailAtext, AutolinkSchemeInsideOrEmailAtext, AutolinkUrlInside, AutolinkEmailAtext, AutolinkEmailAtSignOrDot, AutolinkEmailLabel, AutolinkEmailValue, RawTextStart, RawTextSequenceOpen, RawTextBetween, RawTextData, RawTextSequenceClose, SpaceOrTabStart, SpaceOrTabInside, SpaceOrTabAfter, SpaceOrTabEolStart, SpaceOrTabEolAfterFirst, SpaceOrTabEolAtEol, SpaceOrTabEolAfterEol, SpaceOrTabEolAfterMore, DataStart, DataAtBreak, DataInside, StringStart, StringBefore, StringBeforeData, TextStart, TextBefore, TextBeforeHtml, TextBeforeHardBreakEscape, TextBeforeLabelStartLink, TextBeforeData, AttentionStart, GfmAutolinkLiteralProtocolStart, GfmAutolinkLiteralWwwStart, GfmLabelStartFootnoteStart, GfmTaskListItemCheckStart, HtmlTextStart, LabelEndStart, LabelStartImageStart, LabelStartLinkStart}
 use Rattle.markdown_engine.specs.declared.tokenizer.Tokenizer.{Tokenizer}
 use Rattle.markdown_leaf.specs.Autolink as A
 use Rattle.markdown_leaf.specs.CharacterEscape as E
@@ -17,6 +17,8 @@ use Rattle.markdown_partial.specs.DataSteps as D
 use Rattle.markdown_partial.specs.EolSteps as L
 use Rattle.markdown_partial.specs.SpaceSteps as W
 use Rattle.markdown_inline.specs.StringSteps as S
+use Rattle.markdown_inline.specs.TextSteps as M
+use Rattle.markdown_inline.specs.Unbuilt.{never_step, never_ends}
 
 abbrev pub ready_of : StateName → Tokenizer → Type 0
 ready_of CharacterEscapeStart T = Unit {0}
@@ -55,6 +57,21 @@ ready_of DataInside T = IsOpen N.Data T
 ready_of StringStart T = R.IsAtRest T
 ready_of StringBefore T = S.BeforeReady T
 ready_of StringBeforeData T = S.BeforeDataReady T
+ready_of TextStart T = X.StartReady T
+ready_of TextBefore T = M.BeforeReady T
+ready_of TextBeforeHtml T = M.BeforeDataReady T
+ready_of TextBeforeHardBreakEscape T = M.BeforeBreakReady T
+ready_of TextBeforeLabelStartLink T = M.BeforeDataReady T
+ready_of TextBeforeData T = M.BeforeDataReady T
+ready_of AttentionStart T = Unit {0}
+ready_of GfmAutolinkLiteralProtocolStart T = Unit {0}
+ready_of GfmAutolinkLiteralWwwStart T = Unit {0}
+ready_of GfmLabelStartFootnoteStart T = Unit {0}
+ready_of GfmTaskListItemCheckStart T = Unit {0}
+ready_of HtmlTextStart T = Unit {0}
+ready_of LabelEndStart T = Unit {0}
+ready_of LabelStartImageStart T = Unit {0}
+ready_of LabelStartLinkStart T = Unit {0}
 ready_of _ T = ⊥
 
 abbrev pub step_of : StateName → Tokenizer → Stepped
@@ -94,6 +111,21 @@ step_of DataInside T = D.inside_step T
 step_of StringStart T = S.start_step T
 step_of StringBefore T = S.before_step T
 step_of StringBeforeData T = S.before_data_step T
+step_of TextStart T = M.start_step T
+step_of TextBefore T = M.before_step T
+step_of TextBeforeHtml T = M.before_html_step T
+step_of TextBeforeHardBreakEscape T = M.before_hard_break_escape_step T
+step_of TextBeforeLabelStartLink T = M.before_label_start_link_step T
+step_of TextBeforeData T = M.before_data_step T
+step_of AttentionStart T = never_step T
+step_of GfmAutolinkLiteralProtocolStart T = never_step T
+step_of GfmAutolinkLiteralWwwStart T = never_step T
+step_of GfmLabelStartFootnoteStart T = never_step T
+step_of GfmTaskListItemCheckStart T = never_step T
+step_of HtmlTextStart T = never_step T
+step_of LabelEndStart T = never_step T
+step_of LabelStartImageStart T = never_step T
+step_of LabelStartLinkStart T = never_step T
 step_of _ T = stepped Nok T
 
 abbrev pub ends_of : StateName → Tokenizer → Bool → Tokenizer → Type 0
@@ -133,6 +165,21 @@ ends_of DataInside T ok U = D.inside_ends T ok U
 ends_of StringStart T ok U = S.start_ends T ok U
 ends_of StringBefore T ok U = S.before_ends T ok U
 ends_of StringBeforeData T ok U = S.before_ends T ok U
+ends_of TextStart T ok U = M.start_ends T ok U
+ends_of TextBefore T ok U = M.before_ends T ok U
+ends_of TextBeforeHtml T ok U = M.before_ends T ok U
+ends_of TextBeforeHardBreakEscape T ok U = M.before_ends T ok U
+ends_of TextBeforeLabelStartLink T ok U = M.before_ends T ok U
+ends_of TextBeforeData T ok U = M.before_ends T ok U
+ends_of AttentionStart T ok U = never_ends T ok U
+ends_of GfmAutolinkLiteralProtocolStart T ok U = never_ends T ok U
+ends_of GfmAutolinkLiteralWwwStart T ok U = never_ends T ok U
+ends_of GfmLabelStartFootnoteStart T ok U = never_ends T ok U
+ends_of GfmTaskListItemCheckStart T ok U = never_ends T ok U
+ends_of HtmlTextStart T ok U = never_ends T ok U
+ends_of LabelEndStart T ok U = never_ends T ok U
+ends_of LabelStartImageStart T ok U = never_ends T ok U
+ends_of LabelStartLinkStart T ok U = never_ends T ok U
 ends_of _ T ok U = Unit {0}
 
 -- the ranks of the states among those at one place
@@ -173,6 +220,12 @@ rank_of DataInside = 2
 rank_of StringStart = 7
 rank_of StringBefore = 6
 rank_of StringBeforeData = 5
+rank_of TextStart = 8
+rank_of TextBefore = 7
+rank_of TextBeforeHtml = 6
+rank_of TextBeforeHardBreakEscape = 6
+rank_of TextBeforeLabelStartLink = 6
+rank_of TextBeforeData = 5
 rank_of _ = 0
 
 abbrev pub weight_of : StateName → Tokenizer → ℕ

@@ -1,11 +1,13 @@
-pub mod StringItems
 pub mod Onto
-pub mod LineEdges
+pub mod Elements
+pub mod Settings
 pub mod StringSteps
+pub mod Built
+pub mod Unbuilt
+pub mod TextSteps
 pub mod Layer
 pub mod Laws
 pub mod Words
 pub mod Resolve
-pub mod Settings
 pub mod Statuses
 pub mod Construct

@@ -1,24 +1,40 @@
 -- The passes of inline content by name: when they may be called, and what they leave.
-use Rattle.std.specs.Prelude.{◌≡◌, [], None}
+use Rattle.std.specs.Prelude.{◌≡◌, ◌≤◌, Bool, true, false, [], length, None}
+use Rattle.markdown_engine.specs.Content.{document_limit}
 use Rattle.markdown_engine.specs.Past.{appended_from}
 use Rattle.markdown_engine.specs.Tree.{Forest}
 use Rattle.markdown_engine.specs.declared.resolve.ResolveName.{ResolveName}
 use Rattle.markdown_engine.specs.declared.resolve.ResolveName.TheVariants as R
 use Rattle.markdown_engine.specs.declared.tokenizer.Tokenizer.{Tokenizer}
-use Rattle.markdown_model.specs.Passes.{merged}
+use Rattle.markdown_model.specs.Passes.{merged, trimmed}
 use Rattle.markdown_partial.specs.Merge.{HasData}
+use Rattle.markdown_partial.specs.TrimEvents.{HasParts, HasPlaces}
 
 -- U is T with other events: where T has those of a tree, those of the tree with its data merged
 pub record MergesData (T U : Tokenizer) : Type 0 where
   pub same : U ≡ record T { events = U.events }
   pub merges : (t : Forest) → HasData t → T.events ≡ appended_from 0 None t → U.events ≡ appended_from 0 None (merged t)
 
+-- no edit is left, the document has at most so many bytes, and its data stands at places of the document
+pub record MayTrim (T : Tokenizer) : Type 0 where
+  pub map : T.map ≡ []
+  pub fits : length T.parse_state.now.bytes.now ≤ document_limit
+  pub places : HasPlaces T.parse_state.now.bytes.now T.events
+
+-- U is T with other events: where T has those of a tree, those of the tree with its data trimmed; `whole` says that it is trimmed at the
+-- start and the end of the whole too
+pub record TrimsData (whole : Bool) (T U : Tokenizer) : Type 0 where
+  pub same : U ≡ record T { events = U.events }
+  pub trims : (t : Forest) → HasParts T.parse_state.now.bytes.now t → T.events ≡ appended_from 0 None t → U.events ≡ appended_from 0 None (trimmed false whole whole t)
+
 abbrev pub may_resolve_of : ResolveName → Tokenizer → Type 0
 may_resolve_of R.Data T = T.map ≡ []
-may_resolve_of R.String T = Unit {0}
+may_resolve_of R.String T = MayTrim T
+may_resolve_of R.Text T = MayTrim T
 may_resolve_of _ T = ⊥
 
 abbrev pub resolves_of : ResolveName → Tokenizer → Tokenizer → Type 0
 resolves_of R.Data T U = MergesData T U
-resolves_of R.String T U = U ≡ T
+resolves_of R.String T U = TrimsData false T U
+resolves_of R.Text T U = TrimsData true T U
 resolves_of _ T U = Unit {0}

@@ -1,5 +1,5 @@
 -- What a run is given, as the definitions see it.
-use Rattle.std.specs.Prelude.{false, map, string_bytes}
+use Rattle.std.specs.Prelude.{Bool, false, map, string_bytes}
 use Rattle.markdown_engine.specs.declared.parser.ParseState.{ParseState}
 use Rattle.markdown_model.specs.Setting.{Setting}
 use Rattle.markdown_util.specs.Reference.{html_5_rows}
@@ -14,3 +14,7 @@ setting_of p = record {
   footnotes = map string_bytes p.gfm_footnote_definitions.items;
   first_of_item = false;
 }
+
+-- the setting of a run over a text, which may be the first of a list item
+abbrev pub text_setting_of : ParseState → Bool → Setting
+text_setting_of p first = record (setting_of p) { first_of_item = first }

@@ -1,9 +1,7 @@
 -- What the states of a string do, and how runs from them end.
 use Rattle.std.specs.Prelude.{◌≡◌, ◌≢◌, ℕ, Bool, true, false, ◌==◌, if◌then◌else◌, List, [], ◌∷◌, Option, Some, None}
 use Rattle.markdown_engine.specs.Ops.{attempted, scratched, registered, current_of, ahead}
-use Rattle.markdown_engine.specs.Past.{past}
 use Rattle.markdown_engine.specs.Runs.{Stepped, stepped}
-use Rattle.markdown_engine.specs.Tree.{Forest}
 use Rattle.markdown_engine.specs.declared.configuration.Constructs.{Constructs}
 use Rattle.markdown_engine.specs.declared.resolve.ResolveName.TheVariants as R
 use Rattle.markdown_engine.specs.declared.state.State.TheVariants.{Next, Retry, Ok, Nok}
@@ -11,9 +9,9 @@ use Rattle.markdown_engine.specs.declared.state.StateName.TheVariants.{Character
 use Rattle.markdown_engine.specs.declared.tokenizer.Tokenizer.{Tokenizer}
 use Rattle.markdown_leaf.specs.CharacterEscape.{escape_here}
 use Rattle.markdown_leaf.specs.CharacterReference.{IsAtRest, reference_here}
-use Rattle.markdown_partial.specs.Merge.{HasData}
-use Rattle.markdown_inline.specs.Onto.{merged_onto}
-use Rattle.markdown_inline.specs.StringItems.{Item, AreItems, items_row}
+use Rattle.markdown_model.specs.Element.{Choice, string_choice}
+use Rattle.markdown_inline.specs.Elements.{Finishes}
+use Rattle.markdown_inline.specs.Settings.{setting_of}
 
 -- the codes at which data stops: `&` and the backslash
 abbrev pub string_markers : List ℕ
@@ -65,17 +63,13 @@ pub record BeforeDataReady (T : Tokenizer) : Type 0 where
 abbrev pub is_on : Tokenizer → Constructs
 is_on T = T.parse_state.now.options.now.constructs
 
--- the codes from T on are these items, and U is T past a row that merges to the row of the items
-pub record BeforeEnd (T U : Tokenizer) : Type 0 where
-  pub items : List Item
-  pub tree : Forest
-  pub are_items : AreItems (is_on T) items (ahead T)
-  pub reads_as : (m : Forest) → merged_onto tree m ≡ merged_onto (items_row items) m
-  pub has_data : HasData tree
-  pub left : U ≡ string_passed (past None tree T)
+-- the elements of a string, by what the run is given
+abbrev pub string_here : Tokenizer → Choice
+string_here T = string_choice (setting_of T.parse_state.now)
 
+-- the codes from T on are those of a tree that merges as their elements do, and U is T past it, with the passes of a string registered
 abbrev pub before_ends : Tokenizer → Bool → Tokenizer → Type 0
-before_ends T true U = BeforeEnd T U
+before_ends T true U = Finishes (string_here T) (Unit {0}) string_passed T U
 before_ends T false U = ⊥
 
 abbrev pub start_ends : Tokenizer → Bool → Tokenizer → Type 0

@@ -1,14 +1,18 @@
 //! Markdown's inline layer whole: its states and passes by name, its runs, and the program. The modules of the constructs stand here under their paths.
 #![tactic(auto)]
 
+pub mod laws;
 pub mod program;
 pub mod resolve;
 pub mod run;
 pub mod state;
 pub mod string;
+pub mod text;
 
 pub use markdown_leaf::{
     autolink, character_escape, character_reference, hard_break_escape, raw_text,
 };
-pub use markdown_partial::{partial_data, partial_space_or_tab, partial_space_or_tab_eol};
+pub use markdown_partial::{
+    partial_data, partial_space_or_tab, partial_space_or_tab_eol, partial_whitespace,
+};
 pub use markdown_util::util;

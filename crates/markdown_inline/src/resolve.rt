@@ -2,7 +2,7 @@
 ghost use Rattle.std.specs.Prelude.{◌≡◌, IfOk, IsErr, OnErr, IsTrue, None};
 ghost use Rattle.markdown_inline.specs.Resolve.{may_resolve_of, resolves_of};
 
-use crate::string;
+use crate::{string, text};
 use markdown_engine::resolve::ResolveName;
 use markdown_engine::subtokenize::Subresult;
 use markdown_engine::tokenizer::Tokenizer;
@@ -19,6 +19,7 @@ fn dispatch(name: ResolveName, tokenizer: &mut Tokenizer) -> Result<Option<Subre
     match name {
         ResolveName::Data => partial_data::resolve(tokenizer),
         ResolveName::String => string::resolve(tokenizer),
+        ResolveName::Text => text::resolve(tokenizer),
         _ => unreachable!(),
     }
 }

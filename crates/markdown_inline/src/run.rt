@@ -1,13 +1,13 @@
 //! Runs over a content.
-ghost use Rattle.std.specs.Prelude.{◌≡◌, ◌-◌, ◌≤◌, IsUtf8, true, [], ◌∷◌, take, drop, length, IfOk, IsErr, OnErr, IsTrue};
+ghost use Rattle.std.specs.Prelude.{◌≡◌, ◌-◌, ◌≤◌, IsUtf8, true, false, [], ◌∷◌, take, drop, length, IfOk, IsErr, OnErr, IsTrue};
 ghost use Rattle.markdown_inline.specs.Construct.{IsConstruct, construct_reading, chain_before, fields_after, ReadsOrStays};
-ghost use Rattle.markdown_engine.specs.Content.{IsContent, content_of, document_limit};
-ghost use Rattle.markdown_inline.specs.LineEdges.{has_bare_line_endings};
-ghost use Rattle.markdown_inline.specs.Settings.{setting_of};
-ghost use Rattle.markdown_model.specs.Inline.{string_events};
+ghost use Rattle.markdown_engine.specs.Chain.{chained};
+ghost use Rattle.markdown_engine.specs.Content.{IsContent, IsTextContent, content_of, document_limit};
+ghost use Rattle.markdown_inline.specs.Settings.{setting_of, text_setting_of};
+ghost use Rattle.markdown_model.specs.Inline.{string_events, text_events};
 
 use crate::state::Inline;
-pub use markdown_engine::content::is_content;
+pub use markdown_engine::content::{is_content, is_text};
 use markdown_engine::cursor::Cursor;
 use markdown_engine::event::Event;
 use markdown_engine::parser::ParseState;
@@ -37,22 +37,57 @@ pub(crate) fn whole_document(bytes: &[u8]) -> Piece
     }
 }
 
+// What a tokenizer has found: its events, with the numbers that links go on to, and its probes.
+fn found(tokenizer: Tokenizer) -> Run
+    ensures events { result.events.items ≡ chained tokenizer.entry.events }
+    ensures probes { result.probes ≡ tokenizer.entry.tokenize_state.probes }
+{
+    let probes = tokenizer.tokenize_state.probes;
+    Run {
+        events: tokenizer.events.into_vec(),
+        probes,
+    }
+}
+
 /// The events of the inline tree of a content that is read as a string: of its escapes, character references and data.
 ///
 /// The error comes only where memory is refused.
 pub fn string(alloc: Global, parse_state: &ParseState, pieces: &[Piece]) -> Result<Run, AllocError>
     requires { IsContent parse_state.now.bytes.now pieces.now }
-    ensures events { has_bare_line_endings (content_of parse_state.now.bytes.now pieces.now) ≡ true → IfOk result (λ run. run.events.items ≡ string_events (setting_of parse_state.now) pieces.now) }
+    ensures events { IfOk result (λ run. run.events.items ≡ string_events (setting_of parse_state.now) pieces.now) }
     ensures probes { IfOk result (λ run. run.probes ≡ 0) }
 {
     let mut tokenizer = Tokenizer::new(alloc, parse_state, pieces);
     let _ = tokenizer.run_state::<Inline>(StateName::StringStart)?;
     tokenizer.resolve_all::<Inline>()?;
-    let probes = tokenizer.tokenize_state.probes;
-    Ok(Run {
-        events: tokenizer.events.into_vec(),
-        probes,
-    })
+    Ok(found(tokenizer))
+}
+
+/// The events of the inline tree of a content that is read as text: of the inside of a paragraph, a heading or a table's cell. `first_of_item`
+/// says that it is the first paragraph of a list item, where the check of a task may stand.
+///
+/// The constructs whose switches the clause names are not built yet: where one of them is on, the run goes on as if it were off, and nothing
+/// is said of its events. The error comes only where memory is refused.
+pub fn text(
+    alloc: Global,
+    parse_state: &ParseState,
+    pieces: &[Piece],
+    first_of_item: bool,
+) -> Result<Run, AllocError>
+    requires { IsTextContent parse_state.now.bytes.now pieces.now }
+    ensures events { let on = parse_state.now.options.now.constructs in
+        on.attention ≡ false → on.gfm_autolink_literal ≡ false → on.gfm_label_start_footnote ≡ false → on.gfm_strikethrough ≡ false → on.gfm_task_list_item ≡ false
+        → on.hard_break_trailing ≡ false → on.html_text ≡ false → on.label_end ≡ false → on.label_start_image ≡ false → on.label_start_link ≡ false
+        → IfOk result (λ run. run.events.items ≡ text_events (text_setting_of parse_state.now first_of_item) pieces.now) }
+    ensures probes { let on = parse_state.now.options.now.constructs in on.attention ≡ false → on.gfm_strikethrough ≡ false → IfOk result (λ run. run.probes ≡ 0) }
+{
+    let mut tokenizer = Tokenizer::new(alloc, parse_state, pieces);
+    tokenizer
+        .tokenize_state
+        .document_at_first_paragraph_of_list_item = first_of_item;
+    let _ = tokenizer.run_state::<Inline>(StateName::TextStart)?;
+    tokenizer.resolve_all::<Inline>()?;
+    Ok(found(tokenizer))
 }
 
 // Puts back events, edits, open names and place.

@@ -1,13 +1,15 @@
 //! String content: escapes, character references and data.
 #![tactic(auto, using(markdown_engine::proofs::OpRules::op_rules))]
 
-ghost use Rattle.std.specs.Prelude.{◌≡◌, IfOk, OnErr, IsTrue, None};
+ghost use Rattle.std.specs.Prelude.{◌≡◌, IfOk, OnErr, IsTrue, None, false};
+ghost use Rattle.markdown_inline.specs.Resolve.{MayTrim, TrimsData};
 ghost use Rattle.markdown_inline.specs.StringSteps.{start_step, before_step, before_data_step};
 
 use markdown_engine::resolve::ResolveName;
 use markdown_engine::state::{State, StateName};
 use markdown_engine::subtokenize::Subresult;
 use markdown_engine::tokenizer::{Markers, Tokenizer};
+use markdown_partial::partial_whitespace;
 use std::alloc::AllocError;
 
 // The bytes at which data of a string stops.
@@ -67,11 +69,15 @@ pub fn before_data(tokenizer: &mut Tokenizer) -> Result<State, AllocError>
     Ok(State::Retry(StateName::DataStart))
 }
 
-/// After the run over a string: nothing is left to settle.
+/// After the run over a string: sets whitespace beside line endings apart.
+///
+/// The error comes where memory is refused; then `failed` is true.
 pub fn resolve(tokenizer: &mut Tokenizer) -> Result<Option<Subresult>, AllocError>
+    requires { MayTrim tokenizer.old }
     ensures none { IfOk result (λ r. r ≡ None) }
-    ensures same { tokenizer.new ≡ tokenizer.old }
+    ensures ok { IfOk result (λ _. TrimsData false tokenizer.old tokenizer.new) }
     ensures err { OnErr result (IsTrue tokenizer.new.failed) }
 {
+    partial_whitespace::resolve_whitespace(tokenizer, false, false)?;
     Ok(None)
 }

@@ -1,15 +1,13 @@
 -- What merging makes of data in several leaves.
-use Rattle.std.proofs.Common.{◌≡◌, Bool, true, false, not, ◌&&◌, ◌||◌, List, [], ◌∷◌, ◌++◌, None, refl, sym, ap, ◌∙◌, append_assoc, append-nil}
-use Rattle.std.specs.Prelude.{map}
+use Rattle.std.proofs.Common.{◌≡◌, Bool, true, false, not, ◌&&◌, ◌||◌, List, [], ◌∷◌, ◌++◌, None, refl, sym, ap, ◌∙◌, append_assoc}
 use Rattle.markdown_engine.specs.Codes.{Code, is_line_ending}
 use Rattle.markdown_engine.specs.Tree.{Forest, empty, leaf_then, group_then, leaf, ◌⊕◌}
 use Rattle.markdown_engine.specs.declared.event.Name.TheVariants as N
-use Rattle.markdown_model.specs.LabelEnd.{Element, plain}
 use Rattle.markdown_model.specs.Lines.{lines_of, line_leaves, line_leaf, onto_stretch, linked_leaf, joins}
-use Rattle.markdown_model.specs.Passes.{merged, data_onto, labels_of, as_bracket, labelled, loose_start, loose_end}
-use Rattle.markdown_model.specs.Groups.{joined, nest}
+use Rattle.markdown_model.specs.Passes.{merged, data_onto}
+use Rattle.markdown_model.specs.Groups.{joined}
+use Rattle.markdown_model.proofs.DataLaws.{code_leaf, code_leaves}
 use Rattle.markdown_inline.specs.Onto.{merged_onto}
-use Rattle.markdown_inline.specs.StringItems.{Item, Single, code_tree, item_tree, items_row}
 
 -- a row before another
 pub merged-row : (t u : Forest) → merged (t ⊕ u) ≡ merged_onto t (merged u)
@@ -40,17 +38,17 @@ pub line-leaf : (b : Bool) (c : Code) (cs : List Code) → is_line_ending c ≡ 
 unfolding leaf_by
 line-leaf b c cs e = ap (λ x. leaf_by x (c ∷ cs)) e
 
-code-leaf : (b : Bool) (c : Code) → is_line_ending c ≡ b → code_tree c ≡ leaf_by b (c ∷ [])
+code-leaf : (b : Bool) (c : Code) → is_line_ending c ≡ b → code_leaf c ≡ leaf_by b (c ∷ [])
 unfolding leaf_by
 code-leaf b c e =
     ap (λ x. elim x [ true ↦ leaf N.LineEnding (c ∷ []) | false ↦ leaf N.Data (c ∷ []) ]) e
     ∙ elim b as (λ x. elim x [ true ↦ leaf N.LineEnding (c ∷ []) | false ↦ leaf N.Data (c ∷ []) ] ≡ leaf_by x (c ∷ [])) [ true ↦ refl | false ↦ refl ]
 
-alone : (c : Code) → line_leaf N.Data None (c ∷ []) ≡ code_tree c
+alone : (c : Code) → line_leaf N.Data None (c ∷ []) ≡ code_leaf c
 alone c = line-leaf (is_line_ending c) c [] refl ∙ sym (code-leaf (is_line_ending c) c refl)
 
 -- the leaves of a code and then of these stretches
-apart : (c : Code) (ss : List (List Code)) (m : Forest) → merged_onto (line_leaves N.Data ((c ∷ []) ∷ ss)) m ≡ merged_onto (code_tree c) (merged_onto (line_leaves N.Data ss) m)
+apart : (c : Code) (ss : List (List Code)) (m : Forest) → merged_onto (line_leaves N.Data ((c ∷ []) ∷ ss)) m ≡ merged_onto (code_leaf c) (merged_onto (line_leaves N.Data ss) m)
 apart c ss m = onto-row (line_leaf N.Data None (c ∷ [])) (line_leaves N.Data ss) m ∙ ap (λ x. merged_onto x (merged_onto (line_leaves N.Data ss) m)) (alone c)
 
 -- a code put before a stretch of data, of which it is a part or not
@@ -61,7 +59,7 @@ put-is : (b : Bool) (c d : Code) (ds : List Code) (more : List (List Code)) → 
 unfolding put
 put-is b c d ds more e = ap (put c (d ∷ ds) more) e
 
-together : (c d : Code) (ds : List Code) (more : List (List Code)) (m : Forest) → is_line_ending c ≡ false → is_line_ending d ≡ false → merged_onto (line_leaves N.Data ((c ∷ d ∷ ds) ∷ more)) m ≡ merged_onto (code_tree c) (merged_onto (line_leaves N.Data ((d ∷ ds) ∷ more)) m)
+together : (c d : Code) (ds : List Code) (more : List (List Code)) (m : Forest) → is_line_ending c ≡ false → is_line_ending d ≡ false → merged_onto (line_leaves N.Data ((c ∷ d ∷ ds) ∷ more)) m ≡ merged_onto (code_leaf c) (merged_onto (line_leaves N.Data ((d ∷ ds) ∷ more)) m)
 unfolding leaf_by
 together c d ds more m e f =
     let n : Forest = merged_onto (line_leaves N.Data more) m in
@@ -74,43 +72,27 @@ together c d ds more m e f =
     ∙ ap (data_onto (c ∷ [])) (sym right)
     ∙ ap (λ x. merged_onto x (merged_onto (line_leaves N.Data ((d ∷ ds) ∷ more)) m)) (sym (code-leaf false c e))
 
-apart-both : (b : Bool) (c d : Code) (ds : List Code) (more : List (List Code)) (m : Forest) → joins (λ x. true) c d ≡ false → merged_onto (line_leaves N.Data (onto_stretch (λ x. true) c ((d ∷ ds) ∷ more))) m ≡ merged_onto (code_tree c) (merged_onto (line_leaves N.Data ((d ∷ ds) ∷ more)) m)
+apart-both : (b : Bool) (c d : Code) (ds : List Code) (more : List (List Code)) (m : Forest) → joins (λ x. true) c d ≡ false → merged_onto (line_leaves N.Data (onto_stretch (λ x. true) c ((d ∷ ds) ∷ more))) m ≡ merged_onto (code_leaf c) (merged_onto (line_leaves N.Data ((d ∷ ds) ∷ more)) m)
 unfolding put
 apart-both b c d ds more m e = ap (λ x. merged_onto (line_leaves N.Data x) m) (put-is false c d ds more e) ∙ apart c ((d ∷ ds) ∷ more) m
 
 -- the data of several codes, and that of each
-stretch-step : (a b : Bool) (c d : Code) (ds : List Code) (more : List (List Code)) (m : Forest) → is_line_ending c ≡ a → is_line_ending d ≡ b → merged_onto (line_leaves N.Data (onto_stretch (λ x. true) c ((d ∷ ds) ∷ more))) m ≡ merged_onto (code_tree c) (merged_onto (line_leaves N.Data ((d ∷ ds) ∷ more)) m)
+stretch-step : (a b : Bool) (c d : Code) (ds : List Code) (more : List (List Code)) (m : Forest) → is_line_ending c ≡ a → is_line_ending d ≡ b → merged_onto (line_leaves N.Data (onto_stretch (λ x. true) c ((d ∷ ds) ∷ more))) m ≡ merged_onto (code_leaf c) (merged_onto (line_leaves N.Data ((d ∷ ds) ∷ more)) m)
 unfolding put
 stretch-step true b c d ds more m e f = apart-both b c d ds more m (ap (λ x. not (x || is_line_ending d) && true) e)
 stretch-step false true c d ds more m e f = apart-both true c d ds more m (ap (λ x. not (x || is_line_ending d) && true) e ∙ ap (λ x. not (false || x) && true) f)
 stretch-step false false c d ds more m e f =
     ap (λ x. merged_onto (line_leaves N.Data x) m) (put-is true c d ds more (ap (λ x. not (x || is_line_ending d) && true) e ∙ ap (λ x. not (false || x) && true) f)) ∙ together c d ds more m e f
 
-stretch : (c : Code) (ss : List (List Code)) (m : Forest) → merged_onto (line_leaves N.Data (onto_stretch (λ x. true) c ss)) m ≡ merged_onto (code_tree c) (merged_onto (line_leaves N.Data ss) m)
+stretch : (c : Code) (ss : List (List Code)) (m : Forest) → merged_onto (line_leaves N.Data (onto_stretch (λ x. true) c ss)) m ≡ merged_onto (code_leaf c) (merged_onto (line_leaves N.Data ss) m)
 stretch c [] m = apart c [] m
 stretch c ([] ∷ more) m = apart c more m
 stretch c ((d ∷ ds) ∷ more) m = stretch-step (is_line_ending c) (is_line_ending d) c d ds more m refl refl
 
-pub lines-singles : (cs : List Code) (m : Forest) → merged_onto (line_leaves N.Data (lines_of cs)) m ≡ merged_onto (items_row (map Single cs)) m
-lines-singles [] m = refl
-lines-singles (c ∷ cs) m =
+-- data is alike as one leaf for each line and as one leaf for each code
+pub lines-codes : (cs : List Code) (m : Forest) → merged_onto (line_leaves N.Data (lines_of cs)) m ≡ merged_onto (code_leaves cs) m
+lines-codes [] m = refl
+lines-codes (c ∷ cs) m =
     stretch c (lines_of cs) m
-    ∙ ap (merged_onto (code_tree c)) (lines-singles cs m)
-    ∙ sym (onto-row (code_tree c) (items_row (map Single cs)) m)
-
--- Labels: a row without brackets is as it is.
-
-abbrev pub elements_of_items : List Item → List Element
-elements_of_items is = map (λ (i : Item). plain (item_tree i)) is
-
-nest-items : (is : List Item) → nest labelled loose_start loose_end (map as_bracket (elements_of_items is)) ≡ (map item_tree is, [])
-nest-items [] = refl
-nest-items (i ∷ is) = ap (λ (r : List Forest × List _). (item_tree i ∷ r.0, r.1)) (nest-items is)
-
-joined-items : (is : List Item) → joined (map item_tree is) ≡ items_row is
-joined-items [] = refl
-joined-items (i ∷ is) = ap (λ x. item_tree i ⊕ x) (joined-items is)
-
-pub labels-items : (is : List Item) → labels_of (elements_of_items is) ≡ items_row is
-unfolding labels_of
-labels-items is = rw (nest-items is) (ap joined (append-nil (map item_tree is)) ∙ joined-items is)
+    ∙ ap (merged_onto (code_leaf c)) (lines-codes cs m)
+    ∙ sym (onto-row (code_leaf c) (code_leaves cs) m)

@@ -1,10 +1,9 @@
 -- The laws of the states of a string.
-use Rattle.std.proofs.Common.{◌≡◌, ◌≢◌, ℕ, ◌*◌, ◌<◌, ◌==◌, Bool, true, false, Option, Some, None, List, [], ◌∷◌, refl, sym, ap, ◌∙◌, arith}
+use Rattle.std.proofs.Common.{◌≡◌, ◌≢◌, ℕ, ◌*◌, ◌<◌, ◌==◌, Bool, true, false, Option, Some, None, List, [], ◌∷◌, refl, ap, ◌∙◌, arith}
 use Rattle.markdown_engine.specs.Codes.{Code}
 use Rattle.markdown_engine.specs.Lists.{rest_of}
 use Rattle.markdown_engine.specs.Ops.{ahead, current_of, frame_of, registered, scratched}
 use Rattle.markdown_engine.specs.Runs.{Stepped, GoesOn, restored}
-use Rattle.markdown_engine.specs.Tree.{empty}
 use Rattle.markdown_engine.specs.Weights.{codes_left, weight_at}
 use Rattle.markdown_engine.specs.declared.resolve.ResolveName.TheVariants as P
 use Rattle.markdown_engine.specs.declared.state.State.TheVariants.{Next, Retry, Ok, Nok}
@@ -13,16 +12,16 @@ use Rattle.markdown_engine.specs.declared.state.StateName.TheVariants.{Character
 use Rattle.markdown_engine.specs.declared.tokenizer.Tokenizer.{Tokenizer}
 use Rattle.markdown_engine.proofs.EndsLemmas.{scratched-same}
 use Rattle.markdown_engine.proofs.Laws.{Follows, Goes-plain, Goes-attempt, if-step, code-step, restored-fails}
-use Rattle.markdown_engine.proofs.OpRules.{Begins, ahead-none, ahead-some, attempts-registered, attempts-scratched, left-scratched}
-use Rattle.markdown_engine.proofs.TreeLemmas.{past-empty}
+use Rattle.markdown_engine.proofs.OpRules.{Begins, ahead-some, attempts-registered, attempts-scratched, left-scratched}
 use Rattle.markdown_leaf.specs.CharacterEscape as E
 use Rattle.markdown_leaf.specs.CharacterEscape.{escape_here}
 use Rattle.markdown_leaf.specs.CharacterReference as R
 use Rattle.markdown_leaf.specs.CharacterReference.{IsAtRest, reference_here}
 use Rattle.markdown_model.specs.Lines.{data_up_to}
 use Rattle.markdown_partial.specs.DataSteps as D
-use Rattle.markdown_inline.specs.StringSteps.{is_on, string_markers, string_marked, string_passed, start_step, before_at, before_step, before_data_step, BeforeReady, BeforeDataReady, before_ends, start_ends}
-use Rattle.markdown_inline.specs.Laws.ItemLemmas.{no-backslash, no-ampersand}
+use Rattle.markdown_inline.specs.StringSteps.{is_on, string_markers, string_marked, string_passed, string_here, start_step, before_at, before_step, before_data_step, BeforeReady, BeforeDataReady, before_ends, start_ends}
+use Rattle.markdown_inline.specs.Laws.ElementLemmas.{finishes-end}
+use Rattle.markdown_inline.specs.Laws.StringElements.{no-backslash, no-ampersand}
 use Rattle.markdown_inline.specs.Laws.StringPasts.{Passes, passes-ready, passes-ends, escape-past, reference-past, data-past}
 
 -- what the layer says of these states, and of what they attempt
@@ -61,8 +60,7 @@ module _ (ready : StateName → Tokenizer → Type 0) (ends : StateName → Toke
       }
 
   at-end : (T : Tokenizer) → current_of T ≡ None → (ok : Bool) (U : Tokenizer) → (ok ≡ true) × (U ≡ string_passed T) → before_ends T ok U
-  at-end T e true U k =
-      record { items = []; tree = empty; are_items = ahead-none T e; reads_as = λ m. refl; has_data = tt; left = k.1 ∙ ap string_passed (sym (past-empty None T)) }
+  at-end T e true U k = finishes-end (string_here T) (Unit {0}) string_passed T U e k.1
   at-end T e false U k = cc
 
   some-none : (o : Option ℕ) (c : ℕ) → o ≡ Some c → o ≢ None

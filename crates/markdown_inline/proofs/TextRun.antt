@@ -1,0 +1,91 @@
+-- A whole run over a text.
+use Rattle.std.proofs.Common.{◌≡◌, Bool, true, false, List, [], None, sym, ap, subst, ◌∙◌, arith}
+use Rattle.markdown_engine.specs.Chain.{chained}
+use Rattle.markdown_engine.specs.Content.{IsContent, content_of}
+use Rattle.markdown_engine.specs.Ops.{scratched}
+use Rattle.markdown_engine.specs.Place.{Place, start_of_content}
+use Rattle.markdown_engine.specs.Rest.{at_rest}
+use Rattle.markdown_engine.specs.Resolves.{MayResolve, Resolves, unregistered}
+use Rattle.markdown_engine.specs.Tree.{events_of}
+use Rattle.markdown_engine.specs.declared.parser.ParseState.{ParseState}
+use Rattle.markdown_engine.specs.declared.parser.Piece.{Piece}
+use Rattle.markdown_engine.specs.declared.resolve.ResolveName.TheVariants as R
+use Rattle.markdown_engine.specs.declared.tokenizer.TokenizeState.{TokenizeState}
+use Rattle.markdown_engine.specs.declared.tokenizer.Tokenizer.{Tokenizer}
+use Rattle.markdown_leaf.specs.RawText as X
+use Rattle.markdown_model.specs.Element.{AreElements, AreElementsFrom, text_choice}
+use Rattle.markdown_model.specs.Inline.{text_events}
+use Rattle.markdown_model.specs.Passes.{trimmed}
+use Rattle.markdown_model.specs.Setting.{Setting}
+use Rattle.markdown_inline.specs.Built.{IsBuilt}
+use Rattle.markdown_inline.specs.Elements.{Finishes}
+use Rattle.markdown_inline.specs.Resolve.{may_resolve_of, resolves_of}
+use Rattle.markdown_inline.specs.Settings.{text_setting_of}
+use Rattle.markdown_inline.specs.StringSteps.{is_on}
+use Rattle.markdown_inline.specs.TextSteps.{text_markers, text_marked, text_passed, text_choice_of, start_ends}
+use Rattle.markdown_inline.proofs.PassesRun.{text-trims}
+use Rattle.markdown_inline.proofs.RunEnds.{Starts, start-with, finished-may, finished-events, finished-fields, finished-elements}
+use Rattle.markdown_inline.proofs.StartLemmas.{start-fits}
+use Rattle.markdown_inline.proofs.TextTree.{text-finished}
+
+-- the scratch fields at the start of a text, which may be the first of a list item
+abbrev pub text_fields : Bool → TokenizeState
+text_fields first = record at_rest { document_at_first_paragraph_of_list_item = first }
+
+abbrev pub text_start : ParseState → List Piece → Bool → Tokenizer → Type 0
+text_start p pieces first T = Starts p pieces (text_fields first) T
+
+-- a new tokenizer that is told so
+pub started : (p : ParseState) (pieces : List Piece) (first : Bool) (B : Tokenizer) → Starts p pieces at_rest B → text_start p pieces first (record B { tokenize_state = record B.tokenize_state { document_at_first_paragraph_of_list_item = first } })
+started p pieces first B k =
+    let m : Starts p pieces (record B.tokenize_state { document_at_first_paragraph_of_list_item = first }) (record B { tokenize_state = record B.tokenize_state { document_at_first_paragraph_of_list_item = first } }) = start-with p pieces at_rest (record B.tokenize_state { document_at_first_paragraph_of_list_item = first }) B k in
+    subst (λ (s : TokenizeState). Starts p pieces (record s { document_at_first_paragraph_of_list_item = first }) (record B { tokenize_state = record B.tokenize_state { document_at_first_paragraph_of_list_item = first } })) k.fields m
+
+pub text-ready : (p : ParseState) (pieces : List Piece) (first : Bool) (T : Tokenizer) → IsContent p.bytes.now pieces → text_start p pieces first T → X.StartReady T
+text-ready p pieces first T content k =
+    record { rest = k.fields ∙ sym (ap X.rested k.fields); fits = omega (arith, start-fits p.bytes.now pieces T content k.place) }
+
+-- where data stops at the markers of a text
+marked-start : (p : ParseState) (pieces : List Piece) (first : Bool) (T : Tokenizer) → text_start p pieces first T → Starts p pieces (record (text_fields first) { markers = text_markers }) (text_marked T)
+unfolding scratched
+marked-start p pieces first T k =
+    let m : Starts p pieces (record T.tokenize_state { markers = text_markers }) (text_marked T) = start-with p pieces (text_fields first) (record T.tokenize_state { markers = text_markers }) T k in
+    subst (λ (s : TokenizeState). Starts p pieces (record s { markers = text_markers }) (text_marked T)) k.fields m
+
+module _ (p : ParseState) (pieces : List Piece) (first : Bool) (content : IsContent p.bytes.now pieces) (T U : Tokenizer) (start : text_start p pieces first T) where
+  abbrev M : Tokenizer
+  M = text_marked T
+
+  ended : (ok : Bool) → start_ends T ok U → Finishes (text_choice_of M) (IsBuilt (is_on M)) text_passed M U
+  ended true k = k
+  ended false k = absurd k
+
+  pub text-may : (ok : Bool) → start_ends T ok U → MayResolve may_resolve_of resolves_of U.resolvers (unregistered U)
+  text-may ok k =
+      finished-may R.Text true text-trims (text_choice_of M) (IsBuilt (is_on M)) p pieces content _ M U (marked-start p pieces first T start) (ended ok k)
+
+  pub text-probes : (ok : Bool) (V : Tokenizer) → start_ends T ok U → Resolves resolves_of U.resolvers (unregistered U) V → V.tokenize_state.probes ≡ 0
+  text-probes ok V k r =
+      ap (λ (s : TokenizeState). s.probes) (finished-fields R.Text true text-trims (text_choice_of M) (IsBuilt (is_on M)) p pieces content _ M U (marked-start p pieces first T start) (ended ok k) V r)
+
+  -- which constructs are on, and what is read
+
+  on-is : is_on M ≡ p.options.now.constructs
+  unfolding scratched
+  on-is = ap (λ (x : ParseState). x.options.now.constructs) start.input
+
+  choice-is : text_choice_of M ≡ text_choice (text_setting_of p first) (content_of p.bytes.now pieces)
+  unfolding scratched start_of_content
+  choice-is =
+      ap (λ (s : Setting). text_choice s T.cursor.codes) (ap (λ (x : ParseState). text_setting_of x T.tokenize_state.document_at_first_paragraph_of_list_item) start.input ∙ ap (λ (s : TokenizeState). text_setting_of p s.document_at_first_paragraph_of_list_item) start.fields)
+      ∙ ap (λ (x : Place). text_choice (text_setting_of p first) x.codes) start.place
+
+  pub text-run : (ok : Bool) (V : Tokenizer) → start_ends T ok U → Resolves resolves_of U.resolvers (unregistered U) V → IsBuilt p.options.now.constructs → chained V.events ≡ text_events (text_setting_of p first) pieces
+  text-run ok V k r built =
+      let e : Finishes (text_choice_of M) (IsBuilt (is_on M)) text_passed M U = ended ok k in
+      let m : Starts p pieces (record (text_fields first) { markers = text_markers }) M = marked-start p pieces first T start in
+      let found = finished-elements R.Text true text-trims (text_choice_of M) (IsBuilt (is_on M)) p pieces content _ M U m e (subst IsBuilt (sym on-is) built) in
+      let are : AreElements (text_setting_of p first) (content_of p.bytes.now pieces) found.0 = subst (λ c. AreElementsFrom c [] None (content_of p.bytes.now pieces) found.0) choice-is found.1.0 in
+      finished-events R.Text true text-trims (text_choice_of M) (IsBuilt (is_on M)) p pieces content _ M U m e V r
+      ∙ ap (λ t. events_of (trimmed false true true t)) found.1.1
+      ∙ ap events_of (sym (text-finished (text_setting_of p first) (content_of p.bytes.now pieces) found.0 built are))

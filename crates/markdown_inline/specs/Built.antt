@@ -1,0 +1,16 @@
+-- Which constructs of a text are built.
+use Rattle.std.specs.Prelude.{◌≡◌, false}
+use Rattle.markdown_engine.specs.declared.configuration.Constructs.{Constructs}
+
+-- the constructs that are not built yet are switched off
+pub record IsBuilt (on : Constructs) : Type 0 where
+  pub no_attention : on.attention ≡ false
+  pub no_literals : on.gfm_autolink_literal ≡ false
+  pub no_footnotes : on.gfm_label_start_footnote ≡ false
+  pub no_strikethrough : on.gfm_strikethrough ≡ false
+  pub no_task_check : on.gfm_task_list_item ≡ false
+  pub no_trailing_break : on.hard_break_trailing ≡ false
+  pub no_html : on.html_text ≡ false
+  pub no_label_end : on.label_end ≡ false
+  pub no_image : on.label_start_image ≡ false
+  pub no_link : on.label_start_link ≡ false

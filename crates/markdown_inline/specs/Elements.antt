@@ -1,0 +1,88 @@
+-- How runs over the elements of a content go on, and how they end.
+use Rattle.std.specs.Prelude.{◌≡◌, ◌≢◌, ◌<◌, true, false, Bool, List, [], ◌++◌, length, Option, None}
+use Rattle.std.specs.List.{list_any}
+use Rattle.markdown_engine.specs.Codes.{Code, is_line_ending}
+use Rattle.markdown_engine.specs.Ops.{ahead}
+use Rattle.markdown_engine.specs.Past.{past, last_link}
+use Rattle.markdown_engine.specs.Tree.{Forest, empty, leaf_then, group_then, leaf_codes}
+use Rattle.markdown_engine.specs.Weights.{codes_left}
+use Rattle.markdown_engine.specs.declared.event.Name.{Name}
+use Rattle.markdown_engine.specs.declared.event.Name.TheVariants as N
+use Rattle.markdown_engine.specs.declared.tokenizer.Tokenizer.{Tokenizer}
+use Rattle.markdown_leaf.specs.RawText.{follows_escape, code_just_before, is_escape}
+use Rattle.markdown_model.proofs.DataLaws.{row_of}
+use Rattle.markdown_model.specs.Element.{Choice, AreElementsFrom, ends_escaped}
+use Rattle.markdown_model.specs.LabelEnd.{Element}
+use Rattle.markdown_partial.specs.Merge.{is_data}
+use Rattle.markdown_partial.specs.TrimEvents.{is_ending}
+use Rattle.markdown_inline.specs.Onto.{merged_onto}
+
+-- Trees.
+
+-- no data is empty or holds a line ending, and no group has the name of data or of a line ending
+abbrev pub HasLines : Forest → Type 0
+HasLines empty = Unit {0}
+HasLines (leaf_then name link cs rest) = (is_data name ≡ true → (cs ≢ []) × (list_any is_line_ending cs ≡ false)) × HasLines rest
+HasLines (group_then name enter exit inside rest) = ((is_data name ≡ false) × (is_ending name ≡ false)) × (HasLines inside × HasLines rest)
+
+abbrev pub is_run : Name → Bool
+is_run N.AttentionSequence = true
+is_run _ = false
+
+-- neither data nor a run of markers stands in it, and no group has the name of data or of a line ending
+abbrev pub IsQuiet : Forest → Type 0
+IsQuiet empty = Unit {0}
+IsQuiet (leaf_then name link cs rest) = (is_data name ≡ false) × ((is_run name ≡ false) × IsQuiet rest)
+IsQuiet (group_then name enter exit inside rest) = ((is_data name ≡ false) × (is_ending name ≡ false)) × (IsQuiet inside × IsQuiet rest)
+
+-- one leaf without a link, or one group
+abbrev pub IsSingle : Forest → Type 0
+IsSingle empty = ⊥
+IsSingle (leaf_then name link cs rest) = (link ≡ None) × ((is_escape name ≡ false) × (rest ≡ empty))
+IsSingle (group_then name enter exit inside rest) = rest ≡ empty
+
+-- the tree of a construct that stands by itself
+pub record IsNode (t : Forest) : Type 0 where
+  pub single : IsSingle t
+  pub quiet : IsQuiet t
+
+-- Places between elements.
+
+-- what stands before a place shows there: whether the last of the elements before it is an escape, and the code before
+pub record StandsAfter (earlier : List Element) (previous : Option Code) (T : Tokenizer) : Type 0 where
+  pub escaped : follows_escape T.events ≡ ends_escaped earlier
+  pub before : code_just_before T ≡ previous
+
+-- the elements of the codes from T up to U, after these elements and this code; the tree merges as their row
+pub record Elements (choice : Choice) (earlier : List Element) (previous : Option Code) (tree : Forest) (T U : Tokenizer) : Type 0 where
+  pub elements : List Element
+  pub later : List Element
+  pub last : Option Code
+  pub stands : StandsAfter later last U
+  pub follow : (es : List Element) → AreElementsFrom choice later last (ahead U) es → AreElementsFrom choice earlier previous (ahead T) (elements ++ es)
+  pub reads_as : (m : Forest) → merged_onto tree m ≡ merged_onto (row_of elements) m
+
+-- U is T past a tree that covers the codes between; where `given` holds, it is that of elements
+pub record Advances (choice : Choice) (given : Type 0) (T U : Tokenizer) : Type 0 where
+  pub tree : Forest
+  pub has_lines : HasLines tree
+  pub unlinked : last_link (length T.events) None tree ≡ None
+  pub left : U ≡ past None tree T
+  pub whole : ahead T ≡ leaf_codes tree ++ ahead U
+  pub less : codes_left U < codes_left T
+  pub elements : given → (earlier : List Element) (previous : Option Code) → StandsAfter earlier previous T → Elements choice earlier previous tree T U
+
+-- all elements of these codes, after these elements and this code; the tree merges as their row
+pub record AllElements (choice : Choice) (earlier : List Element) (previous : Option Code) (tree : Forest) (cs : List Code) : Type 0 where
+  pub elements : List Element
+  pub are : AreElementsFrom choice earlier previous cs elements
+  pub reads_as : (m : Forest) → merged_onto tree m ≡ merged_onto (row_of elements) m
+
+-- the codes from T on are those of a tree, and U is T past it, with its passes registered; where `given` holds, the tree is that of the
+-- elements of these codes
+pub record Finishes (choice : Choice) (given : Type 0) (passed : Tokenizer → Tokenizer) (T U : Tokenizer) : Type 0 where
+  pub tree : Forest
+  pub has_lines : HasLines tree
+  pub whole : leaf_codes tree ≡ ahead T
+  pub left : U ≡ passed (past None tree T)
+  pub elements : given → (earlier : List Element) (previous : Option Code) → StandsAfter earlier previous T → AllElements choice earlier previous tree (ahead T)

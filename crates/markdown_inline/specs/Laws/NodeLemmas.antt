@@ -1,0 +1,172 @@
+-- Constructs read nodes, and pass at least one code.
+use Rattle.std.proofs.Common.{◌≡◌, ◌≢◌, ℕ, ◌+◌, ◌≤◌, Bool, true, false, List, [], ◌∷◌, length, Option, None, Some, refl, ap, subst}
+use Rattle.std.specs.Prelude.{nat_lt, ◌||◌}
+use Rattle.markdown_engine.specs.Codes.{Code, is_line_ending}
+use Rattle.markdown_engine.specs.Past.{last_link}
+use Rattle.markdown_engine.specs.Tree.{Forest, empty, leaf_then, group_then, leaf, group, ◌⊕◌}
+use Rattle.markdown_engine.specs.declared.event.Content.{Content}
+use Rattle.markdown_engine.specs.declared.event.Name.{Name}
+use Rattle.markdown_engine.specs.declared.event.Name.TheVariants as N
+use Rattle.markdown_engine.specs.declared.tokenizer.Tokenizer.{Tokenizer}
+use Rattle.markdown_leaf.specs.RawText.{is_escape, span_at, single_dollar, follows_escape, code_just_before}
+use Rattle.markdown_model.specs.CodeTests.{next_is}
+use Rattle.markdown_model.specs.Grammar.{Reading, ◌>>◌, provided, one}
+use Rattle.markdown_model.specs.Leaf.{escape, reference, hard_break_escape, autolink, in_angle_brackets, span_of, span_here, SpanNames, code_names, math_names}
+use Rattle.markdown_model.specs.Lines.{linked_leaf, line_leaf, line_leaves}
+use Rattle.markdown_model.proofs.Consuming.{Left, Consumes, passed_takes, either_takes, escape_takes, reference_takes, hard_break_takes, autolink_takes, span_here_takes}
+use Rattle.markdown_model.proofs.LinkFree.{Passes, Yields, yields_bind, yields_gives, yields_passed, yields_either, yields_before, then_any}
+use Rattle.markdown_partial.specs.Merge.{is_data}
+use Rattle.markdown_partial.specs.TrimEvents.{is_ending}
+use Rattle.markdown_util.specs.Reference.{Table}
+use Rattle.markdown_inline.specs.Elements.{IsNode, IsQuiet, IsSingle, HasLines, is_run}
+
+-- Quiet trees.
+
+pub quiet-leaf : (name : Name) (cs : List Code) → is_data name ≡ false → is_run name ≡ false → IsQuiet (leaf name cs)
+quiet-leaf name [] d r = tt
+quiet-leaf name (c ∷ cs) d r = (d, (r, tt))
+
+pub quiet-row : (t u : Forest) → IsQuiet t → IsQuiet u → IsQuiet (t ⊕ u)
+quiet-row empty u h k = k
+quiet-row (leaf_then name link cs rest) u h k = (h.0, (h.1.0, quiet-row rest u h.1.1 k))
+quiet-row (group_then name enter exit inside rest) u h k = (h.0, (h.1.0, quiet-row rest u h.1.1 k))
+
+quiet-linked : (name : Name) (link : Option Content) (cs : List Code) → is_data name ≡ false → is_run name ≡ false → IsQuiet (linked_leaf name link cs)
+quiet-linked name link [] d r = tt
+quiet-linked name link (c ∷ cs) d r = (d, (r, tt))
+
+quiet-line : (name : Name) (link : Option Content) (s : List Code) → is_data name ≡ false → is_run name ≡ false → IsQuiet (line_leaf name link s)
+quiet-line name link s d r = by_test (next_is is_line_ending s)
+  where
+    by_test : (b : Bool) → IsQuiet (elim b as (λ _. Forest) [ true ↦ linked_leaf N.LineEnding link s | false ↦ linked_leaf name link s ])
+    by_test true = quiet-linked N.LineEnding link s refl refl
+    by_test false = quiet-linked name link s d r
+
+pub quiet-lines : (name : Name) (ss : List (List Code)) → is_data name ≡ false → is_run name ≡ false → IsQuiet (line_leaves name ss)
+quiet-lines name [] d r = tt
+quiet-lines name (s ∷ ss) d r = quiet-row (line_leaf name None s) (line_leaves name ss) (quiet-line name None s d r) (quiet-lines name ss d r)
+
+pub quiet-lines-of : (t : Forest) → IsQuiet t → HasLines t
+quiet-lines-of empty h = tt
+quiet-lines-of (leaf_then name link cs rest) h = (λ e. absurd (other (is_data name) e h.0), quiet-lines-of rest h.1.1)
+  where
+    other : (b : Bool) → b ≡ true → b ≡ false → ⊥
+    other b e f = cc
+quiet-lines-of (group_then name enter exit inside rest) h = (h.0, (quiet-lines-of inside h.1.0, quiet-lines-of rest h.1.1))
+
+pub quiet-node-unlinked : (t : Forest) → IsSingle t → (n : ℕ) → last_link n None t ≡ None
+quiet-node-unlinked empty h n = absurd h
+quiet-node-unlinked (leaf_then name None cs rest) h n = ap (last_link (n + 2) None) h.1.1
+quiet-node-unlinked (leaf_then name (Some c) cs rest) h n = absurd (some_none c h.0)
+  where
+    some_none : (c : Content) → Some c ≡ None → ⊥
+    some_none c e = cc
+quiet-node-unlinked (group_then name enter exit inside rest) h n = ap (last_link _ None) h
+
+-- Nodes.
+
+-- a group is single, and quiet where its inside is
+pub group-node : (name : Name) (inside : Forest) → is_data name ≡ false → is_ending name ≡ false → IsQuiet inside → IsNode (group name inside)
+group-node name inside d e h = record { single = refl; quiet = ((d, e), (h, tt)) }
+
+-- so is a leaf over some codes
+pub leaf-node : (name : Name) (cs : List Code) → is_data name ≡ false → is_run name ≡ false → is_escape name ≡ false → cs ≢ [] → IsNode (leaf name cs)
+leaf-node name [] d r e some = absurd (some refl)
+leaf-node name (c ∷ cs) d r e some = record { single = (refl, (e, refl)); quiet = (d, (r, tt)) }
+
+-- What the constructs read.
+
+pub escape_yields : Yields IsNode escape
+unfolding escape
+escape_yields =
+    then_any _ _ _ λ slash. then_any _ _ _ λ value. yields_gives _ _
+    (group-node N.CharacterEscape _ refl refl (quiet-row _ _ (quiet-leaf N.CharacterEscapeMarker slash refl refl) (quiet-leaf N.CharacterEscapeValue value refl refl)))
+
+pub reference_yields : (table : Table) → Yields IsNode (reference table)
+unfolding reference
+reference_yields table =
+    then_any _ _ _ λ p. yields_gives _ _
+    (group-node N.CharacterReference _ refl refl
+    (quiet-row _ _ (quiet-leaf N.CharacterReferenceMarker p.front refl refl)
+    (quiet-row _ _ (quiet-leaf N.CharacterReferenceMarkerNumeric p.number refl refl)
+    (quiet-row _ _ (quiet-leaf N.CharacterReferenceMarkerHexadecimal p.hexadecimal refl refl)
+    (quiet-row _ _ (quiet-leaf N.CharacterReferenceValue p.value refl refl) (quiet-leaf N.CharacterReferenceMarkerSemi p.back refl refl))))))
+
+abbrev IsFull : List Code → Type 0
+IsFull cs = cs ≢ []
+
+one_yields : (p : Code → Bool) → Yields IsFull (one p)
+unfolding one
+one_yields p = record { at = at }
+  where
+    by_test : (c : Code) (cs : List Code) (b : Bool) → Passes IsFull (elim b as (λ _. Option (List Code × List Code)) [ true ↦ Some (c ∷ [], cs) | false ↦ None ])
+    by_test c cs true = λ e. cc
+    by_test c cs false = tt
+
+    at : (cs : List Code) → Passes IsFull (one p cs)
+    at [] = tt
+    at (c ∷ cs) = by_test c cs (p c)
+
+pub break_yields : Yields IsNode hard_break_escape
+unfolding hard_break_escape
+break_yields = yields_bind IsFull _ _ _ (yields_before _ _ _ (one_yields _)) λ slash some. yields_gives _ _ (leaf-node N.HardBreakEscape slash refl refl refl some)
+
+bracket_yields : (inside : Reading (List Code)) (name : Name) → is_data name ≡ false → is_run name ≡ false → Yields IsNode (in_angle_brackets inside name)
+unfolding in_angle_brackets
+bracket_yields inside name d r =
+    then_any _ _ _ λ front. then_any _ _ _ λ text. then_any _ _ _ λ back. yields_gives _ _
+    (group-node N.Autolink _ refl refl
+    (quiet-row _ _ (quiet-leaf N.AutolinkMarker front refl refl) (quiet-row _ _ (quiet-leaf name text d r) (quiet-leaf N.AutolinkMarker back refl refl))))
+
+pub autolink_yields : Yields IsNode autolink
+unfolding autolink
+autolink_yields = yields_either _ _ _ (bracket_yields _ N.AutolinkProtocol refl refl) (bracket_yields _ N.AutolinkEmail refl refl)
+
+-- a span's names are those of neither data, a line ending nor a run
+pub record AreQuietNames (names : SpanNames) : Type 0 where
+  pub whole : (is_data names.whole ≡ false) × (is_ending names.whole ≡ false)
+  pub sequence : (is_data names.sequence ≡ false) × (is_run names.sequence ≡ false)
+  pub text : (is_data names.text ≡ false) × (is_run names.text ≡ false)
+
+pub code_quiet : AreQuietNames code_names
+code_quiet = record { whole = (refl, refl); sequence = (refl, refl); text = (refl, refl) }
+
+pub math_quiet : AreQuietNames math_names
+math_quiet = record { whole = (refl, refl); sequence = (refl, refl); text = (refl, refl) }
+
+span_of_yields : (marker : ℕ) (names : SpanNames) (allowed : ℕ → Bool) → AreQuietNames names → Yields IsNode (span_of marker names allowed)
+unfolding span_of
+span_of_yields marker names allowed h =
+    then_any _ _ _ λ front. yields_passed _ _ _ (then_any _ _ _ λ inside. yields_gives _ _
+    (group-node names.whole _ h.whole.0 h.whole.1
+    (quiet-row _ _ (quiet-leaf names.sequence front h.sequence.0 h.sequence.1)
+    (quiet-row _ _ (quiet-lines names.text inside.0 h.text.0 h.text.1) (quiet-leaf names.sequence inside.1 h.sequence.0 h.sequence.1)))))
+
+pub span_here_yields : (marker : ℕ) (names : SpanNames) (allowed : ℕ → Bool) (escaped : Bool) (previous : Option Code) → AreQuietNames names → Yields IsNode (span_here marker names allowed escaped previous)
+unfolding span_here
+span_here_yields marker names allowed escaped previous h = yields_passed _ _ _ (span_of_yields marker names allowed h)
+
+-- A result of such a reading.
+
+node-of : (a : Reading Forest) → Yields IsNode a → Consumes 1 a → (cs : List Code) (t : Forest) (rest : List Code) → a cs ≡ Some (t, rest) → IsNode t × (1 + length rest ≤ length cs)
+node-of a y k cs t rest e = (subst (λ o. Passes IsNode o) e (y.at cs), subst (λ o. Left 1 cs o) e (k.at cs))
+
+pub escape-node : (on : Bool) (cs : List Code) (t : Forest) (rest : List Code) → (provided on >> escape) cs ≡ Some (t, rest) → IsNode t × (1 + length rest ≤ length cs)
+escape-node on = node-of _ (yields_passed IsNode on escape escape_yields) (passed_takes 1 on escape escape_takes)
+
+pub reference-node : (on : Bool) (table : Table) (cs : List Code) (t : Forest) (rest : List Code) → (provided on >> reference table) cs ≡ Some (t, rest) → IsNode t × (1 + length rest ≤ length cs)
+reference-node on table = node-of _ (yields_passed IsNode on (reference table) (reference_yields table)) (passed_takes 1 on (reference table) (reference_takes table))
+
+pub break-node : (on : Bool) (cs : List Code) (t : Forest) (rest : List Code) → (provided on >> hard_break_escape) cs ≡ Some (t, rest) → IsNode t × (1 + length rest ≤ length cs)
+break-node on = node-of _ (yields_passed IsNode on hard_break_escape break_yields) (passed_takes 1 on hard_break_escape hard_break_takes)
+
+pub autolink-node : (on : Bool) (cs : List Code) (t : Forest) (rest : List Code) → (provided on >> autolink) cs ≡ Some (t, rest) → IsNode t × (1 + length rest ≤ length cs)
+autolink-node on = node-of _ (yields_passed IsNode on autolink autolink_yields) (passed_takes 1 on autolink autolink_takes)
+
+pub span-node : (T : Tokenizer) (cs : List Code) (t : Forest) (rest : List Code) → span_at T cs ≡ Some (t, rest) → IsNode t × (1 + length rest ≤ length cs)
+span-node T =
+    node-of (span_at T)
+    (yields_either IsNode _ _ (yields_passed IsNode _ _ (span_here_yields 96 code_names (λ n. true) (follows_escape T.events) (code_just_before T) code_quiet))
+    (yields_passed IsNode _ _ (span_here_yields 36 math_names (λ n. single_dollar T || nat_lt 1 n) (follows_escape T.events) (code_just_before T) math_quiet)))
+    (either_takes 1 _ _ (passed_takes 1 _ _ (span_here_takes 96 code_names (λ n. true) (follows_escape T.events) (code_just_before T)))
+    (passed_takes 1 _ _ (span_here_takes 36 math_names (λ n. single_dollar T || nat_lt 1 n) (follows_escape T.events) (code_just_before T))))

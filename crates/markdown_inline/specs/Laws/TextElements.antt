@@ -1,0 +1,352 @@
+-- Which element of a text stands at the codes at hand, where the constructs that are not built are off.
+use Rattle.std.proofs.Common.{◌≡◌, ℕ, Bool, true, false, not, ◌&&◌, ◌||◌, ◌==◌, List, [], ◌∷◌, Option, None, Some, refl, sym, ap, subst, ◌∙◌}
+use Rattle.std.specs.Prelude.{is_none, nat_lt}
+use Rattle.std.specs.List.{list_any}
+use Rattle.std.proofs.lemmas.Bool.{or_parts, or_from, eqb-true}
+use Rattle.markdown_engine.specs.Codes.{Code, is_line_ending}
+use Rattle.markdown_engine.specs.Tree.{Forest, leaf}
+use Rattle.markdown_engine.specs.declared.event.Name.TheVariants as N
+use Rattle.markdown_engine.specs.declared.configuration.ParseOptions.{ParseOptions}
+use Rattle.markdown_engine.specs.declared.tokenizer.Tokenizer.{Tokenizer}
+use Rattle.markdown_leaf.proofs.ReadingLemmas.{and-false, bind-some, one-here, either-first, either-second, either-some, switched-off}
+use Rattle.markdown_leaf.specs.RawText.{span_at}
+use Rattle.markdown_leaf.proofs.RawTextReadings.{here-off}
+use Rattle.markdown_model.specs.CodeTests.{is_among, is_value, is_some_code}
+use Rattle.markdown_model.specs.Element.{as_plain, switched, line_ending, data_code, code_span, math_span, Tries, tries, tried, first_check, text_element, ends_escaped}
+use Rattle.markdown_model.specs.Grammar.{Reading, ◌>>◌, ◌>>=◌, provided, either, gives, one}
+use Rattle.markdown_model.specs.LabelEnd.{Element, plain}
+use Rattle.markdown_model.specs.Leaf.{escape, reference, hard_break_escape, autolink, span_here, code_names, math_names}
+use Rattle.markdown_model.specs.Setting.{Setting}
+use Rattle.markdown_model.proofs.DataLaws.{code_leaf}
+use Rattle.markdown_inline.specs.Elements.{StandsAfter}
+use Rattle.markdown_inline.specs.Built.{IsBuilt}
+use Rattle.markdown_inline.specs.TextSteps.{text_markers}
+
+-- the element of what a construct reads here, or of the code by itself
+abbrev pub element_here : Code → List Code → Option (Forest × List Code) → Option (Element × List Code)
+element_here c cs None = Some (plain (code_leaf c), cs)
+element_here c cs (Some r) = Some (plain r.0, r.1)
+
+-- Readings that give plain elements.
+
+plain_of : Option (Forest × List Code) → Option (Element × List Code)
+plain_of o = elim o [ None ↦ None | Some r ↦ Some (plain r.0, r.1) ]
+
+plain-switched : (on : Bool) (a : Reading Forest) (cs : List Code) → switched on (as_plain a) cs ≡ plain_of ((provided on >> a) cs)
+unfolding switched as_plain ◌>>◌ ◌>>=◌ provided gives plain_of
+plain-switched true a cs = refl
+plain-switched false a cs = refl
+
+switched-none : (on : Bool) (a : Reading Element) (cs : List Code) → on ≡ false → switched on a cs ≡ None
+unfolding switched
+switched-none on a cs e = switched-off a on cs e
+
+-- a code by itself
+
+leaf-by : (b : Bool) (c : Code) → is_line_ending c ≡ b → code_leaf c ≡ elim b as (λ _. Forest) [ true ↦ leaf N.LineEnding (c ∷ []) | false ↦ leaf N.Data (c ∷ []) ]
+leaf-by b c e = ap (λ x. elim x as (λ _. Forest) [ true ↦ leaf N.LineEnding (c ∷ []) | false ↦ leaf N.Data (c ∷ []) ]) e
+
+data-alone : (c : Code) (cs : List Code) → is_line_ending c ≡ false → data_code (c ∷ cs) ≡ Some (plain (code_leaf c), cs)
+unfolding data_code ◌>>=◌ one gives
+data-alone c cs e = ap (λ t. Some (plain t, cs)) (sym (leaf-by false c e))
+
+ending-alone : (c : Code) (cs : List Code) → is_line_ending c ≡ true → line_ending (c ∷ cs) ≡ Some (plain (code_leaf c), cs)
+unfolding line_ending gives
+ending-alone c cs e =
+    bind-some (one is_line_ending) _ (c ∷ cs) (c ∷ []) cs (Some (plain (leaf N.LineEnding (c ∷ [])), cs)) (one-here is_line_ending c cs e) refl
+    ∙ ap (λ t. Some (plain t, cs)) (sym (leaf-by true c e))
+
+-- a row and data behind it
+plain-or-data : (row : Reading Element) (c : Code) (cs : List Code) (o : Option (Forest × List Code)) → is_line_ending c ≡ false → row (c ∷ cs) ≡ plain_of o → either row data_code (c ∷ cs) ≡ element_here c cs o
+unfolding plain_of
+plain-or-data row c cs None e k = either-second row data_code (c ∷ cs) k ∙ data-alone c cs e
+plain-or-data row c cs (Some r) e k = either-some row data_code (c ∷ cs) (plain r.0, r.1) k
+
+-- Rows that have no code.
+
+abbrev IsPassedOver : Tries → ℕ → Type 0
+IsPassedOver [] v = Unit {0}
+IsPassedOver (row ∷ rows) v = (list_any (λ n. v == n) row.0 ≡ false) × IsPassedOver rows v
+
+tried-data : (rows : Tries) (v : ℕ) → IsPassedOver rows v → tried rows v ≡ data_code
+unfolding tried
+tried-data [] v h = refl
+tried-data (row ∷ rows) v h = rw (h.0, tried) (tried-data rows v h.1)
+
+-- each of these is another
+abbrev AreOther : List ℕ → ℕ → Type 0
+AreOther [] v = Unit {0}
+AreOther (n ∷ ns) v = ((v == n) ≡ false) × AreOther ns v
+
+are-other : (ns : List ℕ) (v : ℕ) → list_any (λ n. v == n) ns ≡ false → AreOther ns v
+are-other [] v e = tt
+are-other (n ∷ ns) v e = let k = or_parts (v == n) (list_any (λ m. v == m) ns) e in (k.0, are-other ns v k.1)
+
+from-other : (ns : List ℕ) (v : ℕ) → AreOther ns v → list_any (λ n. v == n) ns ≡ false
+from-other [] v h = refl
+from-other (n ∷ ns) v h = or_from (v == n) (list_any (λ m. v == m) ns) h.0 (from-other ns v h.1)
+
+skip-one : (v n : ℕ) → (v == n) ≡ false → ((v == n) || false) ≡ false
+skip-one v n e = ap (λ b. b || false) e
+
+skip-two : (v n m : ℕ) → (v == n) ≡ false → (v == m) ≡ false → ((v == n) || ((v == m) || false)) ≡ false
+skip-two v n m e f = λ i. e i || (f i || false)
+
+-- The codes of constructs that are off.
+
+abbrev pub off_markers : List ℕ
+off_markers = 33 ∷ 42 ∷ 95 ∷ 126 ∷ 72 ∷ 104 ∷ 87 ∷ 119 ∷ 91 ∷ 93 ∷ []
+
+abbrev EachOf : (ℕ → Type 0) → List ℕ → Type 0
+EachOf P [] = Unit {0}
+EachOf P (n ∷ ns) = P n × EachOf P ns
+
+-- what holds of each of these holds of one that is among them
+one-of : (P : ℕ → Type 0) (ns : List ℕ) (v : ℕ) → EachOf P ns → list_any (λ n. v == n) ns ≡ true → P v
+one-of P [] v h e = cc
+one-of P (n ∷ ns) v h e = by_test (v == n) refl e (one-of P ns v h.1)
+  where
+    by_test : (b : Bool) → (v == n) ≡ b → (b || list_any (λ m. v == m) ns) ≡ true → (list_any (λ m. v == m) ns ≡ true → P v) → P v
+    by_test true k f more = subst P (sym (eqb-true v n k)) h.0
+    by_test false k f more = more f
+
+-- Spans of both kinds.
+
+abbrev spans_by : ParseOptions → Bool → Option Code → Reading Forest
+spans_by p escaped previous =
+    either (provided p.constructs.code_text >> span_here 96 code_names (λ n. true) escaped previous)
+    (provided p.constructs.math_text >> span_here 36 math_names (λ n. p.math_text_single_dollar || nat_lt 1 n) escaped previous)
+
+-- one of them begins at its marker only
+only-code : (p : ParseOptions) (escaped : Bool) (previous : Option Code) (c : Code) (cs : List Code) → c.value ≡ 96
+    → spans_by p escaped previous (c ∷ cs) ≡ (provided p.constructs.code_text >> span_here 96 code_names (λ n. true) escaped previous) (c ∷ cs)
+only-code p escaped previous c cs e =
+    either-first _ (provided p.constructs.math_text >> span_here 36 math_names (λ n. p.math_text_single_dollar || nat_lt 1 n) escaped previous) (c ∷ cs)
+    (here-off p.math_text_single_dollar 36 math_names (λ n. p.math_text_single_dollar || nat_lt 1 n) p.constructs.math_text escaped previous (c ∷ cs)
+    (ap (λ v. (v == 36) && (p.constructs.math_text && (escaped || not (is_some_code (is_value 36) previous)))) e))
+
+only-math : (p : ParseOptions) (escaped : Bool) (previous : Option Code) (c : Code) (cs : List Code) → c.value ≡ 36
+    → spans_by p escaped previous (c ∷ cs) ≡ (provided p.constructs.math_text >> span_here 36 math_names (λ n. p.math_text_single_dollar || nat_lt 1 n) escaped previous) (c ∷ cs)
+only-math p escaped previous c cs e =
+    either-second (provided p.constructs.code_text >> span_here 96 code_names (λ n. true) escaped previous) _ (c ∷ cs)
+    (here-off p.math_text_single_dollar 96 code_names (λ n. true) p.constructs.code_text escaped previous (c ∷ cs)
+    (ap (λ v. (v == 96) && (p.constructs.code_text && (escaped || not (is_some_code (is_value 96) previous)))) e))
+
+module _ (s : Setting) (built : IsBuilt s.options.constructs) (end : ℕ) (earlier : List Element) (previous : Option Code) where
+  no-check : (cs : List Code) → first_check s end earlier previous cs ≡ None
+  unfolding first_check
+  no-check cs = switched-none _ _ cs (ap (λ b. (is_none previous && s.first_of_item) && b) built.no_task_check ∙ and-false (is_none previous && s.first_of_item))
+
+  -- the row of the code, and data behind it
+  pub text-at : (row : Reading Element) (c : Code) (cs : List Code) → tried (tries s end earlier previous) c.value ≡ row → text_element s end earlier previous (c ∷ cs) ≡ either row data_code (c ∷ cs)
+  unfolding text_element
+  text-at row c cs e =
+      either-second (first_check s end earlier previous) (either (tried (tries s end earlier previous) c.value) data_code) (c ∷ cs) (no-check (c ∷ cs))
+      ∙ ap (λ r. either r data_code (c ∷ cs)) e
+
+  -- the same, of a code with this value
+  text-row : (v : ℕ) (row : Reading Element) (c : Code) (cs : List Code) → c.value ≡ v → tried (tries s end earlier previous) v ≡ row → text_element s end earlier previous (c ∷ cs) ≡ either row data_code (c ∷ cs)
+  text-row v row c cs e k = text-at row c cs (ap (tried (tries s end earlier previous)) e ∙ k)
+
+  value-other : (v : ℕ) (c : Code) → c.value ≡ v → (v == 10) ≡ false → is_line_ending c ≡ false
+  value-other v c e k = ap (λ n. n == 10) e ∙ k
+
+  -- a row of one construct
+  one-row : (v : ℕ) (on : Bool) (a : Reading Forest) (c : Code) (cs : List Code) (o : Option (Forest × List Code)) → c.value ≡ v → (v == 10) ≡ false
+      → tried (tries s end earlier previous) v ≡ switched on (as_plain a) → (provided on >> a) (c ∷ cs) ≡ o → text_element s end earlier previous (c ∷ cs) ≡ element_here c cs o
+  one-row v on a c cs o e k row h =
+      text-row v (switched on (as_plain a)) c cs e row
+      ∙ plain-or-data (switched on (as_plain a)) c cs o (value-other v c e k) (plain-switched on a (c ∷ cs) ∙ ap plain_of h)
+
+  -- Spans.
+
+  pub code-element : (c : Code) (cs : List Code) (o : Option (Forest × List Code)) → c.value ≡ 96
+      → (provided s.options.constructs.code_text >> span_here 96 code_names (λ n. true) (ends_escaped earlier) previous) (c ∷ cs) ≡ o → text_element s end earlier previous (c ∷ cs) ≡ element_here c cs o
+  unfolding tries tried code_span
+  code-element c cs o e h = one-row 96 s.options.constructs.code_text (span_here 96 code_names (λ n. true) (ends_escaped earlier) previous) c cs o e refl refl h
+
+  pub math-element : (c : Code) (cs : List Code) (o : Option (Forest × List Code)) → c.value ≡ 36
+      → (provided s.options.constructs.math_text >> span_here 36 math_names (λ n. s.options.math_text_single_dollar || nat_lt 1 n) (ends_escaped earlier) previous) (c ∷ cs) ≡ o
+      → text_element s end earlier previous (c ∷ cs) ≡ element_here c cs o
+  unfolding tries tried math_span
+  math-element c cs o e h =
+      one-row 36 s.options.constructs.math_text (span_here 36 math_names (λ n. s.options.math_text_single_dollar || nat_lt 1 n) (ends_escaped earlier) previous) c cs o e refl refl h
+
+  -- what `span_at` reads, of a tokenizer with these options and this before it
+  pub span-element : (T : Tokenizer) (c : Code) (cs : List Code) (o : Option (Forest × List Code)) → s.options ≡ T.parse_state.now.options.now → StandsAfter earlier previous T
+      → (c.value == 36 || c.value == 96) ≡ true → span_at T (c ∷ cs) ≡ o → text_element s end earlier previous (c ∷ cs) ≡ element_here c cs o
+  span-element T c cs o same stands e h = by_test (c.value == 36) refl e
+    where
+      given : spans_by s.options (ends_escaped earlier) previous (c ∷ cs) ≡ o
+      given = (λ i. spans_by (same i) (sym stands.escaped i) (sym stands.before i) (c ∷ cs)) ∙ h
+
+      by_test : (b : Bool) → (c.value == 36) ≡ b → (b || c.value == 96) ≡ true → text_element s end earlier previous (c ∷ cs) ≡ element_here c cs o
+      by_test true k f = let v = eqb-true c.value 36 k in math-element c cs o v (sym (only-math s.options (ends_escaped earlier) previous c cs v) ∙ given)
+      by_test false k f = let v = eqb-true c.value 96 f in code-element c cs o v (sym (only-code s.options (ends_escaped earlier) previous c cs v) ∙ given)
+
+  -- References.
+
+  pub reference-element : (c : Code) (cs : List Code) (o : Option (Forest × List Code)) → c.value ≡ 38
+      → (provided s.options.constructs.character_reference >> reference s.references) (c ∷ cs) ≡ o → text_element s end earlier previous (c ∷ cs) ≡ element_here c cs o
+  unfolding tries tried
+  reference-element c cs o e h = one-row 38 s.options.constructs.character_reference (reference s.references) c cs o e refl refl h
+
+  -- Rows of two constructs, the second of which is off.
+
+  pub autolink-element : (c : Code) (cs : List Code) (o : Option (Forest × List Code)) → c.value ≡ 60
+      → (provided s.options.constructs.autolink >> autolink) (c ∷ cs) ≡ o → text_element s end earlier previous (c ∷ cs) ≡ element_here c cs o
+  unfolding tries tried
+  autolink-element c cs o e h =
+      text-row 60 _ c cs e refl
+      ∙ plain-or-data _ c cs o (value-other 60 c e refl)
+      (either-first (switched s.options.constructs.autolink (as_plain autolink)) _ (c ∷ cs) (switched-none s.options.constructs.html_text _ (c ∷ cs) built.no_html)
+      ∙ plain-switched s.options.constructs.autolink autolink (c ∷ cs) ∙ ap plain_of h)
+
+  -- A backslash.
+
+  slash_row : Reading Element
+  slash_row = either (switched s.options.constructs.character_escape (as_plain escape)) (switched s.options.constructs.hard_break_escape (as_plain hard_break_escape))
+
+  slash-at : (c : Code) (cs : List Code) → c.value ≡ 92 → text_element s end earlier previous (c ∷ cs) ≡ either slash_row data_code (c ∷ cs)
+  unfolding tries tried slash_row
+  slash-at c cs e = text-row 92 _ c cs e refl
+
+  pub escape-element : (c : Code) (cs : List Code) (t : Forest) (rest : List Code) → c.value ≡ 92
+      → (provided s.options.constructs.character_escape >> escape) (c ∷ cs) ≡ Some (t, rest) → text_element s end earlier previous (c ∷ cs) ≡ Some (plain t, rest)
+  unfolding slash_row plain_of
+  escape-element c cs t rest e h =
+      slash-at c cs e
+      ∙ plain-or-data slash_row c cs (Some (t, rest)) (value-other 92 c e refl)
+      (either-some (switched s.options.constructs.character_escape (as_plain escape)) _ (c ∷ cs) (plain t, rest) (plain-switched s.options.constructs.character_escape escape (c ∷ cs) ∙ ap plain_of h))
+
+  pub break-element : (c : Code) (cs : List Code) (o : Option (Forest × List Code)) → c.value ≡ 92
+      → (provided s.options.constructs.character_escape >> escape) (c ∷ cs) ≡ None → (provided s.options.constructs.hard_break_escape >> hard_break_escape) (c ∷ cs) ≡ o
+      → text_element s end earlier previous (c ∷ cs) ≡ element_here c cs o
+  unfolding slash_row plain_of
+  break-element c cs o e none h =
+      slash-at c cs e
+      ∙ plain-or-data slash_row c cs o (value-other 92 c e refl)
+      (either-second (switched s.options.constructs.character_escape (as_plain escape)) _ (c ∷ cs) (plain-switched s.options.constructs.character_escape escape (c ∷ cs) ∙ ap plain_of none)
+      ∙ plain-switched s.options.constructs.hard_break_escape hard_break_escape (c ∷ cs) ∙ ap plain_of h)
+
+  -- Constructs that are off.
+
+  -- a row that does not hold
+  row-none : (v : ℕ) (row : Reading Element) (c : Code) (cs : List Code) → c.value ≡ v → (v == 10) ≡ false → tried (tries s end earlier previous) v ≡ row → row (c ∷ cs) ≡ None
+      → text_element s end earlier previous (c ∷ cs) ≡ Some (plain (code_leaf c), cs)
+  row-none v row c cs e k r h = text-row v row c cs e r ∙ either-second row data_code (c ∷ cs) h ∙ data-alone c cs (value-other v c e k)
+
+  off-row : (v : ℕ) (on : Bool) (a : Reading Element) (c : Code) (cs : List Code) → c.value ≡ v → (v == 10) ≡ false → tried (tries s end earlier previous) v ≡ switched on a → on ≡ false
+      → text_element s end earlier previous (c ∷ cs) ≡ Some (plain (code_leaf c), cs)
+  off-row v on a c cs e k r h = row-none v (switched on a) c cs e k r (switched-none on a (c ∷ cs) h)
+
+  off-image : (c : Code) (cs : List Code) → c.value ≡ 33 → text_element s end earlier previous (c ∷ cs) ≡ Some (plain (code_leaf c), cs)
+  unfolding tries tried
+  off-image c cs e = off-row 33 s.options.constructs.label_start_image _ c cs e refl refl built.no_image
+
+  off-star : (c : Code) (cs : List Code) → c.value ≡ 42 → text_element s end earlier previous (c ∷ cs) ≡ Some (plain (code_leaf c), cs)
+  unfolding tries tried
+  off-star c cs e = off-row 42 s.options.constructs.attention _ c cs e refl refl built.no_attention
+
+  off-underscore : (c : Code) (cs : List Code) → c.value ≡ 95 → text_element s end earlier previous (c ∷ cs) ≡ Some (plain (code_leaf c), cs)
+  unfolding tries tried
+  off-underscore c cs e = off-row 95 s.options.constructs.attention _ c cs e refl refl built.no_attention
+
+  off-tilde : (c : Code) (cs : List Code) → c.value ≡ 126 → text_element s end earlier previous (c ∷ cs) ≡ Some (plain (code_leaf c), cs)
+  unfolding tries tried
+  off-tilde c cs e = off-row 126 s.options.constructs.gfm_strikethrough _ c cs e refl refl built.no_strikethrough
+
+  off-large-h : (c : Code) (cs : List Code) → c.value ≡ 72 → text_element s end earlier previous (c ∷ cs) ≡ Some (plain (code_leaf c), cs)
+  unfolding tries tried
+  off-large-h c cs e = off-row 72 s.options.constructs.gfm_autolink_literal _ c cs e refl refl built.no_literals
+
+  off-small-h : (c : Code) (cs : List Code) → c.value ≡ 104 → text_element s end earlier previous (c ∷ cs) ≡ Some (plain (code_leaf c), cs)
+  unfolding tries tried
+  off-small-h c cs e = off-row 104 s.options.constructs.gfm_autolink_literal _ c cs e refl refl built.no_literals
+
+  off-large-w : (c : Code) (cs : List Code) → c.value ≡ 87 → text_element s end earlier previous (c ∷ cs) ≡ Some (plain (code_leaf c), cs)
+  unfolding tries tried
+  off-large-w c cs e = off-row 87 s.options.constructs.gfm_autolink_literal _ c cs e refl refl built.no_literals
+
+  off-small-w : (c : Code) (cs : List Code) → c.value ≡ 119 → text_element s end earlier previous (c ∷ cs) ≡ Some (plain (code_leaf c), cs)
+  unfolding tries tried
+  off-small-w c cs e = off-row 119 s.options.constructs.gfm_autolink_literal _ c cs e refl refl built.no_literals
+
+  off-bracket : (c : Code) (cs : List Code) → c.value ≡ 91 → text_element s end earlier previous (c ∷ cs) ≡ Some (plain (code_leaf c), cs)
+  unfolding tries tried
+  off-bracket c cs e =
+      row-none 91 _ c cs e refl refl
+      (either-second (switched s.options.constructs.gfm_label_start_footnote _) (switched s.options.constructs.label_start_link _) (c ∷ cs) (switched-none s.options.constructs.gfm_label_start_footnote _ (c ∷ cs) built.no_footnotes)
+      ∙ switched-none s.options.constructs.label_start_link _ (c ∷ cs) built.no_link)
+
+  off-end : (c : Code) (cs : List Code) → c.value ≡ 93 → text_element s end earlier previous (c ∷ cs) ≡ Some (plain (code_leaf c), cs)
+  unfolding tries tried
+  off-end c cs e = off-row 93 s.options.constructs.label_end _ c cs e refl refl built.no_label_end
+
+  pub off-element : (v : ℕ) (c : Code) (cs : List Code) → list_any (λ n. v == n) off_markers ≡ true → c.value ≡ v → text_element s end earlier previous (c ∷ cs) ≡ Some (plain (code_leaf c), cs)
+  off-element v c cs h =
+      one-of (λ n. c.value ≡ n → text_element s end earlier previous (c ∷ cs) ≡ Some (plain (code_leaf c), cs)) off_markers v
+      (off-image c cs, (off-star c cs, (off-underscore c cs, (off-tilde c cs, (off-large-h c cs, (off-small-h c cs, (off-large-w c cs, (off-small-w c cs, (off-bracket c cs, (off-end c cs, tt)))))))))) h
+
+  -- Codes that begin no construct.
+
+  plain-tried : (v : ℕ) → (v == 10) ≡ false → AreOther text_markers v → tried (tries s end earlier previous) v ≡ data_code
+  unfolding tries
+  plain-tried v e h = tried-data (tries s end earlier previous) v (
+    skip-one v 10 e,
+    (
+      skip-one v 33 h.0,
+      (
+        skip-one v 36 h.1.0,
+        (
+          skip-one v 96 h.1.1.0,
+          (
+            skip-one v 38 h.1.1.1.0,
+            (
+              skip-one v 42 h.1.1.1.1.0,
+              (
+                skip-one v 95 h.1.1.1.1.1.0,
+                (
+                  skip-one v 126 h.1.1.1.1.1.1.0,
+                  (
+                    skip-one v 60 h.1.1.1.1.1.1.1.0,
+                    (
+                      skip-two v 72 104 h.1.1.1.1.1.1.1.1.0 h.1.1.1.1.1.1.1.1.1.0,
+                      (
+                        skip-two v 87 119 h.1.1.1.1.1.1.1.1.1.1.0 h.1.1.1.1.1.1.1.1.1.1.1.0,
+                        (
+                          skip-one v 91 h.1.1.1.1.1.1.1.1.1.1.1.1.0,
+                          (
+                            skip-one v 92 h.1.1.1.1.1.1.1.1.1.1.1.1.1.0,
+                            (
+                              skip-one v 93 h.1.1.1.1.1.1.1.1.1.1.1.1.1.1.0,
+                              tt,
+                            ),
+                          ),
+                        ),
+                      ),
+                    ),
+                  ),
+                ),
+              ),
+            ),
+          ),
+        ),
+      ),
+    ),
+  )
+
+  ending-at : (c : Code) (cs : List Code) → is_line_ending c ≡ true → text_element s end earlier previous (c ∷ cs) ≡ Some (plain (code_leaf c), cs)
+  unfolding tries tried
+  ending-at c cs e = text-row 10 line_ending c cs (eqb-true c.value 10 e) refl ∙ either-some line_ending data_code (c ∷ cs) (plain (code_leaf c), cs) (ending-alone c cs e)
+
+  data-at : (c : Code) (cs : List Code) → is_line_ending c ≡ false → is_among text_markers c ≡ false → text_element s end earlier previous (c ∷ cs) ≡ Some (plain (code_leaf c), cs)
+  data-at c cs e h =
+      text-at data_code c cs (plain-tried c.value e (are-other text_markers c.value h)) ∙ either-some data_code data_code (c ∷ cs) (plain (code_leaf c), cs) (data-alone c cs e)
+
+  pub other-element : (c : Code) (cs : List Code) → is_among text_markers c ≡ false → text_element s end earlier previous (c ∷ cs) ≡ Some (plain (code_leaf c), cs)
+  other-element c cs h = by_ending (is_line_ending c) refl
+    where
+      by_ending : (b : Bool) → is_line_ending c ≡ b → text_element s end earlier previous (c ∷ cs) ≡ Some (plain (code_leaf c), cs)
+      by_ending true e = ending-at c cs e
+      by_ending false e = data-at c cs e h

@@ -1,0 +1,275 @@
+-- The laws of the states of a text.
+use Rattle.std.proofs.Common.{◌≡◌, ◌≢◌, ℕ, ◌+◌, ◌*◌, ◌<◌, ◌≤◌, ◌==◌, ◌||◌, Bool, true, false, if◌then◌else◌, Option, Some, None, List, [], ◌∷◌, inl, inr, refl, sym, ap, subst, ◌∙◌, arith}
+use Rattle.std.specs.List.{list_any}
+use Rattle.std.proofs.lemmas.Bool.{eqb-true, or_cases}
+use Rattle.markdown_engine.specs.Codes.{Code}
+use Rattle.markdown_engine.specs.Ops.{ahead, current_of, registered, scratched}
+use Rattle.markdown_engine.specs.Past.{past, moved_by, EndsAs, Reads, Refuses, TreeReading}
+use Rattle.markdown_engine.specs.Place.{Place, moved}
+use Rattle.markdown_engine.specs.Grown.{Fails}
+use Rattle.markdown_engine.specs.Runs.{Stepped, stepped, GoesOn}
+use Rattle.markdown_engine.specs.Tree.{Forest, leaf_codes}
+use Rattle.markdown_engine.specs.Weights.{codes_left, weight_at}
+use Rattle.markdown_engine.specs.declared.resolve.ResolveName.TheVariants as P
+use Rattle.markdown_engine.specs.declared.state.State.TheVariants.{Next, Retry, Ok, Nok}
+use Rattle.markdown_engine.specs.declared.state.StateName.{StateName}
+use Rattle.markdown_engine.specs.declared.state.StateName.TheVariants.{AttentionStart, AutolinkStart, CharacterEscapeStart, CharacterReferenceStart, DataStart, GfmAutolinkLiteralProtocolStart, GfmAutolinkLiteralWwwStart, GfmLabelStartFootnoteStart, GfmTaskListItemCheckStart, HardBreakEscapeStart, HtmlTextStart, LabelEndStart, LabelStartImageStart, LabelStartLinkStart, RawTextStart, TextBefore, TextBeforeData, TextBeforeHardBreakEscape, TextBeforeHtml, TextBeforeLabelStartLink}
+use Rattle.markdown_engine.specs.declared.tokenizer.TokenizeState.{TokenizeState}
+use Rattle.markdown_engine.specs.declared.tokenizer.Tokenizer.{Tokenizer}
+use Rattle.markdown_engine.proofs.EndsLemmas.{scratched-same}
+use Rattle.markdown_engine.proofs.Laws.{Follows, Goes-plain, Goes-attempt, code-step, restored-fails, Grown-refl}
+use Rattle.markdown_engine.proofs.OpRules.{attempts-registered, attempts-scratched, left-scratched}
+use Rattle.markdown_leaf.specs.Autolink.{link_here}
+use Rattle.markdown_leaf.specs.CharacterEscape.{escape_here}
+use Rattle.markdown_leaf.specs.CharacterReference.{IsAtRest, reference_here}
+use Rattle.markdown_leaf.specs.HardBreakEscape.{break_here}
+use Rattle.markdown_leaf.specs.RawText as X
+use Rattle.markdown_model.specs.Element.{text_choice}
+use Rattle.markdown_model.specs.Lines.{data_up_to}
+use Rattle.markdown_util.specs.Reference.{html_5_rows}
+use Rattle.markdown_inline.specs.Built.{IsBuilt}
+use Rattle.markdown_inline.specs.Elements.{Advances, Finishes}
+use Rattle.markdown_inline.specs.Layer.{ready_of, ends_of, weight_of}
+use Rattle.markdown_inline.specs.StringSteps.{is_on}
+use Rattle.markdown_inline.specs.TextSteps.{text_markers, text_marked, text_passed, trying, start_step, first_try, tries_at, before_at, before_step, before_html_step, before_hard_break_escape_step, before_label_start_link_step, before_data_step, text_setting, text_choice_of, BeforeReady, BeforeDataReady, BeforeBreakReady, StandsAlone, before_ends, start_ends}
+use Rattle.markdown_inline.specs.Unbuilt.{never, never_step, never_ends}
+use Rattle.markdown_inline.specs.Laws.NodeLemmas.{escape-node, reference-node, break-node, autolink-node, span-node}
+use Rattle.markdown_inline.specs.Laws.TextElements.{off_markers}
+use Rattle.markdown_inline.specs.Laws.TextTries.{ReadsNodes, ReadsElements, reference-reads, reference-alone, autolink-reads, autolink-alone, escape-reads, break-reads, break-alone, span-reads, span-alone, off-alone, other-alone, other-data}
+use Rattle.markdown_inline.specs.Laws.ElementLemmas.{advances-finishes, finishes-end, node-advances, data-advances}
+
+-- Past an element the choice and the scratch fields are as they were.
+
+same-codes : (cs : List Code) (p : Place) → (moved_by cs p).codes ≡ p.codes
+unfolding moved
+same-codes [] p = refl
+same-codes (c ∷ cs) p = same-codes cs (moved p)
+
+choice-past : (t : Forest) (T U : Tokenizer) → U ≡ past None t T → text_choice_of U ≡ text_choice_of T
+unfolding past
+choice-past t T U e = ap text_choice_of e ∙ ap (λ cs. text_choice (text_setting T) cs) (same-codes (leaf_codes t) T.cursor)
+
+on-past : (t : Forest) (T U : Tokenizer) → U ≡ past None t T → is_on U ≡ is_on T
+unfolding past
+on-past t T U e = ap is_on e
+
+fields-past : (t : Forest) (T U : Tokenizer) → U ≡ past None t T → U.tokenize_state ≡ T.tokenize_state
+unfolding past
+fields-past t T U e = ap (λ (x : Tokenizer). x.tokenize_state) e
+
+ready-past : (T U : Tokenizer) → U.tokenize_state ≡ T.tokenize_state → codes_left U ≤ codes_left T → BeforeReady T → BeforeReady U
+ready-past T U e l r =
+    record {
+      marked = ap (λ (s : TokenizeState). s.markers) e ∙ r.marked;
+      spans = record { rest = e ∙ r.spans.rest ∙ ap X.rested (sym e); fits = omega (arith, l, r.spans.fits) };
+    }
+
+-- what follows an element, follows from before it
+advances-ends : (T U : Tokenizer) → Advances (text_choice_of T) (IsBuilt (is_on T)) T U → (ok : Bool) (V : Tokenizer) → before_ends U ok V → before_ends T ok V
+advances-ends T U a true V k =
+    let same : text_choice_of U ≡ text_choice_of T = choice-past a.tree T U a.left in
+    let on : is_on U ≡ is_on T = on-past a.tree T U a.left in
+    advances-finishes (text_choice_of T) (IsBuilt (is_on T)) text_passed T U V a
+    (subst (λ c. Finishes c (IsBuilt (is_on T)) text_passed U V) same (subst (λ b. Finishes (text_choice_of U) (IsBuilt b) text_passed U V) on k))
+advances-ends T U a false V k = k
+
+-- past an element the run goes on before the next
+on-before : (n : ℕ) (T U : Tokenizer) → codes_left T * 256 < n → BeforeReady T → Advances (text_choice_of T) (IsBuilt (is_on T)) T U → Follows ready_of ends_of weight_of n (before_ends T) (Next TextBefore) U
+on-before n T U room r a =
+    record {
+      goes_on = ready-past T U (fields-past a.tree T U a.left) (omega (arith, a.less)) r;
+      falls = omega (arith, a.less);
+      closed = λ ok V h. advances-ends T U a ok V h;
+    }
+
+-- A construct is tried: it holds and is an element, or the run goes on with another state at the same place.
+
+-- how a construct that is tried ends
+abbrev EndsOf : StateName → TreeReading → Tokenizer → Type 0
+EndsOf construct reading T = (ok : Bool) (U : Tokenizer) → ends_of construct T ok U → EndsAs reading None T.tokenize_state T ok U
+
+try-law : (rank : ℕ) (T : Tokenizer) (construct otherwise : StateName) (reading : TreeReading) → T.attempts ≡ [] → ready_of construct T → weight_of construct T < weight_at rank T → BeforeReady T → EndsOf construct reading T → ReadsNodes reading T → ReadsElements reading T → (reading (ahead T) ≡ None → Follows ready_of ends_of weight_of (weight_at rank T) (before_ends T) (Next otherwise) T) → GoesOn ready_of ends_of weight_of (weight_at rank T) (before_ends T) (trying construct otherwise T)
+try-law rank T construct otherwise reading alone on falls ready ends nodes elements fails =
+    Goes-attempt ready_of ends_of weight_of (weight_at rank T) (before_ends T) (Retry construct) (Next TextBefore) (Next otherwise) T alone on falls
+    (λ U now h.
+    let k : Reads reading None T.tokenize_state T U = ends true U h in
+    let node = nodes k.tree k.rest k.holds in
+    on-before (weight_at rank T) T U (omega arith) ready (node-advances (text_choice_of T) (IsBuilt (is_on T)) reading T U k node.0 node.1 (elements k.tree k.rest k.holds)))
+    (λ U now h.
+    let k : Refuses reading T.tokenize_state T U = ends false U h in
+    rw (restored-fails false (Next TextBefore) (Next otherwise) T.tokenize_state T U k.fails, scratched-same T) (fails k.refused))
+
+-- Going on where a construct does not hold.
+
+some-none : (o : Option ℕ) (v : ℕ) → o ≡ Some v → o ≢ None
+some-none o v e = λ h. cc
+
+to-alone : (T : Tokenizer) (v : ℕ) → BeforeReady T → current_of T ≡ Some v → StandsAlone T → BeforeDataReady T
+to-alone T v ready e alone = record { before = ready; some_code = some-none (current_of T) v e; alone = alone }
+
+to-data : (rank : ℕ) (T : Tokenizer) (v : ℕ) → 5 < rank → BeforeReady T → current_of T ≡ Some v → StandsAlone T → Follows ready_of ends_of weight_of (weight_at rank T) (before_ends T) (Next TextBeforeData) T
+to-data rank T v l ready e alone = record { goes_on = to-alone T v ready e alone; falls = omega (arith, l); closed = λ ok V h. h }
+
+-- Which codes are which.
+
+off-one : (v n : ℕ) → (v == n) ≡ true → list_any (λ m. n == m) off_markers ≡ true → list_any (λ m. v == m) off_markers ≡ true
+off-one v n h k = ap (λ x. list_any (λ m. x == m) off_markers) (eqb-true v n h) ∙ k
+
+off-two : (v a b : ℕ) → (v == a || v == b) ≡ true → list_any (λ m. a == m) off_markers ≡ true → list_any (λ m. b == m) off_markers ≡ true → list_any (λ m. v == m) off_markers ≡ true
+off-two v a b h k l = elim (or_cases (v == a) (v == b) h) [ inl e ↦ off-one v a e k | inr e ↦ off-one v b e l ]
+
+off-attention : (v : ℕ) → (v == 42 || (v == 95 || v == 126)) ≡ true → list_any (λ m. v == m) off_markers ≡ true
+off-attention v h = elim (or_cases (v == 42) (v == 95 || v == 126) h) [ inl e ↦ off-one v 42 e refl | inr e ↦ off-two v 95 126 e refl refl ]
+
+neither : (a b : Bool) → a ≡ false → b ≡ false → (a || b) ≡ false
+neither true b e f = cc
+neither false b e f = f
+
+both-false : (a b : Bool) → (a || b) ≡ false → (a ≡ false) × (b ≡ false)
+both-false true b e = cc
+both-false false b e = (refl, e)
+
+-- a code at which nothing is tried is no marker
+unmarked : (v : ℕ) → (v == 33) ≡ false → (v == 36 || v == 96) ≡ false → (v == 38) ≡ false → (v == 42 || (v == 95 || v == 126)) ≡ false → (v == 60) ≡ false → (v == 72 || v == 104) ≡ false → (v == 87 || v == 119) ≡ false → (v == 91) ≡ false → (v == 92) ≡ false → (v == 93) ≡ false → list_any (λ n. v == n) text_markers ≡ false
+unmarked v a b c d f g i j k l =
+    let spans = both-false (v == 36) (v == 96) b in
+    let runs = both-false (v == 42) (v == 95 || v == 126) d in
+    let more = both-false (v == 95) (v == 126) runs.1 in
+    let protocols = both-false (v == 72) (v == 104) g in
+    let hosts = both-false (v == 87) (v == 119) i in
+    neither _ _ a (neither _ _ spans.0 (neither _ _ spans.1 (neither _ _ c (neither _ _ runs.0 (neither _ _ more.0 (neither _ _ more.1 (neither _ _ f
+    (neither _ _ protocols.0 (neither _ _ protocols.1 (neither _ _ hosts.0 (neither _ _ hosts.1 (neither _ _ j (neither _ _ k (neither _ _ l refl))))))))))))))
+
+-- The laws.
+
+weight-marked : (T : Tokenizer) → weight_at 8 (text_marked T) ≡ weight_at 8 T
+weight-marked T = ap (λ n. 256 * n + 8 + 1) (left-scratched (record T.tokenize_state { markers = text_markers }) T)
+
+at-rest-reference : (T : Tokenizer) → BeforeReady T → IsAtRest T
+at-rest-reference T r = record { marker = ap (λ (s : TokenizeState). s.marker) r.spans.rest; size = ap (λ (s : TokenizeState). s.size) r.spans.rest }
+
+-- a construct that is not built is tried, and the run goes on to the code by itself
+off-law : (rank : ℕ) (T : Tokenizer) (construct otherwise : StateName) → T.attempts ≡ [] → BeforeReady T → ready_of construct T → weight_of construct T < weight_at rank T → EndsOf construct never T → Follows ready_of ends_of weight_of (weight_at rank T) (before_ends T) (Next otherwise) T → GoesOn ready_of ends_of weight_of (weight_at rank T) (before_ends T) (trying construct otherwise T)
+off-law rank T construct otherwise alone ready on falls ends next =
+    try-law rank T construct otherwise never alone on falls ready ends (λ t rest e. cc) (λ t rest e. cc) (λ e. next)
+
+-- the start of a construct that is not built
+pub never-law : (T : Tokenizer) → T.attempts ≡ [] → GoesOn ready_of ends_of weight_of (weight_at 0 T) (never_ends T) (never_step T)
+never-law T alone =
+    Goes-plain ready_of ends_of weight_of (weight_at 0 T) (never_ends T) Nok T alone tt (omega arith) (λ ok U h. never-end T ok U h)
+  where
+    never-end : (T : Tokenizer) (ok : Bool) (U : Tokenizer) → (ok ≡ false) × (U ≡ T) → never_ends T ok U
+    never-end T true U h = cc
+    never-end T false U h = record { refused = refl; fails = subst (λ x. Fails T.tokenize_state T x) (sym h.1) (record { grown = Grown-refl 0 T; scratch = refl }) }
+
+passed-attempts : (T : Tokenizer) → T.attempts ≡ [] → (text_passed T).attempts ≡ []
+passed-attempts T alone = attempts-registered P.Text (registered P.Data T) ∙ attempts-registered P.Data T ∙ alone
+
+at-end : (T : Tokenizer) → current_of T ≡ None → (ok : Bool) (U : Tokenizer) → (ok ≡ true) × (U ≡ text_passed T) → before_ends T ok U
+at-end T e true U k = finishes-end (text_choice_of T) (IsBuilt (is_on T)) text_passed T U e k.1
+at-end T e false U k = cc
+
+-- by a test
+if-choice : {A : Type 0} (P : A → Type 0) (b : Bool) (x y : A) → (b ≡ true → P x) → (b ≡ false → P y) → P (if b then x else y)
+if-choice P true x y p q = p refl
+if-choice P false x y p q = q refl
+
+value-is : (T : Tokenizer) (v n : ℕ) → current_of T ≡ Some v → (v == n) ≡ true → current_of T ≡ Some n
+value-is T v n e h = e ∙ ap (λ x. Some x) (eqb-true v n h)
+
+module _ (T : Tokenizer) (alone : T.attempts ≡ []) (ready : BeforeReady T) where
+  abbrev Before : Stepped → Type 0
+  Before r = GoesOn ready_of ends_of weight_of (weight_at 7 T) (before_ends T) r
+
+  tries-span : (v : ℕ) → current_of T ≡ Some v → (v == 36 || v == 96) ≡ true → Before (trying RawTextStart TextBeforeData T)
+  tries-span v e h =
+      try-law 7 T RawTextStart TextBeforeData (X.span_at T) alone ready.spans (omega arith) ready (λ ok U g. g) (λ t rest g. span-node T (ahead T) t rest g) (span-reads T v e h) (λ none. to-data 7 T v (omega arith) ready e (span-alone T v e h none))
+
+  tries-reference : current_of T ≡ Some 38 → Before (trying CharacterReferenceStart TextBeforeData T)
+  tries-reference d =
+      try-law 7 T CharacterReferenceStart TextBeforeData (reference_here T) alone (at-rest-reference T ready) (omega arith) ready (λ ok U g. g) (λ t rest g. reference-node (is_on T).character_reference html_5_rows (ahead T) t rest g) (reference-reads T d) (λ none. to-data 7 T 38 (omega arith) ready d (reference-alone T d none))
+
+  tries-autolink : current_of T ≡ Some 60 → Before (trying AutolinkStart TextBeforeHtml T)
+  tries-autolink d =
+      try-law 7 T AutolinkStart TextBeforeHtml (link_here T) alone (at-rest-reference T ready).size (omega arith) ready (λ ok U g. g) (λ t rest g. autolink-node (is_on T).autolink (ahead T) t rest g) (autolink-reads T d)
+      (λ none. record { goes_on = to-alone T 60 ready d (autolink-alone T d none); falls = omega arith; closed = λ ok V h. h })
+
+  tries-escape : current_of T ≡ Some 92 → Before (trying CharacterEscapeStart TextBeforeHardBreakEscape T)
+  tries-escape d =
+      try-law 7 T CharacterEscapeStart TextBeforeHardBreakEscape (escape_here T) alone tt (omega arith) ready (λ ok U g. g) (λ t rest g. escape-node (is_on T).character_escape (ahead T) t rest g) (escape-reads T d)
+      (λ none. record { goes_on = record { before = ready; slash = d; no_escape = none }; falls = omega arith; closed = λ ok V h. h })
+
+  -- a construct that is not built, and then the code by itself
+  tries-off : (v : ℕ) (construct : StateName) → current_of T ≡ Some v → list_any (λ n. v == n) off_markers ≡ true → ready_of construct T → weight_of construct T < weight_at 7 T → EndsOf construct never T → Before (trying construct TextBeforeData T)
+  tries-off v construct e h on falls ends = off-law 7 T construct TextBeforeData alone ready on falls ends (to-data 7 T v (omega arith) ready e (off-alone T v e h))
+
+  tries-footnote : current_of T ≡ Some 91 → Before (trying GfmLabelStartFootnoteStart TextBeforeLabelStartLink T)
+  tries-footnote d =
+      off-law 7 T GfmLabelStartFootnoteStart TextBeforeLabelStartLink alone ready tt (omega arith) (λ ok U g. g)
+      (record { goes_on = to-alone T 91 ready d (off-alone T 91 d refl); falls = omega arith; closed = λ ok V h. h })
+
+  tries-none : (v : ℕ) → current_of T ≡ Some v → list_any (λ n. v == n) text_markers ≡ false → Before (stepped (Retry TextBeforeData) T)
+  tries-none v e h =
+      let f = to-data 7 T v (omega arith) ready e (other-alone T v e h) in
+      Goes-plain ready_of ends_of weight_of (weight_at 7 T) (before_ends T) (Retry TextBeforeData) T alone f.goes_on f.falls f.closed
+
+  tries : (v : ℕ) → current_of T ≡ Some v → Before (tries_at (first_try v) T)
+  tries v e =
+      let Q : Option (StateName × StateName) → Type 0 = λ o. Before (tries_at o T) in
+      if-choice Q (v == 33) _ _ (λ h. tries-off v LabelStartImageStart e (off-one v 33 h refl) tt (omega arith) (λ ok U g. g))
+      (λ a. if-choice Q (v == 36 || v == 96) _ _ (λ h. tries-span v e h)
+      (λ b. if-choice Q (v == 38) _ _ (λ h. tries-reference (value-is T v 38 e h))
+      (λ c. if-choice Q (v == 42 || (v == 95 || v == 126)) _ _ (λ h. tries-off v AttentionStart e (off-attention v h) tt (omega arith) (λ ok U g. g))
+      (λ d. if-choice Q (v == 60) _ _ (λ h. tries-autolink (value-is T v 60 e h))
+      (λ f. if-choice Q (v == 72 || v == 104) _ _ (λ h. tries-off v GfmAutolinkLiteralProtocolStart e (off-two v 72 104 h refl refl) tt (omega arith) (λ ok U g. g))
+      (λ g. if-choice Q (v == 87 || v == 119) _ _ (λ h. tries-off v GfmAutolinkLiteralWwwStart e (off-two v 87 119 h refl refl) tt (omega arith) (λ ok U g. g))
+      (λ i. if-choice Q (v == 91) _ _ (λ h. tries-footnote (value-is T v 91 e h))
+      (λ j. if-choice Q (v == 92) _ _ (λ h. tries-escape (value-is T v 92 e h))
+      (λ k. if-choice Q (v == 93) _ _ (λ h. tries-off v LabelEndStart e (off-one v 93 h refl) tt (omega arith) (λ ok U g. g))
+      (λ l. tries-none v e (unmarked v a b c d f g i j k l)))))))))))
+
+  pub before-law : GoesOn ready_of ends_of weight_of (weight_at 7 T) (before_ends T) (before_step T)
+  before-law =
+      code-step Before (current_of T) (λ o. before_at o T)
+      (λ e. Goes-plain ready_of ends_of weight_of (weight_at 7 T) (before_ends T) Ok (text_passed T) (passed-attempts T alone) tt (omega arith) (at-end T e))
+      (λ v e. tries v e)
+
+pub before_html-law : (T : Tokenizer) → T.attempts ≡ [] → BeforeDataReady T → GoesOn ready_of ends_of weight_of (weight_at 6 T) (before_ends T) (before_html_step T)
+before_html-law T alone r =
+    off-law 6 T HtmlTextStart TextBeforeData alone r.before tt (omega arith) (λ ok U g. g) (record { goes_on = r; falls = omega arith; closed = λ ok V h. h })
+
+pub before_label_start_link-law : (T : Tokenizer) → T.attempts ≡ [] → BeforeDataReady T → GoesOn ready_of ends_of weight_of (weight_at 6 T) (before_ends T) (before_label_start_link_step T)
+before_label_start_link-law T alone r =
+    off-law 6 T LabelStartLinkStart TextBeforeData alone r.before tt (omega arith) (λ ok U g. g) (record { goes_on = r; falls = omega arith; closed = λ ok V h. h })
+
+pub before_hard_break_escape-law : (T : Tokenizer) → T.attempts ≡ [] → BeforeBreakReady T → GoesOn ready_of ends_of weight_of (weight_at 6 T) (before_ends T) (before_hard_break_escape_step T)
+before_hard_break_escape-law T alone r =
+    try-law 6 T HardBreakEscapeStart TextBeforeData (break_here T) alone tt (omega arith) r.before (λ ok U g. g) (λ t rest g. break-node (is_on T).hard_break_escape (ahead T) t rest g) (break-reads T r.slash r.no_escape)
+    (λ none. to-data 6 T 92 (omega arith) r.before r.slash (break-alone T r.slash r.no_escape none))
+
+-- data holds everywhere
+data-holds : (markers : List ℕ) (cs : List Code) → data_up_to markers cs ≡ None → ⊥
+unfolding data_up_to
+data-holds markers [] e = cc
+data-holds markers (c ∷ cs) e = cc
+
+pub before_data-law : (T : Tokenizer) → T.attempts ≡ [] → BeforeDataReady T → GoesOn ready_of ends_of weight_of (weight_at 5 T) (before_ends T) (before_data_step T)
+before_data-law T alone r =
+    Goes-attempt ready_of ends_of weight_of (weight_at 5 T) (before_ends T) (Retry DataStart) (Next TextBefore) Nok T alone tt (omega arith)
+    (λ U a k. on-before (weight_at 5 T) T U (omega arith) r.before (data-advances (text_choice_of T) (IsBuilt (is_on T)) text_markers T U r.before.marked r.some_code k
+    (λ built earlier previous c cs stands w. r.alone built earlier previous c cs stands w)
+    (λ built earlier previous c cs h. other-data T built earlier previous c cs h)))
+    (λ U a k. absurd (data-holds T.tokenize_state.markers (ahead T) k.refused))
+
+marked-ready : (T : Tokenizer) → X.StartReady T → BeforeReady (text_marked T)
+unfolding scratched
+marked-ready T r = record { marked = refl; spans = record { rest = ap {A = TokenizeState} (λ s. record s { markers = text_markers }) r.rest; fits = r.fits } }
+
+pub start-law : (T : Tokenizer) → T.attempts ≡ [] → X.StartReady T → GoesOn ready_of ends_of weight_of (weight_at 8 T) (start_ends T) (start_step T)
+start-law T alone r =
+    let M : Tokenizer = text_marked T in
+    let s : TokenizeState = record T.tokenize_state { markers = text_markers } in
+    let ready : BeforeReady M = marked-ready T r in
+    subst (λ n. GoesOn ready_of ends_of weight_of n (before_ends M) (start_step T)) (weight-marked T)
+    (off-law 8 M GfmTaskListItemCheckStart TextBefore (attempts-scratched s T ∙ alone) ready tt (omega arith) (λ ok U g. g)
+    (record { goes_on = ready; falls = omega arith; closed = λ ok V h. h }))

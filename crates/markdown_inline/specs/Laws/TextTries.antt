@@ -1,0 +1,125 @@
+-- What is tried at a code of a text: where it holds, it is the element at hand, and where nothing holds, the code is one by itself.
+use Rattle.std.proofs.Common.{◌≡◌, ℕ, ◌+◌, ◌≤◌, ◌==◌, ◌||◌, true, false, Option, Some, None, List, ◌∷◌, length, refl, sym, ap, ◌∙◌}
+use Rattle.std.specs.List.{list_any}
+use Rattle.markdown_engine.specs.Codes.{Code, stop_of, document_start}
+use Rattle.markdown_engine.specs.Lists.{first_of, rest_of}
+use Rattle.markdown_engine.specs.Ops.{ahead, current_of}
+use Rattle.markdown_engine.specs.Past.{TreeReading}
+use Rattle.markdown_engine.specs.Place.{value_of}
+use Rattle.markdown_engine.specs.Tree.{Forest}
+use Rattle.markdown_engine.specs.declared.tokenizer.Tokenizer.{Tokenizer}
+use Rattle.markdown_engine.proofs.OpRules.{Begins, ahead-some, current-ahead}
+use Rattle.markdown_leaf.specs.Autolink.{link_here}
+use Rattle.markdown_leaf.specs.CharacterEscape.{escape_here}
+use Rattle.markdown_leaf.specs.CharacterReference.{reference_here}
+use Rattle.markdown_leaf.specs.HardBreakEscape.{break_here}
+use Rattle.markdown_leaf.specs.RawText.{span_at}
+use Rattle.markdown_model.proofs.DataLaws.{code_leaf}
+use Rattle.markdown_model.specs.CodeTests.{is_among}
+use Rattle.markdown_model.specs.LabelEnd.{Element, plain}
+use Rattle.markdown_inline.specs.Built.{IsBuilt}
+use Rattle.markdown_inline.specs.Elements.{IsNode, StandsAfter}
+use Rattle.markdown_inline.specs.StringSteps.{is_on}
+use Rattle.markdown_inline.specs.TextSteps.{text_markers, text_setting, text_choice_of, StandsAlone}
+use Rattle.markdown_inline.specs.Laws.TextElements.{off_markers, span-element, reference-element, autolink-element, escape-element, break-element, off-element, other-element}
+
+-- what a construct reads is a tree that stands by itself
+abbrev pub ReadsNodes : TreeReading → Tokenizer → Type 0
+ReadsNodes reading T = (t : Forest) (rest : List Code) → reading (ahead T) ≡ Some (t, rest) → IsNode t × (1 + length rest ≤ length (ahead T))
+
+-- and it is the element at hand
+abbrev pub ReadsElements : TreeReading → Tokenizer → Type 0
+ReadsElements reading T =
+    (t : Forest) (rest : List Code) → reading (ahead T) ≡ Some (t, rest) → IsBuilt (is_on T) → (earlier : List Element) (previous : Option Code) → StandsAfter earlier previous T → text_choice_of T earlier previous (ahead T) ≡ Some (plain t, rest)
+
+-- where it does not hold, the code is an element by itself
+abbrev pub OrStandsAlone : TreeReading → Tokenizer → Type 0
+OrStandsAlone reading T = reading (ahead T) ≡ None → StandsAlone T
+
+-- where the content of a tokenizer ends
+abbrev end_in : Tokenizer → ℕ
+end_in T = (stop_of document_start T.cursor.codes).index
+
+same-value : (a b : ℕ) → Some a ≡ Some b → a ≡ b
+same-value a b e = cc
+
+value-here : (T : Tokenizer) (v : ℕ) (c : Code) (cs : List Code) → current_of T ≡ Some v → ahead T ≡ c ∷ cs → c.value ≡ v
+value-here T v c cs e w = same-value c.value v (sym (current-ahead T ∙ ap (λ xs. value_of (first_of xs)) w) ∙ e)
+
+-- from the codes ahead as they begin, to those codes
+at-hand : (reading : TreeReading) (T : Tokenizer) (v : ℕ) → current_of T ≡ Some v
+    → ((c : Code) (cs : List Code) (t : Forest) (rest : List Code) → c.value ≡ v → reading (c ∷ cs) ≡ Some (t, rest) → IsBuilt (is_on T) → (earlier : List Element) (previous : Option Code) → StandsAfter earlier previous T → text_choice_of T earlier previous (c ∷ cs) ≡ Some (plain t, rest))
+    → ReadsElements reading T
+at-hand reading T v e h t rest holds built earlier previous stands =
+    let b : Begins v (ahead T) = ahead-some T v e in
+    ap (text_choice_of T earlier previous) b.whole ∙ h b.code (rest_of (ahead T)) t rest b.value (ap reading (sym b.whole) ∙ holds) built earlier previous stands
+
+alone-at : (reading : TreeReading) (T : Tokenizer) (v : ℕ) → current_of T ≡ Some v
+    → ((c : Code) (cs : List Code) → c.value ≡ v → reading (c ∷ cs) ≡ None → IsBuilt (is_on T) → (earlier : List Element) (previous : Option Code) → StandsAfter earlier previous T → text_choice_of T earlier previous (c ∷ cs) ≡ Some (plain (code_leaf c), cs))
+    → OrStandsAlone reading T
+alone-at reading T v e h none built earlier previous c cs stands w =
+    h c cs (value-here T v c cs e w) (ap reading (sym w) ∙ none) built earlier previous stands
+
+-- References, autolinks, escapes and hard breaks.
+
+pub reference-reads : (T : Tokenizer) → current_of T ≡ Some 38 → ReadsElements (reference_here T) T
+reference-reads T e =
+    at-hand (reference_here T) T 38 e (λ c cs t rest v holds built earlier previous stands. reference-element (text_setting T) built (end_in T) earlier previous c cs (Some (t, rest)) v holds)
+
+pub reference-alone : (T : Tokenizer) → current_of T ≡ Some 38 → OrStandsAlone (reference_here T) T
+reference-alone T e =
+    alone-at (reference_here T) T 38 e (λ c cs v none built earlier previous stands. reference-element (text_setting T) built (end_in T) earlier previous c cs None v none)
+
+pub autolink-reads : (T : Tokenizer) → current_of T ≡ Some 60 → ReadsElements (link_here T) T
+autolink-reads T e =
+    at-hand (link_here T) T 60 e (λ c cs t rest v holds built earlier previous stands. autolink-element (text_setting T) built (end_in T) earlier previous c cs (Some (t, rest)) v holds)
+
+pub autolink-alone : (T : Tokenizer) → current_of T ≡ Some 60 → OrStandsAlone (link_here T) T
+autolink-alone T e =
+    alone-at (link_here T) T 60 e (λ c cs v none built earlier previous stands. autolink-element (text_setting T) built (end_in T) earlier previous c cs None v none)
+
+pub escape-reads : (T : Tokenizer) → current_of T ≡ Some 92 → ReadsElements (escape_here T) T
+escape-reads T e =
+    at-hand (escape_here T) T 92 e (λ c cs t rest v holds built earlier previous stands. escape-element (text_setting T) built (end_in T) earlier previous c cs t rest v holds)
+
+-- a hard break where no escape is
+no-escape-at : (T : Tokenizer) (c : Code) (cs : List Code) → escape_here T (ahead T) ≡ None → ahead T ≡ c ∷ cs → escape_here T (c ∷ cs) ≡ None
+no-escape-at T c cs none w = ap (escape_here T) (sym w) ∙ none
+
+pub break-reads : (T : Tokenizer) → current_of T ≡ Some 92 → escape_here T (ahead T) ≡ None → ReadsElements (break_here T) T
+break-reads T e none t rest holds built earlier previous stands =
+    let b : Begins 92 (ahead T) = ahead-some T 92 e in
+    ap (text_choice_of T earlier previous) b.whole
+    ∙ break-element (text_setting T) built (end_in T) earlier previous b.code (rest_of (ahead T)) (Some (t, rest)) b.value (no-escape-at T b.code (rest_of (ahead T)) none b.whole) (ap (break_here T) (sym b.whole) ∙ holds)
+
+pub break-alone : (T : Tokenizer) → current_of T ≡ Some 92 → escape_here T (ahead T) ≡ None → OrStandsAlone (break_here T) T
+break-alone T e none refused built earlier previous c cs stands w =
+    break-element (text_setting T) built (end_in T) earlier previous c cs None (value-here T 92 c cs e w) (no-escape-at T c cs none w) (ap (break_here T) (sym w) ∙ refused)
+
+-- Spans.
+
+is-span : (v n : ℕ) → v ≡ n → (n == 36 || n == 96) ≡ true → (v == 36 || v == 96) ≡ true
+is-span v n e h = ap (λ x. x == 36 || x == 96) e ∙ h
+
+pub span-reads : (T : Tokenizer) (v : ℕ) → current_of T ≡ Some v → (v == 36 || v == 96) ≡ true → ReadsElements (span_at T) T
+span-reads T v e h =
+    at-hand (span_at T) T v e (λ c cs t rest k holds built earlier previous stands.
+    span-element (text_setting T) built (end_in T) earlier previous T c cs (Some (t, rest)) refl stands (is-span c.value v k h) holds)
+
+pub span-alone : (T : Tokenizer) (v : ℕ) → current_of T ≡ Some v → (v == 36 || v == 96) ≡ true → OrStandsAlone (span_at T) T
+span-alone T v e h =
+    alone-at (span_at T) T v e (λ c cs k none built earlier previous stands.
+    span-element (text_setting T) built (end_in T) earlier previous T c cs None refl stands (is-span c.value v k h) none)
+
+-- Constructs that are not built, and codes at which nothing is tried.
+
+pub off-alone : (T : Tokenizer) (v : ℕ) → current_of T ≡ Some v → list_any (λ n. v == n) off_markers ≡ true → StandsAlone T
+off-alone T v e h built earlier previous c cs stands w = off-element (text_setting T) built (end_in T) earlier previous v c cs h (value-here T v c cs e w)
+
+pub other-alone : (T : Tokenizer) (v : ℕ) → current_of T ≡ Some v → list_any (λ n. v == n) text_markers ≡ false → StandsAlone T
+other-alone T v e h built earlier previous c cs stands w =
+    other-element (text_setting T) built (end_in T) earlier previous c cs (ap (λ x. list_any (λ n. x == n) text_markers) (value-here T v c cs e w) ∙ h)
+
+-- each other code of data
+pub other-data : (T : Tokenizer) → IsBuilt (is_on T) → (earlier : List Element) (previous : Option Code) (c : Code) (cs : List Code) → is_among text_markers c ≡ false → text_choice_of T earlier previous (c ∷ cs) ≡ Some (plain (code_leaf c), cs)
+other-data T built earlier previous c cs h = other-element (text_setting T) built (end_in T) earlier previous c cs h

@@ -1,0 +1,118 @@
+-- What the states of a text do, and how runs from them end.
+use Rattle.std.specs.Prelude.{◌≡◌, ◌≢◌, ℕ, Bool, true, false, ◌==◌, ◌||◌, if◌then◌else◌, List, [], ◌∷◌, Option, Some, None}
+use Rattle.markdown_engine.specs.Codes.{Code}
+use Rattle.markdown_engine.specs.Ops.{attempted, scratched, registered, current_of, ahead}
+use Rattle.markdown_engine.specs.Runs.{Stepped, stepped}
+use Rattle.markdown_engine.specs.declared.resolve.ResolveName.TheVariants as R
+use Rattle.markdown_engine.specs.declared.state.State.TheVariants.{Next, Retry, Ok, Nok}
+use Rattle.markdown_engine.specs.declared.state.StateName.{StateName}
+use Rattle.markdown_engine.specs.declared.state.StateName.TheVariants.{AttentionStart, AutolinkStart, CharacterEscapeStart, CharacterReferenceStart, DataStart, GfmAutolinkLiteralProtocolStart, GfmAutolinkLiteralWwwStart, GfmLabelStartFootnoteStart, GfmTaskListItemCheckStart, HardBreakEscapeStart, HtmlTextStart, LabelEndStart, LabelStartImageStart, LabelStartLinkStart, RawTextStart, TextBefore, TextBeforeData, TextBeforeHardBreakEscape, TextBeforeHtml, TextBeforeLabelStartLink}
+use Rattle.markdown_engine.specs.declared.tokenizer.Tokenizer.{Tokenizer}
+use Rattle.markdown_leaf.specs.CharacterEscape.{escape_here}
+use Rattle.markdown_leaf.specs.RawText as X
+use Rattle.markdown_model.proofs.DataLaws.{code_leaf}
+use Rattle.markdown_model.specs.Element.{Choice, text_choice}
+use Rattle.markdown_model.specs.LabelEnd.{Element, plain}
+use Rattle.markdown_model.specs.Setting.{Setting}
+use Rattle.markdown_inline.specs.Built.{IsBuilt}
+use Rattle.markdown_inline.specs.Elements.{Finishes, StandsAfter}
+use Rattle.markdown_inline.specs.Settings.{text_setting_of}
+use Rattle.markdown_inline.specs.StringSteps.{is_on}
+
+-- the codes at which data stops: those at which a construct may begin
+abbrev pub text_markers : List ℕ
+text_markers = 33 ∷ 36 ∷ 96 ∷ 38 ∷ 42 ∷ 95 ∷ 126 ∷ 60 ∷ 72 ∷ 104 ∷ 87 ∷ 119 ∷ 91 ∷ 92 ∷ 93 ∷ []
+
+abbrev pub text_marked : Tokenizer → Tokenizer
+text_marked T = scratched (record T.tokenize_state { markers = text_markers }) T
+
+-- a construct is tried, from this state, and where it does not hold the run goes on with another
+abbrev pub trying : StateName → StateName → Tokenizer → Stepped
+trying construct otherwise T = stepped (Retry construct) (attempted false (Next TextBefore) (Next otherwise) T)
+
+abbrev pub start_step : Tokenizer → Stepped
+start_step T = trying GfmTaskListItemCheckStart TextBefore (text_marked T)
+
+-- with the passes of a text registered
+abbrev pub text_passed : Tokenizer → Tokenizer
+text_passed T = registered R.Text (registered R.Data T)
+
+-- what is tried first at a code, and the state to go on with where that does not hold
+abbrev pub first_try : ℕ → Option (StateName × StateName)
+first_try v =
+    if v == 33 then Some (LabelStartImageStart, TextBeforeData)
+    else (if v == 36 || v == 96 then Some (RawTextStart, TextBeforeData)
+    else (if v == 38 then Some (CharacterReferenceStart, TextBeforeData)
+    else (if v == 42 || (v == 95 || v == 126) then Some (AttentionStart, TextBeforeData)
+    else (if v == 60 then Some (AutolinkStart, TextBeforeHtml)
+    else (if v == 72 || v == 104 then Some (GfmAutolinkLiteralProtocolStart, TextBeforeData)
+    else (if v == 87 || v == 119 then Some (GfmAutolinkLiteralWwwStart, TextBeforeData)
+    else (if v == 91 then Some (GfmLabelStartFootnoteStart, TextBeforeLabelStartLink)
+    else (if v == 92 then Some (CharacterEscapeStart, TextBeforeHardBreakEscape)
+    else (if v == 93 then Some (LabelEndStart, TextBeforeData) else None)))))))))
+
+abbrev pub tries_at : Option (StateName × StateName) → Tokenizer → Stepped
+tries_at None T = stepped (Retry TextBeforeData) T
+tries_at (Some r) T = trying r.0 r.1 T
+
+-- by the current code
+abbrev pub before_at : Option ℕ → Tokenizer → Stepped
+before_at None T = stepped Ok (text_passed T)
+before_at (Some v) T = tries_at (first_try v) T
+
+abbrev pub before_step : Tokenizer → Stepped
+before_step T = before_at (current_of T) T
+
+abbrev pub before_html_step : Tokenizer → Stepped
+before_html_step T = trying HtmlTextStart TextBeforeData T
+
+abbrev pub before_hard_break_escape_step : Tokenizer → Stepped
+before_hard_break_escape_step T = trying HardBreakEscapeStart TextBeforeData T
+
+abbrev pub before_label_start_link_step : Tokenizer → Stepped
+before_label_start_link_step T = trying LabelStartLinkStart TextBeforeData T
+
+abbrev pub before_data_step : Tokenizer → Stepped
+before_data_step T = stepped (Retry DataStart) (attempted false (Next TextBefore) Nok T)
+
+-- What is read.
+
+abbrev pub text_setting : Tokenizer → Setting
+text_setting T = text_setting_of T.parse_state.now T.tokenize_state.document_at_first_paragraph_of_list_item
+
+abbrev pub text_choice_of : Tokenizer → Choice
+text_choice_of T = text_choice (text_setting T) T.cursor.codes
+
+-- When they may be called.
+
+-- data stops at the markers of a text, and the fields in which spans, references and autolinks count are at rest
+pub record BeforeReady (T : Tokenizer) : Type 0 where
+  pub marked : T.tokenize_state.markers ≡ text_markers
+  pub spans : X.StartReady T
+
+-- the code at hand is an element by itself
+abbrev pub StandsAlone : Tokenizer → Type 0
+StandsAlone T =
+    IsBuilt (is_on T) → (earlier : List Element) (previous : Option Code) (c : Code) (cs : List Code) → StandsAfter earlier previous T → ahead T ≡ c ∷ cs
+    → text_choice_of T earlier previous (c ∷ cs) ≡ Some (plain (code_leaf c), cs)
+
+-- there is a code at hand, and it is an element by itself
+pub record BeforeDataReady (T : Tokenizer) : Type 0 where
+  pub before : BeforeReady T
+  pub some_code : current_of T ≢ None
+  pub alone : StandsAlone T
+
+-- a backslash is at hand that escapes nothing
+pub record BeforeBreakReady (T : Tokenizer) : Type 0 where
+  pub before : BeforeReady T
+  pub slash : current_of T ≡ Some 92
+  pub no_escape : escape_here T (ahead T) ≡ None
+
+-- How runs end.
+
+abbrev pub before_ends : Tokenizer → Bool → Tokenizer → Type 0
+before_ends T true U = Finishes (text_choice_of T) (IsBuilt (is_on T)) text_passed T U
+before_ends T false U = ⊥
+
+abbrev pub start_ends : Tokenizer → Bool → Tokenizer → Type 0
+start_ends T ok U = before_ends (text_marked T) ok U

@@ -1,0 +1,167 @@
+//! Text content: what stands in paragraphs and headings.
+#![tactic(auto, using(markdown_engine::proofs::OpRules::op_rules))]
+
+ghost use Rattle.std.specs.Prelude.{◌≡◌, IfOk, OnErr, IsTrue, None, true};
+ghost use Rattle.markdown_inline.specs.Resolve.{MayTrim, TrimsData};
+ghost use Rattle.markdown_inline.specs.TextSteps.{first_try, trying, start_step, before_step, before_html_step, before_hard_break_escape_step, before_label_start_link_step, before_data_step};
+
+use markdown_engine::resolve::ResolveName;
+use markdown_engine::state::{State, StateName};
+use markdown_engine::subtokenize::Subresult;
+use markdown_engine::tokenizer::{Markers, Tokenizer};
+use markdown_partial::partial_whitespace;
+use std::alloc::AllocError;
+
+// The bytes at which data of a text stops: those at which a construct may begin.
+const MARKERS: [u8; 15] = [
+    b'!', b'$', b'`', b'&', b'*', b'_', b'~', b'<', b'H', b'h', b'W', b'w', b'[', b'\\', b']',
+];
+
+// Answers the start of what is tried first at this byte, and the state to go on with where that does not hold.
+fn first_try(byte: u8) -> Option<(StateName, StateName)>
+    ensures { result ≡ first_try byte }
+{
+    match byte {
+        b'!' => Some((StateName::LabelStartImageStart, StateName::TextBeforeData)),
+        b'$' | b'`' => Some((StateName::RawTextStart, StateName::TextBeforeData)),
+        b'&' => Some((
+            StateName::CharacterReferenceStart,
+            StateName::TextBeforeData,
+        )),
+        b'*' | b'_' | b'~' => Some((StateName::AttentionStart, StateName::TextBeforeData)),
+        b'<' => Some((StateName::AutolinkStart, StateName::TextBeforeHtml)),
+        b'H' | b'h' => Some((
+            StateName::GfmAutolinkLiteralProtocolStart,
+            StateName::TextBeforeData,
+        )),
+        b'W' | b'w' => Some((
+            StateName::GfmAutolinkLiteralWwwStart,
+            StateName::TextBeforeData,
+        )),
+        b'[' => Some((
+            StateName::GfmLabelStartFootnoteStart,
+            StateName::TextBeforeLabelStartLink,
+        )),
+        b'\\' => Some((
+            StateName::CharacterEscapeStart,
+            StateName::TextBeforeHardBreakEscape,
+        )),
+        b']' => Some((StateName::LabelEndStart, StateName::TextBeforeData)),
+        _ => None,
+    }
+}
+
+// Tries a construct from this state, and goes on with another where it does not hold.
+fn attempt(
+    tokenizer: &mut Tokenizer,
+    construct: StateName,
+    otherwise: StateName,
+) -> Result<State, AllocError>
+    ensures ok { IfOk result (λ s. trying construct otherwise tokenizer.old ≡ record { state = s; left = tokenizer.new }) }
+    ensures err { OnErr result (IsTrue tokenizer.new.failed) }
+{
+    tokenizer.attempt(State::Next(StateName::TextBefore), State::Next(otherwise))?;
+    Ok(State::Retry(construct))
+}
+
+/// At the start of a text, where the check of a task may stand.
+///
+/// The error comes where a growth is refused; then `failed` is true.
+#[tactic(auto, using(markdown_engine::proofs::OpRules::op_rules), unfolding(markdown_engine::specs::Ops::scratched))]
+pub fn start(tokenizer: &mut Tokenizer) -> Result<State, AllocError>
+    ensures ok { IfOk result (λ s. start_step tokenizer.old ≡ record { state = s; left = tokenizer.new }) }
+    ensures err { OnErr result (IsTrue tokenizer.new.failed) }
+{
+    tokenizer.tokenize_state.markers = Markers::new(&MARKERS);
+    attempt(
+        tokenizer,
+        StateName::GfmTaskListItemCheckStart,
+        StateName::TextBefore,
+    )
+}
+
+/// Before an element of the text, or at its end.
+///
+/// The error comes where a growth is refused; then `failed` is true.
+pub fn before(tokenizer: &mut Tokenizer) -> Result<State, AllocError>
+    ensures ok { IfOk result (λ s. before_step tokenizer.old ≡ record { state = s; left = tokenizer.new }) }
+    ensures err { OnErr result (IsTrue tokenizer.new.failed) }
+{
+    match tokenizer.current() {
+        None => {
+            tokenizer.register_resolver(ResolveName::Data)?;
+            tokenizer.register_resolver(ResolveName::Text)?;
+            Ok(State::Ok)
+        }
+        Some(byte) => match first_try(byte) {
+            Some((construct, otherwise)) => attempt(tokenizer, construct, otherwise),
+            None => Ok(State::Retry(StateName::TextBeforeData)),
+        },
+    }
+}
+
+/// At a `<` that begins no autolink: before HTML.
+///
+/// The error comes where a growth is refused; then `failed` is true.
+pub fn before_html(tokenizer: &mut Tokenizer) -> Result<State, AllocError>
+    ensures ok { IfOk result (λ s. before_html_step tokenizer.old ≡ record { state = s; left = tokenizer.new }) }
+    ensures err { OnErr result (IsTrue tokenizer.new.failed) }
+{
+    attempt(
+        tokenizer,
+        StateName::HtmlTextStart,
+        StateName::TextBeforeData,
+    )
+}
+
+/// At a backslash that escapes nothing: before a hard break.
+///
+/// The error comes where a growth is refused; then `failed` is true.
+pub fn before_hard_break_escape(tokenizer: &mut Tokenizer) -> Result<State, AllocError>
+    ensures ok { IfOk result (λ s. before_hard_break_escape_step tokenizer.old ≡ record { state = s; left = tokenizer.new }) }
+    ensures err { OnErr result (IsTrue tokenizer.new.failed) }
+{
+    attempt(
+        tokenizer,
+        StateName::HardBreakEscapeStart,
+        StateName::TextBeforeData,
+    )
+}
+
+/// At a `[` that begins no footnote call: before the start of a link.
+///
+/// The error comes where a growth is refused; then `failed` is true.
+pub fn before_label_start_link(tokenizer: &mut Tokenizer) -> Result<State, AllocError>
+    ensures ok { IfOk result (λ s. before_label_start_link_step tokenizer.old ≡ record { state = s; left = tokenizer.new }) }
+    ensures err { OnErr result (IsTrue tokenizer.new.failed) }
+{
+    attempt(
+        tokenizer,
+        StateName::LabelStartLinkStart,
+        StateName::TextBeforeData,
+    )
+}
+
+/// Before data, which holds everywhere.
+///
+/// The error comes where a growth is refused; then `failed` is true.
+pub fn before_data(tokenizer: &mut Tokenizer) -> Result<State, AllocError>
+    ensures ok { IfOk result (λ s. before_data_step tokenizer.old ≡ record { state = s; left = tokenizer.new }) }
+    ensures err { OnErr result (IsTrue tokenizer.new.failed) }
+{
+    tokenizer.attempt(State::Next(StateName::TextBefore), State::Nok)?;
+    Ok(State::Retry(StateName::DataStart))
+}
+
+/// After the run over a text: sets whitespace beside line endings, and at the start and the end of the whole, apart.
+///
+/// The error comes where memory is refused; then `failed` is true.
+pub fn resolve(tokenizer: &mut Tokenizer) -> Result<Option<Subresult>, AllocError>
+    requires { MayTrim tokenizer.old }
+    ensures none { IfOk result (λ r. r ≡ None) }
+    ensures ok { IfOk result (λ _. TrimsData true tokenizer.old tokenizer.new) }
+    ensures err { OnErr result (IsTrue tokenizer.new.failed) }
+{
+    partial_whitespace::resolve_whitespace(tokenizer, false, true)?;
+    Ok(None)
+}
