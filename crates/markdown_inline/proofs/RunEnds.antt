@@ -1,5 +1,5 @@
 -- A whole run over the elements of a content, from its start to what the passes leave.
-use Rattle.std.proofs.Common.{◌≡◌, Bool, false, List, [], None, refl, sym, ap, subst, ◌∙◌}
+use Rattle.std.proofs.Common.{◌≡◌, Bool, List, [], None, refl, sym, ap, subst, ◌∙◌}
 use Rattle.std.specs.Borrow.{Bor}
 use Rattle.std.specs.declared.alloc.Global.{Global}
 use Rattle.markdown_engine.specs.Begun.{begun}
@@ -59,25 +59,25 @@ unfolding start_of_content
 start-stands p pieces s T k = record { escaped = ap follows_escape k.events; before = ap (λ (x : Place). last_of x.codes x.at) k.place }
 
 pub start-ahead : (p : ParseState) (pieces : List Piece) (s : TokenizeState) (T : Tokenizer) → Starts p pieces s T → ahead T ≡ content_of p.bytes.now pieces
-start-ahead p pieces s T k = codes-ahead p.bytes.now pieces T k.place
+start-ahead p pieces s T k = codes-ahead p pieces T k.place
 
 merged-onto-nothing : (t : Forest) → merged t ≡ merged_onto t empty
 unfolding merged
 merged-onto-nothing t = ap merged (sym (row-empty t)) ∙ merged-row t empty
 
-module _ (last : ResolveName) (whole : Bool) (trims : IsTrimming last whole) (choice : Choice) (given : Type 0) (p : ParseState) (pieces : List Piece) (content : IsContent p.bytes.now pieces) (s : TokenizeState) (T U : Tokenizer) (start : Starts p pieces s T) (k : Finishes choice given (λ X. registered last (registered R.Data X)) T U) where
-  begins : IsStart p.bytes.now pieces T
-  begins = record { content = content; place = start.place; input = ap (λ (x : ParseState). x.bytes.now) start.input; events = start.events; map = start.map; resolvers = start.resolvers }
+module _ (last : ResolveName) (hard : ParseState → Bool) (whole : Bool) (trims : IsTrimming last hard whole) (choice : Choice) (given : Type 0) (p : ParseState) (pieces : List Piece) (content : IsContent p.bytes.now pieces) (s : TokenizeState) (T U : Tokenizer) (start : Starts p pieces s T) (k : Finishes choice given (λ X. registered last (registered R.Data X)) T U) where
+  begins : IsStart p pieces T
+  begins = record { content = content; place = start.place; input = start.input; events = start.events; map = start.map; resolvers = start.resolvers }
 
   pub finished-may : MayResolve may_resolve_of resolves_of U.resolvers (unregistered U)
-  finished-may = may-after p.bytes.now pieces k.tree last whole T U trims begins k.has_lines k.whole k.left
+  finished-may = may-after p pieces k.tree last hard whole T U trims begins k.has_lines k.whole k.left
 
-  pub finished-events : (V : Tokenizer) → Resolves resolves_of U.resolvers (unregistered U) V → chained V.events ≡ events_of (trimmed false whole whole (merged k.tree))
+  pub finished-events : (V : Tokenizer) → Resolves resolves_of U.resolvers (unregistered U) V → chained V.events ≡ events_of (trimmed (hard p) whole whole (merged k.tree))
   finished-events V r =
-      ap chained (left-after p.bytes.now pieces k.tree last whole T U V trims begins k.has_lines k.whole k.left r).0 ∙ chained-whole (trimmed false whole whole (merged k.tree))
+      ap chained (left-after p pieces k.tree last hard whole T U V trims begins k.has_lines k.whole k.left r).0 ∙ chained-whole (trimmed (hard p) whole whole (merged k.tree))
 
   pub finished-fields : (V : Tokenizer) → Resolves resolves_of U.resolvers (unregistered U) V → V.tokenize_state ≡ s
-  finished-fields V r = (left-after p.bytes.now pieces k.tree last whole T U V trims begins k.has_lines k.whole k.left r).1 ∙ start.fields
+  finished-fields V r = (left-after p pieces k.tree last hard whole T U V trims begins k.has_lines k.whole k.left r).1 ∙ start.fields
 
   pub finished-elements : given → (es : List Element) × (AreElementsFrom choice [] None (content_of p.bytes.now pieces) es × (merged k.tree ≡ merged (row_of es)))
   finished-elements g =

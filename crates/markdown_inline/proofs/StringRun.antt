@@ -38,11 +38,11 @@ module _ (p : ParseState) (pieces : List Piece) (content : IsContent p.bytes.now
   ended false k = absurd k
 
   pub string-may : (ok : Bool) → start_ends T ok U → MayResolve may_resolve_of resolves_of U.resolvers (unregistered U)
-  string-may ok k = finished-may R.String false string-trims (string_here M) (Unit {0}) p pieces content _ M U (marked-start p pieces T start) (ended ok k)
+  string-may ok k = finished-may R.String (λ q. false) false string-trims (string_here M) (Unit {0}) p pieces content _ M U (marked-start p pieces T start) (ended ok k)
 
   pub string-probes : (ok : Bool) (V : Tokenizer) → start_ends T ok U → Resolves resolves_of U.resolvers (unregistered U) V → V.tokenize_state.probes ≡ 0
   string-probes ok V k r =
-      ap (λ (s : TokenizeState). s.probes) (finished-fields R.String false string-trims (string_here M) (Unit {0}) p pieces content _ M U (marked-start p pieces T start) (ended ok k) V r)
+      ap (λ (s : TokenizeState). s.probes) (finished-fields R.String (λ q. false) false string-trims (string_here M) (Unit {0}) p pieces content _ M U (marked-start p pieces T start) (ended ok k) V r)
 
   choice-is : string_here M ≡ string_choice (setting_of p)
   unfolding scratched
@@ -53,8 +53,8 @@ module _ (p : ParseState) (pieces : List Piece) (content : IsContent p.bytes.now
   string-run ok V k r =
       let e : Finishes (string_here M) (Unit {0}) string_passed M U = ended ok k in
       let m : Starts p pieces (record at_rest { markers = string_markers }) M = marked-start p pieces T start in
-      let found = finished-elements R.String false string-trims (string_here M) (Unit {0}) p pieces content _ M U m e tt in
+      let found = finished-elements R.String (λ q. false) false string-trims (string_here M) (Unit {0}) p pieces content _ M U m e tt in
       let are : AreStringElements (setting_of p) (content_of p.bytes.now pieces) found.0 = subst (λ c. AreElementsFrom c [] None (content_of p.bytes.now pieces) found.0) choice-is found.1.0 in
-      finished-events R.String false string-trims (string_here M) (Unit {0}) p pieces content _ M U m e V r
+      finished-events R.String (λ q. false) false string-trims (string_here M) (Unit {0}) p pieces content _ M U m e V r
       ∙ ap (λ t. events_of (trimmed false false false t)) found.1.1
       ∙ ap events_of (sym (string-finished (setting_of p) (content_of p.bytes.now pieces) found.0 are))

@@ -23,7 +23,7 @@ use Rattle.markdown_inline.specs.Resolve.{may_resolve_of, resolves_of}
 use Rattle.markdown_inline.specs.Settings.{text_setting_of}
 use Rattle.markdown_inline.specs.StringSteps.{is_on}
 use Rattle.markdown_inline.specs.TextSteps.{text_markers, text_marked, text_passed, text_choice_of, start_ends}
-use Rattle.markdown_inline.proofs.PassesRun.{text-trims}
+use Rattle.markdown_inline.proofs.PassesRun.{breaks_on, text-trims}
 use Rattle.markdown_inline.proofs.RunEnds.{Starts, start-with, finished-may, finished-events, finished-fields, finished-elements}
 use Rattle.markdown_inline.proofs.StartLemmas.{start-fits}
 use Rattle.markdown_inline.proofs.TextTree.{text-finished}
@@ -62,11 +62,11 @@ module _ (p : ParseState) (pieces : List Piece) (first : Bool) (content : IsCont
 
   pub text-may : (ok : Bool) → start_ends T ok U → MayResolve may_resolve_of resolves_of U.resolvers (unregistered U)
   text-may ok k =
-      finished-may R.Text true text-trims (text_choice_of M) (IsBuilt (is_on M)) p pieces content _ M U (marked-start p pieces first T start) (ended ok k)
+      finished-may R.Text breaks_on true text-trims (text_choice_of M) (IsBuilt (is_on M)) p pieces content _ M U (marked-start p pieces first T start) (ended ok k)
 
   pub text-probes : (ok : Bool) (V : Tokenizer) → start_ends T ok U → Resolves resolves_of U.resolvers (unregistered U) V → V.tokenize_state.probes ≡ 0
   text-probes ok V k r =
-      ap (λ (s : TokenizeState). s.probes) (finished-fields R.Text true text-trims (text_choice_of M) (IsBuilt (is_on M)) p pieces content _ M U (marked-start p pieces first T start) (ended ok k) V r)
+      ap (λ (s : TokenizeState). s.probes) (finished-fields R.Text breaks_on true text-trims (text_choice_of M) (IsBuilt (is_on M)) p pieces content _ M U (marked-start p pieces first T start) (ended ok k) V r)
 
   -- which constructs are on, and what is read
 
@@ -84,8 +84,8 @@ module _ (p : ParseState) (pieces : List Piece) (first : Bool) (content : IsCont
   text-run ok V k r built =
       let e : Finishes (text_choice_of M) (IsBuilt (is_on M)) text_passed M U = ended ok k in
       let m : Starts p pieces (record (text_fields first) { markers = text_markers }) M = marked-start p pieces first T start in
-      let found = finished-elements R.Text true text-trims (text_choice_of M) (IsBuilt (is_on M)) p pieces content _ M U m e (subst IsBuilt (sym on-is) built) in
+      let found = finished-elements R.Text breaks_on true text-trims (text_choice_of M) (IsBuilt (is_on M)) p pieces content _ M U m e (subst IsBuilt (sym on-is) built) in
       let are : AreElements (text_setting_of p first) (content_of p.bytes.now pieces) found.0 = subst (λ c. AreElementsFrom c [] None (content_of p.bytes.now pieces) found.0) choice-is found.1.0 in
-      finished-events R.Text true text-trims (text_choice_of M) (IsBuilt (is_on M)) p pieces content _ M U m e V r
-      ∙ ap (λ t. events_of (trimmed false true true t)) found.1.1
+      finished-events R.Text breaks_on true text-trims (text_choice_of M) (IsBuilt (is_on M)) p pieces content _ M U m e V r
+      ∙ ap (λ t. events_of (trimmed (breaks_on p) true true t)) found.1.1
       ∙ ap events_of (sym (text-finished (text_setting_of p first) (content_of p.bytes.now pieces) found.0 built are))

@@ -225,10 +225,10 @@ finished-is s pairs_of es = refl
 raw-still : (s : Setting) (pairs_of : List Run → List Pair) (es : List Element) → AreStill es → paired s pairs_of (labels_of es) ≡ row_of es
 raw-still s pairs_of es h = ap (paired s pairs_of) (labels_of-plain es (still-plain es h)) ∙ paired-runless s pairs_of (row_of es) (still-runless es h)
 
-pub text-finished : (s : Setting) (cs : List Code) (es : List Element) → IsBuilt s.options.constructs → AreElements s cs es → text_tree s cs ≡ trimmed false true true (merged (row_of es))
+pub text-finished : (s : Setting) (cs : List Code) (es : List Element) → IsBuilt s.options.constructs → AreElements s cs es → text_tree s cs ≡ trimmed s.options.constructs.hard_break_trailing true true (merged (row_of es))
 unfolding text_tree finish
 text-finished s cs es built are =
     let still : AreStill es = text-are-still s cs es [] None cs built are in
     ap (finished_text s (pair_list s)) (same_text_elements s cs (elements_of s cs) es (text_elements s cs) are)
     ∙ finished-is s (pair_list s) es
-    ∙ (λ i. finish (built.no_trailing_break i) (built.no_literals i) (raw-still s (pair_list s) es still i))
+    ∙ (λ i. finish s.options.constructs.hard_break_trailing (built.no_literals i) (raw-still s (pair_list s) es still i))

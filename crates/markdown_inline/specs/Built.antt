@@ -9,7 +9,6 @@ pub record IsBuilt (on : Constructs) : Type 0 where
   pub no_footnotes : on.gfm_label_start_footnote ≡ false
   pub no_strikethrough : on.gfm_strikethrough ≡ false
   pub no_task_check : on.gfm_task_list_item ≡ false
-  pub no_trailing_break : on.hard_break_trailing ≡ false
   pub no_html : on.html_text ≡ false
   pub no_label_end : on.label_end ≡ false
   pub no_image : on.label_start_image ≡ false

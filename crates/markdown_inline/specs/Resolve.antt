@@ -21,11 +21,11 @@ pub record MayTrim (T : Tokenizer) : Type 0 where
   pub fits : length T.parse_state.now.bytes.now ≤ document_limit
   pub places : HasPlaces T.parse_state.now.bytes.now T.events
 
--- U is T with other events: where T has those of a tree, those of the tree with its data trimmed; `whole` says that it is trimmed at the
--- start and the end of the whole too
-pub record TrimsData (whole : Bool) (T U : Tokenizer) : Type 0 where
+-- U is T with other events: where T has those of a tree, those of the tree with its data trimmed; `hard` says that hard breaks are looked
+-- for, and `whole` that it is trimmed at the start and the end of the whole too
+pub record TrimsData (hard whole : Bool) (T U : Tokenizer) : Type 0 where
   pub same : U ≡ record T { events = U.events }
-  pub trims : (t : Forest) → HasParts T.parse_state.now.bytes.now t → T.events ≡ appended_from 0 None t → U.events ≡ appended_from 0 None (trimmed false whole whole t)
+  pub trims : (t : Forest) → HasParts T.parse_state.now.bytes.now t → T.events ≡ appended_from 0 None t → U.events ≡ appended_from 0 None (trimmed hard whole whole t)
 
 abbrev pub may_resolve_of : ResolveName → Tokenizer → Type 0
 may_resolve_of R.Data T = T.map ≡ []
@@ -35,6 +35,6 @@ may_resolve_of _ T = ⊥
 
 abbrev pub resolves_of : ResolveName → Tokenizer → Tokenizer → Type 0
 resolves_of R.Data T U = MergesData T U
-resolves_of R.String T U = TrimsData false T U
-resolves_of R.Text T U = TrimsData true T U
+resolves_of R.String T U = TrimsData false false T U
+resolves_of R.Text T U = TrimsData T.parse_state.now.options.now.constructs.hard_break_trailing true T U
 resolves_of _ T U = Unit {0}

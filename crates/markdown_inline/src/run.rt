@@ -77,7 +77,7 @@ pub fn text(
     requires { IsTextContent parse_state.now.bytes.now pieces.now }
     ensures events { let on = parse_state.now.options.now.constructs in
         on.attention ≡ false → on.gfm_autolink_literal ≡ false → on.gfm_label_start_footnote ≡ false → on.gfm_strikethrough ≡ false → on.gfm_task_list_item ≡ false
-        → on.hard_break_trailing ≡ false → on.html_text ≡ false → on.label_end ≡ false → on.label_start_image ≡ false → on.label_start_link ≡ false
+        → on.html_text ≡ false → on.label_end ≡ false → on.label_start_image ≡ false → on.label_start_link ≡ false
         → IfOk result (λ run. run.events.items ≡ text_events (text_setting_of parse_state.now first_of_item) pieces.now) }
     ensures probes { let on = parse_state.now.options.now.constructs in on.attention ≡ false → on.gfm_strikethrough ≡ false → IfOk result (λ run. run.probes ≡ 0) }
 {

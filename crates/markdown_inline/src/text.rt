@@ -153,15 +153,17 @@ pub fn before_data(tokenizer: &mut Tokenizer) -> Result<State, AllocError>
     Ok(State::Retry(StateName::DataStart))
 }
 
-/// After the run over a text: sets whitespace beside line endings, and at the start and the end of the whole, apart.
+/// After the run over a text: sets whitespace beside line endings, and at the start and the end of the whole, apart; where they are on, finds
+/// hard breaks by spaces (CommonMark 6.7).
 ///
 /// The error comes where memory is refused; then `failed` is true.
 pub fn resolve(tokenizer: &mut Tokenizer) -> Result<Option<Subresult>, AllocError>
     requires { MayTrim tokenizer.old }
     ensures none { IfOk result (λ r. r ≡ None) }
-    ensures ok { IfOk result (λ _. TrimsData true tokenizer.old tokenizer.new) }
+    ensures ok { IfOk result (λ _. TrimsData tokenizer.old.parse_state.now.options.now.constructs.hard_break_trailing true tokenizer.old tokenizer.new) }
     ensures err { OnErr result (IsTrue tokenizer.new.failed) }
 {
-    partial_whitespace::resolve_whitespace(tokenizer, false, true)?;
+    let hard_break = tokenizer.parse_state.options.constructs.hard_break_trailing;
+    partial_whitespace::resolve_whitespace(tokenizer, hard_break, true)?;
     Ok(None)
 }

@@ -17,7 +17,7 @@ use Rattle.markdown_engine.specs.declared.event.Point.{Point}
 use Rattle.markdown_engine.specs.declared.util.edit_map.Edit.{Edit}
 use Rattle.markdown_engine.proofs.EditLemmas.{start, moved-start}
 use Rattle.markdown_engine.proofs.TreeLemmas.{length-appended_from, appended_from-row}
-use Rattle.markdown_model.specs.Passes.{trimmed, trimmed_data, begins_line_ending, is_nothing}
+use Rattle.markdown_model.specs.Passes.{trimmed, trimmed_data, blank_name, begins_line_ending, is_nothing}
 use Rattle.markdown_partial.specs.Merge.{is_data, opens_data}
 use Rattle.markdown_partial.specs.Trim.{trimmed_events, between}
 use Rattle.markdown_partial.specs.TrimEvents.{is_ending, closes_ending, goes_before, HasParts}
@@ -36,25 +36,25 @@ use Rattle.markdown_partial.proofs.TrimRows.{three-leaves, kept_of, lead_of, tai
 
 -- Trimming, step by step.
 
-trimmed-data : (front whole : Bool) (cs : List Code) (rest : Forest) → trimmed false front whole (leaf_then N.Data None cs rest) ≡ trimmed_data front (begins_line_ending rest || (whole && is_nothing rest)) false cs ⊕ trimmed false false whole rest
+trimmed-data : (hard front whole : Bool) (cs : List Code) (rest : Forest) → trimmed hard front whole (leaf_then N.Data None cs rest) ≡ trimmed_data front (begins_line_ending rest || (whole && is_nothing rest)) (hard && begins_line_ending rest) cs ⊕ trimmed hard false whole rest
 unfolding trimmed
-trimmed-data front whole cs rest = refl
+trimmed-data hard front whole cs rest = refl
 
-trimmed-other : (front whole : Bool) (n : Name) (cs : List Code) (rest : Forest) → is_data n ≡ false → trimmed false front whole (leaf_then n None cs rest) ≡ leaf_then n None cs (trimmed false (is_ending n) whole rest)
+trimmed-other : (hard front whole : Bool) (n : Name) (cs : List Code) (rest : Forest) → is_data n ≡ false → trimmed hard front whole (leaf_then n None cs rest) ≡ leaf_then n None cs (trimmed hard (is_ending n) whole rest)
 unfolding trimmed
-trimmed-other front whole N.Data cs rest e = cc
-trimmed-other front whole N.LineEnding cs rest e = refl
-trimmed-other front whole _ cs rest e = refl
+trimmed-other hard front whole N.Data cs rest e = cc
+trimmed-other hard front whole N.LineEnding cs rest e = refl
+trimmed-other hard front whole _ cs rest e = refl
 
-trimmed-linked : (front whole : Bool) (n : Name) (c : Content) (cs : List Code) (rest : Forest) → trimmed false front whole (leaf_then n (Some c) cs rest) ≡ leaf_then n (Some c) cs (trimmed false (is_ending n) whole rest)
+trimmed-linked : (hard front whole : Bool) (n : Name) (c : Content) (cs : List Code) (rest : Forest) → trimmed hard front whole (leaf_then n (Some c) cs rest) ≡ leaf_then n (Some c) cs (trimmed hard (is_ending n) whole rest)
 unfolding trimmed
-trimmed-linked front whole N.Data c cs rest = refl
-trimmed-linked front whole N.LineEnding c cs rest = refl
-trimmed-linked front whole _ c cs rest = refl
+trimmed-linked hard front whole N.Data c cs rest = refl
+trimmed-linked hard front whole N.LineEnding c cs rest = refl
+trimmed-linked hard front whole _ c cs rest = refl
 
-trimmed-group : (front whole : Bool) (n : Name) (p q : Point) (inside rest : Forest) → trimmed false front whole (group_then n p q inside rest) ≡ group_then n p q (trimmed false false false inside) (trimmed false false whole rest)
+trimmed-group : (hard front whole : Bool) (n : Name) (p q : Point) (inside rest : Forest) → trimmed hard front whole (group_then n p q inside rest) ≡ group_then n p q (trimmed hard false false inside) (trimmed hard false whole rest)
 unfolding trimmed
-trimmed-group front whole n p q inside rest = refl
+trimmed-group hard front whole n p q inside rest = refl
 
 data-name : (n : Name) → is_data n ≡ true → n ≡ N.Data
 data-name N.Data e = refl
@@ -80,6 +80,10 @@ before-row bytes whole w n previous empty tail h e = sym e ∙ and-one w
 before-row bytes whole w n previous (leaf_then name None cs rest) tail h e = sym (begins-is name None cs rest) ∙ or-none (begins_line_ending (leaf_then name None cs rest)) w
 before-row bytes whole w n previous (leaf_then name (Some c) cs rest) tail h e = sym (begins-is name (Some c) cs rest) ∙ or-none (begins_line_ending (leaf_then name (Some c) cs rest)) w
 before-row bytes whole w n previous (group_then name p q inside rest) tail h e = h.0.1 ∙ or-none false w
+
+-- a row that no line ending stands behind
+ending-row : (bytes : List ℕ) (n : ℕ) (previous : Option ℕ) (row : Forest) (tail : List Event) → HasParts bytes row → goes_before false tail ≡ false → goes_before false (appended_from n previous row ++ tail) ≡ begins_line_ending row
+ending-row bytes n previous row tail h e = before-row bytes false false n previous row tail h (sym e) ∙ sym (or-none (begins_line_ending row) false)
 
 -- Part of a document.
 
@@ -121,30 +125,30 @@ plain-last m q a b c (x ∷ xs) [] (z ∷ zs) = refl
 plain-last m q a b c (x ∷ xs) (y ∷ ys) [] = refl
 plain-last m q a b c (x ∷ xs) (y ∷ ys) (z ∷ zs) = refl
 
-trimmed-last : (m : ℕ) (q : Option ℕ) (front back : Bool) (cs : List Code) → last_link m q (trimmed_data front back false cs) ≡ q
-trimmed-last m q front back cs =
-    let lead : List Code × List Code = lead_of front (kept_of back cs) in plain-last m q N.SpaceOrTab N.Data N.SpaceOrTab lead.0 lead.1 (tail_of back cs)
+trimmed-last : (m : ℕ) (q : Option ℕ) (front back hard : Bool) (cs : List Code) → last_link m q (trimmed_data front back hard cs) ≡ q
+trimmed-last m q front back hard cs =
+    let lead : List Code × List Code = lead_of front (kept_of back cs) in plain-last m q N.SpaceOrTab N.Data (blank_name hard (tail_of back cs)) lead.0 lead.1 (tail_of back cs)
 
-trimmed-same : (m : ℕ) (q : Option ℕ) (front back : Bool) (cs : List Code) → appended_from m q (trimmed_data front back false cs) ≡ appended_from 0 None (trimmed_data front back false cs)
-trimmed-same m q front back cs =
+trimmed-same : (m : ℕ) (q : Option ℕ) (front back hard : Bool) (cs : List Code) → appended_from m q (trimmed_data front back hard cs) ≡ appended_from 0 None (trimmed_data front back hard cs)
+trimmed-same m q front back hard cs =
     let lead : List Code × List Code = lead_of front (kept_of back cs) in
-    three-leaves m q N.SpaceOrTab N.Data N.SpaceOrTab lead.0 lead.1 (tail_of back cs) ∙ sym (three-leaves 0 None N.SpaceOrTab N.Data N.SpaceOrTab lead.0 lead.1 (tail_of back cs))
+    three-leaves m q N.SpaceOrTab N.Data (blank_name hard (tail_of back cs)) lead.0 lead.1 (tail_of back cs) ∙ sym (three-leaves 0 None N.SpaceOrTab N.Data (blank_name hard (tail_of back cs)) lead.0 lead.1 (tail_of back cs))
 
-trimmed-row : (m : ℕ) (q : Option ℕ) (front back : Bool) (cs : List Code) (t : Forest) → appended_from m q (trimmed_data front back false cs ⊕ t) ≡ appended_from 0 None (trimmed_data front back false cs) ++ appended_from (m + event_count (trimmed_data front back false cs)) q t
-trimmed-row m q front back cs t =
-    let D : Forest = trimmed_data front back false cs in
+trimmed-row : (m : ℕ) (q : Option ℕ) (front back hard : Bool) (cs : List Code) (t : Forest) → appended_from m q (trimmed_data front back hard cs ⊕ t) ≡ appended_from 0 None (trimmed_data front back hard cs) ++ appended_from (m + event_count (trimmed_data front back hard cs)) q t
+trimmed-row m q front back hard cs t =
+    let D : Forest = trimmed_data front back hard cs in
     appended_from-row m q D t
-    ∙ ap (λ xs. xs ++ appended_from (m + event_count D) (last_link m q D) t) (trimmed-same m q front back cs)
-    ∙ ap (λ o. appended_from 0 None D ++ appended_from (m + event_count D) o t) (trimmed-last m q front back cs)
+    ∙ ap (λ xs. xs ++ appended_from (m + event_count D) (last_link m q D) t) (trimmed-same m q front back hard cs)
+    ∙ ap (λ o. appended_from 0 None D ++ appended_from (m + event_count D) o t) (trimmed-last m q front back hard cs)
 
 count-row : (t u : Forest) → event_count (t ⊕ u) ≡ event_count t + event_count u
 count-row empty u = omega arith
 count-row (leaf_then name link cs rest) u = let r = count-row rest u in omega arith
 count-row (group_then name p q inside rest) u = let r = count-row rest u in omega arith
 
-events-are : (front back : Bool) (bytes : List ℕ) (p q : Point) → trimmed_events front back bytes p q ≡ appended_from 0 None (trimmed_data front back false (between bytes p q))
+events-are : (front back hard : Bool) (bytes : List ℕ) (p q : Point) → trimmed_events front back hard bytes p q ≡ appended_from 0 None (trimmed_data front back hard (between bytes p q))
 unfolding trimmed_events
-events-are front back bytes p q = refl
+events-are front back hard bytes p q = refl
 
 -- One event.
 
@@ -161,10 +165,10 @@ cut-first (x ∷ y ∷ xs) e rest h o = ap first-opens h ∙ o
     first-opens [] = false
     first-opens (z ∷ zs) = opens_data z
 
-comes-none : (bytes : List ℕ) (whole front : Bool) (xs : List Event) → begins_data xs ≡ false → comes bytes whole front xs ≡ []
-comes-none bytes whole front [] h = refl
-comes-none bytes whole front (e ∷ []) h = refl
-comes-none bytes whole front (e ∷ x ∷ xs) h = ap (λ b. if b then trimmed_events front (goes_before whole xs) bytes e.point x.point else []) h
+comes-none : (bytes : List ℕ) (hard whole front : Bool) (xs : List Event) → begins_data xs ≡ false → comes bytes hard whole front xs ≡ []
+comes-none bytes hard whole front [] h = refl
+comes-none bytes hard whole front (e ∷ []) h = refl
+comes-none bytes hard whole front (e ∷ x ∷ xs) h = ap (λ b. if b then trimmed_events front (goes_before whole xs) (hard && goes_before false xs) bytes e.point x.point else []) h
 
 abbrev first_closes : List Event → Bool
 first_closes [] = false
@@ -176,9 +180,9 @@ flag-next zero front (x ∷ es) e rest h = refl
 flag-next (suc n) front [] e rest h = cc
 flag-next (suc n) front (x ∷ es) e rest h = flag-next n (closes_ending x) es e rest h
 
-module _ (bytes : List ℕ) (whole : Bool) (es : List Event) where
+module _ (bytes : List ℕ) (hard whole : Bool) (es : List Event) where
   abbrev log : List Edit
-  log = log_of bytes whole es
+  log = log_of bytes hard whole es
 
   abbrev Fresh : ℕ → Type 0
   Fresh n = (p : ℕ) → suc p ≡ n → begins_data (drop p es) ≡ false
@@ -205,8 +209,8 @@ module _ (bytes : List ℕ) (whole : Bool) (es : List Event) where
   step n e rest h o f =
       let one : suc n ≡ n + 1 = omega arith in
       let begins : begins_data (drop n es) ≡ false = cut-first (drop n es) e rest h o in
-      let stay : is_removed log n ≡ false = stays-here bytes whole n es begins f in
-      let added : added_at n log ≡ [] = added-here bytes whole n es ∙ comes-none bytes whole (flag n whole es) (drop n es) begins in
+      let stay : is_removed log n ≡ false = stays-here bytes hard whole n es begins f in
+      let added : added_at n log ≡ [] = added-here bytes hard whole n es ∙ comes-none bytes hard whole (flag n whole es) (drop n es) begins in
       let size : length (added_at n log) ≡ 0 = ap length added in
       let next : start log (suc n) ≡ start log n + length (added_at n log) + 1 = ap (λ b. start log n + length (added_at n log) + cond b 0 1) stay in
       record {
@@ -245,29 +249,29 @@ module _ (bytes : List ℕ) (whole : Bool) (es : List Event) where
 
   -- past data
   record Cut (n : ℕ) (front : Bool) (e x : Event) (rest : List Event) : Type 0 where
-    events : edited_from log n (e ∷ x ∷ rest) ≡ trimmed_events front (goes_before whole rest) bytes e.point x.point ++ edited_from log (n + 2) rest
-    placed : start log (n + 2) ≡ start log n + length (trimmed_events front (goes_before whole rest) bytes e.point x.point)
+    events : edited_from log n (e ∷ x ∷ rest) ≡ trimmed_events front (goes_before whole rest) (hard && goes_before false rest) bytes e.point x.point ++ edited_from log (n + 2) rest
+    placed : start log (n + 2) ≡ start log n + length (trimmed_events front (goes_before whole rest) (hard && goes_before false rest) bytes e.point x.point)
     there : drop (n + 2) es ≡ rest
     flagged : flag (n + 2) whole es ≡ closes_ending x
     fresh : Fresh (n + 2)
 
   data-cut : (n : ℕ) (front : Bool) (e x : Event) (rest : List Event) → drop n es ≡ e ∷ x ∷ rest → opens_data e ≡ true → opens_data x ≡ false → flag n whole es ≡ front → Cut n front e x rest
   data-cut n front e x rest h o k f =
-      let T : List Event = trimmed_events front (goes_before whole rest) bytes e.point x.point in
+      let T : List Event = trimmed_events front (goes_before whole rest) (hard && goes_before false rest) bytes e.point x.point in
       let same : suc (suc n) ≡ n + 2 = omega arith in
       let again : n + 1 + 1 ≡ n + 2 = omega arith in
       let one : n + 1 ≡ suc n = omega arith in
       let begins : begins_data (drop n es) ≡ true = ap begins_data h ∙ o in
       let next : drop (n + 1) es ≡ x ∷ rest = drop-next n e (x ∷ rest) h in
       let behind : drop (suc n) es ≡ x ∷ rest = ap (λ i. drop i es) (sym one) ∙ next in
-      let gone : is_removed log n ≡ true = goes-first bytes whole n es begins in
-      let gone2 : is_removed log (suc n) ≡ true = goes-second bytes whole n es begins in
+      let gone : is_removed log n ≡ true = goes-first bytes hard whole n es begins in
+      let gone2 : is_removed log (suc n) ≡ true = goes-second bytes hard whole n es begins in
       let added : added_at n log ≡ T =
-      added-here bytes whole n es
-      ∙ ap (λ b. comes bytes whole b (drop n es)) f
-      ∙ ap (comes bytes whole front) h
+      added-here bytes hard whole n es
+      ∙ ap (λ b. comes bytes hard whole b (drop n es)) f
+      ∙ ap (comes bytes hard whole front) h
       ∙ ap (λ b. if b then T else []) o in
-      let added2 : added_at (suc n) log ≡ [] = added-here bytes whole (suc n) es ∙ comes-none bytes whole (flag (suc n) whole es) (drop (suc n) es) (cut-first (drop (suc n) es) x rest behind k) in
+      let added2 : added_at (suc n) log ≡ [] = added-here bytes hard whole (suc n) es ∙ comes-none bytes hard whole (flag (suc n) whole es) (drop (suc n) es) (cut-first (drop (suc n) es) x rest behind k) in
       let size : length (added_at n log) ≡ length T = ap length added in
       let size2 : length (added_at (suc n) log) ≡ 0 = ap length added2 in
       let p1 : start log (suc n) ≡ start log n + length (added_at n log) + 0 = ap (λ b. start log n + length (added_at n log) + cond b 0 1) gone in
@@ -294,12 +298,13 @@ module _ (bytes : List ℕ) (whole : Bool) (es : List Event) where
     placed : start log n ≡ m
     fresh : Fresh n
     ends : w ≡ goes_before whole tail
+    plain : goes_before false tail ≡ false
     has_parts : HasParts bytes row
 
   -- what the edits leave of it are the events of the trimmed row
   record Trims (n m : ℕ) (front w : Bool) (previous : Option ℕ) (row : Forest) (tail : List Event) : Type 0 where
-    events : edited_from log n (appended_from n previous row ++ tail) ≡ appended_from m (option_map (moved_number log) previous) (trimmed false front w row) ++ edited_from log (n + event_count row) tail
-    placed : start log (n + event_count row) ≡ m + event_count (trimmed false front w row)
+    events : edited_from log n (appended_from n previous row ++ tail) ≡ appended_from m (option_map (moved_number log) previous) (trimmed hard front w row) ++ edited_from log (n + event_count row) tail
+    placed : start log (n + event_count row) ≡ m + event_count (trimmed hard front w row)
     fresh : Fresh (n + event_count row)
 
   abbrev Law : Forest → Type 0
@@ -325,12 +330,12 @@ module _ (bytes : List ℕ) (whole : Bool) (es : List Event) where
       let q : Option ℕ = option_map (moved_number log) previous in
       let p : Pair n e x (appended_from (n + 2) previous rest ++ tail) = pair n e x (appended_from (n + 2) previous rest ++ tail) h.there (opens-no (is_data name) true other) refl h.fresh in
       let r : Trims (n + 2) (m + 2) (is_ending name) w previous rest tail =
-      law (n + 2) (m + 2) (is_ending name) w previous tail (record { there = p.there; flagged = p.flagged; placed = omega (arith, p.placed, h.placed); fresh = p.fresh; ends = h.ends; has_parts = h.has_parts.1 }) in
+      law (n + 2) (m + 2) (is_ending name) w previous tail (record { there = p.there; flagged = p.flagged; placed = omega (arith, p.placed, h.placed); fresh = p.fresh; ends = h.ends; plain = h.plain; has_parts = h.has_parts.1 }) in
       let same : n + 2 + event_count rest ≡ n + (2 + event_count rest) = omega arith in
-      let is = trimmed-other front w name cs rest other in
+      let is = trimmed-other hard front w name cs rest other in
       record {
         events = p.events
-            ∙ ap (λ xs. e ∷ x ∷ xs) (r.events ∙ ap (λ i. appended_from (m + 2) q (trimmed false (is_ending name) w rest) ++ edited_from log i tail) same)
+            ∙ ap (λ xs. e ∷ x ∷ xs) (r.events ∙ ap (λ i. appended_from (m + 2) q (trimmed hard (is_ending name) w rest) ++ edited_from log i tail) same)
             ∙ ap (λ t. appended_from m q t ++ edited_from log (n + (2 + event_count rest)) tail) (sym is);
         placed = ap (start log) (sym same) ∙ r.placed ∙ omega arith ∙ ap (λ t. m + event_count t) (sym is);
         fresh = subst (λ (i : ℕ). Fresh i) same r.fresh;
@@ -344,12 +349,12 @@ module _ (bytes : List ℕ) (whole : Bool) (es : List Event) where
       let e2 : Event = record { kind = Kind.Enter; name = name; point = start_of cs; link = Some (link_back q c) } in
       let p : Pair n e x (appended_from (n + 2) (Some n) rest ++ tail) = pair n e x (appended_from (n + 2) (Some n) rest ++ tail) h.there (data-linked (is_data name)) refl h.fresh in
       let r : Trims (n + 2) (m + 2) (is_ending name) w (Some n) rest tail =
-      law (n + 2) (m + 2) (is_ending name) w (Some n) tail (record { there = p.there; flagged = p.flagged; placed = omega (arith, p.placed, h.placed); fresh = p.fresh; ends = h.ends; has_parts = h.has_parts.1 }) in
+      law (n + 2) (m + 2) (is_ending name) w (Some n) tail (record { there = p.there; flagged = p.flagged; placed = omega (arith, p.placed, h.placed); fresh = p.fresh; ends = h.ends; plain = h.plain; has_parts = h.has_parts.1 }) in
       let same : n + 2 + event_count rest ≡ n + (2 + event_count rest) = omega arith in
-      let is = trimmed-linked front w name c cs rest in
+      let is = trimmed-linked hard front w name c cs rest in
       record {
         events = p.events
-            ∙ ap (λ xs. e2 ∷ x ∷ xs) (r.events ∙ ap (λ i. appended_from (m + 2) (Some i) (trimmed false (is_ending name) w rest) ++ edited_from log (n + 2 + event_count rest) tail) (p.number ∙ h.placed) ∙ ap (λ i. appended_from (m + 2) (Some m) (trimmed false (is_ending name) w rest) ++ edited_from log i tail) same)
+            ∙ ap (λ xs. e2 ∷ x ∷ xs) (r.events ∙ ap (λ i. appended_from (m + 2) (Some i) (trimmed hard (is_ending name) w rest) ++ edited_from log (n + 2 + event_count rest) tail) (p.number ∙ h.placed) ∙ ap (λ i. appended_from (m + 2) (Some m) (trimmed hard (is_ending name) w rest) ++ edited_from log i tail) same)
             ∙ ap (λ t. appended_from m q t ++ edited_from log (n + (2 + event_count rest)) tail) (sym is);
         placed = ap (start log) (sym same) ∙ r.placed ∙ omega arith ∙ ap (λ t. m + event_count t) (sym is);
         fresh = subst (λ (i : ℕ). Fresh i) same r.fresh;
@@ -363,19 +368,21 @@ module _ (bytes : List ℕ) (whole : Bool) (es : List Event) where
       let more : List Event = appended_from (n + 2) previous rest ++ tail in
       let part : Part bytes cs = part-of bytes cs (h.has_parts.0 refl refl) in
       let back : Bool = begins_line_ending rest || (w && is_nothing rest) in
-      let D : Forest = trimmed_data front back false cs in
-      let R : Forest = trimmed false false w rest in
-      let T : List Event = trimmed_events front (goes_before whole more) bytes e.point x.point in
+      let may : Bool = hard && begins_line_ending rest in
+      let D : Forest = trimmed_data front back may cs in
+      let R : Forest = trimmed hard false w rest in
+      let T : List Event = trimmed_events front (goes_before whole more) (hard && goes_before false more) bytes e.point x.point in
       let k : Cut n front e x more = data-cut n front e x more h.there refl refl h.flagged in
       let T-is : T ≡ appended_from 0 None D =
-      events-are front (goes_before whole more) bytes e.point x.point
-      ∙ ap (λ b. appended_from 0 None (trimmed_data front b false (between bytes e.point x.point))) (before-row bytes whole w (n + 2) previous rest tail h.has_parts.1 h.ends)
-      ∙ ap (λ ds. appended_from 0 None (trimmed_data front back false ds)) part.codes in
+      events-are front (goes_before whole more) (hard && goes_before false more) bytes e.point x.point
+      ∙ ap (λ b. appended_from 0 None (trimmed_data front b (hard && goes_before false more) (between bytes e.point x.point))) (before-row bytes whole w (n + 2) previous rest tail h.has_parts.1 h.ends)
+      ∙ ap (λ b. appended_from 0 None (trimmed_data front back (hard && b) (between bytes e.point x.point))) (ending-row bytes (n + 2) previous rest tail h.has_parts.1 h.plain)
+      ∙ ap (λ ds. appended_from 0 None (trimmed_data front back may ds)) part.codes in
       let size : length T ≡ event_count D = ap length T-is ∙ length-appended_from 0 None D in
       let r : Trims (n + 2) (m + event_count D) false w previous rest tail =
-      law (n + 2) (m + event_count D) false w previous tail (record { there = k.there; flagged = k.flagged; placed = omega (arith, k.placed, h.placed, size); fresh = k.fresh; ends = h.ends; has_parts = h.has_parts.1 }) in
+      law (n + 2) (m + event_count D) false w previous tail (record { there = k.there; flagged = k.flagged; placed = omega (arith, k.placed, h.placed, size); fresh = k.fresh; ends = h.ends; plain = h.plain; has_parts = h.has_parts.1 }) in
       let same : n + 2 + event_count rest ≡ n + (2 + event_count rest) = omega arith in
-      let is = trimmed-data front w cs rest in
+      let is = trimmed-data hard front w cs rest in
       let Z : List Event = edited_from log (n + (2 + event_count rest)) tail in
       let A : List Event = appended_from (m + event_count D) q R in
       let count : event_count (D ⊕ R) ≡ event_count D + event_count R = count-row D R in
@@ -384,7 +391,7 @@ module _ (bytes : List ℕ) (whole : Bool) (es : List Event) where
             ∙ ap (λ xs. T ++ xs) (r.events ∙ ap (λ i. A ++ edited_from log i tail) same)
             ∙ sym (append_assoc T A Z)
             ∙ ap (λ xs. (xs ++ A) ++ Z) T-is
-            ∙ ap (λ xs. xs ++ Z) (sym (trimmed-row m q front back cs R))
+            ∙ ap (λ xs. xs ++ Z) (sym (trimmed-row m q front back may cs R))
             ∙ ap (λ t. appended_from m q t ++ Z) (sym is);
         placed = ap (start log) (sym same) ∙ r.placed ∙ omega (arith, count) ∙ ap (λ t. m + event_count t) (sym is);
         fresh = subst (λ (i : ℕ). Fresh i) same r.fresh;
@@ -394,8 +401,8 @@ module _ (bytes : List ℕ) (whole : Bool) (es : List Event) where
   law-group name a b inside rest law_inside law_rest n m front w previous tail h =
       let ci : ℕ = event_count inside in
       let cr : ℕ = event_count rest in
-      let I : Forest = trimmed false false false inside in
-      let R : Forest = trimmed false false w rest in
+      let I : Forest = trimmed hard false false inside in
+      let R : Forest = trimmed hard false w rest in
       let mi : ℕ = event_count I in
       let q : Option ℕ = option_map (moved_number log) previous in
       let e : Event = event Kind.Enter name a in
@@ -405,7 +412,7 @@ module _ (bytes : List ℕ) (whole : Bool) (es : List Event) where
       let apart : (inner ++ x ∷ appended_from (n + 2 + ci) previous rest) ++ tail ≡ inner ++ x ∷ more = append_assoc inner (x ∷ appended_from (n + 2 + ci) previous rest) tail in
       let s1 : Step n e (inner ++ x ∷ more) = step n e (inner ++ x ∷ more) (h.there ∙ ap (λ xs. e ∷ xs) apart) (opens-no (is_data name) true h.has_parts.0.0) h.fresh in
       let r1 : Trims (n + 1) (m + 1) false false None inside (x ∷ more) =
-      law_inside (n + 1) (m + 1) false false None (x ∷ more) (record { there = s1.there; flagged = s1.flagged; placed = omega (arith, s1.placed, h.placed); fresh = s1.fresh; ends = refl; has_parts = h.has_parts.1.0 }) in
+      law_inside (n + 1) (m + 1) false false None (x ∷ more) (record { there = s1.there; flagged = s1.flagged; placed = omega (arith, s1.placed, h.placed); fresh = s1.fresh; ends = refl; plain = refl; has_parts = h.has_parts.1.0 }) in
       let k : ℕ = n + 1 + ci in
       let there2 : drop k es ≡ x ∷ more = drop-part (n + 1) ci es inner (x ∷ more) s1.there (length-appended_from (n + 1) None inside) in
       let s2 : Step k x more = step k x more there2 refl r1.fresh in
@@ -418,13 +425,14 @@ module _ (bytes : List ℕ) (whole : Bool) (es : List Event) where
         placed = ap (start log) (sym next) ∙ s2.placed ∙ ap (λ i. i + 1) r1.placed ∙ next2;
         fresh = subst (λ (i : ℕ). Fresh i) next s2.fresh;
         ends = h.ends;
+        plain = h.plain;
         has_parts = h.has_parts.1.1;
       }) in
       let same : n + 2 + ci + cr ≡ n + (2 + ci + cr) = omega arith in
       let Z : List Event = edited_from log (n + (2 + ci + cr)) tail in
       let B : List Event = appended_from (m + 1) None I in
       let A : List Event = appended_from (m + 2 + mi) q R in
-      let is = trimmed-group front w name a b inside rest in
+      let is = trimmed-group hard front w name a b inside rest in
       let from_x : edited_from log k (x ∷ more) ≡ x ∷ A ++ Z =
       s2.events ∙ ap (λ xs. x ∷ xs) (ap (λ i. edited_from log i more) next ∙ r2.events ∙ ap (λ i. A ++ edited_from log i tail) same) in
       record {
@@ -447,21 +455,17 @@ module _ (bytes : List ℕ) (whole : Bool) (es : List Event) where
   law (group_then name a b inside rest) = law-group name a b inside rest (law inside) (law rest)
 
 -- trimming the events of a tree leaves those of the trimmed tree
-pub trimmed-tree : (bytes : List ℕ) (whole : Bool) (t : Forest) → HasParts bytes t → (es : List Event) → es ≡ appended_from 0 None t → edited (log_of bytes whole es) es ≡ appended_from 0 None (trimmed false whole whole t)
-trimmed-tree bytes whole t h es e =
+pub trimmed-tree : (bytes : List ℕ) (hard whole : Bool) (t : Forest) → HasParts bytes t → (es : List Event) → es ≡ appended_from 0 None t → edited (log_of bytes hard whole es) es ≡ appended_from 0 None (trimmed hard whole whole t)
+trimmed-tree bytes hard whole t h es e =
     let all : es ≡ appended_from 0 None t ++ [] = e ∙ sym (append-nil (appended_from 0 None t)) in
-    let r : Trims bytes whole es 0 0 whole whole None t [] = law bytes whole es t 0 0 whole whole None [] (record { there = all; flagged = refl; placed = refl; fresh = λ p k. absurd (omega (arith, k)); ends = refl; has_parts = h }) in
+    let r : Trims bytes hard whole es 0 0 whole whole None t [] = law bytes hard whole es t 0 0 whole whole None [] (record { there = all; flagged = refl; placed = refl; fresh = λ p k. absurd (omega (arith, k)); ends = refl; plain = refl; has_parts = h }) in
     let end : ℕ = 0 + event_count t in
     let size : length es ≡ event_count t = ap length e ∙ length-appended_from 0 None t in
     let left : drop end es ≡ [] = drop_all end es (omega (arith, size)) in
-    ap (edited_from (log_of bytes whole es) 0) all
+    ap (edited_from (log_of bytes hard whole es) 0) all
     ∙ r.events
-    ∙ ap (λ xs. appended_from 0 None (trimmed false whole whole t) ++ xs) (added-here bytes whole end es ∙ ap (comes bytes whole (flag end whole es)) left)
-    ∙ append-nil (appended_from 0 None (trimmed false whole whole t))
-
--- the same, where hard breaks are not asked for
-pub trimmed-soft : (bytes : List ℕ) (hard whole : Bool) (t : Forest) (es : List Event) → hard ≡ false → es ≡ appended_from 0 None (trimmed false whole whole t) → es ≡ appended_from 0 None (trimmed hard whole whole t)
-trimmed-soft bytes hard whole t es h e = e ∙ ap (λ b. appended_from 0 None (trimmed b whole whole t)) (sym h)
+    ∙ ap (λ xs. appended_from 0 None (trimmed hard whole whole t) ++ xs) (added-here bytes hard whole end es ∙ ap (comes bytes hard whole (flag end whole es)) left)
+    ∙ append-nil (appended_from 0 None (trimmed hard whole whole t))
 
 -- The data of such a tree has its places.
 

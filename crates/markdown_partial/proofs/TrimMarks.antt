@@ -23,12 +23,12 @@ goes-end whole i es l = ap (goes_before whole) (sym (drop_all i es l))
 pub goes-here : (whole : Bool) (i : ℕ) (es : List Event) (e : Event) → i < length es → e ≡ get_or es i e → opens_ending e ≡ goes_before whole (drop i es)
 goes-here whole i es e l h = ap (goes_before whole) (sym (drop_more es i e l ∙ ap (λ x. x ∷ drop (i + 1) es) (sym h)))
 
-pub first-plain : (bytes : List ℕ) (whole : Bool) (n : ℕ) (front : Bool) (e : Event) (es : List Event) → opens_data e ≡ false → trim_first bytes whole n front (e ∷ es) ≡ []
-first-plain bytes whole n front e [] h = refl
-first-plain bytes whole n front e (x ∷ es) h = ap (λ b. if b then trim bytes whole n front e x es ∷ [] else []) h
+pub first-plain : (bytes : List ℕ) (hard whole : Bool) (n : ℕ) (front : Bool) (e : Event) (es : List Event) → opens_data e ≡ false → trim_first bytes hard whole n front (e ∷ es) ≡ []
+first-plain bytes hard whole n front e [] h = refl
+first-plain bytes hard whole n front e (x ∷ es) h = ap (λ b. if b then trim bytes hard whole n front e x es ∷ [] else []) h
 
-pub first-data : (bytes : List ℕ) (whole : Bool) (n : ℕ) (front : Bool) (e x : Event) (es : List Event) → opens_data e ≡ true → trim_first bytes whole n front (e ∷ x ∷ es) ≡ trim bytes whole n front e x es ∷ []
-first-data bytes whole n front e x es h = ap (λ b. if b then trim bytes whole n front e x es ∷ [] else []) h
+pub first-data : (bytes : List ℕ) (hard whole : Bool) (n : ℕ) (front : Bool) (e x : Event) (es : List Event) → opens_data e ≡ true → trim_first bytes hard whole n front (e ∷ x ∷ es) ≡ trim bytes hard whole n front e x es ∷ []
+first-data bytes hard whole n front e x es h = ap (λ b. if b then trim bytes hard whole n front e x es ∷ [] else []) h
 
 pub head-drop : (i : ℕ) (es : List Event) (e : Event) → i < length es → e ≡ get_or es i e → drop i es ≡ e ∷ drop (i + 1) es
 head-drop i es e l h = drop_more es i e l ∙ ap (λ x. x ∷ drop (i + 1) es) (sym h)
@@ -50,17 +50,17 @@ next-within bytes i es e h =
 pub next-stretch : (bytes : List ℕ) (i : ℕ) (es : List Event) (e x : Event) → ClosesAt bytes e (drop (i + 1) es) → i + 1 < length es → x ≡ get_or es (i + 1) x → IsStretch bytes e.point x.point
 next-stretch bytes i es e x h l k = (subst (λ (xs : List Event). ClosesAt bytes e xs) (head-drop (i + 1) es x l k) h).0
 
-pub first-marked : (bytes : List ℕ) (whole : Bool) (i : ℕ) (front back : Bool) (es : List Event) (e x : Event) (old new : List Edit) (ts : List Event) → i < length es → e ≡ get_or es i e → opens_data e ≡ true → i + 1 < length es → x ≡ get_or es (i + 1) x → back ≡ goes_before whole (drop (i + 2) es) → ts ≡ trimmed_events front back bytes e.point x.point → new ≡ old ++ (record { at = i; remove = 2; events = ts; before = false }) ∷ [] → new ≡ old ++ trim_first bytes whole i front (drop i es)
-first-marked bytes whole i front back es e x old new ts l h o m k b t g =
+pub first-marked : (bytes : List ℕ) (hard whole : Bool) (i : ℕ) (front back may : Bool) (es : List Event) (e x : Event) (old new : List Edit) (ts : List Event) → i < length es → e ≡ get_or es i e → opens_data e ≡ true → i + 1 < length es → x ≡ get_or es (i + 1) x → back ≡ goes_before whole (drop (i + 2) es) → may ≡ (hard && goes_before false (drop (i + 2) es)) → ts ≡ trimmed_events front back may bytes e.point x.point → new ≡ old ++ (record { at = i; remove = 2; events = ts; before = false }) ∷ [] → new ≡ old ++ trim_first bytes hard whole i front (drop i es)
+first-marked bytes hard whole i front back may es e x old new ts l h o m k b j t g =
     let same : i + 1 + 1 ≡ i + 2 = omega arith in
     let two : drop i es ≡ e ∷ x ∷ drop (i + 2) es = head-drop i es e l h ∙ ap (λ xs. e ∷ xs) (head-drop (i + 1) es x m k ∙ ap (λ j. x ∷ drop j es) same) in
     g
-    ∙ ap (λ (ys : List Event). old ++ (record { at = i; remove = 2; events = ys; before = false }) ∷ []) (t ∙ ap (λ c. trimmed_events front c bytes e.point x.point) b)
-    ∙ ap (λ ys. old ++ ys) (sym (first-data bytes whole i front e x (drop (i + 2) es) o) ∙ ap (trim_first bytes whole i front) (sym two))
+    ∙ ap (λ (ys : List Event). old ++ (record { at = i; remove = 2; events = ys; before = false }) ∷ []) (t ∙ ap (λ c. trimmed_events front c may bytes e.point x.point) b ∙ ap (λ c. trimmed_events front (goes_before whole (drop (i + 2) es)) c bytes e.point x.point) j)
+    ∙ ap (λ ys. old ++ ys) (sym (first-data bytes hard whole i front e x (drop (i + 2) es) o) ∙ ap (trim_first bytes hard whole i front) (sym two))
 
-pub first-unmarked : (bytes : List ℕ) (whole : Bool) (i : ℕ) (front : Bool) (es : List Event) (e : Event) (old : List Edit) → i < length es → e ≡ get_or es i e → opens_data e ≡ false → old ≡ old ++ trim_first bytes whole i front (drop i es)
-first-unmarked bytes whole i front es e old l h o =
-    sym (append-nil old) ∙ ap (λ ys. old ++ ys) (sym (first-plain bytes whole i front e (drop (i + 1) es) o) ∙ ap (trim_first bytes whole i front) (sym (head-drop i es e l h)))
+pub first-unmarked : (bytes : List ℕ) (hard whole : Bool) (i : ℕ) (front : Bool) (es : List Event) (e : Event) (old : List Edit) → i < length es → e ≡ get_or es i e → opens_data e ≡ false → old ≡ old ++ trim_first bytes hard whole i front (drop i es)
+first-unmarked bytes hard whole i front es e old l h o =
+    sym (append-nil old) ∙ ap (λ ys. old ++ ys) (sym (first-plain bytes hard whole i front e (drop (i + 1) es) o) ∙ ap (trim_first bytes hard whole i front) (sym (head-drop i es e l h)))
 
 -- One after the other.
 
@@ -71,20 +71,20 @@ first-places bytes (e ∷ es) h = h.0
 pub places-more : (bytes : List ℕ) (i : ℕ) (es : List Event) (e : Event) → i < length es → e ≡ get_or es i e → HasPlaces bytes (drop i es) → HasPlaces bytes (drop (i + 1) es)
 places-more bytes i es e l h p = (subst (λ (xs : List Event). HasPlaces bytes xs) (head-drop i es e l h) p).1
 
-pub trims-more : (bytes : List ℕ) (whole : Bool) (i : ℕ) (front more : Bool) (es : List Event) (e : Event) (old new all : List Edit) → i < length es → e ≡ get_or es i e → more ≡ closes_ending e → new ≡ old ++ trim_first bytes whole i front (drop i es) → old ++ trims bytes whole i front (drop i es) ≡ all → new ++ trims bytes whole (i + 1) more (drop (i + 1) es) ≡ all
-trims-more bytes whole i front more es e old new all l h c g k =
-    let here : List Edit = trim_first bytes whole i front (drop i es) in
-    let rest : List Edit = trims bytes whole (i + 1) more (drop (i + 1) es) in
+pub trims-more : (bytes : List ℕ) (hard whole : Bool) (i : ℕ) (front more : Bool) (es : List Event) (e : Event) (old new all : List Edit) → i < length es → e ≡ get_or es i e → more ≡ closes_ending e → new ≡ old ++ trim_first bytes hard whole i front (drop i es) → old ++ trims bytes hard whole i front (drop i es) ≡ all → new ++ trims bytes hard whole (i + 1) more (drop (i + 1) es) ≡ all
+trims-more bytes hard whole i front more es e old new all l h c g k =
+    let here : List Edit = trim_first bytes hard whole i front (drop i es) in
+    let rest : List Edit = trims bytes hard whole (i + 1) more (drop (i + 1) es) in
     let one : suc i ≡ i + 1 = omega arith in
-    let step : trims bytes whole i front (drop i es) ≡ here ++ rest =
-    ap (trims bytes whole i front) (head-drop i es e l h)
-    ∙ ap (λ ys. trim_first bytes whole i front ys ++ trims bytes whole (suc i) (closes_ending e) (drop (i + 1) es)) (sym (head-drop i es e l h))
-    ∙ ap (λ j. here ++ trims bytes whole j (closes_ending e) (drop (i + 1) es)) one
-    ∙ ap (λ b. here ++ trims bytes whole (i + 1) b (drop (i + 1) es)) (sym c) in
+    let step : trims bytes hard whole i front (drop i es) ≡ here ++ rest =
+    ap (trims bytes hard whole i front) (head-drop i es e l h)
+    ∙ ap (λ ys. trim_first bytes hard whole i front ys ++ trims bytes hard whole (suc i) (closes_ending e) (drop (i + 1) es)) (sym (head-drop i es e l h))
+    ∙ ap (λ j. here ++ trims bytes hard whole j (closes_ending e) (drop (i + 1) es)) one
+    ∙ ap (λ b. here ++ trims bytes hard whole (i + 1) b (drop (i + 1) es)) (sym c) in
     ap (λ ys. ys ++ rest) g ∙ append_assoc old here rest ∙ ap (λ ys. old ++ ys) (sym step) ∙ k
 
-pub trims-end : (bytes : List ℕ) (whole : Bool) (i : ℕ) (front : Bool) (es : List Event) (log all : List Edit) → length es ≤ i → log ++ trims bytes whole i front (drop i es) ≡ all → log ≡ all
-trims-end bytes whole i front es log all l k = sym (append-nil log) ∙ ap (λ ys. log ++ trims bytes whole i front ys) (sym (drop_all i es l)) ∙ k
+pub trims-end : (bytes : List ℕ) (hard whole : Bool) (i : ℕ) (front : Bool) (es : List Event) (log all : List Edit) → length es ≤ i → log ++ trims bytes hard whole i front (drop i es) ≡ all → log ≡ all
+trims-end bytes hard whole i front es log all l k = sym (append-nil log) ∙ ap (λ ys. log ++ trims bytes hard whole i front ys) (sym (drop_all i es l)) ∙ k
 
 -- What the edits collect at a place.
 
@@ -94,10 +94,10 @@ begins_data [] = false
 begins_data (e ∷ []) = false
 begins_data (e ∷ x ∷ es) = opens_data e
 
-abbrev pub comes : List ℕ → Bool → Bool → List Event → List Event
-comes bytes whole front [] = []
-comes bytes whole front (e ∷ []) = []
-comes bytes whole front (e ∷ x ∷ es) = if opens_data e then trimmed_events front (goes_before whole es) bytes e.point x.point else []
+abbrev pub comes : List ℕ → Bool → Bool → Bool → List Event → List Event
+comes bytes hard whole front [] = []
+comes bytes hard whole front (e ∷ []) = []
+comes bytes hard whole front (e ∷ x ∷ es) = if opens_data e then trimmed_events front (goes_before whole es) (hard && goes_before false es) bytes e.point x.point else []
 
 -- whether blank codes behind what stands before event k go
 abbrev pub flag : ℕ → Bool → List Event → Bool
@@ -146,34 +146,34 @@ opens-unlinked true true false h = refl
 opens-unlinked true false l h = cc
 opens-unlinked false b l h = cc
 
-module _ (bytes : List ℕ) (whole : Bool) where
-  front-by : (i n : ℕ) (front : Bool) (e x : Event) (es : List Event) (log : List Edit) (b : Bool) → front_at i log ≡ [] → front_at i ((if b then trim bytes whole n front e x es ∷ [] else []) ++ log) ≡ []
-  front-by i n front e x es log true h = ap (λ xs. xs ++ (if (n == i) && false then trimmed_events front (goes_before whole es) bytes e.point x.point else [])) h ∙ no-front (n == i) (trimmed_events front (goes_before whole es) bytes e.point x.point)
+module _ (bytes : List ℕ) (hard whole : Bool) where
+  front-by : (i n : ℕ) (front : Bool) (e x : Event) (es : List Event) (log : List Edit) (b : Bool) → front_at i log ≡ [] → front_at i ((if b then trim bytes hard whole n front e x es ∷ [] else []) ++ log) ≡ []
+  front-by i n front e x es log true h = ap (λ xs. xs ++ (if (n == i) && false then trimmed_events front (goes_before whole es) (hard && goes_before false es) bytes e.point x.point else [])) h ∙ no-front (n == i) (trimmed_events front (goes_before whole es) (hard && goes_before false es) bytes e.point x.point)
   front-by i n front e x es log false h = h
 
-  front-first : (i n : ℕ) (front : Bool) (es : List Event) (log : List Edit) → front_at i log ≡ [] → front_at i (trim_first bytes whole n front es ++ log) ≡ []
+  front-first : (i n : ℕ) (front : Bool) (es : List Event) (log : List Edit) → front_at i log ≡ [] → front_at i (trim_first bytes hard whole n front es ++ log) ≡ []
   front-first i n front [] log h = h
   front-first i n front (e ∷ []) log h = h
   front-first i n front (e ∷ x ∷ es) log h = front-by i n front e x es log (opens_data e) h
 
-  front-trims : (i n : ℕ) (front : Bool) (es : List Event) → front_at i (trims bytes whole n front es) ≡ []
+  front-trims : (i n : ℕ) (front : Bool) (es : List Event) → front_at i (trims bytes hard whole n front es) ≡ []
   front-trims i n front [] = refl
-  front-trims i n front (e ∷ es) = front-first i n front (e ∷ es) (trims bytes whole (suc n) (closes_ending e) es) (front-trims i (suc n) (closes_ending e) es)
+  front-trims i n front (e ∷ es) = front-first i n front (e ∷ es) (trims bytes hard whole (suc n) (closes_ending e) es) (front-trims i (suc n) (closes_ending e) es)
 
-  back-by : (i n : ℕ) (front : Bool) (e x : Event) (es : List Event) (log : List Edit) (b : Bool) → back_at i ((if b then trim bytes whole n front e x es ∷ [] else []) ++ log) ≡ (if n == i then (if b then trimmed_events front (goes_before whole es) bytes e.point x.point else []) else []) ++ back_at i log
-  back-by i n front e x es log true = ap (λ xs. xs ++ back_at i log) (yes-back (n == i) (trimmed_events front (goes_before whole es) bytes e.point x.point))
+  back-by : (i n : ℕ) (front : Bool) (e x : Event) (es : List Event) (log : List Edit) (b : Bool) → back_at i ((if b then trim bytes hard whole n front e x es ∷ [] else []) ++ log) ≡ (if n == i then (if b then trimmed_events front (goes_before whole es) (hard && goes_before false es) bytes e.point x.point else []) else []) ++ back_at i log
+  back-by i n front e x es log true = ap (λ xs. xs ++ back_at i log) (yes-back (n == i) (trimmed_events front (goes_before whole es) (hard && goes_before false es) bytes e.point x.point))
   back-by i n front e x es log false = ap (λ xs. xs ++ back_at i log) (sym (never (n == i)))
 
-  back-first : (i n : ℕ) (front : Bool) (es : List Event) (log : List Edit) → back_at i (trim_first bytes whole n front es ++ log) ≡ (if n == i then comes bytes whole front es else []) ++ back_at i log
+  back-first : (i n : ℕ) (front : Bool) (es : List Event) (log : List Edit) → back_at i (trim_first bytes hard whole n front es ++ log) ≡ (if n == i then comes bytes hard whole front es else []) ++ back_at i log
   back-first i n front [] log = ap (λ xs. xs ++ back_at i log) (sym (never (n == i)))
   back-first i n front (e ∷ []) log = ap (λ xs. xs ++ back_at i log) (sym (never (n == i)))
   back-first i n front (e ∷ x ∷ es) log = back-by i n front e x es log (opens_data e)
 
-  removed-by : (i n : ℕ) (front : Bool) (e x : Event) (es : List Event) (log : List Edit) (b : Bool) → removed_at i ((if b then trim bytes whole n front e x es ∷ [] else []) ++ log) ≡ (if n == i then two b else 0) + removed_at i log
+  removed-by : (i n : ℕ) (front : Bool) (e x : Event) (es : List Event) (log : List Edit) (b : Bool) → removed_at i ((if b then trim bytes hard whole n front e x es ∷ [] else []) ++ log) ≡ (if n == i then two b else 0) + removed_at i log
   removed-by i n front e x es log true = refl
   removed-by i n front e x es log false = zero-plus (removed_at i log) ∙ ap (λ k. k + removed_at i log) (sym (zero-if (n == i)))
 
-  removed-first : (i n : ℕ) (front : Bool) (es : List Event) (log : List Edit) → removed_at i (trim_first bytes whole n front es ++ log) ≡ (if n == i then two (begins_data es) else 0) + removed_at i log
+  removed-first : (i n : ℕ) (front : Bool) (es : List Event) (log : List Edit) → removed_at i (trim_first bytes hard whole n front es ++ log) ≡ (if n == i then two (begins_data es) else 0) + removed_at i log
   removed-first i n front [] log = zero-plus (removed_at i log) ∙ ap (λ k. k + removed_at i log) (sym (zero-if (n == i)))
   removed-first i n front (e ∷ []) log = zero-plus (removed_at i log) ∙ ap (λ k. k + removed_at i log) (sym (zero-if (n == i)))
   removed-first i n front (e ∷ x ∷ es) log = removed-by i n front e x es log (opens_data e)
@@ -184,52 +184,52 @@ module _ (bytes : List ℕ) (whole : Bool) where
   agrees : (n i : ℕ) → n ≡ i → (n == i) ≡ true
   agrees n i h = grind (arith, nat_tests)
 
-  back-earlier : (i n : ℕ) (front : Bool) (es : List Event) → i < n → back_at i (trims bytes whole n front es) ≡ []
+  back-earlier : (i n : ℕ) (front : Bool) (es : List Event) → i < n → back_at i (trims bytes hard whole n front es) ≡ []
   back-earlier i n front [] l = refl
   back-earlier i n front (e ∷ es) l =
-      back-first i n front (e ∷ es) (trims bytes whole (suc n) (closes_ending e) es)
-      ∙ ap (λ b. (if b then comes bytes whole front (e ∷ es) else []) ++ back_at i (trims bytes whole (suc n) (closes_ending e) es)) (differs n i (λ h. omega (arith, h)))
+      back-first i n front (e ∷ es) (trims bytes hard whole (suc n) (closes_ending e) es)
+      ∙ ap (λ b. (if b then comes bytes hard whole front (e ∷ es) else []) ++ back_at i (trims bytes hard whole (suc n) (closes_ending e) es)) (differs n i (λ h. omega (arith, h)))
       ∙ back-earlier i (suc n) (closes_ending e) es (omega arith)
 
-  removed-earlier : (i n : ℕ) (front : Bool) (es : List Event) → i < n → removed_at i (trims bytes whole n front es) ≡ 0
+  removed-earlier : (i n : ℕ) (front : Bool) (es : List Event) → i < n → removed_at i (trims bytes hard whole n front es) ≡ 0
   removed-earlier i n front [] l = refl
   removed-earlier i n front (e ∷ es) l =
-      removed-first i n front (e ∷ es) (trims bytes whole (suc n) (closes_ending e) es)
-      ∙ ap (λ b. (if b then two (begins_data (e ∷ es)) else 0) + removed_at i (trims bytes whole (suc n) (closes_ending e) es)) (differs n i (λ h. omega (arith, h)))
-      ∙ sym (zero-plus (removed_at i (trims bytes whole (suc n) (closes_ending e) es)))
+      removed-first i n front (e ∷ es) (trims bytes hard whole (suc n) (closes_ending e) es)
+      ∙ ap (λ b. (if b then two (begins_data (e ∷ es)) else 0) + removed_at i (trims bytes hard whole (suc n) (closes_ending e) es)) (differs n i (λ h. omega (arith, h)))
+      ∙ sym (zero-plus (removed_at i (trims bytes hard whole (suc n) (closes_ending e) es)))
       ∙ removed-earlier i (suc n) (closes_ending e) es (omega arith)
 
-  back-place : (i n k : ℕ) (front : Bool) (es : List Event) → i ≡ n + k → back_at i (trims bytes whole n front es) ≡ comes bytes whole (flag k front es) (drop k es)
+  back-place : (i n k : ℕ) (front : Bool) (es : List Event) → i ≡ n + k → back_at i (trims bytes hard whole n front es) ≡ comes bytes hard whole (flag k front es) (drop k es)
   back-place i n zero front [] e = refl
   back-place i n (suc k) front [] e = refl
   back-place i n zero front (x ∷ es) e =
-      back-first i n front (x ∷ es) (trims bytes whole (suc n) (closes_ending x) es)
-      ∙ ap (λ b. (if b then comes bytes whole front (x ∷ es) else []) ++ back_at i (trims bytes whole (suc n) (closes_ending x) es)) (agrees n i (omega (arith, e)))
-      ∙ ap (λ xs. comes bytes whole front (x ∷ es) ++ xs) (back-earlier i (suc n) (closes_ending x) es (omega (arith, e)))
-      ∙ append-nil (comes bytes whole front (x ∷ es))
+      back-first i n front (x ∷ es) (trims bytes hard whole (suc n) (closes_ending x) es)
+      ∙ ap (λ b. (if b then comes bytes hard whole front (x ∷ es) else []) ++ back_at i (trims bytes hard whole (suc n) (closes_ending x) es)) (agrees n i (omega (arith, e)))
+      ∙ ap (λ xs. comes bytes hard whole front (x ∷ es) ++ xs) (back-earlier i (suc n) (closes_ending x) es (omega (arith, e)))
+      ∙ append-nil (comes bytes hard whole front (x ∷ es))
   back-place i n (suc k) front (x ∷ es) e =
-      back-first i n front (x ∷ es) (trims bytes whole (suc n) (closes_ending x) es)
-      ∙ ap (λ b. (if b then comes bytes whole front (x ∷ es) else []) ++ back_at i (trims bytes whole (suc n) (closes_ending x) es)) (differs n i (λ h. omega (arith, e, h)))
+      back-first i n front (x ∷ es) (trims bytes hard whole (suc n) (closes_ending x) es)
+      ∙ ap (λ b. (if b then comes bytes hard whole front (x ∷ es) else []) ++ back_at i (trims bytes hard whole (suc n) (closes_ending x) es)) (differs n i (λ h. omega (arith, e, h)))
       ∙ back-place i (suc n) k (closes_ending x) es (omega (arith, e))
 
-  removed-place : (i n k : ℕ) (front : Bool) (es : List Event) → i ≡ n + k → removed_at i (trims bytes whole n front es) ≡ two (begins_data (drop k es))
+  removed-place : (i n k : ℕ) (front : Bool) (es : List Event) → i ≡ n + k → removed_at i (trims bytes hard whole n front es) ≡ two (begins_data (drop k es))
   removed-place i n zero front [] e = refl
   removed-place i n (suc k) front [] e = refl
   removed-place i n zero front (x ∷ es) e =
-      removed-first i n front (x ∷ es) (trims bytes whole (suc n) (closes_ending x) es)
-      ∙ ap (λ b. (if b then two (begins_data (x ∷ es)) else 0) + removed_at i (trims bytes whole (suc n) (closes_ending x) es)) (agrees n i (omega (arith, e)))
+      removed-first i n front (x ∷ es) (trims bytes hard whole (suc n) (closes_ending x) es)
+      ∙ ap (λ b. (if b then two (begins_data (x ∷ es)) else 0) + removed_at i (trims bytes hard whole (suc n) (closes_ending x) es)) (agrees n i (omega (arith, e)))
       ∙ ap (λ j. two (begins_data (x ∷ es)) + j) (removed-earlier i (suc n) (closes_ending x) es (omega (arith, e)))
       ∙ omega arith
   removed-place i n (suc k) front (x ∷ es) e =
-      removed-first i n front (x ∷ es) (trims bytes whole (suc n) (closes_ending x) es)
-      ∙ ap (λ b. (if b then two (begins_data (x ∷ es)) else 0) + removed_at i (trims bytes whole (suc n) (closes_ending x) es)) (differs n i (λ h. omega (arith, e, h)))
-      ∙ sym (zero-plus (removed_at i (trims bytes whole (suc n) (closes_ending x) es)))
+      removed-first i n front (x ∷ es) (trims bytes hard whole (suc n) (closes_ending x) es)
+      ∙ ap (λ b. (if b then two (begins_data (x ∷ es)) else 0) + removed_at i (trims bytes hard whole (suc n) (closes_ending x) es)) (differs n i (λ h. omega (arith, e, h)))
+      ∙ sym (zero-plus (removed_at i (trims bytes hard whole (suc n) (closes_ending x) es)))
       ∙ removed-place i (suc n) k (closes_ending x) es (omega (arith, e))
 
   abbrev pub log_of : List Event → List Edit
-  log_of es = trims bytes whole 0 whole es
+  log_of es = trims bytes hard whole 0 whole es
 
-  pub added-here : (k : ℕ) (es : List Event) → added_at k (log_of es) ≡ comes bytes whole (flag k whole es) (drop k es)
+  pub added-here : (k : ℕ) (es : List Event) → added_at k (log_of es) ≡ comes bytes hard whole (flag k whole es) (drop k es)
   added-here k es = ap (λ xs. xs ++ back_at k (log_of es)) (front-trims k 0 whole es) ∙ back-place k 0 k whole es (omega arith)
 
   pub removed-here : (k : ℕ) (es : List Event) → removed_at k (log_of es) ≡ two (begins_data (drop k es))
@@ -262,18 +262,18 @@ module _ (bytes : List ℕ) (whole : Bool) where
 
   -- The edits may be made.
 
-  within-by : (n m : ℕ) (front : Bool) (e x : Event) (es : List Event) (log : List Edit) (b : Bool) → n ≤ m → All (λ d. d.at ≤ m) log → All (λ d. d.at ≤ m) ((if b then trim bytes whole n front e x es ∷ [] else []) ++ log)
-  within-by n m front e x es log true h a = All-cons (λ d. d.at ≤ m) (trim bytes whole n front e x es) log h a
+  within-by : (n m : ℕ) (front : Bool) (e x : Event) (es : List Event) (log : List Edit) (b : Bool) → n ≤ m → All (λ d. d.at ≤ m) log → All (λ d. d.at ≤ m) ((if b then trim bytes hard whole n front e x es ∷ [] else []) ++ log)
+  within-by n m front e x es log true h a = All-cons (λ d. d.at ≤ m) (trim bytes hard whole n front e x es) log h a
   within-by n m front e x es log false h a = a
 
-  within-first : (n m : ℕ) (front : Bool) (es : List Event) (log : List Edit) → n ≤ m → All (λ d. d.at ≤ m) log → All (λ d. d.at ≤ m) (trim_first bytes whole n front es ++ log)
+  within-first : (n m : ℕ) (front : Bool) (es : List Event) (log : List Edit) → n ≤ m → All (λ d. d.at ≤ m) log → All (λ d. d.at ≤ m) (trim_first bytes hard whole n front es ++ log)
   within-first n m front [] log h a = a
   within-first n m front (e ∷ []) log h a = a
   within-first n m front (e ∷ x ∷ es) log h a = within-by n m front e x es log (opens_data e) h a
 
-  within : (n m : ℕ) (front : Bool) (es : List Event) → n + length es ≤ m → All (λ d. d.at ≤ m) (trims bytes whole n front es)
+  within : (n m : ℕ) (front : Bool) (es : List Event) → n + length es ≤ m → All (λ d. d.at ≤ m) (trims bytes hard whole n front es)
   within n m front [] h = All-nil (λ d. d.at ≤ m)
-  within n m front (e ∷ es) h = within-first n m front (e ∷ es) (trims bytes whole (suc n) (closes_ending e) es) (omega arith) (within (suc n) m (closes_ending e) es (omega arith))
+  within n m front (e ∷ es) h = within-first n m front (e ∷ es) (trims bytes hard whole (suc n) (closes_ending e) es) (omega arith) (within (suc n) m (closes_ending e) es (omega arith))
 
   places-drop : (j : ℕ) (es : List Event) → HasPlaces bytes es → HasPlaces bytes (drop j es)
   places-drop zero es h = h

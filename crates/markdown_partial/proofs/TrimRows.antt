@@ -19,6 +19,7 @@ use Rattle.markdown_engine.proofs.Points.{stop-more}
 use Rattle.markdown_engine.proofs.Steps.{code_here, stop_at}
 use Rattle.markdown_engine.proofs.TreeLemmas.{appended_from-row}
 use Rattle.markdown_model.specs.Grammar.{span}
+use Rattle.markdown_model.specs.Passes.{blank_name}
 use Rattle.markdown_model.proofs.Leaves.{span-append}
 use Rattle.markdown_partial.specs.Trim.{between, IsStretch, end_of_kept, end_of_lead, is_same_place, leaf_events, trimmed_events}
 use Rattle.markdown_partial.proofs.LineLemmas.{span-takes, span-stops}
@@ -205,38 +206,47 @@ three n previous a b c xs ys zs f g h =
     ∙ ap (λ w. xs ++ w) (appended_from-row m o b c ∙ ap (λ w. w ++ appended_from (m + event_count b) (last_link m o b) c) (g m o) ∙ ap (λ w. ys ++ w) (h (m + event_count b) (last_link m o b)))
     ∙ sym (append_assoc xs ys zs)
 
--- the places that a trimmed stretch is cut at
+-- a trimmed stretch is cut in two where its blank codes at the back begin
 pub end-stretch : (bytes : List ℕ) (p q e : Point) (back : Bool) → IsStretch bytes p q → e ≡ (if back then end_of_kept p (between bytes p q) else q) → IsStretch bytes p e
 end-stretch bytes p q e back s h =
     let cs : List Code = between bytes p q in
     let one : IsSplit bytes p q (kept_of back cs) (tail_of back cs) = split bytes p q (kept_of back cs) (tail_of back cs) s (kept-parts back cs) in
     subst (λ (x : Point). IsStretch bytes p x) (sym (h ∙ end-is bytes p q back s)) one.before
 
-trimmed-at : (bytes : List ℕ) (p q : Point) (front back : Bool) → IsStretch bytes p q → (e s : Point) → e ≡ stop_of p (kept_of back (between bytes p q)) → s ≡ stop_of p (lead_of front (kept_of back (between bytes p q))).0 → trimmed_events front back bytes p q ≡ (leaf_events N.SpaceOrTab p s ++ leaf_events N.Data s e) ++ leaf_events N.SpaceOrTab e q
+pub back-stretch : (bytes : List ℕ) (p q e : Point) (back : Bool) → IsStretch bytes p q → e ≡ (if back then end_of_kept p (between bytes p q) else q) → IsStretch bytes e q
+back-stretch bytes p q e back s h =
+    let cs : List Code = between bytes p q in
+    let one : IsSplit bytes p q (kept_of back cs) (tail_of back cs) = split bytes p q (kept_of back cs) (tail_of back cs) s (kept-parts back cs) in
+    subst (λ (x : Point). IsStretch bytes x q) (sym (h ∙ end-is bytes p q back s)) one.after
+
+trimmed-at : (bytes : List ℕ) (p q : Point) (front back hard : Bool) → IsStretch bytes p q → (e s : Point) → e ≡ stop_of p (kept_of back (between bytes p q)) → s ≡ stop_of p (lead_of front (kept_of back (between bytes p q))).0 → trimmed_events front back hard bytes p q ≡ (leaf_events N.SpaceOrTab p s ++ leaf_events N.Data s e) ++ leaf_events (blank_name hard (between bytes e q)) e q
 unfolding trimmed_events
-trimmed-at bytes p q front back r e s h k =
+trimmed-at bytes p q front back hard r e s h k =
     let cs : List Code = between bytes p q in
     let kept : List Code = kept_of back cs in
     let lead : List Code × List Code = lead_of front kept in
+    let last : Name = blank_name hard (tail_of back cs) in
     let one : IsSplit bytes p q kept (tail_of back cs) = split bytes p q kept (tail_of back cs) r (kept-parts back cs) in
     let two : IsSplit bytes p (stop_of p kept) lead.0 lead.1 = split bytes p (stop_of p kept) lead.0 lead.1 one.before (one.front_codes ∙ lead-parts front kept) in
-    three 0 None (leaf N.SpaceOrTab lead.0) (leaf N.Data lead.1) (leaf N.SpaceOrTab (tail_of back cs))
-    (leaf_events N.SpaceOrTab p (stop_of p lead.0)) (leaf_events N.Data (stop_of p lead.0) (stop_of p kept)) (leaf_events N.SpaceOrTab (stop_of p kept) q)
+    three 0 None (leaf N.SpaceOrTab lead.0) (leaf N.Data lead.1) (leaf last (tail_of back cs))
+    (leaf_events N.SpaceOrTab p (stop_of p lead.0)) (leaf_events N.Data (stop_of p lead.0) (stop_of p kept)) (leaf_events last (stop_of p kept) q)
     (λ m o. leaf-is bytes p (stop_of p lead.0) N.SpaceOrTab lead.0 m o two.before two.front_codes)
     (λ m o. leaf-is bytes (stop_of p lead.0) (stop_of p kept) N.Data lead.1 m o two.after two.back_codes)
-    (λ m o. leaf-is bytes (stop_of p kept) q N.SpaceOrTab (tail_of back cs) m o one.after one.back_codes)
-    ∙ ap (λ (x : Point). (leaf_events N.SpaceOrTab p x ++ leaf_events N.Data x (stop_of p kept)) ++ leaf_events N.SpaceOrTab (stop_of p kept) q) (sym k)
-    ∙ ap (λ (x : Point). (leaf_events N.SpaceOrTab p s ++ leaf_events N.Data s x) ++ leaf_events N.SpaceOrTab x q) (sym h)
+    (λ m o. leaf-is bytes (stop_of p kept) q last (tail_of back cs) m o one.after one.back_codes)
+    ∙ ap (λ (x : Point). (leaf_events N.SpaceOrTab p x ++ leaf_events N.Data x (stop_of p kept)) ++ leaf_events last (stop_of p kept) q) (sym k)
+    ∙ ap (λ (x : Point). (leaf_events N.SpaceOrTab p s ++ leaf_events N.Data s x) ++ leaf_events last x q) (sym h)
+    ∙ ap (λ (ds : List Code). (leaf_events N.SpaceOrTab p s ++ leaf_events N.Data s e) ++ leaf_events (blank_name hard ds) e q) (sym one.back_codes ∙ ap (λ (x : Point). between bytes x q) (sym h))
 
 -- the events of data that is trimmed are those of its three leaves
-pub trimmed-is : (bytes : List ℕ) (p q e s : Point) (front back : Bool) → IsStretch bytes p q → e ≡ (if back then end_of_kept p (between bytes p q) else q) → s ≡ (if front then end_of_lead p (between bytes p e) else p) → (leaf_events N.SpaceOrTab p s ++ leaf_events N.Data s e) ++ leaf_events N.SpaceOrTab e q ≡ trimmed_events front back bytes p q
-trimmed-is bytes p q e s front back r h k =
+pub trimmed-is : (bytes : List ℕ) (p q e s : Point) (front back hard : Bool) (last : Name) → IsStretch bytes p q → e ≡ (if back then end_of_kept p (between bytes p q) else q) → s ≡ (if front then end_of_lead p (between bytes p e) else p) → last ≡ blank_name hard (between bytes e q) → (leaf_events N.SpaceOrTab p s ++ leaf_events N.Data s e) ++ leaf_events last e q ≡ trimmed_events front back hard bytes p q
+trimmed-is bytes p q e s front back hard last r h k l =
     let cs : List Code = between bytes p q in
     let kept : List Code = kept_of back cs in
     let one : IsSplit bytes p q kept (tail_of back cs) = split bytes p q kept (tail_of back cs) r (kept-parts back cs) in
     let end : e ≡ stop_of p kept = h ∙ end-is bytes p q back r in
     let codes : between bytes p e ≡ kept = ap (between bytes p) end ∙ one.front_codes in
-    sym (trimmed-at bytes p q front back r e s end (k ∙ start-is front p (between bytes p e) ∙ ap (λ xs. stop_of p (lead_of front xs).0) codes))
+    ap (λ (name : Name). (leaf_events N.SpaceOrTab p s ++ leaf_events N.Data s e) ++ leaf_events name e q) l
+    ∙ sym (trimmed-at bytes p q front back hard r e s end (k ∙ start-is front p (between bytes p e) ∙ ap (λ xs. stop_of p (lead_of front xs).0) codes))
 
 pub pushed-leaf : (name : Name) (p q : Point) (old one two : List Event) (b : Bool) → b ≡ is_same_place p q → b ≡ false → one ≡ old ++ event Kind.Enter name p ∷ [] → two ≡ one ++ event Kind.Exit name q ∷ [] → two ≡ old ++ leaf_events name p q
 pushed-leaf name p q old one two b e h f g =
@@ -265,11 +275,12 @@ pub three-leaves : (n : ℕ) (previous : Option ℕ) (a b c : Name) (xs ys zs : 
 three-leaves n previous a b c xs ys zs =
     three n previous (leaf a xs) (leaf b ys) (leaf c zs) (appended_from 0 None (leaf a xs)) (appended_from 0 None (leaf b ys)) (appended_from 0 None (leaf c zs)) (leaf-same a xs) (leaf-same b ys) (leaf-same c zs)
 
-pub trimmed-unlinked : (front back : Bool) (bytes : List ℕ) (p q : Point) (es : List Event) → es ≡ trimmed_events front back bytes p q → All IsUnlinked es
+pub trimmed-unlinked : (front back hard : Bool) (bytes : List ℕ) (p q : Point) (es : List Event) → es ≡ trimmed_events front back hard bytes p q → All IsUnlinked es
 unfolding trimmed_events
-trimmed-unlinked front back bytes p q es e =
+trimmed-unlinked front back hard bytes p q es e =
     let kept : List Code = kept_of back (between bytes p q) in
     let lead : List Code × List Code = lead_of front kept in
     let tail : List Code = tail_of back (between bytes p q) in
-    subst (λ (xs : List Event). All IsUnlinked xs) (sym (e ∙ three-leaves 0 None N.SpaceOrTab N.Data N.SpaceOrTab lead.0 lead.1 tail))
-    (All-append IsUnlinked (appended_from 0 None (leaf N.SpaceOrTab lead.0) ++ appended_from 0 None (leaf N.Data lead.1)) (appended_from 0 None (leaf N.SpaceOrTab tail)) (All-append IsUnlinked (appended_from 0 None (leaf N.SpaceOrTab lead.0)) (appended_from 0 None (leaf N.Data lead.1)) (leaf-unlinked N.SpaceOrTab lead.0) (leaf-unlinked N.Data lead.1)) (leaf-unlinked N.SpaceOrTab tail))
+    let last : Name = blank_name hard tail in
+    subst (λ (xs : List Event). All IsUnlinked xs) (sym (e ∙ three-leaves 0 None N.SpaceOrTab N.Data last lead.0 lead.1 tail))
+    (All-append IsUnlinked (appended_from 0 None (leaf N.SpaceOrTab lead.0) ++ appended_from 0 None (leaf N.Data lead.1)) (appended_from 0 None (leaf last tail)) (All-append IsUnlinked (appended_from 0 None (leaf N.SpaceOrTab lead.0)) (appended_from 0 None (leaf N.Data lead.1)) (leaf-unlinked N.SpaceOrTab lead.0) (leaf-unlinked N.Data lead.1)) (leaf-unlinked last tail))

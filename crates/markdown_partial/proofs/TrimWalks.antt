@@ -1,17 +1,20 @@
 -- walks over the codes of a stretch
-use Rattle.std.proofs.Common.{◌≡◌, ℕ, suc, ◌<◌, ◌==◌, ◌&&◌, not, Bool, true, false, List, [], ◌∷◌, length, Some, IsTrue, refl, sym, ap, subst, ◌∙◌, arith, ◌⊎◌, inl, inr, if◌then◌else◌}
+use Rattle.std.proofs.Common.{◌≡◌, ℕ, suc, ◌+◌, ◌*◌, ◌<◌, ◌≤◌, ◌==◌, ◌&&◌, not, nat_le, Bool, true, false, List, [], ◌∷◌, length, Some, IsTrue, refl, sym, ap, subst, ◌∙◌, arith, ◌⊎◌, inl, inr, if◌then◌else◌, filter}
+use Rattle.std.specs.List.{list_all}
 use Rattle.std.proofs.lemmas.Bool.{cases_Bool}
 use Rattle.std.proofs.lemmas.Bool.Decides.{nat_tests}
-use Rattle.markdown_engine.specs.Codes.{Code, is_blank, is_code_before, is_at_or_after, place_of, stop_of, point_at}
+use Rattle.markdown_engine.specs.Codes.{Code, codes_of, is_blank, is_code_before, is_at_or_after, place_of, stop_of, point_at}
 use Rattle.markdown_engine.specs.Walk.{codes_after, IsPoint, next_point, value_from}
 use Rattle.markdown_engine.specs.declared.event.Point.{Point}
+use Rattle.markdown_engine.proofs.Bounds.{document_few}
 use Rattle.markdown_engine.proofs.Order.{is_before, at_or_after-is, same_place}
 use Rattle.markdown_engine.proofs.Steps.{code_here, stop_at}
 use Rattle.markdown_engine.proofs.Points.{IsToward, toward, there-point}
 use Rattle.markdown_engine.proofs.Standings.{none-before, passes}
+use Rattle.markdown_model.specs.CodeTests.{is_real_space}
 use Rattle.markdown_partial.specs.SpaceSteps.{at_blank}
 use Rattle.markdown_partial.proofs.LineLemmas.{span-takes, span-stops}
-use Rattle.markdown_partial.specs.Trim.{between, IsStretch, end_of_lead, is_same_place}
+use Rattle.markdown_partial.specs.Trim.{between, IsStretch, end_of_lead, at_real_space, is_hard_break, is_same_place}
 
 -- a stretch that is not at its end has a first code
 pub record IsBegun (bytes : List ℕ) (p q : Point) : Type 0 where
@@ -106,12 +109,13 @@ abbrev pub last_kept : Point → List Code → Point
 last_kept kept [] = kept
 last_kept kept (c ∷ cs) = last_kept (if is_blank c then kept else c.stop) cs
 
+one-fewer : (bytes : List ℕ) (p q r : Point) → IsBegun bytes p q → r ≡ next_point bytes p → length (between bytes p q) ≡ suc (length (between bytes r q))
+one-fewer bytes p q r b e = ap length b.codes ∙ ap (λ (x : Point). suc (length (between bytes x q))) (sym (e ∙ b.next))
+
 -- what is left to be walked
 pub shorter : (bytes : List ℕ) (p q : Point) (r : Point) → IsBegun bytes p q → r ≡ next_point bytes p → length (between bytes r q) < length (between bytes p q)
 shorter bytes p q r b e =
-    let there : r ≡ stop_at bytes p = e ∙ b.next in
-    let counts : length (between bytes p q) ≡ suc (length (between bytes r q)) = ap length b.codes ∙ ap (λ (x : Point). suc (length (between bytes x q))) (sym there) in
-    omega (arith, counts)
+    let counts = one-fewer bytes p q r b e in omega (arith, counts)
 
 pub stretch-next : (bytes : List ℕ) (p q r : Point) → IsBegun bytes p q → r ≡ next_point bytes p → IsStretch bytes r q
 stretch-next bytes p q r b e = subst (λ (x : Point). IsStretch bytes x q) (sym (e ∙ b.next)) b.stretch
@@ -155,3 +159,55 @@ kept-same bytes p q r kept t b e f h = kept-next bytes p q r kept kept t b e f (
 
 pub kept-moved : (bytes : List ℕ) (p q r kept : Point) (t : Bool) → IsBegun bytes p q → r ≡ next_point bytes p → t ≡ at_blank (value_from bytes p) → t ≡ false → last_kept kept (between bytes p q) ≡ last_kept r (between bytes r q)
 kept-moved bytes p q r kept t b e f h = kept-next bytes p q r kept r t b e f (ap (λ x. if x then kept else r) (sym h))
+
+-- Hard breaks.
+
+fewer : (p : Code → Bool) (cs : List Code) → length (filter p cs) ≤ length cs
+fewer p [] = omega arith
+fewer p (c ∷ cs) = let more = fewer p cs in by-first (p c) more
+  where
+    by-first : (b : Bool) → length (filter p cs) ≤ length cs → length (if b then c ∷ filter p cs else filter p cs) ≤ length (c ∷ cs)
+    by-first true h = omega (arith, h)
+    by-first false h = omega (arith, h)
+
+-- a stretch has no more codes than the document
+pub few-between : (bytes : List ℕ) (p q : Point) → length (between bytes p q) ≤ 4 * length bytes
+unfolding between
+few-between bytes p q =
+    let some = fewer (is_code_before (place_of q)) (codes_after bytes (place_of p)) in
+    let most = fewer (λ c. not (is_code_before (place_of p) c)) (codes_of bytes) in
+    let all = document_few bytes in
+    omega (arith, some, most, all)
+
+pub counted-next : (bytes : List ℕ) (p q r : Point) (n : ℕ) → IsBegun bytes p q → r ≡ next_point bytes p → n + 1 + length (between bytes r q) ≡ n + length (between bytes p q)
+counted-next bytes p q r n b e =
+    let counts = one-fewer bytes p q r b e in omega (arith, counts)
+
+all-first : (bytes : List ℕ) (p q : Point) (t : Bool) → IsBegun bytes p q → t ≡ at_real_space (value_from bytes p) p → list_all is_real_space (between bytes p q) ≡ t && list_all is_real_space (between bytes (stop_at bytes p) q)
+all-first bytes p q t b e =
+    ap (list_all is_real_space) b.codes ∙ ap (λ x. x && list_all is_real_space (between bytes (stop_at bytes p) q)) (sym (e ∙ ap (λ v. at_real_space v p) b.value))
+
+pub all-next : (bytes : List ℕ) (p q r : Point) (t : Bool) → IsBegun bytes p q → r ≡ next_point bytes p → t ≡ at_real_space (value_from bytes p) p → t ≡ true → list_all is_real_space (between bytes r q) ≡ list_all is_real_space (between bytes p q)
+all-next bytes p q r t b e f h =
+    let there : r ≡ stop_at bytes p = e ∙ b.next in
+    ap (λ (x : Point). list_all is_real_space (between bytes x q)) there
+    ∙ sym (all-first bytes p q t b f ∙ ap (λ x. x && list_all is_real_space (between bytes (stop_at bytes p) q)) h)
+
+pub all-stop : (bytes : List ℕ) (p q : Point) (t : Bool) → IsBegun bytes p q → t ≡ at_real_space (value_from bytes p) p → t ≡ false → list_all is_real_space (between bytes p q) ≡ false
+all-stop bytes p q t b f h = all-first bytes p q t b f ∙ ap (λ x. x && list_all is_real_space (between bytes (stop_at bytes p) q)) h
+
+and-false : (b : Bool) → false ≡ b && false
+and-false true = refl
+and-false false = refl
+
+and-true : (b : Bool) → b ≡ b && true
+and-true true = refl
+and-true false = refl
+
+-- codes that are no break, since one of them is no space
+pub breaks-not : (cs : List Code) → list_all is_real_space cs ≡ false → false ≡ is_hard_break cs
+breaks-not cs h = and-false (nat_le 2 (length cs)) ∙ ap (λ b. nat_le 2 (length cs) && b) (sym h)
+
+-- codes that are one if they are enough, since all of them are spaces
+pub breaks-if : (cs : List Code) (n : ℕ) (t : Bool) → t ≡ nat_le 2 n → n ≡ length cs → list_all is_real_space cs ≡ true → t ≡ is_hard_break cs
+breaks-if cs n t e k h = e ∙ ap (nat_le 2) k ∙ and-true (nat_le 2 (length cs)) ∙ ap (λ b. nat_le 2 (length cs) && b) (sym h)

@@ -1,6 +1,7 @@
 -- Trimming: the codes of data between two places, and where its blank codes stop in front and begin at its back.
-use Rattle.std.specs.Prelude.{ℕ, Bool, false, ◌&&◌, ◌==◌, List, [], ◌∷◌, filter, reverse, IsTrue, None, if◌then◌else◌}
-use Rattle.markdown_engine.specs.Codes.{Code, is_blank, is_code_before, is_at_or_after, place_of, stop_of}
+use Rattle.std.specs.Prelude.{ℕ, Bool, false, ◌&&◌, ◌==◌, nat_le, List, [], ◌∷◌, length, filter, reverse, IsTrue, Option, Some, None, if◌then◌else◌}
+use Rattle.std.specs.List.{list_all}
+use Rattle.markdown_engine.specs.Codes.{Code, space_value, is_blank, is_code_before, is_at_or_after, place_of, stop_of}
 use Rattle.markdown_engine.specs.Past.{appended_from}
 use Rattle.markdown_engine.specs.Tree.{event}
 use Rattle.markdown_engine.specs.Walk.{codes_after, IsPoint}
@@ -8,6 +9,7 @@ use Rattle.markdown_engine.specs.declared.event.Event.{Event}
 use Rattle.markdown_engine.specs.declared.event.Kind.TheVariants as Kind
 use Rattle.markdown_engine.specs.declared.event.Name.{Name}
 use Rattle.markdown_engine.specs.declared.event.Point.{Point}
+use Rattle.markdown_model.specs.CodeTests.{is_real_space}
 use Rattle.markdown_model.specs.Grammar.{span}
 use Rattle.markdown_model.specs.Passes.{trimmed_data}
 
@@ -29,6 +31,15 @@ end_of_kept from cs = stop_of from (reverse (span is_blank (reverse cs)).1)
 unfoldable pub end_of_lead : Point → List Code → Point
 end_of_lead from cs = stop_of from (span is_blank cs).0
 
+-- the code that begins at a place is a space that is no column of a tab
+abbrev pub at_real_space : Option ℕ → Point → Bool
+at_real_space None p = false
+at_real_space (Some v) p = v == space_value && p.vs == 0
+
+-- codes that are a hard break before a line ending: two or more, and all of them such spaces
+abbrev pub is_hard_break : List Code → Bool
+is_hard_break cs = nat_le 2 (length cs) && list_all is_real_space cs
+
 abbrev pub is_same_place : Point → Point → Bool
 is_same_place p q = p.index == q.index && p.vs == q.vs
 
@@ -36,6 +47,7 @@ is_same_place p q = p.index == q.index && p.vs == q.vs
 unfoldable pub leaf_events : Name → Point → Point → List Event
 leaf_events name from to = if is_same_place from to then [] else event Kind.Enter name from ∷ event Kind.Exit name to ∷ []
 
--- the events of data from one place to another that loses its blank codes in front, at its back, or both
-unfoldable pub trimmed_events : Bool → Bool → List ℕ → Point → Point → List Event
-trimmed_events front back bytes from to = appended_from 0 None (trimmed_data front back false (between bytes from to))
+-- the events of data from one place to another that loses its blank codes in front, at its back, or both; `hard` says that those at
+-- its back may be a hard break
+unfoldable pub trimmed_events : Bool → Bool → Bool → List ℕ → Point → Point → List Event
+trimmed_events front back hard bytes from to = appended_from 0 None (trimmed_data front back hard (between bytes from to))

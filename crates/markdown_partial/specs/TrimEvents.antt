@@ -25,22 +25,23 @@ abbrev pub goes_before : Bool → List Event → Bool
 goes_before whole [] = whole
 goes_before whole (e ∷ es) = opens_ending e
 
--- the Enter and the Exit of data go, and the events of what is left of it come
-abbrev pub trim : List ℕ → Bool → ℕ → Bool → Event → Event → List Event → Edit
-trim bytes whole n front e x es =
-    record { at = n; remove = 2; events = trimmed_events front (goes_before whole es) bytes e.point x.point; before = false }
+-- the Enter and the Exit of data go, and the events of what is left of it come; a hard break stands before a line ending alone, not at
+-- the whole's end
+abbrev pub trim : List ℕ → Bool → Bool → ℕ → Bool → Event → Event → List Event → Edit
+trim bytes hard whole n front e x es =
+    record { at = n; remove = 2; events = trimmed_events front (goes_before whole es) (hard && goes_before false es) bytes e.point x.point; before = false }
 
 -- the edit of the first two events, where they are data; the first has this number, and `front` says that blank codes behind what
 -- stands before it go
-abbrev pub trim_first : List ℕ → Bool → ℕ → Bool → List Event → List Edit
-trim_first bytes whole n front [] = []
-trim_first bytes whole n front (e ∷ []) = []
-trim_first bytes whole n front (e ∷ x ∷ es) = if opens_data e then trim bytes whole n front e x es ∷ [] else []
+abbrev pub trim_first : List ℕ → Bool → Bool → ℕ → Bool → List Event → List Edit
+trim_first bytes hard whole n front [] = []
+trim_first bytes hard whole n front (e ∷ []) = []
+trim_first bytes hard whole n front (e ∷ x ∷ es) = if opens_data e then trim bytes hard whole n front e x es ∷ [] else []
 
 -- one edit for each data
-abbrev pub trims : List ℕ → Bool → ℕ → Bool → List Event → List Edit
-trims bytes whole n front [] = []
-trims bytes whole n front (e ∷ es) = trim_first bytes whole n front (e ∷ es) ++ trims bytes whole (suc n) (closes_ending e) es
+abbrev pub trims : List ℕ → Bool → Bool → ℕ → Bool → List Event → List Edit
+trims bytes hard whole n front [] = []
+trims bytes hard whole n front (e ∷ es) = trim_first bytes hard whole n front (e ∷ es) ++ trims bytes hard whole (suc n) (closes_ending e) es
 
 -- an Exit without a link stands behind the Enter of data, and the two are places of the document in order
 abbrev pub ClosesAt : List ℕ → Event → List Event → Type 0

@@ -7,11 +7,11 @@ ghost use Rattle.markdown_engine.specs.Chain.{IsUnlinked};
 ghost use Rattle.markdown_engine.specs.Content.{document_limit};
 ghost use Rattle.markdown_engine.specs.Walk.{value_from, IsPoint};
 ghost use Rattle.markdown_partial.specs.SpaceSteps.{at_blank};
-ghost use Rattle.markdown_partial.specs.Trim.{between, IsStretch, end_of_kept, end_of_lead, is_same_place, leaf_events, trimmed_events};
+ghost use Rattle.markdown_partial.specs.Trim.{between, IsStretch, end_of_kept, end_of_lead, at_real_space, is_hard_break, is_same_place, leaf_events, trimmed_events};
 ghost use Rattle.markdown_partial.specs.TrimEvents.{opens_ending, closes_ending, goes_before, trim_first, trims, FirstHasPlaces, HasPlaces, HasParts};
 ghost use Rattle.markdown_engine.specs.Past.{appended_from};
 ghost use Rattle.markdown_engine.specs.Tree.{Forest};
-ghost use Rattle.markdown_model.specs.Passes.{trimmed};
+ghost use Rattle.markdown_model.specs.Passes.{blank_name, trimmed};
 
 use crate::partial_data::opens_data;
 use markdown_engine::event::{Event, Kind, Name, Point};
@@ -28,6 +28,15 @@ fn is_blank(bytes: &[u8], point: Point) -> bool
     ensures { result ≡ at_blank (value_from bytes.now point) }
 {
     matches!(code_from(bytes, point), b' ' | b'\t')
+}
+
+// Whether this is a space that is no column of a tab.
+fn is_real_space(bytes: &[u8], point: Point) -> bool
+    requires is_point { IsPoint bytes.now point }
+    requires begins { point.index < length bytes.now }
+    ensures { result ≡ at_real_space (value_from bytes.now point) point }
+{
+    code_from(bytes, point) == b' ' && point.vs == 0
 }
 
 // Whether two points are one place.
@@ -68,6 +77,37 @@ fn lead_end(bytes: &[u8], from: Point, to: Point) -> Point
     point
 }
 
+// Whether the codes of a stretch are two or more, and all of them spaces that are no column of a tab.
+fn is_hard_break(bytes: &[u8], from: Point, to: Point) -> bool
+    requires fits { length bytes.now ≤ document_limit }
+    requires stretch { IsStretch bytes.now from to }
+    ensures { result ≡ is_hard_break (between bytes.now from to) }
+{
+    let mut spaces = 0usize;
+    let mut point = from;
+    while !is_same_place(point, to) {
+        if !is_real_space(bytes, point) {
+            return false;
+        }
+        point = past_code(bytes, point);
+        spaces += 1;
+    }
+    spaces >= 2
+}
+
+// Answers the name of the blank codes at the back of data; `hard` says that they may be a hard break.
+fn blank_name(bytes: &[u8], from: Point, to: Point, hard: bool) -> Name
+    requires fits { length bytes.now ≤ document_limit }
+    requires stretch { IsStretch bytes.now from to }
+    ensures { result ≡ blank_name hard (between bytes.now from to) }
+{
+    if hard && is_hard_break(bytes, from, to) {
+        Name::HardBreakTrailing
+    } else {
+        Name::SpaceOrTab
+    }
+}
+
 // Appends the events of a leaf, where it has a code.
 fn push_leaf(events: &mut Vec<Event>, name: Name, from: Point, to: Point) -> Result<(), AllocError>
     ensures { OnOk result (events.new.items ≡ events.old.items ++ leaf_events name from to) }
@@ -89,18 +129,20 @@ fn push_leaf(events: &mut Vec<Event>, name: Name, from: Point, to: Point) -> Res
     Ok(())
 }
 
-// Answers the events of data that loses its blank codes in front, at its back, or both, the back first.
+// Answers the events of data that loses its blank codes in front, at its back, or both, the back first; `hard` says that those at
+// its back may be a hard break.
 fn trimmed_data(
     alloc: Global,
     bytes: &[u8],
     front: bool,
     back: bool,
+    hard: bool,
     from: Point,
     to: Point,
 ) -> Result<Vec<Event>, AllocError>
     requires fits { length bytes.now ≤ document_limit }
     requires stretch { IsStretch bytes.now from to }
-    ensures { IfOk result (λ v. v.items ≡ trimmed_events front back bytes.now from to) }
+    ensures { IfOk result (λ v. v.items ≡ trimmed_events front back hard bytes.now from to) }
 {
     let end = if back { kept_end(bytes, from, to) } else { to };
     let start = if front {
@@ -111,7 +153,7 @@ fn trimmed_data(
     let mut events = Vec::new(alloc);
     push_leaf(&mut events, Name::SpaceOrTab, from, start)?;
     push_leaf(&mut events, Name::Data, start, end)?;
-    push_leaf(&mut events, Name::SpaceOrTab, end, to)?;
+    push_leaf(&mut events, blank_name(bytes, end, to, hard), end, to)?;
     Ok(events)
 }
 
@@ -155,6 +197,15 @@ fn goes_before(events: &Events, index: usize, whole: bool) -> bool
     }
 }
 
+// What is trimmed besides blank codes at line endings.
+#[derive(Clone, Copy)]
+struct Trimming {
+    // Two or more spaces before a line ending are a hard break.
+    hard_break: bool,
+    // Blank codes at the start and at the end of the whole go.
+    whole: bool,
+}
+
 // Where data begins at this event: puts its trimmed events in place of its own.
 fn trim_first(
     alloc: Global,
@@ -163,19 +214,20 @@ fn trim_first(
     map: &mut EditMap,
     index: usize,
     front: bool,
-    whole: bool,
+    trimming: Trimming,
 ) -> Result<(), AllocError>
     requires fits { length bytes.now ≤ document_limit }
     requires within { index < length events.now }
     requires counted { length events.now < 2 ^ 64 }
     requires places { FirstHasPlaces bytes.now (drop index events.now) }
-    ensures { OnOk result (map.new ≡ map.old ++ trim_first bytes.now whole index front (drop index events.now)) }
+    ensures { OnOk result (map.new ≡ map.old ++ trim_first bytes.now trimming.hard_break trimming.whole index front (drop index events.now)) }
 {
     let enter = events.bare_at(index);
     if opens_data(&enter) {
         let exit = events.bare_at(index + 1);
-        let back = goes_before(events, index + 2, whole);
-        let trimmed = trimmed_data(alloc, bytes, front, back, enter.point, exit.point)?;
+        let back = goes_before(events, index + 2, trimming.whole);
+        let hard = trimming.hard_break && goes_before(events, index + 2, false);
+        let trimmed = trimmed_data(alloc, bytes, front, back, hard, enter.point, exit.point)?;
         map.add(index, 2, trimmed)?;
     }
     Ok(())
@@ -187,16 +239,16 @@ fn trim_each(
     bytes: &[u8],
     events: &Events,
     map: &mut EditMap,
-    whole: bool,
+    trimming: Trimming,
 ) -> Result<(), AllocError>
     requires fits { length bytes.now ≤ document_limit }
     requires places { HasPlaces bytes.now events.now }
     requires empty { map.old ≡ [] }
-    ensures { OnOk result (map.new ≡ trims bytes.now whole 0 whole events.now) }
+    ensures { OnOk result (map.new ≡ trims bytes.now trimming.hard_break trimming.whole 0 trimming.whole events.now) }
 {
-    let mut front = whole;
+    let mut front = trimming.whole;
     for index in 0..events.len() {
-        trim_first(alloc, bytes, events, map, index, front, whole)?;
+        trim_first(alloc, bytes, events, map, index, front, trimming)?;
         front = closes_ending(&events.bare_at(index));
     }
     Ok(())
@@ -208,25 +260,26 @@ fn trim(
     bytes: &[u8],
     events: &mut Events,
     map: &mut EditMap,
-    whole: bool,
+    trimming: Trimming,
 ) -> Result<(), AllocError>
     requires fits { length bytes.now ≤ document_limit }
     requires places { HasPlaces bytes.now events.old }
     requires empty { map.old ≡ [] }
-    ensures trimmed { (t : Forest) → HasParts bytes.now t → events.old ≡ appended_from 0 None t → OnOk result (events.new ≡ appended_from 0 None (trimmed false whole whole t)) }
+    ensures trimmed { (t : Forest) → HasParts bytes.now t → events.old ≡ appended_from 0 None t → OnOk result (events.new ≡ appended_from 0 None (trimmed trimming.hard_break trimming.whole trimming.whole t)) }
     ensures map { OnOk result (map.new ≡ []) }
 {
-    trim_each(alloc, bytes, events, map, whole)?;
+    trim_each(alloc, bytes, events, map, trimming)?;
     map.consume(events)
 }
 
 /// Trims data that carries no link: beside a line ending it loses its blank codes there, and where `trim_whole` is true the whole
 /// loses those at its start and at its end.
 ///
-/// Blank codes that go become whitespace of their own; data that is all blank is renamed. Hard breaks are not looked for: `hard_break`
-/// is false. The document has at most `usize::MAX / 8` bytes, the edits are empty before and after, and each data stands at places of
-/// the document. The work is that of the events and of the codes of the data. The error comes where memory is refused; then `failed`
-/// is true.
+/// Blank codes that go become whitespace of their own; data that is all blank is renamed. Where `hard_break` is true, those before a
+/// line ending become a hard break instead if they are two or more spaces with no tab among them (CommonMark 6.7); those at the
+/// whole's end never do. The document has at most `usize::MAX / 8` bytes, the edits are empty before and after, and each data stands
+/// at places of the document. The work is that of the events and of the codes of the data. The error comes where memory is refused;
+/// then `failed` is true.
 pub fn resolve_whitespace(
     tokenizer: &mut Tokenizer,
     hard_break: bool,
@@ -235,19 +288,20 @@ pub fn resolve_whitespace(
     requires map { tokenizer.old.map ≡ [] }
     requires fits { length tokenizer.old.parse_state.now.bytes.now ≤ document_limit }
     requires places { HasPlaces tokenizer.old.parse_state.now.bytes.now tokenizer.old.events }
-    requires soft { hard_break ≡ false }
     ensures same { OnOk result (tokenizer.new ≡ record tokenizer.old { events = tokenizer.new.events }) }
     ensures trimmed { (t : Forest) → HasParts tokenizer.old.parse_state.now.bytes.now t → tokenizer.old.events ≡ appended_from 0 None t → OnOk result (tokenizer.new.events ≡ appended_from 0 None (trimmed hard_break trim_whole trim_whole t)) }
     ensures err { OnErr result (IsTrue tokenizer.new.failed) }
 {
-    prove!(!hard_break);
     let bytes = tokenizer.parse_state.bytes;
     let trimmed = trim(
         tokenizer.alloc,
         bytes,
         &mut tokenizer.events,
         &mut tokenizer.map,
-        trim_whole,
+        Trimming {
+            hard_break,
+            whole: trim_whole,
+        },
     );
     if trimmed.is_err() {
         tokenizer.fail();

@@ -11,4 +11,4 @@ overflow_add-index-then-opens_data c =
     omega (arith, c.requires.counted, next-within c.args.bytes.now c.args.index c.args.events.now c.bare_at-enter.result (closes-first c.args.bytes.now c.args.index c.args.events.now c.bare_at-enter.result c.requires.within c.bare_at-enter.ensures.event (sym c.opens_data.ensures ∙ c.if-opens_data.true) c.requires.places))
 
 pub add-requires : goal.add-requires
-add-requires c = trimmed-unlinked _ _ _ _ _ _ c.in_ok-trimmed.ensures
+add-requires c = trimmed-unlinked _ _ _ _ _ _ _ c.in_ok-trimmed.ensures
