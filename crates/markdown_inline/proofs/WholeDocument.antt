@@ -7,16 +7,12 @@ use Rattle.std.proofs.lemmas.Bool.{cases_lt}
 use Rattle.std.proofs.lemmas.Bool.Decides.{nat_tests}
 use Rattle.std.proofs.lemmas.Str.{IsCharBoundary-end, IsCharBoundary-from_drop}
 use Rattle.markdown_engine.specs.declared.event.Point.{Point}
-use Rattle.markdown_engine.specs.declared.parser.Piece.{Piece}
 use Rattle.markdown_engine.specs.Codes.{Code, codes_of, document_start, stop_of, is_at_or_after}
 use Rattle.markdown_engine.specs.Content.{IsContent, document_limit, is_place, are_pieces, IsBetweenCharacters}
+use Rattle.markdown_inline.specs.Words.{whole_piece}
 use Rattle.markdown_engine.proofs.Points.{along}
 use Rattle.markdown_engine.proofs.Steps.{Stands, codes_at}
 use Rattle.markdown_engine.proofs.Walks.{step, stands-start}
-
--- from the document's start to its end
-abbrev pub whole : List ℕ → Piece
-whole bytes = record { start = (0, 0); end = (length bytes, 0) }
 
 -- where the document's last code ends
 end-of : List ℕ → Point
@@ -76,20 +72,20 @@ whole-end bytes = end-place (length bytes) (codes_of bytes) (end-index bytes) (e
 after-start : (n : ℕ) → is_at_or_after (0, 0) (n, 0) ≡ true
 after-start n = grind (arith, nat_tests)
 
-pieces-whole : (bytes : List ℕ) → is_place bytes (length bytes, 0) ≡ true → is_at_or_after (0, 0) (length bytes, 0) ≡ true → are_pieces bytes (whole bytes ∷ []) ≡ true
+pieces-whole : (bytes : List ℕ) → is_place bytes (length bytes, 0) ≡ true → is_at_or_after (0, 0) (length bytes, 0) ≡ true → are_pieces bytes (whole_piece bytes ∷ []) ≡ true
 pieces-whole bytes e f = rw (e, f) refl
 
 all-one : {X : Type 0} (P : X → Type 0) (x : X) → P x → All P (x ∷ [])
 all-one P x p zero d h = p
 all-one P x p (suc k) d h = absurd (omega arith)
 
-pub whole-content : (bytes : List ℕ) → IsUtf8 bytes → length bytes ≤ document_limit → IsContent bytes (whole bytes ∷ [])
+pub whole-content : (bytes : List ℕ) → IsUtf8 bytes → length bytes ≤ document_limit → IsContent bytes (whole_piece bytes ∷ [])
 whole-content bytes text fits =
     let start : IsCharBoundary bytes 0 = IsCharBoundary-from_drop bytes 0 (omega arith) text in
     let end : IsCharBoundary bytes (length bytes) = IsCharBoundary-end bytes in
     record {
       is_text = text;
       fits = fits;
-      between_characters = all-one (IsBetweenCharacters bytes) (whole bytes) (start, end);
+      between_characters = all-one (IsBetweenCharacters bytes) (whole_piece bytes) (start, end);
       in_order = pieces-whole bytes (whole-end bytes) (after-start (length bytes));
     }

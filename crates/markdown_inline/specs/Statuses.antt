@@ -7,6 +7,7 @@ use Rattle.markdown_inline.specs.declared.program.Fault.{Fault}
 abbrev pub status_of : Fault → ℕ
 status_of Fault.Usage = 2
 status_of Fault.NotText = 3
+status_of Fault.BlankLine = 4
 status_of Fault.OutOfMemory = 5
 status_of Fault.Read = 6
 status_of Fault.Write = 6

@@ -4,11 +4,11 @@ ghost use Rattle.std.specs.IoError.{error_kind};
 ghost use Rattle.std.specs.List.{list_all};
 ghost use Rattle.std.specs.Option.{option_map};
 ghost use Rattle.markdown_engine.specs.Content.{document_limit};
-ghost use Rattle.markdown_inline.specs.declared.program.Fault.TheVariants.{OutOfMemory, Read, Write, Usage, NotText};
+ghost use Rattle.markdown_inline.specs.declared.program.Fault.TheVariants.{OutOfMemory, Read, Write, Usage, NotText, BlankLine};
 ghost use Rattle.markdown_inline.specs.Statuses.{status_of, fault_of};
-ghost use Rattle.markdown_inline.specs.Words.{is_option, are_known, without_line_ending, has_word, options_of, defined_word, defined_by};
+ghost use Rattle.markdown_inline.specs.Words.{is_option, is_mode, are_known, reads_text, MayRead, IsTextDocument, without_line_ending, has_word, options_of, defined_word, defined_by};
 
-use crate::run;
+use crate::run::{self, Run};
 use markdown_engine::configuration::{Constructs, ParseOptions};
 use markdown_engine::event::{Event, Point};
 use markdown_engine::parser::ParseState;
@@ -26,6 +26,8 @@ enum Fault {
     Usage,
     /// The input is not UTF-8.
     NotText,
+    /// A line of a text is blank.
+    BlankLine,
     /// Memory was refused.
     OutOfMemory,
     /// The input cannot be read, or is too long.
@@ -42,6 +44,7 @@ impl Fault {
         match self {
             Fault::Usage => 2,
             Fault::NotText => 3,
+            Fault::BlankLine => 4,
             Fault::OutOfMemory => 5,
             Fault::Read | Fault::Write => 6,
         }
@@ -54,6 +57,7 @@ impl Fault {
                 "usage: mdinline text|string [gfm] [math] [task] [label=TEXT].. [note=TEXT].."
             }
             Fault::NotText => "input is not UTF-8",
+            Fault::BlankLine => "blank line in text",
             Fault::OutOfMemory => "out of memory",
             Fault::Read => "read failed",
             Fault::Write => "write failed",
@@ -99,6 +103,13 @@ fn are_options(words: &[String]) -> bool
     words.iter().all(|word| is_option(word.as_str()))
 }
 
+// Whether the word says how the content is read.
+fn is_mode(word: &str) -> bool
+    ensures { result ≡ is_mode word.now }
+{
+    word == "text" || word == "string"
+}
+
 // Whether the words are a mode and options.
 fn are_known(words: &[String]) -> bool
     ensures { result ≡ are_known words.now }
@@ -106,7 +117,14 @@ fn are_known(words: &[String]) -> bool
     let Some((mode, options)) = words.split_first() else {
         return false;
     };
-    mode.as_str() == "string" && are_options(options)
+    is_mode(mode.as_str()) && are_options(options)
+}
+
+// Whether the content is to be read as text.
+fn reads_text(words: &[String]) -> bool
+    ensures { result ≡ reads_text words.now }
+{
+    matches!(words.first(), Some(mode) if mode.as_str() == "text")
 }
 
 // The bytes without one final line ending.
@@ -246,10 +264,13 @@ fn print_events(alloc: Global, events: &[Event]) -> Result<String, AllocError> {
     Ok(text)
 }
 
-// What is to be printed for this document, which is text.
-fn output_of(alloc: Global, words: &[String], bytes: &[u8]) -> Result<String, AllocError>
+// What is found in this document, which is UTF-8.
+fn found_in(alloc: Global, words: &[String], bytes: &[u8]) -> Result<Run, Fault>
     requires text { IsUtf8 bytes.now }
     requires fits { length bytes.now ≤ document_limit }
+    ensures text { IfOk result (λ _. reads_text words.now ≡ true → IsTextDocument bytes.now) }
+    ensures faults { IfErr result (λ fault. (fault ≡ OutOfMemory) ⊎ (fault ≡ BlankLine)) }
+    ensures blank_line { IfErr result (λ fault. fault ≡ BlankLine → (reads_text words.now ≡ true) × (IsTextDocument bytes.now → ⊥)) }
 {
     let options = options_of(words);
     let parse_state = ParseState {
@@ -259,15 +280,21 @@ fn output_of(alloc: Global, words: &[String], bytes: &[u8]) -> Result<String, Al
         gfm_footnote_definitions: defined_by(alloc, "note=", words)?,
     };
     let pieces = [run::whole_document(bytes)];
-    let found = run::string(alloc, &parse_state, &pieces)?;
-    print_events(alloc, found.events.as_slice())
+    if !reads_text(words) {
+        return Ok(run::string(alloc, &parse_state, &pieces)?);
+    }
+    if !run::is_text(bytes, &pieces) {
+        return Err(Fault::BlankLine);
+    }
+    Ok(run::text(alloc, &parse_state, &pieces, has(words, "task"))?)
 }
 
 // Reads, runs, and makes the whole output.
 fn make_output<R: Read>(alloc: Global, words: &[String], reader: &mut R) -> Result<String, Fault>
     ensures usage { IsErrOf result Usage ↔ are_known words.now ≡ false }
-    ensures text { IfOk result (λ _. IfSome (R.remaining reader.old) (λ xs. IsUtf8 (without_line_ending xs))) }
+    ensures reads { IfOk result (λ _. IfSome (R.remaining reader.old) (λ xs. MayRead words.now (without_line_ending xs))) }
     ensures not_text { IfErr result (λ fault. fault ≡ NotText → IfSome (R.remaining reader.old) (λ xs. IsUtf8 (without_line_ending xs) → ⊥)) }
+    ensures blank_line { IfErr result (λ fault. fault ≡ BlankLine → (reads_text words.now ≡ true) × IfSome (R.remaining reader.old) (λ xs. IsTextDocument (without_line_ending xs) → ⊥)) }
 {
     if !are_known(words) {
         return Err(Fault::Usage);
@@ -276,7 +303,8 @@ fn make_output<R: Read>(alloc: Global, words: &[String], reader: &mut R) -> Resu
     if str::from_utf8(bytes.as_slice()).is_err() {
         return Err(Fault::NotText);
     }
-    Ok(output_of(alloc, words, bytes.as_slice())?)
+    let found = found_in(alloc, words, bytes.as_slice())?;
+    Ok(print_events(alloc, found.events.as_slice())?)
 }
 
 // Writes all of a text.
@@ -301,9 +329,10 @@ fn print_output<R: Read, W: Write>(
     out: &mut W,
 ) -> Result<(), Fault>
     ensures usage { IsErrOf result Usage ↔ are_known words.now ≡ false }
-    ensures text { IfOk result (λ _. IfSome (R.remaining reader.old) (λ xs. IsUtf8 (without_line_ending xs))) }
+    ensures reads { IfOk result (λ _. IfSome (R.remaining reader.old) (λ xs. MayRead words.now (without_line_ending xs))) }
     ensures not_text { IfErr result (λ fault. fault ≡ NotText → IfSome (R.remaining reader.old) (λ xs. IsUtf8 (without_line_ending xs) → ⊥)) }
-    ensures quiet { IfErr result (λ fault. (fault ≡ Usage) ⊎ (fault ≡ NotText) → out.new ≡ out.old) }
+    ensures blank_line { IfErr result (λ fault. fault ≡ BlankLine → (reads_text words.now ≡ true) × IfSome (R.remaining reader.old) (λ xs. IsTextDocument (without_line_ending xs) → ⊥)) }
+    ensures quiet { IfErr result (λ fault. (fault ≡ Usage) ⊎ ((fault ≡ NotText) ⊎ (fault ≡ BlankLine)) → out.new ≡ out.old) }
 {
     let text = make_output(alloc, words, reader)?;
     write_text(out, text.as_str())
@@ -311,10 +340,10 @@ fn print_output<R: Read, W: Write>(
 
 /// Runs the program: reads a document, and prints the events of its inline tree, a line an event. Answers the status that it ends with.
 ///
-/// The words are a mode, `string`, and any of `gfm`, `math`, `task`, `cm-lengths`, `cm-shortcut`, `label=TEXT` and `note=TEXT`. One final
-/// line ending of the document is dropped. The status is 0, or 2 for words that are not known, 3 for a document that is not UTF-8, 5 where
-/// memory is refused, 6 where reading or writing fails or the document is longer than an eighth of `usize::MAX`; a line on `err` says which.
-/// The whole output is made before any of it is written.
+/// The words are a mode, `text` or `string`, and any of `gfm`, `math`, `task`, `cm-lengths`, `cm-shortcut`, `label=TEXT` and `note=TEXT`. One
+/// final line ending of the document is dropped. The status is 0, or 2 for words that are not known, 3 for a document that is not UTF-8, 4 for
+/// a text with a blank line, 5 where memory is refused, 6 where reading or writing fails or the document is longer than an eighth of
+/// `usize::MAX`; a line on `err` says which. The whole output is made before any of it is written.
 pub fn run<R: Read, W: Write, E: Write>(
     alloc: Global,
     words: &[String],
@@ -323,9 +352,10 @@ pub fn run<R: Read, W: Write, E: Write>(
     err: &mut E,
 ) -> u8
     ensures usage { result ≡ 2 ↔ are_known words.now ≡ false }
-    ensures text { result ≡ 0 → IfSome (R.remaining reader.old) (λ bytes. IsUtf8 (without_line_ending bytes)) }
+    ensures reads { result ≡ 0 → IfSome (R.remaining reader.old) (λ bytes. MayRead words.now (without_line_ending bytes)) }
     ensures not_text { result ≡ 3 → IfSome (R.remaining reader.old) (λ bytes. IsUtf8 (without_line_ending bytes) → ⊥) }
-    ensures quiet { (result ≡ 2) ⊎ (result ≡ 3) → out.new ≡ out.old }
+    ensures blank_line { result ≡ 4 → (reads_text words.now ≡ true) × IfSome (R.remaining reader.old) (λ bytes. IsTextDocument (without_line_ending bytes) → ⊥) }
+    ensures quiet { (result ≡ 2) ⊎ ((result ≡ 3) ⊎ (result ≡ 4)) → out.new ≡ out.old }
     ensures silent { result ≡ 0 → err.new ≡ err.old }
 {
     match print_output(alloc, words, reader, out) {

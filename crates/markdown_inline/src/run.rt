@@ -4,6 +4,7 @@ ghost use Rattle.markdown_inline.specs.Construct.{IsConstruct, construct_reading
 ghost use Rattle.markdown_engine.specs.Chain.{chained};
 ghost use Rattle.markdown_engine.specs.Content.{IsContent, IsTextContent, content_of, document_limit};
 ghost use Rattle.markdown_inline.specs.Settings.{setting_of, text_setting_of};
+ghost use Rattle.markdown_inline.specs.Words.{whole_piece};
 ghost use Rattle.markdown_model.specs.Inline.{string_events, text_events};
 
 use crate::state::Inline;
@@ -29,7 +30,8 @@ pub struct Run {
 pub(crate) fn whole_document(bytes: &[u8]) -> Piece
     requires text { IsUtf8 bytes.now }
     requires fits { length bytes.now ≤ document_limit }
-    ensures { IsContent bytes.now (result ∷ []) }
+    ensures whole { result ≡ whole_piece bytes.now }
+    ensures content { IsContent bytes.now (result ∷ []) }
 {
     Piece {
         start: (0, 0),

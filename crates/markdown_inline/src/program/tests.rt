@@ -131,7 +131,7 @@ fn knows_its_words(rt: HostRuntime) -> Result<(), Fail> {
     assert_eq!(rt; err.as_slice(), b"".as_slice());
     let refused: [&[&str]; 7] = [
         &[],
-        &["text"],
+        &["text", "string"],
         &["gfm", "string"],
         &["string", "GFM"],
         &["string", "label"],
@@ -143,6 +143,45 @@ fn knows_its_words(rt: HostRuntime) -> Result<(), Fail> {
         assert_eq!(rt; status, 2);
         assert_eq!(rt; out.as_slice(), b"".as_slice());
         assert_eq!(rt; err.as_slice(), USAGE.as_bytes());
+    }
+    Ok(())
+}
+
+#[test]
+fn prints_the_events_of_a_text(rt: HostRuntime) -> Result<(), Fail> {
+    let cases: [(&[&str], &[u8], &str); 4] = [
+        (&["text"], b"", ""),
+        (
+            &["text", "task"],
+            b" a\n",
+            "Enter SpaceOrTab 1 1 0 0\nExit SpaceOrTab 1 2 1 0\nEnter Data 1 2 1 0\nExit Data 1 3 2 0\n",
+        ),
+        (&["text"], b"$a$", "Enter Data 1 1 0 0\nExit Data 1 4 3 0\n"),
+        (
+            &["text", "math"],
+            b"$a$",
+            "Enter MathText 1 1 0 0\nEnter MathTextSequence 1 1 0 0\nExit MathTextSequence 1 2 1 0\nEnter MathTextData 1 2 1 0\nExit MathTextData 1 3 2 0\nEnter MathTextSequence 1 3 2 0\nExit MathTextSequence 1 4 3 0\nExit MathText 1 4 3 0\n",
+        ),
+    ];
+    for (words, input, want) in cases {
+        let Outcome { status, out, err } = ended(rt.alloc(), words, input)?;
+        assert_eq!(rt; status, 0);
+        assert_eq!(rt; out.as_slice(), want.as_bytes());
+        assert_eq!(rt; err.as_slice(), b"".as_slice());
+    }
+    Ok(())
+}
+
+#[test]
+fn refuses_a_blank_line_in_a_text(rt: HostRuntime) -> Result<(), Fail> {
+    for input in [b"a\n\nb".as_slice(), b"a\n \nb".as_slice(), b" ".as_slice()] {
+        let Outcome { status, out, err } = ended(rt.alloc(), &["text"], input)?;
+        assert_eq!(rt; status, 4);
+        assert_eq!(rt; out.as_slice(), b"".as_slice());
+        assert_eq!(rt;
+            err.as_slice(),
+            b"mdinline: blank line in text\n".as_slice()
+        );
     }
     Ok(())
 }
