@@ -17,16 +17,38 @@ use Rattle.markdown_model.specs.Element.{AreElements, AreElementsFrom, text_choi
 use Rattle.markdown_model.specs.Inline.{text_events}
 use Rattle.markdown_model.specs.Passes.{trimmed}
 use Rattle.markdown_model.specs.Setting.{Setting}
-use Rattle.markdown_inline.specs.Built.{IsBuilt}
+use Rattle.markdown_inline.specs.Built.{IsBuilt, as_built}
 use Rattle.markdown_inline.specs.Elements.{Finishes}
 use Rattle.markdown_inline.specs.Resolve.{may_resolve_of, resolves_of}
 use Rattle.markdown_inline.specs.Settings.{text_setting_of}
-use Rattle.markdown_inline.specs.StringSteps.{is_on}
 use Rattle.markdown_inline.specs.TextSteps.{text_markers, text_marked, text_passed, text_choice_of, start_ends}
+use Rattle.markdown_inline.specs.Laws.TextTries.{built-off}
 use Rattle.markdown_inline.proofs.PassesRun.{breaks_on, text-trims}
 use Rattle.markdown_inline.proofs.RunEnds.{Starts, start-with, finished-may, finished-events, finished-fields, finished-elements}
 use Rattle.markdown_inline.proofs.StartLemmas.{start-fits}
 use Rattle.markdown_inline.proofs.TextTree.{text-finished}
+
+-- The constructs that are not built.
+
+-- where they are off, nothing is switched off
+pub built-same : (s : Setting) → IsBuilt s.options.constructs → as_built s ≡ s
+built-same s off = λ i. record s {
+  options = record s.options {
+    constructs = record s.options.constructs {
+      attention = sym off.no_attention i;
+      gfm_autolink_literal = sym off.no_literals i;
+      gfm_label_start_footnote = sym off.no_footnotes i;
+      gfm_strikethrough = sym off.no_strikethrough i;
+      gfm_task_list_item = sym off.no_task_check i;
+      html_text = sym off.no_html i;
+      label_end = sym off.no_label_end i;
+      label_start_image = sym off.no_image i;
+      label_start_link = sym off.no_link i;
+    };
+  };
+}
+
+-- Runs.
 
 -- the scratch fields at the start of a text, which may be the first of a list item
 abbrev pub text_fields : Bool → TokenizeState
@@ -56,36 +78,31 @@ module _ (p : ParseState) (pieces : List Piece) (first : Bool) (content : IsCont
   abbrev M : Tokenizer
   M = text_marked T
 
-  ended : (ok : Bool) → start_ends T ok U → Finishes (text_choice_of M) (IsBuilt (is_on M)) text_passed M U
+  ended : (ok : Bool) → start_ends T ok U → Finishes (text_choice_of M) (Unit {0}) text_passed M U
   ended true k = k
   ended false k = absurd k
 
   pub text-may : (ok : Bool) → start_ends T ok U → MayResolve may_resolve_of resolves_of U.resolvers (unregistered U)
   text-may ok k =
-      finished-may R.Text breaks_on true text-trims (text_choice_of M) (IsBuilt (is_on M)) p pieces content _ M U (marked-start p pieces first T start) (ended ok k)
+      finished-may R.Text breaks_on true text-trims (text_choice_of M) (Unit {0}) p pieces content _ M U (marked-start p pieces first T start) (ended ok k)
 
   pub text-probes : (ok : Bool) (V : Tokenizer) → start_ends T ok U → Resolves resolves_of U.resolvers (unregistered U) V → V.tokenize_state.probes ≡ 0
   text-probes ok V k r =
-      ap (λ (s : TokenizeState). s.probes) (finished-fields R.Text breaks_on true text-trims (text_choice_of M) (IsBuilt (is_on M)) p pieces content _ M U (marked-start p pieces first T start) (ended ok k) V r)
+      ap (λ (s : TokenizeState). s.probes) (finished-fields R.Text breaks_on true text-trims (text_choice_of M) (Unit {0}) p pieces content _ M U (marked-start p pieces first T start) (ended ok k) V r)
 
-  -- which constructs are on, and what is read
-
-  on-is : is_on M ≡ p.options.now.constructs
-  unfolding scratched
-  on-is = ap (λ (x : ParseState). x.options.now.constructs) start.input
-
-  choice-is : text_choice_of M ≡ text_choice (text_setting_of p first) (content_of p.bytes.now pieces)
+  -- what is read
+  choice-is : text_choice_of M ≡ text_choice (as_built (text_setting_of p first)) (content_of p.bytes.now pieces)
   unfolding scratched start_of_content
   choice-is =
-      ap (λ (s : Setting). text_choice s T.cursor.codes) (ap (λ (x : ParseState). text_setting_of x T.tokenize_state.document_at_first_paragraph_of_list_item) start.input ∙ ap (λ (s : TokenizeState). text_setting_of p s.document_at_first_paragraph_of_list_item) start.fields)
-      ∙ ap (λ (x : Place). text_choice (text_setting_of p first) x.codes) start.place
+      ap (λ (s : Setting). text_choice s T.cursor.codes) (ap (λ (x : ParseState). as_built (text_setting_of x T.tokenize_state.document_at_first_paragraph_of_list_item)) start.input ∙ ap (λ (s : TokenizeState). as_built (text_setting_of p s.document_at_first_paragraph_of_list_item)) start.fields)
+      ∙ ap (λ (x : Place). text_choice (as_built (text_setting_of p first)) x.codes) start.place
 
-  pub text-run : (ok : Bool) (V : Tokenizer) → start_ends T ok U → Resolves resolves_of U.resolvers (unregistered U) V → IsBuilt p.options.now.constructs → chained V.events ≡ text_events (text_setting_of p first) pieces
-  text-run ok V k r built =
-      let e : Finishes (text_choice_of M) (IsBuilt (is_on M)) text_passed M U = ended ok k in
+  pub text-run : (ok : Bool) (V : Tokenizer) → start_ends T ok U → Resolves resolves_of U.resolvers (unregistered U) V → chained V.events ≡ text_events (as_built (text_setting_of p first)) pieces
+  text-run ok V k r =
+      let e : Finishes (text_choice_of M) (Unit {0}) text_passed M U = ended ok k in
       let m : Starts p pieces (record (text_fields first) { markers = text_markers }) M = marked-start p pieces first T start in
-      let found = finished-elements R.Text breaks_on true text-trims (text_choice_of M) (IsBuilt (is_on M)) p pieces content _ M U m e (subst IsBuilt (sym on-is) built) in
-      let are : AreElements (text_setting_of p first) (content_of p.bytes.now pieces) found.0 = subst (λ c. AreElementsFrom c [] None (content_of p.bytes.now pieces) found.0) choice-is found.1.0 in
-      finished-events R.Text breaks_on true text-trims (text_choice_of M) (IsBuilt (is_on M)) p pieces content _ M U m e V r
+      let found = finished-elements R.Text breaks_on true text-trims (text_choice_of M) (Unit {0}) p pieces content _ M U m e tt in
+      let are : AreElements (as_built (text_setting_of p first)) (content_of p.bytes.now pieces) found.0 = subst (λ c. AreElementsFrom c [] None (content_of p.bytes.now pieces) found.0) choice-is found.1.0 in
+      finished-events R.Text breaks_on true text-trims (text_choice_of M) (Unit {0}) p pieces content _ M U m e V r
       ∙ ap (λ t. events_of (trimmed (breaks_on p) true true t)) found.1.1
-      ∙ ap events_of (sym (text-finished (text_setting_of p first) (content_of p.bytes.now pieces) found.0 built are))
+      ∙ ap events_of (sym (text-finished (as_built (text_setting_of p first)) (content_of p.bytes.now pieces) found.0 (built-off (text_setting_of p first)) are))

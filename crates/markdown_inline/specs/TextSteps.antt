@@ -14,10 +14,9 @@ use Rattle.markdown_model.proofs.DataLaws.{code_leaf}
 use Rattle.markdown_model.specs.Element.{Choice, text_choice}
 use Rattle.markdown_model.specs.LabelEnd.{Element, plain}
 use Rattle.markdown_model.specs.Setting.{Setting}
-use Rattle.markdown_inline.specs.Built.{IsBuilt}
+use Rattle.markdown_inline.specs.Built.{as_built}
 use Rattle.markdown_inline.specs.Elements.{Finishes, StandsAfter}
 use Rattle.markdown_inline.specs.Settings.{text_setting_of}
-use Rattle.markdown_inline.specs.StringSteps.{is_on}
 
 -- the codes at which data stops: those at which a construct may begin
 abbrev pub text_markers : List ℕ
@@ -75,10 +74,10 @@ before_label_start_link_step T = trying LabelStartLinkStart TextBeforeData T
 abbrev pub before_data_step : Tokenizer → Stepped
 before_data_step T = stepped (Retry DataStart) (attempted false (Next TextBefore) Nok T)
 
--- What is read.
+-- What is read: the constructs that are not built are as if switched off.
 
 abbrev pub text_setting : Tokenizer → Setting
-text_setting T = text_setting_of T.parse_state.now T.tokenize_state.document_at_first_paragraph_of_list_item
+text_setting T = as_built (text_setting_of T.parse_state.now T.tokenize_state.document_at_first_paragraph_of_list_item)
 
 abbrev pub text_choice_of : Tokenizer → Choice
 text_choice_of T = text_choice (text_setting T) T.cursor.codes
@@ -93,7 +92,7 @@ pub record BeforeReady (T : Tokenizer) : Type 0 where
 -- the code at hand is an element by itself
 abbrev pub StandsAlone : Tokenizer → Type 0
 StandsAlone T =
-    IsBuilt (is_on T) → (earlier : List Element) (previous : Option Code) (c : Code) (cs : List Code) → StandsAfter earlier previous T → ahead T ≡ c ∷ cs
+    (earlier : List Element) (previous : Option Code) (c : Code) (cs : List Code) → StandsAfter earlier previous T → ahead T ≡ c ∷ cs
     → text_choice_of T earlier previous (c ∷ cs) ≡ Some (plain (code_leaf c), cs)
 
 -- there is a code at hand, and it is an element by itself
@@ -111,7 +110,7 @@ pub record BeforeBreakReady (T : Tokenizer) : Type 0 where
 -- How runs end.
 
 abbrev pub before_ends : Tokenizer → Bool → Tokenizer → Type 0
-before_ends T true U = Finishes (text_choice_of T) (IsBuilt (is_on T)) text_passed T U
+before_ends T true U = Finishes (text_choice_of T) (Unit {0}) text_passed T U
 before_ends T false U = ⊥
 
 abbrev pub start_ends : Tokenizer → Bool → Tokenizer → Type 0

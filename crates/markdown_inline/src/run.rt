@@ -3,6 +3,7 @@ ghost use Rattle.std.specs.Prelude.{◌≡◌, ◌-◌, ◌≤◌, IsUtf8, true,
 ghost use Rattle.markdown_inline.specs.Construct.{IsConstruct, construct_reading, chain_before, fields_after, ReadsOrStays};
 ghost use Rattle.markdown_engine.specs.Chain.{chained};
 ghost use Rattle.markdown_engine.specs.Content.{IsContent, IsTextContent, content_of, document_limit};
+ghost use Rattle.markdown_inline.specs.Built.{as_built};
 ghost use Rattle.markdown_inline.specs.Settings.{setting_of, text_setting_of};
 ghost use Rattle.markdown_inline.specs.Words.{whole_piece};
 ghost use Rattle.markdown_model.specs.Inline.{string_events, text_events};
@@ -68,8 +69,8 @@ pub fn string(alloc: Global, parse_state: &ParseState, pieces: &[Piece]) -> Resu
 /// The events of the inline tree of a content that is read as text: of the inside of a paragraph, a heading or a table's cell. `first_of_item`
 /// says that it is the first paragraph of a list item, where the check of a task may stand.
 ///
-/// The constructs whose switches the clause names are not built yet: where one of them is on, the run goes on as if it were off, and nothing
-/// is said of its events. The error comes only where memory is refused.
+/// The constructs whose switches the clause `events` names are not built yet: where one of them is on, the run goes on as if it were off. The
+/// error comes only where memory is refused.
 pub fn text(
     alloc: Global,
     parse_state: &ParseState,
@@ -81,6 +82,7 @@ pub fn text(
         on.attention ≡ false → on.gfm_autolink_literal ≡ false → on.gfm_label_start_footnote ≡ false → on.gfm_strikethrough ≡ false → on.gfm_task_list_item ≡ false
         → on.html_text ≡ false → on.label_end ≡ false → on.label_start_image ≡ false → on.label_start_link ≡ false
         → IfOk result (λ run. run.events.items ≡ text_events (text_setting_of parse_state.now first_of_item) pieces.now) }
+    ensures as_built { IfOk result (λ run. run.events.items ≡ text_events (as_built (text_setting_of parse_state.now first_of_item)) pieces.now) }
     ensures probes { let on = parse_state.now.options.now.constructs in on.attention ≡ false → on.gfm_strikethrough ≡ false → IfOk result (λ run. run.probes ≡ 0) }
 {
     let mut tokenizer = Tokenizer::new(alloc, parse_state, pieces);

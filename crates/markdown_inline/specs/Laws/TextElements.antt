@@ -172,13 +172,13 @@ module _ (s : Setting) (built : IsBuilt s.options.constructs) (end : ℕ) (earli
   math-element c cs o e h =
       one-row 36 s.options.constructs.math_text (span_here 36 math_names (λ n. s.options.math_text_single_dollar || nat_lt 1 n) (ends_escaped earlier) previous) c cs o e refl refl h
 
-  -- what `span_at` reads, of a tokenizer with these options and this before it
-  pub span-element : (T : Tokenizer) (c : Code) (cs : List Code) (o : Option (Forest × List Code)) → s.options ≡ T.parse_state.now.options.now → StandsAfter earlier previous T
+  -- what `span_at` reads, of a tokenizer with these switches of spans and this before it
+  pub span-element : (T : Tokenizer) (c : Code) (cs : List Code) (o : Option (Forest × List Code)) → spans_by s.options ≡ spans_by T.parse_state.now.options.now → StandsAfter earlier previous T
       → (c.value == 36 || c.value == 96) ≡ true → span_at T (c ∷ cs) ≡ o → text_element s end earlier previous (c ∷ cs) ≡ element_here c cs o
   span-element T c cs o same stands e h = by_test (c.value == 36) refl e
     where
       given : spans_by s.options (ends_escaped earlier) previous (c ∷ cs) ≡ o
-      given = (λ i. spans_by (same i) (sym stands.escaped i) (sym stands.before i) (c ∷ cs)) ∙ h
+      given = (λ i. same i (sym stands.escaped i) (sym stands.before i) (c ∷ cs)) ∙ h
 
       by_test : (b : Bool) → (c.value == 36) ≡ b → (b || c.value == 96) ≡ true → text_element s end earlier previous (c ∷ cs) ≡ element_here c cs o
       by_test true k f = let v = eqb-true c.value 36 k in math-element c cs o v (sym (only-math s.options (ends_escaped earlier) previous c cs v) ∙ given)

@@ -27,7 +27,6 @@ use Rattle.markdown_leaf.specs.RawText as X
 use Rattle.markdown_model.specs.Element.{text_choice}
 use Rattle.markdown_model.specs.Lines.{data_up_to}
 use Rattle.markdown_util.specs.Reference.{html_5_rows}
-use Rattle.markdown_inline.specs.Built.{IsBuilt}
 use Rattle.markdown_inline.specs.Elements.{Advances, Finishes}
 use Rattle.markdown_inline.specs.Layer.{ready_of, ends_of, weight_of}
 use Rattle.markdown_inline.specs.StringSteps.{is_on}
@@ -49,10 +48,6 @@ choice-past : (t : Forest) (T U : Tokenizer) → U ≡ past None t T → text_ch
 unfolding past
 choice-past t T U e = ap text_choice_of e ∙ ap (λ cs. text_choice (text_setting T) cs) (same-codes (leaf_codes t) T.cursor)
 
-on-past : (t : Forest) (T U : Tokenizer) → U ≡ past None t T → is_on U ≡ is_on T
-unfolding past
-on-past t T U e = ap is_on e
-
 fields-past : (t : Forest) (T U : Tokenizer) → U ≡ past None t T → U.tokenize_state ≡ T.tokenize_state
 unfolding past
 fields-past t T U e = ap (λ (x : Tokenizer). x.tokenize_state) e
@@ -65,16 +60,15 @@ ready-past T U e l r =
     }
 
 -- what follows an element, follows from before it
-advances-ends : (T U : Tokenizer) → Advances (text_choice_of T) (IsBuilt (is_on T)) T U → (ok : Bool) (V : Tokenizer) → before_ends U ok V → before_ends T ok V
+advances-ends : (T U : Tokenizer) → Advances (text_choice_of T) (Unit {0}) T U → (ok : Bool) (V : Tokenizer) → before_ends U ok V → before_ends T ok V
 advances-ends T U a true V k =
     let same : text_choice_of U ≡ text_choice_of T = choice-past a.tree T U a.left in
-    let on : is_on U ≡ is_on T = on-past a.tree T U a.left in
-    advances-finishes (text_choice_of T) (IsBuilt (is_on T)) text_passed T U V a
-    (subst (λ c. Finishes c (IsBuilt (is_on T)) text_passed U V) same (subst (λ b. Finishes (text_choice_of U) (IsBuilt b) text_passed U V) on k))
+    advances-finishes (text_choice_of T) (Unit {0}) text_passed T U V a
+    (subst (λ c. Finishes c (Unit {0}) text_passed U V) same k)
 advances-ends T U a false V k = k
 
 -- past an element the run goes on before the next
-on-before : (n : ℕ) (T U : Tokenizer) → codes_left T * 256 < n → BeforeReady T → Advances (text_choice_of T) (IsBuilt (is_on T)) T U → Follows ready_of ends_of weight_of n (before_ends T) (Next TextBefore) U
+on-before : (n : ℕ) (T U : Tokenizer) → codes_left T * 256 < n → BeforeReady T → Advances (text_choice_of T) (Unit {0}) T U → Follows ready_of ends_of weight_of n (before_ends T) (Next TextBefore) U
 on-before n T U room r a =
     record {
       goes_on = ready-past T U (fields-past a.tree T U a.left) (omega (arith, a.less)) r;
@@ -94,7 +88,7 @@ try-law rank T construct otherwise reading alone on falls ready ends nodes eleme
     (λ U now h.
     let k : Reads reading None T.tokenize_state T U = ends true U h in
     let node = nodes k.tree k.rest k.holds in
-    on-before (weight_at rank T) T U (omega arith) ready (node-advances (text_choice_of T) (IsBuilt (is_on T)) reading T U k node.0 node.1 (elements k.tree k.rest k.holds)))
+    on-before (weight_at rank T) T U (omega arith) ready (node-advances (text_choice_of T) (Unit {0}) reading T U k node.0 node.1 (λ g. elements k.tree k.rest k.holds)))
     (λ U now h.
     let k : Refuses reading T.tokenize_state T U = ends false U h in
     rw (restored-fails false (Next TextBefore) (Next otherwise) T.tokenize_state T U k.fails, scratched-same T) (fails k.refused))
@@ -166,7 +160,7 @@ passed-attempts : (T : Tokenizer) → T.attempts ≡ [] → (text_passed T).atte
 passed-attempts T alone = attempts-registered P.Text (registered P.Data T) ∙ attempts-registered P.Data T ∙ alone
 
 at-end : (T : Tokenizer) → current_of T ≡ None → (ok : Bool) (U : Tokenizer) → (ok ≡ true) × (U ≡ text_passed T) → before_ends T ok U
-at-end T e true U k = finishes-end (text_choice_of T) (IsBuilt (is_on T)) text_passed T U e k.1
+at-end T e true U k = finishes-end (text_choice_of T) (Unit {0}) text_passed T U e k.1
 at-end T e false U k = cc
 
 -- by a test
@@ -256,9 +250,9 @@ data-holds markers (c ∷ cs) e = cc
 pub before_data-law : (T : Tokenizer) → T.attempts ≡ [] → BeforeDataReady T → GoesOn ready_of ends_of weight_of (weight_at 5 T) (before_ends T) (before_data_step T)
 before_data-law T alone r =
     Goes-attempt ready_of ends_of weight_of (weight_at 5 T) (before_ends T) (Retry DataStart) (Next TextBefore) Nok T alone tt (omega arith)
-    (λ U a k. on-before (weight_at 5 T) T U (omega arith) r.before (data-advances (text_choice_of T) (IsBuilt (is_on T)) text_markers T U r.before.marked r.some_code k
-    (λ built earlier previous c cs stands w. r.alone built earlier previous c cs stands w)
-    (λ built earlier previous c cs h. other-data T built earlier previous c cs h)))
+    (λ U a k. on-before (weight_at 5 T) T U (omega arith) r.before (data-advances (text_choice_of T) (Unit {0}) text_markers T U r.before.marked r.some_code k
+    (λ g earlier previous c cs stands w. r.alone earlier previous c cs stands w)
+    (λ g earlier previous c cs h. other-data T earlier previous c cs h)))
     (λ U a k. absurd (data-holds T.tokenize_state.markers (ahead T) k.refused))
 
 marked-ready : (T : Tokenizer) → X.StartReady T → BeforeReady (text_marked T)

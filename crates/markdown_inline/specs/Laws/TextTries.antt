@@ -17,9 +17,10 @@ use Rattle.markdown_leaf.specs.RawText.{span_at}
 use Rattle.markdown_model.proofs.DataLaws.{code_leaf}
 use Rattle.markdown_model.specs.CodeTests.{is_among}
 use Rattle.markdown_model.specs.LabelEnd.{Element, plain}
-use Rattle.markdown_inline.specs.Built.{IsBuilt}
+use Rattle.markdown_model.specs.Setting.{Setting}
+use Rattle.markdown_inline.specs.Built.{IsBuilt, as_built}
 use Rattle.markdown_inline.specs.Elements.{IsNode, StandsAfter}
-use Rattle.markdown_inline.specs.StringSteps.{is_on}
+use Rattle.markdown_inline.specs.Settings.{text_setting_of}
 use Rattle.markdown_inline.specs.TextSteps.{text_markers, text_setting, text_choice_of, StandsAlone}
 use Rattle.markdown_inline.specs.Laws.TextElements.{off_markers, span-element, reference-element, autolink-element, escape-element, break-element, off-element, other-element}
 
@@ -30,11 +31,28 @@ ReadsNodes reading T = (t : Forest) (rest : List Code) → reading (ahead T) ≡
 -- and it is the element at hand
 abbrev pub ReadsElements : TreeReading → Tokenizer → Type 0
 ReadsElements reading T =
-    (t : Forest) (rest : List Code) → reading (ahead T) ≡ Some (t, rest) → IsBuilt (is_on T) → (earlier : List Element) (previous : Option Code) → StandsAfter earlier previous T → text_choice_of T earlier previous (ahead T) ≡ Some (plain t, rest)
+    (t : Forest) (rest : List Code) → reading (ahead T) ≡ Some (t, rest) → (earlier : List Element) (previous : Option Code) → StandsAfter earlier previous T → text_choice_of T earlier previous (ahead T) ≡ Some (plain t, rest)
 
 -- where it does not hold, the code is an element by itself
 abbrev pub OrStandsAlone : TreeReading → Tokenizer → Type 0
 OrStandsAlone reading T = reading (ahead T) ≡ None → StandsAlone T
+
+-- the constructs that are not built are off
+pub built-off : (s : Setting) → IsBuilt (as_built s).options.constructs
+built-off s = record {
+  no_attention = refl;
+  no_literals = refl;
+  no_footnotes = refl;
+  no_strikethrough = refl;
+  no_task_check = refl;
+  no_html = refl;
+  no_label_end = refl;
+  no_image = refl;
+  no_link = refl;
+}
+
+now-built : (T : Tokenizer) → IsBuilt (text_setting T).options.constructs
+now-built T = built-off (text_setting_of T.parse_state.now T.tokenize_state.document_at_first_paragraph_of_list_item)
 
 -- where the content of a tokenizer ends
 abbrev end_in : Tokenizer → ℕ
@@ -48,53 +66,53 @@ value-here T v c cs e w = same-value c.value v (sym (current-ahead T ∙ ap (λ 
 
 -- from the codes ahead as they begin, to those codes
 at-hand : (reading : TreeReading) (T : Tokenizer) (v : ℕ) → current_of T ≡ Some v
-    → ((c : Code) (cs : List Code) (t : Forest) (rest : List Code) → c.value ≡ v → reading (c ∷ cs) ≡ Some (t, rest) → IsBuilt (is_on T) → (earlier : List Element) (previous : Option Code) → StandsAfter earlier previous T → text_choice_of T earlier previous (c ∷ cs) ≡ Some (plain t, rest))
+    → ((c : Code) (cs : List Code) (t : Forest) (rest : List Code) → c.value ≡ v → reading (c ∷ cs) ≡ Some (t, rest) → (earlier : List Element) (previous : Option Code) → StandsAfter earlier previous T → text_choice_of T earlier previous (c ∷ cs) ≡ Some (plain t, rest))
     → ReadsElements reading T
-at-hand reading T v e h t rest holds built earlier previous stands =
+at-hand reading T v e h t rest holds earlier previous stands =
     let b : Begins v (ahead T) = ahead-some T v e in
-    ap (text_choice_of T earlier previous) b.whole ∙ h b.code (rest_of (ahead T)) t rest b.value (ap reading (sym b.whole) ∙ holds) built earlier previous stands
+    ap (text_choice_of T earlier previous) b.whole ∙ h b.code (rest_of (ahead T)) t rest b.value (ap reading (sym b.whole) ∙ holds) earlier previous stands
 
 alone-at : (reading : TreeReading) (T : Tokenizer) (v : ℕ) → current_of T ≡ Some v
-    → ((c : Code) (cs : List Code) → c.value ≡ v → reading (c ∷ cs) ≡ None → IsBuilt (is_on T) → (earlier : List Element) (previous : Option Code) → StandsAfter earlier previous T → text_choice_of T earlier previous (c ∷ cs) ≡ Some (plain (code_leaf c), cs))
+    → ((c : Code) (cs : List Code) → c.value ≡ v → reading (c ∷ cs) ≡ None → (earlier : List Element) (previous : Option Code) → StandsAfter earlier previous T → text_choice_of T earlier previous (c ∷ cs) ≡ Some (plain (code_leaf c), cs))
     → OrStandsAlone reading T
-alone-at reading T v e h none built earlier previous c cs stands w =
-    h c cs (value-here T v c cs e w) (ap reading (sym w) ∙ none) built earlier previous stands
+alone-at reading T v e h none earlier previous c cs stands w =
+    h c cs (value-here T v c cs e w) (ap reading (sym w) ∙ none) earlier previous stands
 
 -- References, autolinks, escapes and hard breaks.
 
 pub reference-reads : (T : Tokenizer) → current_of T ≡ Some 38 → ReadsElements (reference_here T) T
 reference-reads T e =
-    at-hand (reference_here T) T 38 e (λ c cs t rest v holds built earlier previous stands. reference-element (text_setting T) built (end_in T) earlier previous c cs (Some (t, rest)) v holds)
+    at-hand (reference_here T) T 38 e (λ c cs t rest v holds earlier previous stands. reference-element (text_setting T) (now-built T) (end_in T) earlier previous c cs (Some (t, rest)) v holds)
 
 pub reference-alone : (T : Tokenizer) → current_of T ≡ Some 38 → OrStandsAlone (reference_here T) T
 reference-alone T e =
-    alone-at (reference_here T) T 38 e (λ c cs v none built earlier previous stands. reference-element (text_setting T) built (end_in T) earlier previous c cs None v none)
+    alone-at (reference_here T) T 38 e (λ c cs v none earlier previous stands. reference-element (text_setting T) (now-built T) (end_in T) earlier previous c cs None v none)
 
 pub autolink-reads : (T : Tokenizer) → current_of T ≡ Some 60 → ReadsElements (link_here T) T
 autolink-reads T e =
-    at-hand (link_here T) T 60 e (λ c cs t rest v holds built earlier previous stands. autolink-element (text_setting T) built (end_in T) earlier previous c cs (Some (t, rest)) v holds)
+    at-hand (link_here T) T 60 e (λ c cs t rest v holds earlier previous stands. autolink-element (text_setting T) (now-built T) (end_in T) earlier previous c cs (Some (t, rest)) v holds)
 
 pub autolink-alone : (T : Tokenizer) → current_of T ≡ Some 60 → OrStandsAlone (link_here T) T
 autolink-alone T e =
-    alone-at (link_here T) T 60 e (λ c cs v none built earlier previous stands. autolink-element (text_setting T) built (end_in T) earlier previous c cs None v none)
+    alone-at (link_here T) T 60 e (λ c cs v none earlier previous stands. autolink-element (text_setting T) (now-built T) (end_in T) earlier previous c cs None v none)
 
 pub escape-reads : (T : Tokenizer) → current_of T ≡ Some 92 → ReadsElements (escape_here T) T
 escape-reads T e =
-    at-hand (escape_here T) T 92 e (λ c cs t rest v holds built earlier previous stands. escape-element (text_setting T) built (end_in T) earlier previous c cs t rest v holds)
+    at-hand (escape_here T) T 92 e (λ c cs t rest v holds earlier previous stands. escape-element (text_setting T) (now-built T) (end_in T) earlier previous c cs t rest v holds)
 
 -- a hard break where no escape is
 no-escape-at : (T : Tokenizer) (c : Code) (cs : List Code) → escape_here T (ahead T) ≡ None → ahead T ≡ c ∷ cs → escape_here T (c ∷ cs) ≡ None
 no-escape-at T c cs none w = ap (escape_here T) (sym w) ∙ none
 
 pub break-reads : (T : Tokenizer) → current_of T ≡ Some 92 → escape_here T (ahead T) ≡ None → ReadsElements (break_here T) T
-break-reads T e none t rest holds built earlier previous stands =
+break-reads T e none t rest holds earlier previous stands =
     let b : Begins 92 (ahead T) = ahead-some T 92 e in
     ap (text_choice_of T earlier previous) b.whole
-    ∙ break-element (text_setting T) built (end_in T) earlier previous b.code (rest_of (ahead T)) (Some (t, rest)) b.value (no-escape-at T b.code (rest_of (ahead T)) none b.whole) (ap (break_here T) (sym b.whole) ∙ holds)
+    ∙ break-element (text_setting T) (now-built T) (end_in T) earlier previous b.code (rest_of (ahead T)) (Some (t, rest)) b.value (no-escape-at T b.code (rest_of (ahead T)) none b.whole) (ap (break_here T) (sym b.whole) ∙ holds)
 
 pub break-alone : (T : Tokenizer) → current_of T ≡ Some 92 → escape_here T (ahead T) ≡ None → OrStandsAlone (break_here T) T
-break-alone T e none refused built earlier previous c cs stands w =
-    break-element (text_setting T) built (end_in T) earlier previous c cs None (value-here T 92 c cs e w) (no-escape-at T c cs none w) (ap (break_here T) (sym w) ∙ refused)
+break-alone T e none refused earlier previous c cs stands w =
+    break-element (text_setting T) (now-built T) (end_in T) earlier previous c cs None (value-here T 92 c cs e w) (no-escape-at T c cs none w) (ap (break_here T) (sym w) ∙ refused)
 
 -- Spans.
 
@@ -103,23 +121,23 @@ is-span v n e h = ap (λ x. x == 36 || x == 96) e ∙ h
 
 pub span-reads : (T : Tokenizer) (v : ℕ) → current_of T ≡ Some v → (v == 36 || v == 96) ≡ true → ReadsElements (span_at T) T
 span-reads T v e h =
-    at-hand (span_at T) T v e (λ c cs t rest k holds built earlier previous stands.
-    span-element (text_setting T) built (end_in T) earlier previous T c cs (Some (t, rest)) refl stands (is-span c.value v k h) holds)
+    at-hand (span_at T) T v e (λ c cs t rest k holds earlier previous stands.
+    span-element (text_setting T) (now-built T) (end_in T) earlier previous T c cs (Some (t, rest)) refl stands (is-span c.value v k h) holds)
 
 pub span-alone : (T : Tokenizer) (v : ℕ) → current_of T ≡ Some v → (v == 36 || v == 96) ≡ true → OrStandsAlone (span_at T) T
 span-alone T v e h =
-    alone-at (span_at T) T v e (λ c cs k none built earlier previous stands.
-    span-element (text_setting T) built (end_in T) earlier previous T c cs None refl stands (is-span c.value v k h) none)
+    alone-at (span_at T) T v e (λ c cs k none earlier previous stands.
+    span-element (text_setting T) (now-built T) (end_in T) earlier previous T c cs None refl stands (is-span c.value v k h) none)
 
 -- Constructs that are not built, and codes at which nothing is tried.
 
 pub off-alone : (T : Tokenizer) (v : ℕ) → current_of T ≡ Some v → list_any (λ n. v == n) off_markers ≡ true → StandsAlone T
-off-alone T v e h built earlier previous c cs stands w = off-element (text_setting T) built (end_in T) earlier previous v c cs h (value-here T v c cs e w)
+off-alone T v e h earlier previous c cs stands w = off-element (text_setting T) (now-built T) (end_in T) earlier previous v c cs h (value-here T v c cs e w)
 
 pub other-alone : (T : Tokenizer) (v : ℕ) → current_of T ≡ Some v → list_any (λ n. v == n) text_markers ≡ false → StandsAlone T
-other-alone T v e h built earlier previous c cs stands w =
-    other-element (text_setting T) built (end_in T) earlier previous c cs (ap (λ x. list_any (λ n. x == n) text_markers) (value-here T v c cs e w) ∙ h)
+other-alone T v e h earlier previous c cs stands w =
+    other-element (text_setting T) (now-built T) (end_in T) earlier previous c cs (ap (λ x. list_any (λ n. x == n) text_markers) (value-here T v c cs e w) ∙ h)
 
 -- each other code of data
-pub other-data : (T : Tokenizer) → IsBuilt (is_on T) → (earlier : List Element) (previous : Option Code) (c : Code) (cs : List Code) → is_among text_markers c ≡ false → text_choice_of T earlier previous (c ∷ cs) ≡ Some (plain (code_leaf c), cs)
-other-data T built earlier previous c cs h = other-element (text_setting T) built (end_in T) earlier previous c cs h
+pub other-data : (T : Tokenizer) → (earlier : List Element) (previous : Option Code) (c : Code) (cs : List Code) → is_among text_markers c ≡ false → text_choice_of T earlier previous (c ∷ cs) ≡ Some (plain (code_leaf c), cs)
+other-data T earlier previous c cs h = other-element (text_setting T) (now-built T) (end_in T) earlier previous c cs h
