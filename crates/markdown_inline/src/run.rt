@@ -144,4 +144,10 @@ pub fn construct(name: StateName, tokenizer: &mut Tokenizer) -> Result<bool, All
 }
 
 #[cfg(test)]
+mod fixtures;
+#[cfg(test)]
+mod string_tests;
+#[cfg(test)]
 mod tests;
+#[cfg(test)]
+mod text_tests;

@@ -1,4 +1,4 @@
-// Runs over small documents, and single constructs.
+// Single constructs over small documents.
 ghost use Rattle.std.specs.Prelude.{◌≡◌, ◌≤◌, []};
 ghost use Rattle.markdown_engine.specs.Content.{IsContent};
 ghost use Rattle.markdown_engine.specs.Rest.{at_rest};
@@ -7,27 +7,16 @@ ghost use Rattle.markdown_engine.specs.declared.state.StateName.TheVariants.{Aut
 ghost use Rattle.markdown_inline.specs.Construct.{IsConstruct};
 ghost use Rattle.markdown_partial.specs.SpaceSteps.{most};
 
-use super::{Piece, construct, is_content, string, whole_document};
+use super::fixtures::state_of;
+use super::{Piece, construct, whole_document};
 use crate::{partial_space_or_tab, partial_space_or_tab_eol};
 use markdown_engine::configuration::{Constructs, ParseOptions};
-use markdown_engine::event::{Event, Kind, Name};
+use markdown_engine::event::{Content, Link, Name};
 use markdown_engine::parser::ParseState;
 use markdown_engine::state::StateName;
 use markdown_engine::tokenizer::{Markers, Tokenizer};
-use std::alloc::{AllocError, Global};
+use std::alloc::Global;
 use std::test::Fail;
-
-// What a document is read with: no definitions.
-fn state_of<'a>(alloc: Global, bytes: &'a [u8], options: &'a ParseOptions) -> ParseState<'a>
-    ensures { result.bytes.now ≡ bytes.entry.now }
-{
-    ParseState {
-        bytes,
-        options,
-        definitions: Vec::new(alloc),
-        gfm_footnote_definitions: Vec::new(alloc),
-    }
-}
 
 // A tokenizer at the start of a content, where constructs may be read.
 fn at_start<'a>(
@@ -79,89 +68,39 @@ fn ask_for_spacing(tokenizer: &mut Tokenizer) -> StateName
     partial_space_or_tab_eol::space_or_tab_eol(tokenizer)
 }
 
+// Asks for blank codes with a line ending, linked where they begin with the line ending.
+#[tactic(auto, unfolding(markdown_engine::specs::Ops::scratched))]
+fn ask_for_linked_spacing(tokenizer: &mut Tokenizer) -> StateName
+    requires rest { tokenizer.old.tokenize_state ≡ at_rest }
+    requires fits { codes_left tokenizer.old ≤ most }
+    ensures name { result ≡ SpaceOrTabEolStart }
+    ensures alone { tokenizer.new.attempts ≡ tokenizer.old.attempts }
+    ensures construct { IsConstruct SpaceOrTabEolStart tokenizer.new }
+{
+    let content = match tokenizer.current() {
+        Some(b'\n') => Some(Content::String),
+        _ => None,
+    };
+    let options = partial_space_or_tab_eol::Options {
+        connect: false,
+        content,
+    };
+    partial_space_or_tab_eol::space_or_tab_eol_with_options(tokenizer, options)
+}
+
+// Whether the fields of whitespace with a line ending are at rest.
+fn is_spacing_at_rest(tokenizer: &Tokenizer) -> bool {
+    let state = &tokenizer.tokenize_state;
+    state.space_or_tab_eol_content.is_none()
+        && !state.space_or_tab_eol_connect
+        && !state.space_or_tab_eol_ok
+}
+
 // Sets the bytes at which data stops.
 fn mark(tokenizer: &mut Tokenizer, markers: &'static [u8])
     ensures { tokenizer.new.attempts ≡ tokenizer.old.attempts }
 {
     tokenizer.tokenize_state.markers = Markers::new(markers);
-}
-
-// The leaves and groups that the events enter, with the indexes where they begin.
-fn entered(alloc: Global, events: &[Event]) -> Result<Vec<(Name, usize)>, AllocError> {
-    let mut all = Vec::new(alloc);
-    for event in events {
-        if event.kind == Kind::Enter {
-            all.push((event.name, event.point.index))?;
-        }
-    }
-    Ok(all)
-}
-
-#[test]
-fn reads_a_string(rt: HostRuntime) -> Result<(), Fail> {
-    let alloc = rt.alloc();
-    let options = ParseOptions::default();
-    let text = "a\\*b\\\nc";
-    assert!(rt; text.len() < 100);
-    let parse_state = state_of(alloc, text.as_bytes(), &options);
-    let pieces = [whole_document(text.as_bytes())];
-    let run = string(alloc, &parse_state, &pieces)?;
-    assert_eq!(rt; run.probes, 0);
-    let names = entered(alloc, run.events.as_slice())?;
-    let want = [
-        (Name::Data, 0),
-        (Name::CharacterEscape, 1),
-        (Name::CharacterEscapeMarker, 1),
-        (Name::CharacterEscapeValue, 2),
-        (Name::Data, 3),
-        (Name::LineEnding, 5),
-        (Name::Data, 6),
-    ];
-    assert_eq!(rt; names.as_slice(), want.as_slice());
-    Ok(())
-}
-
-#[test]
-fn reads_a_reference_in_a_string(rt: HostRuntime) -> Result<(), Fail> {
-    let alloc = rt.alloc();
-    let options = ParseOptions::default();
-    let text = "&#x41;";
-    assert!(rt; text.len() < 100);
-    let parse_state = state_of(alloc, text.as_bytes(), &options);
-    let pieces = [whole_document(text.as_bytes())];
-    let run = string(alloc, &parse_state, &pieces)?;
-    let names = entered(alloc, run.events.as_slice())?;
-    let want = [
-        (Name::CharacterReference, 0),
-        (Name::CharacterReferenceMarker, 0),
-        (Name::CharacterReferenceMarkerNumeric, 1),
-        (Name::CharacterReferenceMarkerHexadecimal, 2),
-        (Name::CharacterReferenceValue, 3),
-        (Name::CharacterReferenceMarkerSemi, 5),
-    ];
-    assert_eq!(rt; names.as_slice(), want.as_slice());
-    Ok(())
-}
-
-#[test]
-fn reads_references_in_strings(rt: HostRuntime) -> Result<(), Fail> {
-    let alloc = rt.alloc();
-    let options = ParseOptions::default();
-    for (text, events) in [
-        ("&amp;", 8),
-        ("&#12345678;", 2),
-        ("&nosuch;", 2),
-        ("&#xFFFFFFF;", 2),
-        ("&#;", 2),
-        ("&amp", 2),
-    ] {
-        assert!(rt; text.len() < 100);
-        let parse_state = state_of(alloc, text.as_bytes(), &options);
-        let pieces = [whole_document(text.as_bytes())];
-        let run = string(alloc, &parse_state, &pieces)?;
-        assert_eq!(rt; run.events.len(), events, "{text}");
-    }
-    Ok(())
 }
 
 #[test]
@@ -202,34 +141,6 @@ fn reads_single_data(rt: HostRuntime) -> Result<(), Fail> {
         assert_eq!(rt; tokenizer.events.len(), events, "{text}");
         assert_eq!(rt; tokenizer.point().index, index, "{text}");
     }
-    Ok(())
-}
-
-#[test]
-fn reads_pieces(rt: HostRuntime) -> Result<(), Fail> {
-    let alloc = rt.alloc();
-    let options = ParseOptions::default();
-    let bytes = b"> a\\\n> *b";
-    let parse_state = state_of(alloc, bytes, &options);
-    let no_pieces: [Piece; 0] = [];
-    assert!(rt; is_content(bytes, &no_pieces));
-    let none = string(alloc, &parse_state, &no_pieces)?;
-    assert_eq!(rt; none.events.as_slice(), [].as_slice());
-    let pieces = [
-        Piece {
-            start: (2, 0),
-            end: (5, 0),
-        },
-        Piece {
-            start: (7, 0),
-            end: (9, 0),
-        },
-    ];
-    assert!(rt; is_content(bytes, &pieces));
-    let run = string(alloc, &parse_state, &pieces)?;
-    let names = entered(alloc, run.events.as_slice())?;
-    let want = [(Name::Data, 2), (Name::LineEnding, 4), (Name::Data, 7)];
-    assert_eq!(rt; names.as_slice(), want.as_slice());
     Ok(())
 }
 
@@ -360,7 +271,12 @@ fn reads_single_spaces(rt: HostRuntime) -> Result<(), Fail> {
 fn reads_single_line_endings(rt: HostRuntime) -> Result<(), Fail> {
     let alloc = rt.alloc();
     let options = ParseOptions::default();
-    for (text, held, events, index) in [("a \n b", true, 6, 4), ("ab", false, 0, 1)] {
+    for (text, held, events, index) in [
+        ("a \n b", true, 6, 4),
+        ("ab", false, 0, 1),
+        ("a\n\nb", false, 0, 1),
+        ("a\n", false, 0, 1),
+    ] {
         assert!(rt; text.len() < 100);
         let parse_state = state_of(alloc, text.as_bytes(), &options);
         let pieces = [whole_document(text.as_bytes())];
@@ -371,6 +287,33 @@ fn reads_single_line_endings(rt: HostRuntime) -> Result<(), Fail> {
         assert_eq!(rt; found, held, "{text}");
         assert_eq!(rt; tokenizer.events.len(), events, "{text}");
         assert_eq!(rt; tokenizer.point().index, index, "{text}");
+        assert!(rt; is_spacing_at_rest(&tokenizer), "{text}");
     }
+    Ok(())
+}
+
+#[test]
+fn reads_linked_line_endings(rt: HostRuntime) -> Result<(), Fail> {
+    let alloc = rt.alloc();
+    let options = ParseOptions::default();
+    let text = "\nb";
+    let parse_state = state_of(alloc, text.as_bytes(), &options);
+    let pieces = [whole_document(text.as_bytes())];
+    let mut tokenizer = at_start(alloc, &parse_state, &pieces);
+    let name = ask_for_linked_spacing(&mut tokenizer);
+    let found = construct(name, &mut tokenizer)?;
+    assert!(rt; found);
+    let first = tokenizer.events.as_slice().first();
+    let link = Link {
+        previous: None,
+        next: None,
+        content: Content::String,
+    };
+    assert_eq!(rt;
+        first.map(|event| (event.name, event.link)),
+        Some((Name::LineEnding, Some(link)))
+    );
+    assert_eq!(rt; tokenizer.events.len(), 2);
+    assert!(rt; is_spacing_at_rest(&tokenizer));
     Ok(())
 }
