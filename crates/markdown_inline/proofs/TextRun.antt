@@ -1,5 +1,7 @@
 -- A whole run over a text.
-use Rattle.std.proofs.Common.{◌≡◌, Bool, true, false, List, [], None, sym, ap, subst, ◌∙◌, arith}
+use Rattle.markdown_partial.specs.SpaceSteps.{most}
+use Rattle.markdown_engine.specs.Weights.{codes_left}
+use Rattle.std.proofs.Common.{◌≡◌, Bool, true, false, List, [], None, sym, ap, subst, ◌∙◌, arith, ◌≤◌}
 use Rattle.markdown_engine.specs.Chain.{chained}
 use Rattle.markdown_engine.specs.Content.{IsContent, content_of}
 use Rattle.markdown_engine.specs.Ops.{scratched}
@@ -13,6 +15,7 @@ use Rattle.markdown_engine.specs.declared.resolve.ResolveName.TheVariants as R
 use Rattle.markdown_engine.specs.declared.tokenizer.TokenizeState.{TokenizeState}
 use Rattle.markdown_engine.specs.declared.tokenizer.Tokenizer.{Tokenizer}
 use Rattle.markdown_leaf.specs.RawText as X
+use Rattle.markdown_partial.specs.SpaceSteps as W
 use Rattle.markdown_model.specs.Element.{AreElements, AreElementsFrom, text_choice}
 use Rattle.markdown_model.specs.Inline.{text_events}
 use Rattle.markdown_model.specs.Passes.{trimmed}
@@ -21,7 +24,7 @@ use Rattle.markdown_inline.specs.Built.{IsBuilt, as_built}
 use Rattle.markdown_inline.specs.Elements.{Finishes}
 use Rattle.markdown_inline.specs.Resolve.{may_resolve_of, resolves_of}
 use Rattle.markdown_inline.specs.Settings.{text_setting_of}
-use Rattle.markdown_inline.specs.TextSteps.{text_markers, text_marked, text_passed, text_choice_of, start_ends}
+use Rattle.markdown_inline.specs.TextSteps.{StartReady, text_markers, text_marked, text_passed, text_choice_of, start_ends}
 use Rattle.markdown_inline.specs.Laws.TextTries.{built-off}
 use Rattle.markdown_inline.proofs.PassesRun.{breaks_on, text-trims}
 use Rattle.markdown_inline.proofs.RunEnds.{Starts, start-with, finished-may, finished-events, finished-fields, finished-elements}
@@ -39,7 +42,6 @@ built-same s off = λ i. record s {
       gfm_autolink_literal = sym off.no_literals i;
       gfm_label_start_footnote = sym off.no_footnotes i;
       gfm_strikethrough = sym off.no_strikethrough i;
-      gfm_task_list_item = sym off.no_task_check i;
       html_text = sym off.no_html i;
       label_end = sym off.no_label_end i;
       label_start_image = sym off.no_image i;
@@ -63,9 +65,13 @@ started p pieces first B k =
     let m : Starts p pieces (record B.tokenize_state { document_at_first_paragraph_of_list_item = first }) (record B { tokenize_state = record B.tokenize_state { document_at_first_paragraph_of_list_item = first } }) = start-with p pieces at_rest (record B.tokenize_state { document_at_first_paragraph_of_list_item = first }) B k in
     subst (λ (s : TokenizeState). Starts p pieces (record s { document_at_first_paragraph_of_list_item = first }) (record B { tokenize_state = record B.tokenize_state { document_at_first_paragraph_of_list_item = first } })) k.fields m
 
-pub text-ready : (p : ParseState) (pieces : List Piece) (first : Bool) (T : Tokenizer) → IsContent p.bytes.now pieces → text_start p pieces first T → X.StartReady T
+pub text-ready : (p : ParseState) (pieces : List Piece) (first : Bool) (T : Tokenizer) → IsContent p.bytes.now pieces → text_start p pieces first T → StartReady T
 text-ready p pieces first T content k =
-    record { rest = k.fields ∙ sym (ap X.rested k.fields); fits = omega (arith, start-fits p.bytes.now pieces T content k.place) }
+    let fits : codes_left T ≤ most = start-fits p.bytes.now pieces T content k.place in
+    record {
+      spans = record { rest = k.fields ∙ sym (ap X.rested k.fields); fits = omega (arith, fits) };
+      look = record { resting = ap W.rested k.fields ∙ sym k.fields; short = fits };
+    }
 
 -- where data stops at the markers of a text
 marked-start : (p : ParseState) (pieces : List Piece) (first : Bool) (T : Tokenizer) → text_start p pieces first T → Starts p pieces (record (text_fields first) { markers = text_markers }) (text_marked T)

@@ -1,13 +1,12 @@
 -- The inline tree of a text where the constructs that are not built are off: its elements in a row, merged and trimmed.
-use Rattle.std.proofs.Common.{◌≡◌, ℕ, Bool, true, false, ◌&&◌, ◌==◌, List, [], ◌∷◌, ◌++◌, Option, None, refl, sym, ap, subst, ◌∙◌, append-nil}
-use Rattle.std.specs.Prelude.{is_none}
+use Rattle.std.proofs.Common.{◌≡◌, ℕ, Bool, true, false, ◌==◌, List, [], ◌∷◌, ◌++◌, Option, None, refl, sym, ap, subst, ◌∙◌, append-nil}
 use Rattle.std.specs.List.{list_any}
 use Rattle.markdown_engine.specs.Codes.{Code, stop_of, document_start}
 use Rattle.markdown_engine.specs.Tree.{Forest, empty, leaf_then, group_then, leaf, ◌⊕◌}
 use Rattle.markdown_engine.specs.declared.event.Content.{Content}
 use Rattle.markdown_engine.specs.declared.event.Name.{Name}
 use Rattle.markdown_engine.specs.declared.event.Name.TheVariants as N
-use Rattle.markdown_leaf.proofs.ReadingLemmas.{and-false, switched-off}
+use Rattle.markdown_leaf.proofs.ReadingLemmas.{switched-off}
 use Rattle.markdown_model.specs.Element.{as_plain, switched, line_ending, data_code, code_span, math_span, Tries, tries, tried, first_check, text_element, AreElementsFrom, text_choice, code_before, AreElements, elements_of}
 use Rattle.markdown_model.specs.Grammar.{Reading}
 use Rattle.markdown_model.specs.Groups.{nest, after_loose, joined, loose, pair_group, assembled, tokens_of, paired, Token, item}
@@ -23,7 +22,7 @@ use Rattle.markdown_model.proofs.ElementLaws.{text_elements, same_text_elements}
 use Rattle.markdown_model.proofs.LinkFree.{Passes, Yields, yields_bind, yields_gives, yields_passed, yields_either, then_any}
 use Rattle.markdown_inline.specs.Built.{IsBuilt}
 use Rattle.markdown_inline.specs.Elements.{IsNode, IsQuiet, is_run}
-use Rattle.markdown_inline.specs.Laws.NodeLemmas.{escape_yields, reference_yields, break_yields, autolink_yields, span_here_yields, code_quiet, math_quiet}
+use Rattle.markdown_inline.specs.Laws.NodeLemmas.{check_yields, escape_yields, reference_yields, break_yields, autolink_yields, span_here_yields, code_quiet, math_quiet}
 
 -- Trees without runs of markers.
 
@@ -179,9 +178,9 @@ module _ (s : Setting) (built : IsBuilt s.options.constructs) (end : ℕ) (earli
     ),
   )
 
-  check_yields : Yields IsStill (first_check s end earlier previous)
+  first_yields : Yields IsStill (first_check s end earlier previous)
   unfolding first_check
-  check_yields = off_yields _ _ (ap (λ b. (is_none previous && s.first_of_item) && b) built.no_task_check ∙ and-false _)
+  first_yields = on_yields _ _ (plain_yields _ check_yields)
 
   text_yields : Yields IsStill (text_element s end earlier previous)
   unfolding text_element
@@ -189,7 +188,7 @@ module _ (s : Setting) (built : IsBuilt s.options.constructs) (end : ℕ) (earli
     where
       at : (cs : List Code) → Passes IsStill (text_element s end earlier previous cs)
       at [] = tt
-      at (c ∷ cs) = (yields_either _ _ _ check_yields (yields_either _ _ _ (tried_yields (tries s end earlier previous) c.value each_yields) data_yields)).at (c ∷ cs)
+      at (c ∷ cs) = (yields_either _ _ _ first_yields (yields_either _ _ _ (tried_yields (tries s end earlier previous) c.value each_yields) data_yields)).at (c ∷ cs)
 
 pub text-are-still : (s : Setting) (all : List Code) (es earlier : List Element) (previous : Option Code) (cs : List Code) → IsBuilt s.options.constructs
     → AreElementsFrom (text_choice s all) earlier previous cs es → AreStill es

@@ -10,7 +10,8 @@ pub mod TextTries
 pub mod TextLaws
 use Rattle.std.proofs.Common.{◌≡◌, [], refl}
 use Rattle.markdown_engine.specs.Runs.{Lawful}
-use Rattle.markdown_engine.specs.declared.state.StateName.TheVariants.{CharacterEscapeStart, CharacterEscapeInside, CharacterReferenceStart, CharacterReferenceOpen, CharacterReferenceNumeric, CharacterReferenceValue, HardBreakEscapeStart, HardBreakEscapeAfter, AutolinkStart, AutolinkOpen, AutolinkSchemeOrEmailAtext, AutolinkSchemeInsideOrEmailAtext, AutolinkUrlInside, AutolinkEmailAtext, AutolinkEmailAtSignOrDot, AutolinkEmailLabel, AutolinkEmailValue, RawTextStart, RawTextSequenceOpen, RawTextBetween, RawTextData, RawTextSequenceClose, SpaceOrTabStart, SpaceOrTabInside, SpaceOrTabAfter, SpaceOrTabEolStart, SpaceOrTabEolAfterFirst, SpaceOrTabEolAtEol, SpaceOrTabEolAfterEol, SpaceOrTabEolAfterMore, DataStart, DataAtBreak, DataInside, StringStart, StringBefore, StringBeforeData, TextStart, TextBefore, TextBeforeHtml, TextBeforeHardBreakEscape, TextBeforeLabelStartLink, TextBeforeData, AttentionStart, GfmAutolinkLiteralProtocolStart, GfmAutolinkLiteralWwwStart, GfmLabelStartFootnoteStart, GfmTaskListItemCheckStart, HtmlTextStart, LabelEndStart, LabelStartImageStart, LabelStartLinkStart}
+use Rattle.markdown_engine.specs.declared.state.StateName.TheVariants.{CharacterEscapeStart, CharacterEscapeInside, CharacterReferenceStart, CharacterReferenceOpen, CharacterReferenceNumeric, CharacterReferenceValue, HardBreakEscapeStart, HardBreakEscapeAfter, AutolinkStart, AutolinkOpen, AutolinkSchemeOrEmailAtext, AutolinkSchemeInsideOrEmailAtext, AutolinkUrlInside, AutolinkEmailAtext, AutolinkEmailAtSignOrDot, AutolinkEmailLabel, AutolinkEmailValue, RawTextStart, RawTextSequenceOpen, RawTextBetween, RawTextData, RawTextSequenceClose, SpaceOrTabStart, SpaceOrTabInside, SpaceOrTabAfter, SpaceOrTabEolStart, SpaceOrTabEolAfterFirst, SpaceOrTabEolAtEol, SpaceOrTabEolAfterEol, SpaceOrTabEolAfterMore, DataStart, DataAtBreak, DataInside, StringStart, StringBefore, StringBeforeData, TextStart, TextBefore, TextBeforeHtml, TextBeforeHardBreakEscape, TextBeforeLabelStartLink, TextBeforeData, AttentionStart, GfmAutolinkLiteralProtocolStart, GfmAutolinkLiteralWwwStart, GfmLabelStartFootnoteStart, GfmTaskListItemCheckStart, GfmTaskListItemCheckInside, GfmTaskListItemCheckClose, GfmTaskListItemCheckAfter, GfmTaskListItemCheckAfterSpaceOrTab, HtmlTextStart, LabelEndStart, LabelStartImageStart, LabelStartLinkStart}
+use Rattle.markdown_gfm.proofs.GfmTaskListItemCheckLaws as C
 use Rattle.markdown_leaf.proofs.AutolinkLaws as A
 use Rattle.markdown_leaf.proofs.CharacterEscapeLaws as E
 use Rattle.markdown_leaf.proofs.CharacterReferenceLaws as R
@@ -119,6 +120,25 @@ eol-within = record {
   after_more_weight = λ T. refl;
 }
 
+check-within : C.Within ready_of ends_of weight_of
+check-within = record {
+  inside_ready = λ T h. h;
+  inside_end = λ T ok U h. h;
+  inside_weight = λ T. refl;
+  close_ready = λ T h. h;
+  close_end = λ T ok U h. h;
+  close_weight = λ T. refl;
+  after_ready = λ T h. h;
+  after_end = λ T ok U h. h;
+  after_weight = λ T. refl;
+  space_ready = λ T h. h;
+  space_end = λ T ok U h. h;
+  space_weight = λ T. refl;
+  after_space_or_tab_ready = λ T. tt;
+  after_space_or_tab_end = λ T ok U h. h;
+  after_space_or_tab_weight = λ T. refl;
+}
+
 data-within : D.Within ready_of ends_of weight_of
 data-within = record { at_break_ready = λ T. tt; at_break_end = λ T ok U h. h; at_break_weight = λ T. refl; inside_ready = λ T h. h; inside_end = λ T ok U h. h; inside_weight = λ T. refl }
 
@@ -178,6 +198,11 @@ laws_of DataInside T alone r = D.inside-law ready_of ends_of weight_of data-with
 laws_of StringStart T alone r = S.start-law ready_of ends_of weight_of string-within T alone r
 laws_of StringBefore T alone r = S.before-law ready_of ends_of weight_of string-within T alone r
 laws_of StringBeforeData T alone r = S.before_data-law ready_of ends_of weight_of string-within T alone r
+laws_of GfmTaskListItemCheckStart T alone r = C.start-law ready_of ends_of weight_of check-within T alone r
+laws_of GfmTaskListItemCheckInside T alone r = C.inside-law ready_of ends_of weight_of check-within T alone r
+laws_of GfmTaskListItemCheckClose T alone r = C.close-law ready_of ends_of weight_of check-within T alone r
+laws_of GfmTaskListItemCheckAfter T alone r = C.after-law ready_of ends_of weight_of check-within T alone r
+laws_of GfmTaskListItemCheckAfterSpaceOrTab T alone r = C.after_space_or_tab-law ready_of ends_of weight_of T alone
 laws_of TextStart T alone r = M.start-law T alone r
 laws_of TextBefore T alone r = M.before-law T alone r
 laws_of TextBeforeHtml T alone r = M.before_html-law T alone r
@@ -188,7 +213,6 @@ laws_of AttentionStart T alone r = M.never-law T alone
 laws_of GfmAutolinkLiteralProtocolStart T alone r = M.never-law T alone
 laws_of GfmAutolinkLiteralWwwStart T alone r = M.never-law T alone
 laws_of GfmLabelStartFootnoteStart T alone r = M.never-law T alone
-laws_of GfmTaskListItemCheckStart T alone r = M.never-law T alone
 laws_of HtmlTextStart T alone r = M.never-law T alone
 laws_of LabelEndStart T alone r = M.never-law T alone
 laws_of LabelStartImageStart T alone r = M.never-law T alone

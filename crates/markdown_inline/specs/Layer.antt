@@ -6,8 +6,9 @@ use Rattle.markdown_engine.specs.Weights.{weight_at}
 use Rattle.markdown_engine.specs.declared.event.Name.TheVariants as N
 use Rattle.markdown_engine.specs.declared.state.State.TheVariants.{Nok}
 use Rattle.markdown_engine.specs.declared.state.StateName.{StateName}
-use Rattle.markdown_engine.specs.declared.state.StateName.TheVariants.{CharacterEscapeStart, CharacterEscapeInside, CharacterReferenceStart, CharacterReferenceOpen, CharacterReferenceNumeric, CharacterReferenceValue, HardBreakEscapeStart, HardBreakEscapeAfter, AutolinkStart, AutolinkOpen, AutolinkSchemeOrEmailAtext, AutolinkSchemeInsideOrEmailAtext, AutolinkUrlInside, AutolinkEmailAtext, AutolinkEmailAtSignOrDot, AutolinkEmailLabel, AutolinkEmailValue, RawTextStart, RawTextSequenceOpen, RawTextBetween, RawTextData, RawTextSequenceClose, SpaceOrTabStart, SpaceOrTabInside, SpaceOrTabAfter, SpaceOrTabEolStart, SpaceOrTabEolAfterFirst, SpaceOrTabEolAtEol, SpaceOrTabEolAfterEol, SpaceOrTabEolAfterMore, DataStart, DataAtBreak, DataInside, StringStart, StringBefore, StringBeforeData, TextStart, TextBefore, TextBeforeHtml, TextBeforeHardBreakEscape, TextBeforeLabelStartLink, TextBeforeData, AttentionStart, GfmAutolinkLiteralProtocolStart, GfmAutolinkLiteralWwwStart, GfmLabelStartFootnoteStart, GfmTaskListItemCheckStart, HtmlTextStart, LabelEndStart, LabelStartImageStart, LabelStartLinkStart}
+use Rattle.markdown_engine.specs.declared.state.StateName.TheVariants.{CharacterEscapeStart, CharacterEscapeInside, CharacterReferenceStart, CharacterReferenceOpen, CharacterReferenceNumeric, CharacterReferenceValue, HardBreakEscapeStart, HardBreakEscapeAfter, AutolinkStart, AutolinkOpen, AutolinkSchemeOrEmailAtext, AutolinkSchemeInsideOrEmailAtext, AutolinkUrlInside, AutolinkEmailAtext, AutolinkEmailAtSignOrDot, AutolinkEmailLabel, AutolinkEmailValue, RawTextStart, RawTextSequenceOpen, RawTextBetween, RawTextData, RawTextSequenceClose, SpaceOrTabStart, SpaceOrTabInside, SpaceOrTabAfter, SpaceOrTabEolStart, SpaceOrTabEolAfterFirst, SpaceOrTabEolAtEol, SpaceOrTabEolAfterEol, SpaceOrTabEolAfterMore, DataStart, DataAtBreak, DataInside, StringStart, StringBefore, StringBeforeData, TextStart, TextBefore, TextBeforeHtml, TextBeforeHardBreakEscape, TextBeforeLabelStartLink, TextBeforeData, AttentionStart, GfmAutolinkLiteralProtocolStart, GfmAutolinkLiteralWwwStart, GfmLabelStartFootnoteStart, GfmTaskListItemCheckStart, GfmTaskListItemCheckInside, GfmTaskListItemCheckClose, GfmTaskListItemCheckAfter, GfmTaskListItemCheckAfterSpaceOrTab, HtmlTextStart, LabelEndStart, LabelStartImageStart, LabelStartLinkStart}
 use Rattle.markdown_engine.specs.declared.tokenizer.Tokenizer.{Tokenizer}
+use Rattle.markdown_gfm.specs.GfmTaskListItemCheck as C
 use Rattle.markdown_leaf.specs.Autolink as A
 use Rattle.markdown_leaf.specs.CharacterEscape as E
 use Rattle.markdown_leaf.specs.CharacterReference as R
@@ -57,7 +58,12 @@ ready_of DataInside T = IsOpen N.Data T
 ready_of StringStart T = R.IsAtRest T
 ready_of StringBefore T = S.BeforeReady T
 ready_of StringBeforeData T = S.BeforeDataReady T
-ready_of TextStart T = X.StartReady T
+ready_of GfmTaskListItemCheckStart T = C.MayLook T
+ready_of GfmTaskListItemCheckInside T = C.IsOpened T
+ready_of GfmTaskListItemCheckClose T = C.IsOpened T
+ready_of GfmTaskListItemCheckAfter T = C.MayLook T
+ready_of GfmTaskListItemCheckAfterSpaceOrTab T = Unit {0}
+ready_of TextStart T = M.StartReady T
 ready_of TextBefore T = M.BeforeReady T
 ready_of TextBeforeHtml T = M.BeforeDataReady T
 ready_of TextBeforeHardBreakEscape T = M.BeforeBreakReady T
@@ -67,7 +73,6 @@ ready_of AttentionStart T = Unit {0}
 ready_of GfmAutolinkLiteralProtocolStart T = Unit {0}
 ready_of GfmAutolinkLiteralWwwStart T = Unit {0}
 ready_of GfmLabelStartFootnoteStart T = Unit {0}
-ready_of GfmTaskListItemCheckStart T = Unit {0}
 ready_of HtmlTextStart T = Unit {0}
 ready_of LabelEndStart T = Unit {0}
 ready_of LabelStartImageStart T = Unit {0}
@@ -111,6 +116,11 @@ step_of DataInside T = D.inside_step T
 step_of StringStart T = S.start_step T
 step_of StringBefore T = S.before_step T
 step_of StringBeforeData T = S.before_data_step T
+step_of GfmTaskListItemCheckStart T = C.start_step T
+step_of GfmTaskListItemCheckInside T = C.inside_step T
+step_of GfmTaskListItemCheckClose T = C.close_step T
+step_of GfmTaskListItemCheckAfter T = C.after_step T
+step_of GfmTaskListItemCheckAfterSpaceOrTab T = C.after_space_or_tab_step T
 step_of TextStart T = M.start_step T
 step_of TextBefore T = M.before_step T
 step_of TextBeforeHtml T = M.before_html_step T
@@ -121,7 +131,6 @@ step_of AttentionStart T = never_step T
 step_of GfmAutolinkLiteralProtocolStart T = never_step T
 step_of GfmAutolinkLiteralWwwStart T = never_step T
 step_of GfmLabelStartFootnoteStart T = never_step T
-step_of GfmTaskListItemCheckStart T = never_step T
 step_of HtmlTextStart T = never_step T
 step_of LabelEndStart T = never_step T
 step_of LabelStartImageStart T = never_step T
@@ -165,6 +174,11 @@ ends_of DataInside T ok U = D.inside_ends T ok U
 ends_of StringStart T ok U = S.start_ends T ok U
 ends_of StringBefore T ok U = S.before_ends T ok U
 ends_of StringBeforeData T ok U = S.before_ends T ok U
+ends_of GfmTaskListItemCheckStart T ok U = C.start_ends T ok U
+ends_of GfmTaskListItemCheckInside T ok U = C.inside_ends T ok U
+ends_of GfmTaskListItemCheckClose T ok U = C.close_ends T ok U
+ends_of GfmTaskListItemCheckAfter T ok U = C.after_ends T ok U
+ends_of GfmTaskListItemCheckAfterSpaceOrTab T ok U = C.after_space_or_tab_ends T ok U
 ends_of TextStart T ok U = M.start_ends T ok U
 ends_of TextBefore T ok U = M.before_ends T ok U
 ends_of TextBeforeHtml T ok U = M.before_ends T ok U
@@ -175,7 +189,6 @@ ends_of AttentionStart T ok U = never_ends T ok U
 ends_of GfmAutolinkLiteralProtocolStart T ok U = never_ends T ok U
 ends_of GfmAutolinkLiteralWwwStart T ok U = never_ends T ok U
 ends_of GfmLabelStartFootnoteStart T ok U = never_ends T ok U
-ends_of GfmTaskListItemCheckStart T ok U = never_ends T ok U
 ends_of HtmlTextStart T ok U = never_ends T ok U
 ends_of LabelEndStart T ok U = never_ends T ok U
 ends_of LabelStartImageStart T ok U = never_ends T ok U
@@ -220,6 +233,11 @@ rank_of DataInside = 2
 rank_of StringStart = 7
 rank_of StringBefore = 6
 rank_of StringBeforeData = 5
+rank_of GfmTaskListItemCheckStart = 2
+rank_of GfmTaskListItemCheckInside = 1
+rank_of GfmTaskListItemCheckClose = 1
+rank_of GfmTaskListItemCheckAfter = 4
+rank_of GfmTaskListItemCheckAfterSpaceOrTab = 1
 rank_of TextStart = 8
 rank_of TextBefore = 7
 rank_of TextBeforeHtml = 6

@@ -8,6 +8,7 @@ use Rattle.markdown_engine.specs.declared.state.State.TheVariants.{Next, Retry, 
 use Rattle.markdown_engine.specs.declared.state.StateName.{StateName}
 use Rattle.markdown_engine.specs.declared.state.StateName.TheVariants.{AttentionStart, AutolinkStart, CharacterEscapeStart, CharacterReferenceStart, DataStart, GfmAutolinkLiteralProtocolStart, GfmAutolinkLiteralWwwStart, GfmLabelStartFootnoteStart, GfmTaskListItemCheckStart, HardBreakEscapeStart, HtmlTextStart, LabelEndStart, LabelStartImageStart, LabelStartLinkStart, RawTextStart, TextBefore, TextBeforeData, TextBeforeHardBreakEscape, TextBeforeHtml, TextBeforeLabelStartLink}
 use Rattle.markdown_engine.specs.declared.tokenizer.Tokenizer.{Tokenizer}
+use Rattle.markdown_gfm.specs.GfmTaskListItemCheck as C
 use Rattle.markdown_leaf.specs.CharacterEscape.{escape_here}
 use Rattle.markdown_leaf.specs.RawText as X
 use Rattle.markdown_model.proofs.DataLaws.{code_leaf}
@@ -84,10 +85,20 @@ text_choice_of T = text_choice (text_setting T) T.cursor.codes
 
 -- When they may be called.
 
--- data stops at the markers of a text, and the fields in which spans, references and autolinks count are at rest
-pub record BeforeReady (T : Tokenizer) : Type 0 where
-  pub marked : T.tokenize_state.markers ≡ text_markers
+-- at the start: the fields in which spans, references and autolinks count are at rest, and those in which whitespace behind a check does
+pub record StartReady (T : Tokenizer) : Type 0 where
   pub spans : X.StartReady T
+  pub look : C.MayLook T
+
+-- data stops at the markers of a text, and the fields in which spans, references and autolinks count are at rest
+pub record IsMarked (T : Tokenizer) : Type 0 where
+  pub markers : T.tokenize_state.markers ≡ text_markers
+  pub spans : X.StartReady T
+
+-- and no check of a list item stands here
+pub record BeforeReady (T : Tokenizer) : Type 0 where
+  pub marked : IsMarked T
+  pub unchecked : C.check_here T (ahead T) ≡ None
 
 -- the code at hand is an element by itself
 abbrev pub StandsAlone : Tokenizer → Type 0

@@ -79,7 +79,7 @@ pub fn text(
 ) -> Result<Run, AllocError>
     requires { IsTextContent parse_state.now.bytes.now pieces.now }
     ensures events { let on = parse_state.now.options.now.constructs in
-        on.attention ≡ false → on.gfm_autolink_literal ≡ false → on.gfm_label_start_footnote ≡ false → on.gfm_strikethrough ≡ false → on.gfm_task_list_item ≡ false
+        on.attention ≡ false → on.gfm_autolink_literal ≡ false → on.gfm_label_start_footnote ≡ false → on.gfm_strikethrough ≡ false
         → on.html_text ≡ false → on.label_end ≡ false → on.label_start_image ≡ false → on.label_start_link ≡ false
         → IfOk result (λ run. run.events.items ≡ text_events (text_setting_of parse_state.now first_of_item) pieces.now) }
     ensures as_built { IfOk result (λ run. run.events.items ≡ text_events (as_built (text_setting_of parse_state.now first_of_item)) pieces.now) }
@@ -111,15 +111,16 @@ fn put_back<'a>(
 }
 
 /// Reads one construct at the tokenizer's place, by the name of the state that starts it: `CharacterEscapeStart`, `CharacterReferenceStart`,
-/// `HardBreakEscapeStart`, `AutolinkStart`, `RawTextStart` (a code span, or a math span); `DataStart`, which takes the bytes at which it stops
-/// from the scratch field `markers`, and holds everywhere; `SpaceOrTabStart` or `SpaceOrTabEolStart`, after the setter that asks for it.
+/// `HardBreakEscapeStart`, `AutolinkStart`, `RawTextStart` (a code span, or a math span), `GfmTaskListItemCheckStart`; `DataStart`, which takes
+/// the bytes at which it stops from the scratch field `markers`, and holds everywhere; `SpaceOrTabStart` or `SpaceOrTabEolStart`, after the
+/// setter that asks for it.
 ///
 /// Where the construct holds, its events are appended, and the tokenizer stands at its end; otherwise it is as before. The scratch fields are
 /// as before in either case, but that whitespace puts its own fields to rest. The error comes where a growth is refused; then `failed` is
 /// true. It comes at once where `failed` is true already.
 ///
-/// The scratch fields that a construct counts in are at rest before, as they are in a new tokenizer. `RawTextStart` and `SpaceOrTabEolStart`
-/// ask that fewer codes are left than a `usize` counts, which holds over every content: it has at most four codes for each byte. Whitespace
+/// The scratch fields that a construct counts in are at rest before, as they are in a new tokenizer. `RawTextStart`, `SpaceOrTabEolStart` and
+/// `GfmTaskListItemCheckStart` ask that fewer codes are left than a `usize` counts, which holds over every content: it has at most four codes for each byte. Whitespace
 /// that is to be connected asks for a linked event just before, and with a line ending for a content too; and where whitespace with a line
 /// ending has a content, no blank code is at hand.
 pub fn construct(name: StateName, tokenizer: &mut Tokenizer) -> Result<bool, AllocError>

@@ -10,6 +10,7 @@ use markdown_engine::resolve::ResolveName;
 use markdown_engine::state::{State, StateName};
 use markdown_engine::subtokenize::Subresult;
 use markdown_engine::tokenizer::Tokenizer;
+use markdown_gfm::gfm_task_list_item_check;
 use markdown_leaf::{autolink, character_escape, character_reference, hard_break_escape, raw_text};
 use markdown_partial::{partial_data, partial_space_or_tab, partial_space_or_tab_eol};
 use std::alloc::AllocError;
@@ -45,6 +46,13 @@ fn dispatch(name: StateName, tokenizer: &mut Tokenizer) -> Result<State, AllocEr
         StateName::RawTextBetween => raw_text::between(tokenizer),
         StateName::RawTextData => raw_text::data(tokenizer),
         StateName::RawTextSequenceClose => raw_text::sequence_close(tokenizer),
+        StateName::GfmTaskListItemCheckStart => gfm_task_list_item_check::start(tokenizer),
+        StateName::GfmTaskListItemCheckInside => gfm_task_list_item_check::inside(tokenizer),
+        StateName::GfmTaskListItemCheckClose => gfm_task_list_item_check::close(tokenizer),
+        StateName::GfmTaskListItemCheckAfter => gfm_task_list_item_check::after(tokenizer),
+        StateName::GfmTaskListItemCheckAfterSpaceOrTab => {
+            gfm_task_list_item_check::after_space_or_tab(tokenizer)
+        }
         StateName::SpaceOrTabStart => partial_space_or_tab::start(tokenizer),
         StateName::SpaceOrTabInside => partial_space_or_tab::inside(tokenizer),
         StateName::SpaceOrTabAfter => partial_space_or_tab::after(tokenizer),
@@ -70,7 +78,6 @@ fn dispatch(name: StateName, tokenizer: &mut Tokenizer) -> Result<State, AllocEr
         | StateName::GfmAutolinkLiteralProtocolStart
         | StateName::GfmAutolinkLiteralWwwStart
         | StateName::GfmLabelStartFootnoteStart
-        | StateName::GfmTaskListItemCheckStart
         | StateName::HtmlTextStart
         | StateName::LabelEndStart
         | StateName::LabelStartImageStart

@@ -110,7 +110,7 @@ last-some : (ws rest : List Code) (p : Place) → 1 ≤ length ws → ahead_at p
 last-some [] rest p h e = absurd (omega arith)
 last-some (c ∷ cs) rest p h e = last-moved c cs rest p e
 
-before-past : (t : Forest) (rest : List Code) (T U : Tokenizer) → 1 ≤ length (leaf_codes t) → ahead T ≡ leaf_codes t ++ rest → U ≡ past None t T → code_just_before U ≡ last_code (leaf_codes t)
+pub before-past : (t : Forest) (rest : List Code) (T U : Tokenizer) → 1 ≤ length (leaf_codes t) → ahead T ≡ leaf_codes t ++ rest → U ≡ past None t T → code_just_before U ≡ last_code (leaf_codes t)
 unfolding past
 before-past t rest T U h e left = ap code_just_before left ∙ last-some (leaf_codes t) rest T.cursor h e
 

@@ -1,6 +1,6 @@
 -- Constructs read nodes, and pass at least one code.
 use Rattle.std.proofs.Common.{◌≡◌, ◌≢◌, ℕ, ◌+◌, ◌≤◌, Bool, true, false, List, [], ◌∷◌, length, Option, None, Some, refl, ap, subst}
-use Rattle.std.specs.Prelude.{nat_lt, ◌||◌}
+use Rattle.std.specs.Prelude.{nat_lt, ◌||◌, codes}
 use Rattle.markdown_engine.specs.Codes.{Code, is_line_ending}
 use Rattle.markdown_engine.specs.Past.{last_link}
 use Rattle.markdown_engine.specs.Tree.{Forest, empty, leaf_then, group_then, leaf, group, ◌⊕◌}
@@ -9,11 +9,11 @@ use Rattle.markdown_engine.specs.declared.event.Name.{Name}
 use Rattle.markdown_engine.specs.declared.event.Name.TheVariants as N
 use Rattle.markdown_engine.specs.declared.tokenizer.Tokenizer.{Tokenizer}
 use Rattle.markdown_leaf.specs.RawText.{is_escape, span_at, single_dollar, follows_escape, code_just_before}
-use Rattle.markdown_model.specs.CodeTests.{next_is}
+use Rattle.markdown_model.specs.CodeTests.{next_is, is_among}
 use Rattle.markdown_model.specs.Grammar.{Reading, ◌>>◌, provided, one}
-use Rattle.markdown_model.specs.Leaf.{escape, reference, hard_break_escape, autolink, in_angle_brackets, span_of, span_here, SpanNames, code_names, math_names}
+use Rattle.markdown_model.specs.Leaf.{escape, reference, hard_break_escape, autolink, in_angle_brackets, span_of, span_here, SpanNames, code_names, math_names, task_check}
 use Rattle.markdown_model.specs.Lines.{linked_leaf, line_leaf, line_leaves}
-use Rattle.markdown_model.proofs.Consuming.{Left, Consumes, passed_takes, either_takes, escape_takes, reference_takes, hard_break_takes, autolink_takes, span_here_takes}
+use Rattle.markdown_model.proofs.Consuming.{Left, Consumes, passed_takes, either_takes, escape_takes, reference_takes, hard_break_takes, autolink_takes, span_here_takes, task_check_takes}
 use Rattle.markdown_model.proofs.LinkFree.{Passes, Yields, yields_bind, yields_gives, yields_passed, yields_either, yields_before, then_any}
 use Rattle.markdown_partial.specs.Merge.{is_data}
 use Rattle.markdown_partial.specs.TrimEvents.{is_ending}
@@ -170,3 +170,18 @@ span-node T =
     (yields_passed IsNode _ _ (span_here_yields 36 math_names (λ n. single_dollar T || nat_lt 1 n) (follows_escape T.events) (code_just_before T) math_quiet)))
     (either_takes 1 _ _ (passed_takes 1 _ _ (span_here_takes 96 code_names (λ n. true) (follows_escape T.events) (code_just_before T)))
     (passed_takes 1 _ _ (span_here_takes 36 math_names (λ n. single_dollar T || nat_lt 1 n) (follows_escape T.events) (code_just_before T))))
+
+check-name-quiet : (b : Bool) (cs : List Code) → IsQuiet (leaf (elim b as (λ _. Name) [ true ↦ N.GfmTaskListItemValueChecked | false ↦ N.GfmTaskListItemValueUnchecked ]) cs)
+check-name-quiet true cs = quiet-leaf N.GfmTaskListItemValueChecked cs refl refl
+check-name-quiet false cs = quiet-leaf N.GfmTaskListItemValueUnchecked cs refl refl
+
+pub check_yields : Yields IsNode task_check
+unfolding task_check
+check_yields =
+    then_any _ _ _ λ front. then_any _ _ _ λ value. then_any _ _ _ λ back. yields_gives _ _
+    (group-node N.GfmTaskListItemCheck _ refl refl
+    (quiet-row _ _ (quiet-leaf N.GfmTaskListItemMarker front refl refl)
+    (quiet-row _ _ (check-name-quiet (next_is (is_among (codes "xX")) value) value) (quiet-leaf N.GfmTaskListItemMarker back refl refl))))
+
+pub check-node : (on : Bool) (cs : List Code) (t : Forest) (rest : List Code) → (provided on >> task_check) cs ≡ Some (t, rest) → IsNode t × (1 + length rest ≤ length cs)
+check-node on = node-of _ (yields_passed IsNode on task_check check_yields) (passed_takes 1 on task_check task_check_takes)

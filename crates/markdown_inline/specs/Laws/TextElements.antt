@@ -8,14 +8,14 @@ use Rattle.markdown_engine.specs.Tree.{Forest, leaf}
 use Rattle.markdown_engine.specs.declared.event.Name.TheVariants as N
 use Rattle.markdown_engine.specs.declared.configuration.ParseOptions.{ParseOptions}
 use Rattle.markdown_engine.specs.declared.tokenizer.Tokenizer.{Tokenizer}
-use Rattle.markdown_leaf.proofs.ReadingLemmas.{and-false, bind-some, one-here, either-first, either-second, either-some, switched-off}
+use Rattle.markdown_leaf.proofs.ReadingLemmas.{bind-some, bind-none, one-here, one-other, either-first, either-second, either-some, switched-on, switched-off}
 use Rattle.markdown_leaf.specs.RawText.{span_at}
 use Rattle.markdown_leaf.proofs.RawTextReadings.{here-off}
 use Rattle.markdown_model.specs.CodeTests.{is_among, is_value, is_some_code}
 use Rattle.markdown_model.specs.Element.{as_plain, switched, line_ending, data_code, code_span, math_span, Tries, tries, tried, first_check, text_element, ends_escaped}
 use Rattle.markdown_model.specs.Grammar.{Reading, ◌>>◌, ◌>>=◌, provided, either, gives, one}
 use Rattle.markdown_model.specs.LabelEnd.{Element, plain}
-use Rattle.markdown_model.specs.Leaf.{escape, reference, hard_break_escape, autolink, span_here, code_names, math_names}
+use Rattle.markdown_model.specs.Leaf.{escape, reference, hard_break_escape, autolink, task_check, span_here, code_names, math_names}
 use Rattle.markdown_model.specs.Setting.{Setting}
 use Rattle.markdown_model.proofs.DataLaws.{code_leaf}
 use Rattle.markdown_inline.specs.Elements.{StandsAfter}
@@ -29,10 +29,10 @@ element_here c cs (Some r) = Some (plain r.0, r.1)
 
 -- Readings that give plain elements.
 
-plain_of : Option (Forest × List Code) → Option (Element × List Code)
+unfoldable pub plain_of : Option (Forest × List Code) → Option (Element × List Code)
 plain_of o = elim o [ None ↦ None | Some r ↦ Some (plain r.0, r.1) ]
 
-plain-switched : (on : Bool) (a : Reading Forest) (cs : List Code) → switched on (as_plain a) cs ≡ plain_of ((provided on >> a) cs)
+pub plain-switched : (on : Bool) (a : Reading Forest) (cs : List Code) → switched on (as_plain a) cs ≡ plain_of ((provided on >> a) cs)
 unfolding switched as_plain ◌>>◌ ◌>>=◌ provided gives plain_of
 plain-switched true a cs = refl
 plain-switched false a cs = refl
@@ -40,6 +40,10 @@ plain-switched false a cs = refl
 switched-none : (on : Bool) (a : Reading Element) (cs : List Code) → on ≡ false → switched on a cs ≡ None
 unfolding switched
 switched-none on a cs e = switched-off a on cs e
+
+pub off-or-none : (on : Bool) (a : Reading Forest) (cs : List Code) → a cs ≡ None → (provided on >> a) cs ≡ None
+off-or-none true a cs e = switched-on a true cs refl ∙ e
+off-or-none false a cs e = switched-off a false cs refl
 
 -- a code by itself
 
@@ -133,29 +137,40 @@ only-math p escaped previous c cs e =
     (ap (λ v. (v == 96) && (p.constructs.code_text && (escaped || not (is_some_code (is_value 96) previous)))) e))
 
 module _ (s : Setting) (built : IsBuilt s.options.constructs) (end : ℕ) (earlier : List Element) (previous : Option Code) where
-  no-check : (cs : List Code) → first_check s end earlier previous cs ≡ None
-  unfolding first_check
-  no-check cs = switched-none _ _ cs (ap (λ b. (is_none previous && s.first_of_item) && b) built.no_task_check ∙ and-false (is_none previous && s.first_of_item))
+  -- a check begins with a bracket
+  no-check : (c : Code) (cs : List Code) → (c.value == 91) ≡ false → first_check s end earlier previous (c ∷ cs) ≡ None
+  unfolding first_check plain_of task_check
+  no-check c cs e =
+      let begins : Bool = (is_none previous && s.first_of_item) && s.options.constructs.gfm_task_list_item in
+      plain-switched begins task_check (c ∷ cs) ∙ ap plain_of (off-or-none begins task_check (c ∷ cs) (bind-none (one (is_value 91)) _ (c ∷ cs) (one-other (is_value 91) c cs e)))
+
+  -- where a check begins
+  pub check-element : (c : Code) (cs : List Code) (t : Forest) (rest : List Code)
+      → (provided ((is_none previous && s.first_of_item) && s.options.constructs.gfm_task_list_item) >> task_check) (c ∷ cs) ≡ Some (t, rest) → text_element s end earlier previous (c ∷ cs) ≡ Some (plain t, rest)
+  unfolding text_element first_check plain_of
+  check-element c cs t rest h =
+      either-some (first_check s end earlier previous) (either (tried (tries s end earlier previous) c.value) data_code) (c ∷ cs) (plain t, rest)
+      (plain-switched ((is_none previous && s.first_of_item) && s.options.constructs.gfm_task_list_item) task_check (c ∷ cs) ∙ ap plain_of h)
 
   -- the row of the code, and data behind it
-  pub text-at : (row : Reading Element) (c : Code) (cs : List Code) → tried (tries s end earlier previous) c.value ≡ row → text_element s end earlier previous (c ∷ cs) ≡ either row data_code (c ∷ cs)
+  pub text-at : (row : Reading Element) (c : Code) (cs : List Code) → first_check s end earlier previous (c ∷ cs) ≡ None → tried (tries s end earlier previous) c.value ≡ row → text_element s end earlier previous (c ∷ cs) ≡ either row data_code (c ∷ cs)
   unfolding text_element
-  text-at row c cs e =
-      either-second (first_check s end earlier previous) (either (tried (tries s end earlier previous) c.value) data_code) (c ∷ cs) (no-check (c ∷ cs))
+  text-at row c cs none e =
+      either-second (first_check s end earlier previous) (either (tried (tries s end earlier previous) c.value) data_code) (c ∷ cs) none
       ∙ ap (λ r. either r data_code (c ∷ cs)) e
 
-  -- the same, of a code with this value
-  text-row : (v : ℕ) (row : Reading Element) (c : Code) (cs : List Code) → c.value ≡ v → tried (tries s end earlier previous) v ≡ row → text_element s end earlier previous (c ∷ cs) ≡ either row data_code (c ∷ cs)
-  text-row v row c cs e k = text-at row c cs (ap (tried (tries s end earlier previous)) e ∙ k)
+  -- the same, of a code with this value, which is no bracket
+  text-row : (v : ℕ) (row : Reading Element) (c : Code) (cs : List Code) → c.value ≡ v → (v == 91) ≡ false → tried (tries s end earlier previous) v ≡ row → text_element s end earlier previous (c ∷ cs) ≡ either row data_code (c ∷ cs)
+  text-row v row c cs e n k = text-at row c cs (no-check c cs (ap (λ x. x == 91) e ∙ n)) (ap (tried (tries s end earlier previous)) e ∙ k)
 
   value-other : (v : ℕ) (c : Code) → c.value ≡ v → (v == 10) ≡ false → is_line_ending c ≡ false
   value-other v c e k = ap (λ n. n == 10) e ∙ k
 
   -- a row of one construct
-  one-row : (v : ℕ) (on : Bool) (a : Reading Forest) (c : Code) (cs : List Code) (o : Option (Forest × List Code)) → c.value ≡ v → (v == 10) ≡ false
+  one-row : (v : ℕ) (on : Bool) (a : Reading Forest) (c : Code) (cs : List Code) (o : Option (Forest × List Code)) → c.value ≡ v → (v == 10) ≡ false → (v == 91) ≡ false
       → tried (tries s end earlier previous) v ≡ switched on (as_plain a) → (provided on >> a) (c ∷ cs) ≡ o → text_element s end earlier previous (c ∷ cs) ≡ element_here c cs o
-  one-row v on a c cs o e k row h =
-      text-row v (switched on (as_plain a)) c cs e row
+  one-row v on a c cs o e k n row h =
+      text-row v (switched on (as_plain a)) c cs e n row
       ∙ plain-or-data (switched on (as_plain a)) c cs o (value-other v c e k) (plain-switched on a (c ∷ cs) ∙ ap plain_of h)
 
   -- Spans.
@@ -163,14 +178,14 @@ module _ (s : Setting) (built : IsBuilt s.options.constructs) (end : ℕ) (earli
   pub code-element : (c : Code) (cs : List Code) (o : Option (Forest × List Code)) → c.value ≡ 96
       → (provided s.options.constructs.code_text >> span_here 96 code_names (λ n. true) (ends_escaped earlier) previous) (c ∷ cs) ≡ o → text_element s end earlier previous (c ∷ cs) ≡ element_here c cs o
   unfolding tries tried code_span
-  code-element c cs o e h = one-row 96 s.options.constructs.code_text (span_here 96 code_names (λ n. true) (ends_escaped earlier) previous) c cs o e refl refl h
+  code-element c cs o e h = one-row 96 s.options.constructs.code_text (span_here 96 code_names (λ n. true) (ends_escaped earlier) previous) c cs o e refl refl refl h
 
   pub math-element : (c : Code) (cs : List Code) (o : Option (Forest × List Code)) → c.value ≡ 36
       → (provided s.options.constructs.math_text >> span_here 36 math_names (λ n. s.options.math_text_single_dollar || nat_lt 1 n) (ends_escaped earlier) previous) (c ∷ cs) ≡ o
       → text_element s end earlier previous (c ∷ cs) ≡ element_here c cs o
   unfolding tries tried math_span
   math-element c cs o e h =
-      one-row 36 s.options.constructs.math_text (span_here 36 math_names (λ n. s.options.math_text_single_dollar || nat_lt 1 n) (ends_escaped earlier) previous) c cs o e refl refl h
+      one-row 36 s.options.constructs.math_text (span_here 36 math_names (λ n. s.options.math_text_single_dollar || nat_lt 1 n) (ends_escaped earlier) previous) c cs o e refl refl refl h
 
   -- what `span_at` reads, of a tokenizer with these switches of spans and this before it
   pub span-element : (T : Tokenizer) (c : Code) (cs : List Code) (o : Option (Forest × List Code)) → spans_by s.options ≡ spans_by T.parse_state.now.options.now → StandsAfter earlier previous T
@@ -189,7 +204,7 @@ module _ (s : Setting) (built : IsBuilt s.options.constructs) (end : ℕ) (earli
   pub reference-element : (c : Code) (cs : List Code) (o : Option (Forest × List Code)) → c.value ≡ 38
       → (provided s.options.constructs.character_reference >> reference s.references) (c ∷ cs) ≡ o → text_element s end earlier previous (c ∷ cs) ≡ element_here c cs o
   unfolding tries tried
-  reference-element c cs o e h = one-row 38 s.options.constructs.character_reference (reference s.references) c cs o e refl refl h
+  reference-element c cs o e h = one-row 38 s.options.constructs.character_reference (reference s.references) c cs o e refl refl refl h
 
   -- Rows of two constructs, the second of which is off.
 
@@ -197,7 +212,7 @@ module _ (s : Setting) (built : IsBuilt s.options.constructs) (end : ℕ) (earli
       → (provided s.options.constructs.autolink >> autolink) (c ∷ cs) ≡ o → text_element s end earlier previous (c ∷ cs) ≡ element_here c cs o
   unfolding tries tried
   autolink-element c cs o e h =
-      text-row 60 _ c cs e refl
+      text-row 60 _ c cs e refl refl
       ∙ plain-or-data _ c cs o (value-other 60 c e refl)
       (either-first (switched s.options.constructs.autolink (as_plain autolink)) _ (c ∷ cs) (switched-none s.options.constructs.html_text _ (c ∷ cs) built.no_html)
       ∙ plain-switched s.options.constructs.autolink autolink (c ∷ cs) ∙ ap plain_of h)
@@ -209,7 +224,7 @@ module _ (s : Setting) (built : IsBuilt s.options.constructs) (end : ℕ) (earli
 
   slash-at : (c : Code) (cs : List Code) → c.value ≡ 92 → text_element s end earlier previous (c ∷ cs) ≡ either slash_row data_code (c ∷ cs)
   unfolding tries tried slash_row
-  slash-at c cs e = text-row 92 _ c cs e refl
+  slash-at c cs e = text-row 92 _ c cs e refl refl
 
   pub escape-element : (c : Code) (cs : List Code) (t : Forest) (rest : List Code) → c.value ≡ 92
       → (provided s.options.constructs.character_escape >> escape) (c ∷ cs) ≡ Some (t, rest) → text_element s end earlier previous (c ∷ cs) ≡ Some (plain t, rest)
@@ -232,61 +247,63 @@ module _ (s : Setting) (built : IsBuilt s.options.constructs) (end : ℕ) (earli
   -- Constructs that are off.
 
   -- a row that does not hold
-  row-none : (v : ℕ) (row : Reading Element) (c : Code) (cs : List Code) → c.value ≡ v → (v == 10) ≡ false → tried (tries s end earlier previous) v ≡ row → row (c ∷ cs) ≡ None
+  row-none : (v : ℕ) (row : Reading Element) (c : Code) (cs : List Code) → c.value ≡ v → (v == 10) ≡ false → (v == 91) ≡ false → tried (tries s end earlier previous) v ≡ row → row (c ∷ cs) ≡ None
       → text_element s end earlier previous (c ∷ cs) ≡ Some (plain (code_leaf c), cs)
-  row-none v row c cs e k r h = text-row v row c cs e r ∙ either-second row data_code (c ∷ cs) h ∙ data-alone c cs (value-other v c e k)
+  row-none v row c cs e k n r h = text-row v row c cs e n r ∙ either-second row data_code (c ∷ cs) h ∙ data-alone c cs (value-other v c e k)
 
-  off-row : (v : ℕ) (on : Bool) (a : Reading Element) (c : Code) (cs : List Code) → c.value ≡ v → (v == 10) ≡ false → tried (tries s end earlier previous) v ≡ switched on a → on ≡ false
+  off-row : (v : ℕ) (on : Bool) (a : Reading Element) (c : Code) (cs : List Code) → c.value ≡ v → (v == 10) ≡ false → (v == 91) ≡ false → tried (tries s end earlier previous) v ≡ switched on a → on ≡ false
       → text_element s end earlier previous (c ∷ cs) ≡ Some (plain (code_leaf c), cs)
-  off-row v on a c cs e k r h = row-none v (switched on a) c cs e k r (switched-none on a (c ∷ cs) h)
+  off-row v on a c cs e k n r h = row-none v (switched on a) c cs e k n r (switched-none on a (c ∷ cs) h)
 
   off-image : (c : Code) (cs : List Code) → c.value ≡ 33 → text_element s end earlier previous (c ∷ cs) ≡ Some (plain (code_leaf c), cs)
   unfolding tries tried
-  off-image c cs e = off-row 33 s.options.constructs.label_start_image _ c cs e refl refl built.no_image
+  off-image c cs e = off-row 33 s.options.constructs.label_start_image _ c cs e refl refl refl built.no_image
 
   off-star : (c : Code) (cs : List Code) → c.value ≡ 42 → text_element s end earlier previous (c ∷ cs) ≡ Some (plain (code_leaf c), cs)
   unfolding tries tried
-  off-star c cs e = off-row 42 s.options.constructs.attention _ c cs e refl refl built.no_attention
+  off-star c cs e = off-row 42 s.options.constructs.attention _ c cs e refl refl refl built.no_attention
 
   off-underscore : (c : Code) (cs : List Code) → c.value ≡ 95 → text_element s end earlier previous (c ∷ cs) ≡ Some (plain (code_leaf c), cs)
   unfolding tries tried
-  off-underscore c cs e = off-row 95 s.options.constructs.attention _ c cs e refl refl built.no_attention
+  off-underscore c cs e = off-row 95 s.options.constructs.attention _ c cs e refl refl refl built.no_attention
 
   off-tilde : (c : Code) (cs : List Code) → c.value ≡ 126 → text_element s end earlier previous (c ∷ cs) ≡ Some (plain (code_leaf c), cs)
   unfolding tries tried
-  off-tilde c cs e = off-row 126 s.options.constructs.gfm_strikethrough _ c cs e refl refl built.no_strikethrough
+  off-tilde c cs e = off-row 126 s.options.constructs.gfm_strikethrough _ c cs e refl refl refl built.no_strikethrough
 
   off-large-h : (c : Code) (cs : List Code) → c.value ≡ 72 → text_element s end earlier previous (c ∷ cs) ≡ Some (plain (code_leaf c), cs)
   unfolding tries tried
-  off-large-h c cs e = off-row 72 s.options.constructs.gfm_autolink_literal _ c cs e refl refl built.no_literals
+  off-large-h c cs e = off-row 72 s.options.constructs.gfm_autolink_literal _ c cs e refl refl refl built.no_literals
 
   off-small-h : (c : Code) (cs : List Code) → c.value ≡ 104 → text_element s end earlier previous (c ∷ cs) ≡ Some (plain (code_leaf c), cs)
   unfolding tries tried
-  off-small-h c cs e = off-row 104 s.options.constructs.gfm_autolink_literal _ c cs e refl refl built.no_literals
+  off-small-h c cs e = off-row 104 s.options.constructs.gfm_autolink_literal _ c cs e refl refl refl built.no_literals
 
   off-large-w : (c : Code) (cs : List Code) → c.value ≡ 87 → text_element s end earlier previous (c ∷ cs) ≡ Some (plain (code_leaf c), cs)
   unfolding tries tried
-  off-large-w c cs e = off-row 87 s.options.constructs.gfm_autolink_literal _ c cs e refl refl built.no_literals
+  off-large-w c cs e = off-row 87 s.options.constructs.gfm_autolink_literal _ c cs e refl refl refl built.no_literals
 
   off-small-w : (c : Code) (cs : List Code) → c.value ≡ 119 → text_element s end earlier previous (c ∷ cs) ≡ Some (plain (code_leaf c), cs)
   unfolding tries tried
-  off-small-w c cs e = off-row 119 s.options.constructs.gfm_autolink_literal _ c cs e refl refl built.no_literals
+  off-small-w c cs e = off-row 119 s.options.constructs.gfm_autolink_literal _ c cs e refl refl refl built.no_literals
 
-  off-bracket : (c : Code) (cs : List Code) → c.value ≡ 91 → text_element s end earlier previous (c ∷ cs) ≡ Some (plain (code_leaf c), cs)
+  off-bracket : (c : Code) (cs : List Code) → first_check s end earlier previous (c ∷ cs) ≡ None → c.value ≡ 91 → text_element s end earlier previous (c ∷ cs) ≡ Some (plain (code_leaf c), cs)
   unfolding tries tried
-  off-bracket c cs e =
-      row-none 91 _ c cs e refl refl
+  off-bracket c cs none e =
+      text-at _ c cs none (ap (tried (tries s end earlier previous)) e)
+      ∙ either-second _ data_code (c ∷ cs)
       (either-second (switched s.options.constructs.gfm_label_start_footnote _) (switched s.options.constructs.label_start_link _) (c ∷ cs) (switched-none s.options.constructs.gfm_label_start_footnote _ (c ∷ cs) built.no_footnotes)
       ∙ switched-none s.options.constructs.label_start_link _ (c ∷ cs) built.no_link)
+      ∙ data-alone c cs (value-other 91 c e refl)
 
   off-end : (c : Code) (cs : List Code) → c.value ≡ 93 → text_element s end earlier previous (c ∷ cs) ≡ Some (plain (code_leaf c), cs)
   unfolding tries tried
-  off-end c cs e = off-row 93 s.options.constructs.label_end _ c cs e refl refl built.no_label_end
+  off-end c cs e = off-row 93 s.options.constructs.label_end _ c cs e refl refl refl built.no_label_end
 
-  pub off-element : (v : ℕ) (c : Code) (cs : List Code) → list_any (λ n. v == n) off_markers ≡ true → c.value ≡ v → text_element s end earlier previous (c ∷ cs) ≡ Some (plain (code_leaf c), cs)
-  off-element v c cs h =
+  pub off-element : (v : ℕ) (c : Code) (cs : List Code) → first_check s end earlier previous (c ∷ cs) ≡ None → list_any (λ n. v == n) off_markers ≡ true → c.value ≡ v → text_element s end earlier previous (c ∷ cs) ≡ Some (plain (code_leaf c), cs)
+  off-element v c cs none h =
       one-of (λ n. c.value ≡ n → text_element s end earlier previous (c ∷ cs) ≡ Some (plain (code_leaf c), cs)) off_markers v
-      (off-image c cs, (off-star c cs, (off-underscore c cs, (off-tilde c cs, (off-large-h c cs, (off-small-h c cs, (off-large-w c cs, (off-small-w c cs, (off-bracket c cs, (off-end c cs, tt)))))))))) h
+      (off-image c cs, (off-star c cs, (off-underscore c cs, (off-tilde c cs, (off-large-h c cs, (off-small-h c cs, (off-large-w c cs, (off-small-w c cs, (off-bracket c cs none, (off-end c cs, tt)))))))))) h
 
   -- Codes that begin no construct.
 
@@ -338,11 +355,11 @@ module _ (s : Setting) (built : IsBuilt s.options.constructs) (end : ℕ) (earli
 
   ending-at : (c : Code) (cs : List Code) → is_line_ending c ≡ true → text_element s end earlier previous (c ∷ cs) ≡ Some (plain (code_leaf c), cs)
   unfolding tries tried
-  ending-at c cs e = text-row 10 line_ending c cs (eqb-true c.value 10 e) refl ∙ either-some line_ending data_code (c ∷ cs) (plain (code_leaf c), cs) (ending-alone c cs e)
+  ending-at c cs e = text-row 10 line_ending c cs (eqb-true c.value 10 e) refl refl ∙ either-some line_ending data_code (c ∷ cs) (plain (code_leaf c), cs) (ending-alone c cs e)
 
   data-at : (c : Code) (cs : List Code) → is_line_ending c ≡ false → is_among text_markers c ≡ false → text_element s end earlier previous (c ∷ cs) ≡ Some (plain (code_leaf c), cs)
   data-at c cs e h =
-      text-at data_code c cs (plain-tried c.value e (are-other text_markers c.value h)) ∙ either-some data_code data_code (c ∷ cs) (plain (code_leaf c), cs) (data-alone c cs e)
+      text-at data_code c cs (no-check c cs (are-other text_markers c.value h).1.1.1.1.1.1.1.1.1.1.1.1.0) (plain-tried c.value e (are-other text_markers c.value h)) ∙ either-some data_code data_code (c ∷ cs) (plain (code_leaf c), cs) (data-alone c cs e)
 
   pub other-element : (c : Code) (cs : List Code) → is_among text_markers c ≡ false → text_element s end earlier previous (c ∷ cs) ≡ Some (plain (code_leaf c), cs)
   other-element c cs h = by_ending (is_line_ending c) refl

@@ -1,11 +1,14 @@
 -- The laws of the states of a text.
-use Rattle.std.proofs.Common.{◌≡◌, ◌≢◌, ℕ, ◌+◌, ◌*◌, ◌<◌, ◌≤◌, ◌==◌, ◌||◌, Bool, true, false, if◌then◌else◌, Option, Some, None, List, [], ◌∷◌, inl, inr, refl, sym, ap, subst, ◌∙◌, arith}
+use Rattle.markdown_leaf.proofs.ReadingLemmas.{switched-off}
+use Rattle.markdown_model.specs.Leaf.{task_check}
+use Rattle.markdown_model.specs.CodeTests.{last_code}
+use Rattle.std.proofs.Common.{◌≡◌, ◌≢◌, ℕ, ◌+◌, ◌*◌, ◌<◌, ◌≤◌, ◌==◌, ◌||◌, Bool, true, false, if◌then◌else◌, Option, Some, None, List, [], ◌∷◌, inl, inr, refl, sym, ap, subst, ◌∙◌, arith, length, length-append, is_none, ◌&&◌}
 use Rattle.std.specs.List.{list_any}
 use Rattle.std.proofs.lemmas.Bool.{eqb-true, or_cases}
 use Rattle.markdown_engine.specs.Codes.{Code}
-use Rattle.markdown_engine.specs.Ops.{ahead, current_of, registered, scratched}
+use Rattle.markdown_engine.specs.Ops.{ahead, current_of, registered, scratched, previous_of}
 use Rattle.markdown_engine.specs.Past.{past, moved_by, EndsAs, Reads, Refuses, TreeReading}
-use Rattle.markdown_engine.specs.Place.{Place, moved}
+use Rattle.markdown_engine.specs.Place.{Place, moved, code_before, value_of}
 use Rattle.markdown_engine.specs.Grown.{Fails}
 use Rattle.markdown_engine.specs.Runs.{Stepped, stepped, GoesOn}
 use Rattle.markdown_engine.specs.Tree.{Forest, leaf_codes}
@@ -18,7 +21,8 @@ use Rattle.markdown_engine.specs.declared.tokenizer.TokenizeState.{TokenizeState
 use Rattle.markdown_engine.specs.declared.tokenizer.Tokenizer.{Tokenizer}
 use Rattle.markdown_engine.proofs.EndsLemmas.{scratched-same}
 use Rattle.markdown_engine.proofs.Laws.{Follows, Goes-plain, Goes-attempt, code-step, restored-fails, Grown-refl}
-use Rattle.markdown_engine.proofs.OpRules.{attempts-registered, attempts-scratched, left-scratched}
+use Rattle.markdown_engine.proofs.OpRules.{attempts-registered, attempts-scratched, left-scratched, left-ahead}
+use Rattle.markdown_gfm.specs.GfmTaskListItemCheck as C
 use Rattle.markdown_leaf.specs.Autolink.{link_here}
 use Rattle.markdown_leaf.specs.CharacterEscape.{escape_here}
 use Rattle.markdown_leaf.specs.CharacterReference.{IsAtRest, reference_here}
@@ -30,12 +34,12 @@ use Rattle.markdown_util.specs.Reference.{html_5_rows}
 use Rattle.markdown_inline.specs.Elements.{Advances, Finishes}
 use Rattle.markdown_inline.specs.Layer.{ready_of, ends_of, weight_of}
 use Rattle.markdown_inline.specs.StringSteps.{is_on}
-use Rattle.markdown_inline.specs.TextSteps.{text_markers, text_marked, text_passed, trying, start_step, first_try, tries_at, before_at, before_step, before_html_step, before_hard_break_escape_step, before_label_start_link_step, before_data_step, text_setting, text_choice_of, BeforeReady, BeforeDataReady, BeforeBreakReady, StandsAlone, before_ends, start_ends}
+use Rattle.markdown_inline.specs.TextSteps.{text_markers, text_marked, text_passed, trying, start_step, first_try, tries_at, before_at, before_step, before_html_step, before_hard_break_escape_step, before_label_start_link_step, before_data_step, text_setting, text_choice_of, StartReady, IsMarked, BeforeReady, BeforeDataReady, BeforeBreakReady, StandsAlone, before_ends, start_ends}
 use Rattle.markdown_inline.specs.Unbuilt.{never, never_step, never_ends}
-use Rattle.markdown_inline.specs.Laws.NodeLemmas.{escape-node, reference-node, break-node, autolink-node, span-node}
+use Rattle.markdown_inline.specs.Laws.NodeLemmas.{check-node, escape-node, reference-node, break-node, autolink-node, span-node}
 use Rattle.markdown_inline.specs.Laws.TextElements.{off_markers}
-use Rattle.markdown_inline.specs.Laws.TextTries.{ReadsNodes, ReadsElements, reference-reads, reference-alone, autolink-reads, autolink-alone, escape-reads, break-reads, break-alone, span-reads, span-alone, off-alone, other-alone, other-data}
-use Rattle.markdown_inline.specs.Laws.ElementLemmas.{advances-finishes, finishes-end, node-advances, data-advances}
+use Rattle.markdown_inline.specs.Laws.TextTries.{ReadsNodes, ReadsElements, none-valued, check-reads, no-check-at-end, reference-reads, reference-alone, autolink-reads, autolink-alone, escape-reads, break-reads, break-alone, span-reads, span-alone, off-alone, other-alone, other-data}
+use Rattle.markdown_inline.specs.Laws.ElementLemmas.{before-past, advances-finishes, finishes-end, node-advances, data-advances}
 
 -- Past an element the choice and the scratch fields are as they were.
 
@@ -52,12 +56,31 @@ fields-past : (t : Forest) (T U : Tokenizer) → U ≡ past None t T → U.token
 unfolding past
 fields-past t T U e = ap (λ (x : Tokenizer). x.tokenize_state) e
 
-ready-past : (T U : Tokenizer) → U.tokenize_state ≡ T.tokenize_state → codes_left U ≤ codes_left T → BeforeReady T → BeforeReady U
-ready-past T U e l r =
+marked-past : (T U : Tokenizer) → U.tokenize_state ≡ T.tokenize_state → codes_left U ≤ codes_left T → IsMarked T → IsMarked U
+marked-past T U e l r =
     record {
-      marked = ap (λ (s : TokenizeState). s.markers) e ∙ r.marked;
+      markers = ap (λ (s : TokenizeState). s.markers) e ∙ r.markers;
       spans = record { rest = e ∙ r.spans.rest ∙ ap X.rested (sym e); fits = omega (arith, l, r.spans.fits) };
     }
+
+-- past an element no check may begin
+
+some-last : (cs : List Code) → 1 ≤ length cs → is_none (last_code cs) ≡ false
+some-last [] h = absurd (omega arith)
+some-last (c ∷ []) h = refl
+some-last (c ∷ d ∷ cs) h = some-last (d ∷ cs) (omega arith)
+
+and-none : (a b : Bool) (o : Option ℕ) → is_none o ≡ false → a && (b && is_none o) ≡ false
+and-none true true o e = e
+and-none true false o e = refl
+and-none false b o e = refl
+
+no-check-past : (T U : Tokenizer) (a : Advances (text_choice_of T) (Unit {0}) T U) → C.check_here U (ahead U) ≡ None
+unfolding code_before
+no-check-past T U a =
+    let size : 1 ≤ length (leaf_codes a.tree) = omega (arith, a.less, left-ahead T, left-ahead U, ap length a.whole, length-append (leaf_codes a.tree) (ahead U)) in
+    let before : is_none (previous_of U) ≡ false = ap (λ o. is_none (value_of o)) (before-past a.tree (ahead U) T U size a.whole a.left) ∙ none-valued (last_code (leaf_codes a.tree)) ∙ some-last (leaf_codes a.tree) size in
+    switched-off task_check (C.may_begin U) (ahead U) (and-none U.parse_state.now.options.now.constructs.gfm_task_list_item U.tokenize_state.document_at_first_paragraph_of_list_item (previous_of U) before)
 
 -- what follows an element, follows from before it
 advances-ends : (T U : Tokenizer) → Advances (text_choice_of T) (Unit {0}) T U → (ok : Bool) (V : Tokenizer) → before_ends U ok V → before_ends T ok V
@@ -68,10 +91,10 @@ advances-ends T U a true V k =
 advances-ends T U a false V k = k
 
 -- past an element the run goes on before the next
-on-before : (n : ℕ) (T U : Tokenizer) → codes_left T * 256 < n → BeforeReady T → Advances (text_choice_of T) (Unit {0}) T U → Follows ready_of ends_of weight_of n (before_ends T) (Next TextBefore) U
+on-before : (n : ℕ) (T U : Tokenizer) → codes_left T * 256 < n → IsMarked T → Advances (text_choice_of T) (Unit {0}) T U → Follows ready_of ends_of weight_of n (before_ends T) (Next TextBefore) U
 on-before n T U room r a =
     record {
-      goes_on = ready-past T U (fields-past a.tree T U a.left) (omega (arith, a.less)) r;
+      goes_on = record { marked = marked-past T U (fields-past a.tree T U a.left) (omega (arith, a.less)) r; unchecked = no-check-past T U a };
       falls = omega (arith, a.less);
       closed = λ ok V h. advances-ends T U a ok V h;
     }
@@ -82,7 +105,7 @@ on-before n T U room r a =
 abbrev EndsOf : StateName → TreeReading → Tokenizer → Type 0
 EndsOf construct reading T = (ok : Bool) (U : Tokenizer) → ends_of construct T ok U → EndsAs reading None T.tokenize_state T ok U
 
-try-law : (rank : ℕ) (T : Tokenizer) (construct otherwise : StateName) (reading : TreeReading) → T.attempts ≡ [] → ready_of construct T → weight_of construct T < weight_at rank T → BeforeReady T → EndsOf construct reading T → ReadsNodes reading T → ReadsElements reading T → (reading (ahead T) ≡ None → Follows ready_of ends_of weight_of (weight_at rank T) (before_ends T) (Next otherwise) T) → GoesOn ready_of ends_of weight_of (weight_at rank T) (before_ends T) (trying construct otherwise T)
+try-law : (rank : ℕ) (T : Tokenizer) (construct otherwise : StateName) (reading : TreeReading) → T.attempts ≡ [] → ready_of construct T → weight_of construct T < weight_at rank T → IsMarked T → EndsOf construct reading T → ReadsNodes reading T → ReadsElements reading T → (reading (ahead T) ≡ None → Follows ready_of ends_of weight_of (weight_at rank T) (before_ends T) (Next otherwise) T) → GoesOn ready_of ends_of weight_of (weight_at rank T) (before_ends T) (trying construct otherwise T)
 try-law rank T construct otherwise reading alone on falls ready ends nodes elements fails =
     Goes-attempt ready_of ends_of weight_of (weight_at rank T) (before_ends T) (Retry construct) (Next TextBefore) (Next otherwise) T alone on falls
     (λ U now h.
@@ -139,11 +162,11 @@ unmarked v a b c d f g i j k l =
 weight-marked : (T : Tokenizer) → weight_at 8 (text_marked T) ≡ weight_at 8 T
 weight-marked T = ap (λ n. 256 * n + 8 + 1) (left-scratched (record T.tokenize_state { markers = text_markers }) T)
 
-at-rest-reference : (T : Tokenizer) → BeforeReady T → IsAtRest T
+at-rest-reference : (T : Tokenizer) → IsMarked T → IsAtRest T
 at-rest-reference T r = record { marker = ap (λ (s : TokenizeState). s.marker) r.spans.rest; size = ap (λ (s : TokenizeState). s.size) r.spans.rest }
 
 -- a construct that is not built is tried, and the run goes on to the code by itself
-off-law : (rank : ℕ) (T : Tokenizer) (construct otherwise : StateName) → T.attempts ≡ [] → BeforeReady T → ready_of construct T → weight_of construct T < weight_at rank T → EndsOf construct never T → Follows ready_of ends_of weight_of (weight_at rank T) (before_ends T) (Next otherwise) T → GoesOn ready_of ends_of weight_of (weight_at rank T) (before_ends T) (trying construct otherwise T)
+off-law : (rank : ℕ) (T : Tokenizer) (construct otherwise : StateName) → T.attempts ≡ [] → IsMarked T → ready_of construct T → weight_of construct T < weight_at rank T → EndsOf construct never T → Follows ready_of ends_of weight_of (weight_at rank T) (before_ends T) (Next otherwise) T → GoesOn ready_of ends_of weight_of (weight_at rank T) (before_ends T) (trying construct otherwise T)
 off-law rank T construct otherwise alone ready on falls ends next =
     try-law rank T construct otherwise never alone on falls ready ends (λ t rest e. cc) (λ t rest e. cc) (λ e. next)
 
@@ -177,30 +200,30 @@ module _ (T : Tokenizer) (alone : T.attempts ≡ []) (ready : BeforeReady T) whe
 
   tries-span : (v : ℕ) → current_of T ≡ Some v → (v == 36 || v == 96) ≡ true → Before (trying RawTextStart TextBeforeData T)
   tries-span v e h =
-      try-law 7 T RawTextStart TextBeforeData (X.span_at T) alone ready.spans (omega arith) ready (λ ok U g. g) (λ t rest g. span-node T (ahead T) t rest g) (span-reads T v e h) (λ none. to-data 7 T v (omega arith) ready e (span-alone T v e h none))
+      try-law 7 T RawTextStart TextBeforeData (X.span_at T) alone ready.marked.spans (omega arith) ready.marked (λ ok U g. g) (λ t rest g. span-node T (ahead T) t rest g) (span-reads T v e h) (λ none. to-data 7 T v (omega arith) ready e (span-alone T v e h none))
 
   tries-reference : current_of T ≡ Some 38 → Before (trying CharacterReferenceStart TextBeforeData T)
   tries-reference d =
-      try-law 7 T CharacterReferenceStart TextBeforeData (reference_here T) alone (at-rest-reference T ready) (omega arith) ready (λ ok U g. g) (λ t rest g. reference-node (is_on T).character_reference html_5_rows (ahead T) t rest g) (reference-reads T d) (λ none. to-data 7 T 38 (omega arith) ready d (reference-alone T d none))
+      try-law 7 T CharacterReferenceStart TextBeforeData (reference_here T) alone (at-rest-reference T ready.marked) (omega arith) ready.marked (λ ok U g. g) (λ t rest g. reference-node (is_on T).character_reference html_5_rows (ahead T) t rest g) (reference-reads T d) (λ none. to-data 7 T 38 (omega arith) ready d (reference-alone T d none))
 
   tries-autolink : current_of T ≡ Some 60 → Before (trying AutolinkStart TextBeforeHtml T)
   tries-autolink d =
-      try-law 7 T AutolinkStart TextBeforeHtml (link_here T) alone (at-rest-reference T ready).size (omega arith) ready (λ ok U g. g) (λ t rest g. autolink-node (is_on T).autolink (ahead T) t rest g) (autolink-reads T d)
+      try-law 7 T AutolinkStart TextBeforeHtml (link_here T) alone (at-rest-reference T ready.marked).size (omega arith) ready.marked (λ ok U g. g) (λ t rest g. autolink-node (is_on T).autolink (ahead T) t rest g) (autolink-reads T d)
       (λ none. record { goes_on = to-alone T 60 ready d (autolink-alone T d none); falls = omega arith; closed = λ ok V h. h })
 
   tries-escape : current_of T ≡ Some 92 → Before (trying CharacterEscapeStart TextBeforeHardBreakEscape T)
   tries-escape d =
-      try-law 7 T CharacterEscapeStart TextBeforeHardBreakEscape (escape_here T) alone tt (omega arith) ready (λ ok U g. g) (λ t rest g. escape-node (is_on T).character_escape (ahead T) t rest g) (escape-reads T d)
+      try-law 7 T CharacterEscapeStart TextBeforeHardBreakEscape (escape_here T) alone tt (omega arith) ready.marked (λ ok U g. g) (λ t rest g. escape-node (is_on T).character_escape (ahead T) t rest g) (escape-reads T d)
       (λ none. record { goes_on = record { before = ready; slash = d; no_escape = none }; falls = omega arith; closed = λ ok V h. h })
 
   -- a construct that is not built, and then the code by itself
   tries-off : (v : ℕ) (construct : StateName) → current_of T ≡ Some v → list_any (λ n. v == n) off_markers ≡ true → ready_of construct T → weight_of construct T < weight_at 7 T → EndsOf construct never T → Before (trying construct TextBeforeData T)
-  tries-off v construct e h on falls ends = off-law 7 T construct TextBeforeData alone ready on falls ends (to-data 7 T v (omega arith) ready e (off-alone T v e h))
+  tries-off v construct e h on falls ends = off-law 7 T construct TextBeforeData alone ready.marked on falls ends (to-data 7 T v (omega arith) ready e (off-alone T v ready.unchecked e h))
 
   tries-footnote : current_of T ≡ Some 91 → Before (trying GfmLabelStartFootnoteStart TextBeforeLabelStartLink T)
   tries-footnote d =
-      off-law 7 T GfmLabelStartFootnoteStart TextBeforeLabelStartLink alone ready tt (omega arith) (λ ok U g. g)
-      (record { goes_on = to-alone T 91 ready d (off-alone T 91 d refl); falls = omega arith; closed = λ ok V h. h })
+      off-law 7 T GfmLabelStartFootnoteStart TextBeforeLabelStartLink alone ready.marked tt (omega arith) (λ ok U g. g)
+      (record { goes_on = to-alone T 91 ready d (off-alone T 91 ready.unchecked d refl); falls = omega arith; closed = λ ok V h. h })
 
   tries-none : (v : ℕ) → current_of T ≡ Some v → list_any (λ n. v == n) text_markers ≡ false → Before (stepped (Retry TextBeforeData) T)
   tries-none v e h =
@@ -230,15 +253,15 @@ module _ (T : Tokenizer) (alone : T.attempts ≡ []) (ready : BeforeReady T) whe
 
 pub before_html-law : (T : Tokenizer) → T.attempts ≡ [] → BeforeDataReady T → GoesOn ready_of ends_of weight_of (weight_at 6 T) (before_ends T) (before_html_step T)
 before_html-law T alone r =
-    off-law 6 T HtmlTextStart TextBeforeData alone r.before tt (omega arith) (λ ok U g. g) (record { goes_on = r; falls = omega arith; closed = λ ok V h. h })
+    off-law 6 T HtmlTextStart TextBeforeData alone r.before.marked tt (omega arith) (λ ok U g. g) (record { goes_on = r; falls = omega arith; closed = λ ok V h. h })
 
 pub before_label_start_link-law : (T : Tokenizer) → T.attempts ≡ [] → BeforeDataReady T → GoesOn ready_of ends_of weight_of (weight_at 6 T) (before_ends T) (before_label_start_link_step T)
 before_label_start_link-law T alone r =
-    off-law 6 T LabelStartLinkStart TextBeforeData alone r.before tt (omega arith) (λ ok U g. g) (record { goes_on = r; falls = omega arith; closed = λ ok V h. h })
+    off-law 6 T LabelStartLinkStart TextBeforeData alone r.before.marked tt (omega arith) (λ ok U g. g) (record { goes_on = r; falls = omega arith; closed = λ ok V h. h })
 
 pub before_hard_break_escape-law : (T : Tokenizer) → T.attempts ≡ [] → BeforeBreakReady T → GoesOn ready_of ends_of weight_of (weight_at 6 T) (before_ends T) (before_hard_break_escape_step T)
 before_hard_break_escape-law T alone r =
-    try-law 6 T HardBreakEscapeStart TextBeforeData (break_here T) alone tt (omega arith) r.before (λ ok U g. g) (λ t rest g. break-node (is_on T).hard_break_escape (ahead T) t rest g) (break-reads T r.slash r.no_escape)
+    try-law 6 T HardBreakEscapeStart TextBeforeData (break_here T) alone tt (omega arith) r.before.marked (λ ok U g. g) (λ t rest g. break-node (is_on T).hard_break_escape (ahead T) t rest g) (break-reads T r.slash r.no_escape)
     (λ none. to-data 6 T 92 (omega arith) r.before r.slash (break-alone T r.slash r.no_escape none))
 
 -- data holds everywhere
@@ -250,20 +273,29 @@ data-holds markers (c ∷ cs) e = cc
 pub before_data-law : (T : Tokenizer) → T.attempts ≡ [] → BeforeDataReady T → GoesOn ready_of ends_of weight_of (weight_at 5 T) (before_ends T) (before_data_step T)
 before_data-law T alone r =
     Goes-attempt ready_of ends_of weight_of (weight_at 5 T) (before_ends T) (Retry DataStart) (Next TextBefore) Nok T alone tt (omega arith)
-    (λ U a k. on-before (weight_at 5 T) T U (omega arith) r.before (data-advances (text_choice_of T) (Unit {0}) text_markers T U r.before.marked r.some_code k
+    (λ U a k. on-before (weight_at 5 T) T U (omega arith) r.before.marked (data-advances (text_choice_of T) (Unit {0}) text_markers T U r.before.marked.markers r.some_code k
     (λ g earlier previous c cs stands w. r.alone earlier previous c cs stands w)
     (λ g earlier previous c cs h. other-data T earlier previous c cs h)))
     (λ U a k. absurd (data-holds T.tokenize_state.markers (ahead T) k.refused))
 
-marked-ready : (T : Tokenizer) → X.StartReady T → BeforeReady (text_marked T)
+marked-start : (T : Tokenizer) → X.StartReady T → IsMarked (text_marked T)
 unfolding scratched
-marked-ready T r = record { marked = refl; spans = record { rest = ap {A = TokenizeState} (λ s. record s { markers = text_markers }) r.rest; fits = r.fits } }
+marked-start T r = record { markers = refl; spans = record { rest = ap {A = TokenizeState} (λ s. record s { markers = text_markers }) r.rest; fits = r.fits } }
 
-pub start-law : (T : Tokenizer) → T.attempts ≡ [] → X.StartReady T → GoesOn ready_of ends_of weight_of (weight_at 8 T) (start_ends T) (start_step T)
+look-marked : (T : Tokenizer) → C.MayLook T → C.MayLook (text_marked T)
+unfolding scratched
+look-marked T r = record { resting = ap {A = TokenizeState} (λ s. record s { markers = text_markers }) r.resting; short = r.short }
+
+check-elements : (T : Tokenizer) (o : Option ℕ) → current_of T ≡ o → ReadsElements (C.check_here T) T
+check-elements T None e = no-check-at-end T e
+check-elements T (Some v) e = check-reads T v e
+
+pub start-law : (T : Tokenizer) → T.attempts ≡ [] → StartReady T → GoesOn ready_of ends_of weight_of (weight_at 8 T) (start_ends T) (start_step T)
 start-law T alone r =
     let M : Tokenizer = text_marked T in
     let s : TokenizeState = record T.tokenize_state { markers = text_markers } in
-    let ready : BeforeReady M = marked-ready T r in
+    let marked : IsMarked M = marked-start T r.spans in
     subst (λ n. GoesOn ready_of ends_of weight_of n (before_ends M) (start_step T)) (weight-marked T)
-    (off-law 8 M GfmTaskListItemCheckStart TextBefore (attempts-scratched s T ∙ alone) ready tt (omega arith) (λ ok U g. g)
-    (record { goes_on = ready; falls = omega arith; closed = λ ok V h. h }))
+    (try-law 8 M GfmTaskListItemCheckStart TextBefore (C.check_here M) (attempts-scratched s T ∙ alone) (look-marked T r.look) (omega arith) marked (λ ok U g. g)
+    (λ t rest g. check-node (C.may_begin M) (ahead M) t rest g) (check-elements M (current_of M) refl)
+    (λ none. record { goes_on = record { marked = marked; unchecked = none }; falls = omega arith; closed = λ ok V h. h }))

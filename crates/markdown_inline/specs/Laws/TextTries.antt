@@ -1,28 +1,33 @@
 -- What is tried at a code of a text: where it holds, it is the element at hand, and where nothing holds, the code is one by itself.
-use Rattle.std.proofs.Common.{◌≡◌, ℕ, ◌+◌, ◌≤◌, ◌==◌, ◌||◌, true, false, Option, Some, None, List, ◌∷◌, length, refl, sym, ap, ◌∙◌}
+use Rattle.markdown_leaf.proofs.ReadingLemmas.{bind-none}
+use Rattle.markdown_model.specs.Element.{first_check}
+use Rattle.markdown_model.specs.Grammar.{◌>>◌, provided, one}
+use Rattle.std.proofs.Common.{◌≡◌, ℕ, ◌+◌, ◌≤◌, ◌==◌, ◌||◌, true, false, Option, Some, None, List, ◌∷◌, length, refl, sym, ap, ◌∙◌, Bool, ◌&&◌, is_none, []}
 use Rattle.std.specs.List.{list_any}
 use Rattle.markdown_engine.specs.Codes.{Code, stop_of, document_start}
 use Rattle.markdown_engine.specs.Lists.{first_of, rest_of}
 use Rattle.markdown_engine.specs.Ops.{ahead, current_of}
 use Rattle.markdown_engine.specs.Past.{TreeReading}
-use Rattle.markdown_engine.specs.Place.{value_of}
+use Rattle.markdown_engine.specs.Place.{value_of, code_before}
 use Rattle.markdown_engine.specs.Tree.{Forest}
 use Rattle.markdown_engine.specs.declared.tokenizer.Tokenizer.{Tokenizer}
-use Rattle.markdown_engine.proofs.OpRules.{Begins, ahead-some, current-ahead}
+use Rattle.markdown_engine.proofs.OpRules.{Begins, ahead-some, current-ahead, ahead-none}
+use Rattle.markdown_gfm.specs.GfmTaskListItemCheck.{check_here, may_begin}
 use Rattle.markdown_leaf.specs.Autolink.{link_here}
 use Rattle.markdown_leaf.specs.CharacterEscape.{escape_here}
 use Rattle.markdown_leaf.specs.CharacterReference.{reference_here}
 use Rattle.markdown_leaf.specs.HardBreakEscape.{break_here}
-use Rattle.markdown_leaf.specs.RawText.{span_at}
+use Rattle.markdown_leaf.specs.RawText.{span_at, code_just_before}
 use Rattle.markdown_model.proofs.DataLaws.{code_leaf}
-use Rattle.markdown_model.specs.CodeTests.{is_among}
+use Rattle.markdown_model.specs.CodeTests.{is_among, is_value}
+use Rattle.markdown_model.specs.Leaf.{task_check}
 use Rattle.markdown_model.specs.LabelEnd.{Element, plain}
 use Rattle.markdown_model.specs.Setting.{Setting}
 use Rattle.markdown_inline.specs.Built.{IsBuilt, as_built}
 use Rattle.markdown_inline.specs.Elements.{IsNode, StandsAfter}
 use Rattle.markdown_inline.specs.Settings.{text_setting_of}
 use Rattle.markdown_inline.specs.TextSteps.{text_markers, text_setting, text_choice_of, StandsAlone}
-use Rattle.markdown_inline.specs.Laws.TextElements.{off_markers, span-element, reference-element, autolink-element, escape-element, break-element, off-element, other-element}
+use Rattle.markdown_inline.specs.Laws.TextElements.{off_markers, plain_of, plain-switched, off-or-none, check-element, span-element, reference-element, autolink-element, escape-element, break-element, off-element, other-element}
 
 -- what a construct reads is a tree that stands by itself
 abbrev pub ReadsNodes : TreeReading → Tokenizer → Type 0
@@ -44,7 +49,6 @@ built-off s = record {
   no_literals = refl;
   no_footnotes = refl;
   no_strikethrough = refl;
-  no_task_check = refl;
   no_html = refl;
   no_label_end = refl;
   no_image = refl;
@@ -129,10 +133,58 @@ span-alone T v e h =
     alone-at (span_at T) T v e (λ c cs k none earlier previous stands.
     span-element (text_setting T) (now-built T) (end_in T) earlier previous T c cs None refl stands (is-span c.value v k h) none)
 
+-- Checks.
+
+and-turned : (a b c : Bool) → (a && b) && c ≡ c && (b && a)
+and-turned true true true = refl
+and-turned true true false = refl
+and-turned true false true = refl
+and-turned true false false = refl
+and-turned false true true = refl
+and-turned false true false = refl
+and-turned false false true = refl
+and-turned false false false = refl
+
+pub none-valued : (o : Option Code) → is_none (value_of o) ≡ is_none o
+none-valued None = refl
+none-valued (Some c) = refl
+
+-- where a check may begin
+check-is : (T : Tokenizer) (earlier : List Element) (previous : Option Code) → StandsAfter earlier previous T → (is_none previous && (text_setting T).first_of_item) && (text_setting T).options.constructs.gfm_task_list_item ≡ may_begin T
+unfolding code_before
+check-is T earlier previous k =
+    let s : Setting = text_setting T in
+    and-turned (is_none previous) s.first_of_item s.options.constructs.gfm_task_list_item
+    ∙ ap (λ o. s.options.constructs.gfm_task_list_item && (s.first_of_item && is_none o)) (sym k.before)
+    ∙ ap (λ b. s.options.constructs.gfm_task_list_item && (s.first_of_item && b)) (sym (none-valued (code_just_before T)))
+
+checks-so : (T : Tokenizer) (earlier : List Element) (previous : Option Code) (cs : List Code) → StandsAfter earlier previous T → (provided ((is_none previous && (text_setting T).first_of_item) && (text_setting T).options.constructs.gfm_task_list_item) >> task_check) cs ≡ check_here T cs
+checks-so T earlier previous cs k = ap (λ b. (provided b >> task_check) cs) (check-is T earlier previous k)
+
+pub check-reads : (T : Tokenizer) (v : ℕ) → current_of T ≡ Some v → ReadsElements (check_here T) T
+check-reads T v e =
+    at-hand (check_here T) T v e (λ c cs t rest k holds earlier previous stands.
+    check-element (text_setting T) (now-built T) (end_in T) earlier previous c cs t rest (checks-so T earlier previous (c ∷ cs) stands ∙ holds))
+
+-- no check is read at no code
+pub no-check-at-end : (T : Tokenizer) → current_of T ≡ None → ReadsElements (check_here T) T
+unfolding task_check one
+no-check-at-end T e t rest holds earlier previous stands = absurd (no-end (check_here T []) (off-or-none (may_begin T) task_check [] (bind-none (one (is_value 91)) _ [] refl)) (ap (check_here T) (sym (ahead-none T e)) ∙ holds))
+  where
+    no-end : (o : Option (Forest × List Code)) → o ≡ None → o ≡ Some (t, rest) → ⊥
+    no-end None h k = cc
+    no-end (Some r) h k = cc
+
+-- no check stands here
+first-none : (T : Tokenizer) (earlier : List Element) (previous : Option Code) (c : Code) (cs : List Code) → check_here T (ahead T) ≡ None → StandsAfter earlier previous T → ahead T ≡ c ∷ cs → first_check (text_setting T) (end_in T) earlier previous (c ∷ cs) ≡ None
+unfolding first_check plain_of
+first-none T earlier previous c cs none k w =
+    plain-switched _ task_check (c ∷ cs) ∙ ap plain_of (checks-so T earlier previous (c ∷ cs) k ∙ ap (check_here T) (sym w) ∙ none)
+
 -- Constructs that are not built, and codes at which nothing is tried.
 
-pub off-alone : (T : Tokenizer) (v : ℕ) → current_of T ≡ Some v → list_any (λ n. v == n) off_markers ≡ true → StandsAlone T
-off-alone T v e h earlier previous c cs stands w = off-element (text_setting T) (now-built T) (end_in T) earlier previous v c cs h (value-here T v c cs e w)
+pub off-alone : (T : Tokenizer) (v : ℕ) → check_here T (ahead T) ≡ None → current_of T ≡ Some v → list_any (λ n. v == n) off_markers ≡ true → StandsAlone T
+off-alone T v none e h earlier previous c cs stands w = off-element (text_setting T) (now-built T) (end_in T) earlier previous v c cs (first-none T earlier previous c cs none stands w) h (value-here T v c cs e w)
 
 pub other-alone : (T : Tokenizer) (v : ℕ) → current_of T ≡ Some v → list_any (λ n. v == n) text_markers ≡ false → StandsAlone T
 other-alone T v e h earlier previous c cs stands w =

@@ -28,6 +28,17 @@ fn built(math_text: bool, math_text_single_dollar: bool) -> ParseOptions {
     }
 }
 
+// With checks of list items too.
+fn with_checks() -> ParseOptions {
+    ParseOptions {
+        constructs: Constructs {
+            gfm_task_list_item: true,
+            ..built(false, true).constructs
+        },
+        ..ParseOptions::default()
+    }
+}
+
 // What a run over a text finds.
 fn printed_text(
     alloc: Global,
@@ -119,6 +130,36 @@ fn reads_hard_breaks_by_spaces(rt: HostRuntime) -> Result<(), Fail> {
         ("a  ", "Data 0-1, SpaceOrTab 1-3"),
     ];
     expect(&rt, rt.alloc(), &built(false, true), &cases)?;
+    Ok(())
+}
+
+#[test]
+fn reads_checks_of_list_items(rt: HostRuntime) -> Result<(), Fail> {
+    let alloc = rt.alloc();
+    let options = with_checks();
+    for (document, first_of_item, want) in [
+        (
+            "[ ]\na",
+            true,
+            "GfmTaskListItemCheck 0-3 [GfmTaskListItemMarker 0-1, GfmTaskListItemValueUnchecked 1-2, GfmTaskListItemMarker 2-3], LineEnding 3-4, Data 4-5",
+        ),
+        ("[x]y", true, "Data 0-4"),
+        ("[x] ", true, "Data 0-3, SpaceOrTab 3-4"),
+        ("[x] y", false, "Data 0-5"),
+        (
+            "[x] y",
+            true,
+            "GfmTaskListItemCheck 0-3 [GfmTaskListItemMarker 0-1, GfmTaskListItemValueChecked 1-2, GfmTaskListItemMarker 2-3], Data 3-5",
+        ),
+    ] {
+        let pieces = [piece((0, 0), (document.len(), 0))];
+        if is_text(document.as_bytes(), &pieces) {
+            let parse_state = state_of(alloc, document.as_bytes(), &options);
+            let run = text(alloc, &parse_state, &pieces, first_of_item)?;
+            let got = printed(alloc, run.events.as_slice(), false)?;
+            assert_eq!(rt; got.as_str(), want, "{document}");
+        }
+    }
     Ok(())
 }
 

@@ -1,0 +1,2 @@
+pub mod LookLemmas
+pub mod GfmTaskListItemCheckLaws

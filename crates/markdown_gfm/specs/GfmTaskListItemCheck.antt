@@ -1,0 +1,140 @@
+-- What the states of a check of a task list item do, and how runs from them end.
+use Rattle.std.specs.Prelude.{◌≡◌, ◌≤◌, ℕ, Bool, true, false, ◌&&◌, ◌||◌, not, ◌==◌, if◌then◌else◌, Option, Some, None, is_none, List, [], ◌∷◌, codes}
+use Rattle.markdown_engine.specs.Lists.{rest_of}
+use Rattle.markdown_engine.specs.Ops.{Op, Enter, Exit, Consume, IsOpen, ahead, attempted, done, current_of, previous_of, scratched}
+use Rattle.markdown_engine.specs.Past.{EndsAs, TreeReading}
+use Rattle.markdown_engine.specs.Runs.{Stepped, stepped}
+use Rattle.markdown_engine.specs.Weights.{codes_left}
+use Rattle.markdown_model.specs.CodeTests.{is_value, is_among, is_whitespace_code, is_empty, next_is}
+use Rattle.markdown_model.specs.Grammar.{◌>>◌, provided}
+use Rattle.markdown_model.specs.Leaf.{task_check, begins_task_text}
+use Rattle.markdown_leaf.specs.Autolink.{among_values}
+use Rattle.markdown_leaf.specs.Program.{Program, preceded, KeepsAs}
+use Rattle.markdown_partial.specs.SpaceSteps.{most, asked, rested, at_blank}
+use Rattle.markdown_engine.specs.declared.event.Name.{Name}
+use Rattle.markdown_engine.specs.declared.event.Name.TheVariants as N
+use Rattle.markdown_engine.specs.declared.state.State.TheVariants.{Next, Retry, Nok}
+use Rattle.markdown_engine.specs.declared.state.State.TheVariants as State
+use Rattle.markdown_engine.specs.declared.state.StateName.TheVariants.{GfmTaskListItemCheckInside, GfmTaskListItemCheckClose, GfmTaskListItemCheckAfter, GfmTaskListItemCheckAfterSpaceOrTab, SpaceOrTabStart}
+use Rattle.markdown_engine.specs.declared.tokenizer.TokenizeState.{TokenizeState}
+use Rattle.markdown_engine.specs.declared.tokenizer.Tokenizer.{Tokenizer}
+
+-- Operations.
+
+abbrev pub opening : List Op
+opening = Enter N.GfmTaskListItemCheck ∷ Enter N.GfmTaskListItemMarker ∷ Consume ∷ Exit N.GfmTaskListItemMarker ∷ []
+
+abbrev pub value : Name → List Op
+value name = Enter name ∷ Consume ∷ Exit name ∷ []
+
+abbrev pub closing : List Op
+closing = Enter N.GfmTaskListItemMarker ∷ Consume ∷ Exit N.GfmTaskListItemMarker ∷ Exit N.GfmTaskListItemCheck ∷ []
+
+-- Tests on the value of a code.
+
+abbrev pub is_mark : ℕ → Bool
+is_mark v = among_values (codes "xX") v
+
+abbrev pub is_space : ℕ → Bool
+is_space v = (v == 32 || v == 9) || v == 10
+
+-- The states, by the current code.
+
+-- checks are on, and the first paragraph of a list item begins here
+abbrev pub may_begin : Tokenizer → Bool
+may_begin T =
+    T.parse_state.now.options.now.constructs.gfm_task_list_item
+    && (T.tokenize_state.document_at_first_paragraph_of_list_item && is_none (previous_of T))
+
+abbrev pub start_at : Bool → Option ℕ → Tokenizer → Stepped
+start_at may None T = stepped Nok T
+start_at may (Some c) T = if may && (c == 91) then stepped (Next GfmTaskListItemCheckInside) (done opening T) else stepped Nok T
+
+abbrev pub start_step : Tokenizer → Stepped
+start_step T = start_at (may_begin T) (current_of T) T
+
+abbrev pub inside_at : Option ℕ → Tokenizer → Stepped
+inside_at None T = stepped Nok T
+inside_at (Some c) T =
+    if is_mark c then stepped (Next GfmTaskListItemCheckClose) (done (value N.GfmTaskListItemValueChecked) T)
+    else (if is_space c then stepped (Next GfmTaskListItemCheckClose) (done (value N.GfmTaskListItemValueUnchecked) T) else stepped Nok T)
+
+abbrev pub inside_step : Tokenizer → Stepped
+inside_step T = inside_at (current_of T) T
+
+abbrev pub close_at : Option ℕ → Tokenizer → Stepped
+close_at None T = stepped Nok T
+close_at (Some c) T = if c == 93 then stepped (Next GfmTaskListItemCheckAfter) (done closing T) else stepped Nok T
+
+abbrev pub close_step : Tokenizer → Stepped
+close_step T = close_at (current_of T) T
+
+-- with one or more blank codes asked for
+abbrev pub space_asked : TokenizeState → TokenizeState
+space_asked s = asked 1 most N.SpaceOrTab false None s
+
+-- blank codes are attempted, in a check
+abbrev pub looked : Tokenizer → Tokenizer
+looked T = attempted false (Next GfmTaskListItemCheckAfterSpaceOrTab) Nok (attempted true State.Ok Nok (scratched (space_asked T.tokenize_state) T))
+
+abbrev pub after_at : Option ℕ → Tokenizer → Stepped
+after_at None T = stepped Nok T
+after_at (Some c) T =
+    if c == 10 then stepped State.Ok T
+    else (if at_blank (Some c) then stepped (Retry SpaceOrTabStart) (looked T) else stepped Nok T)
+
+abbrev pub after_step : Tokenizer → Stepped
+after_step T = after_at (current_of T) T
+
+abbrev pub after_space_or_tab_at : Option ℕ → Tokenizer → Stepped
+after_space_or_tab_at None T = stepped Nok T
+after_space_or_tab_at (Some c) T = stepped State.Ok T
+
+abbrev pub after_space_or_tab_step : Tokenizer → Stepped
+after_space_or_tab_step T = after_space_or_tab_at (current_of T) T
+
+-- When they may be called.
+
+-- blank codes may be asked for: their fields are at rest, and fewer codes are left than a `usize` counts
+pub record MayLook (T : Tokenizer) : Type 0 where
+  pub resting : rested T.tokenize_state ≡ T.tokenize_state
+  pub short : codes_left T ≤ most
+
+-- between the brackets
+pub record IsOpened (T : Tokenizer) : Type 0 where
+  pub whole : IsOpen N.GfmTaskListItemCheck T
+  pub look : MayLook T
+
+-- How runs end.
+
+-- the codes at hand read as a check, where one may begin
+abbrev pub check_here : Tokenizer → TreeReading
+check_here T = provided (may_begin T) >> task_check
+
+abbrev pub start_ends : Tokenizer → Bool → Tokenizer → Type 0
+start_ends T ok U = EndsAs (check_here T) None T.tokenize_state T ok U
+
+-- the text of the item follows
+abbrev pub after_program : Program
+after_program cs = if begins_task_text cs then Some [] else None
+
+abbrev pub close_program : Program
+close_program cs = if next_is (is_value 93) cs then preceded closing (after_program (rest_of cs)) else None
+
+abbrev pub inside_program : Program
+inside_program cs =
+    if next_is (is_among (codes "xX")) cs then preceded (value N.GfmTaskListItemValueChecked) (close_program (rest_of cs))
+    else (if next_is is_whitespace_code cs then preceded (value N.GfmTaskListItemValueUnchecked) (close_program (rest_of cs)) else None)
+
+abbrev pub inside_ends : Tokenizer → Bool → Tokenizer → Type 0
+inside_ends T ok U = KeepsAs 1 inside_program T ok U
+
+abbrev pub close_ends : Tokenizer → Bool → Tokenizer → Type 0
+close_ends T ok U = KeepsAs 1 close_program T ok U
+
+abbrev pub after_ends : Tokenizer → Bool → Tokenizer → Type 0
+after_ends T ok U = KeepsAs 0 after_program T ok U
+
+-- it ends where it stands, by whether a code is left
+abbrev pub after_space_or_tab_ends : Tokenizer → Bool → Tokenizer → Type 0
+after_space_or_tab_ends T ok U = (ok ≡ not (is_empty (ahead T))) × (U ≡ T)

@@ -1,0 +1,4 @@
+//! Constructs of GitHub Flavored Markdown: checks of task list items, and autolink literals.
+#![tactic(auto)]
+
+pub mod gfm_task_list_item_check;
