@@ -6,7 +6,9 @@ use Rattle.markdown_engine.specs.declared.event.Point.{Point}
 use Rattle.markdown_engine.specs.declared.parser.Piece.{Piece}
 use Rattle.markdown_engine.specs.Codes.{Code, codes_of, document_start, stop_of, place_of, point_at}
 use Rattle.markdown_engine.specs.Content.{IsContent, content_of, are_pieces, piece_codes, is_in_piece, document_limit}
+use Rattle.markdown_engine.specs.Place.{start_of_content}
 use Rattle.markdown_engine.specs.Walk.{IsPoint}
+use Rattle.markdown_engine.specs.Weights.{left_at}
 use Rattle.markdown_engine.proofs.Order.{is_before}
 use Rattle.markdown_engine.proofs.Chain.{cons≢nil, first-start, tail_same}
 use Rattle.markdown_engine.proofs.Steps.{code_here, stop_at}
@@ -119,3 +121,8 @@ content_few bytes (piece ∷ more) h =
 -- so their number fits a `usize`
 pub content_fits : (bytes : List ℕ) (pieces : List Piece) → IsContent bytes pieces → length (content_of bytes pieces) < 2 ^ 63
 content_fits bytes pieces h = omega (arith, content_few bytes pieces h, h.fits)
+
+-- and so does the number of those that a run begins with
+pub codes-fit : (bytes : List ℕ) (pieces : List Piece) → IsContent bytes pieces → left_at (start_of_content bytes pieces) < 2 ^ 64
+unfolding left_at start_of_content
+codes-fit bytes pieces h = omega (arith, content_fits bytes pieces h)

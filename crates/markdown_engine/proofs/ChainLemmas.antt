@@ -340,7 +340,7 @@ ends-before xs e p w h = λ j k.
 pub last-earlier : (xs : List Event) (e : Event) (p : ℕ) → IsLinked (xs ++ e ∷ []) → previous_of e ≡ Some p → p < length xs
 last-earlier xs e p w h = w.earlier (length xs) p (previous_at-end xs e ∙ h)
 
-has-previous : (k : Option ℕ) (l : Option Link) → has_link (previous_link k l) ≡ has_link l
+pub has-previous : (k : Option ℕ) (l : Option Link) → has_link (previous_link k l) ≡ has_link l
 has-previous k None = refl
 has-previous k (Some l) = refl
 
@@ -363,7 +363,7 @@ previous_at-other k zero (suc j) (x ∷ xs) h = refl
 previous_at-other k (suc i) zero (x ∷ xs) h = refl
 previous_at-other k (suc i) (suc j) (x ∷ xs) h = previous_at-other k i j xs (λ e. h (ap suc e))
 
-may-previous : (k : Kind) (p : Option ℕ) (l : Option Link) → MayLink k l → MayLink k (previous_link p l)
+pub may-previous : (k : Kind) (p : Option ℕ) (l : Option Link) → MayLink k l → MayLink k (previous_link p l)
 may-previous k p None h = tt
 may-previous Enter p (Some l) h = tt
 may-previous Exit p (Some l) h = h

@@ -1,5 +1,5 @@
 -- linking on from the linked content just before
-use Rattle.std.proofs.Common.{◌≡◌, ℕ, zero, suc, ◌+◌, ◌-◌, ◌≤◌, ◌&&◌, not, Bool, true, false, List, [], ◌∷◌, ◌++◌, length, Option, Some, None, refl, sym, ap, subst, ◌∙◌, arith, length-append}
+use Rattle.std.proofs.Common.{◌≡◌, ℕ, zero, suc, ◌+◌, ◌-◌, ◌≤◌, ◌&&◌, not, true, List, [], ◌∷◌, ◌++◌, length, Option, Some, None, refl, sym, ap, subst, ◌∙◌, arith, length-append}
 use Rattle.markdown_engine.specs.Chain.{chained, IsLinked, previous_at, linked_at, previous_of, has_link, changed_at, with_previous}
 use Rattle.markdown_engine.specs.Ops.{ends_linked, link_back}
 use Rattle.markdown_engine.specs.declared.event.Content.{Content}
@@ -9,15 +9,8 @@ use Rattle.markdown_engine.specs.declared.event.Link.{Link}
 use Rattle.markdown_engine.specs.declared.event.Name.{Name}
 use Rattle.markdown_engine.specs.declared.event.Point.{Point}
 use Rattle.markdown_engine.proofs.OpRules.{op_rules}
+use Rattle.markdown_engine.proofs.OpsLemmas.{and-left, and-right}
 use Rattle.markdown_engine.proofs.ChainLemmas.{length-chained, IsLinked-push, IsLinked-connect, ends-last, linked_at-before, linked_at-after, previous_at-before, previous_at-end}
-
-and-left : (a b : Bool) → a && b ≡ true → a ≡ true
-and-left true b e = refl
-and-left false b e = cc
-
-and-right : (a b : Bool) → a && b ≡ true → b ≡ true
-and-right true b e = e
-and-right false b e = cc
 
 unlinked : (l : Option Link) → not (has_link l) ≡ true → l ≡ None
 unlinked None h = refl

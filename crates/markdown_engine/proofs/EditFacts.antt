@@ -3,7 +3,7 @@ use Rattle.std.proofs.Common.{◌≡◌, ◌≢◌, ℕ, zero, suc, ◌+◌, ◌
 use Rattle.std.specs.List.{All}
 use Rattle.std.specs.Option.{option_map}
 use Rattle.std.proofs.lemmas.List.{length-append, append-nil}
-use Rattle.std.proofs.lemmas.Bool.{ne_eqb, false≢true}
+use Rattle.std.proofs.lemmas.Bool.{ne_eqb, false≢true, or_left, or_right}
 use Rattle.std.proofs.lemmas.Bool.Decides.{nat_tests, eqb_tells, leb_tells}
 use Rattle.markdown_engine.specs.declared.event.Event.{Event}
 use Rattle.markdown_engine.specs.declared.event.Link.{Link}
@@ -12,6 +12,7 @@ use Rattle.markdown_engine.specs.Chain.{previous_link, link_previous, linked_at}
 use Rattle.markdown_engine.specs.Edits.{removed_at, front_at, back_at, added_at, removed_by, is_removed, removed_before, moved_number, moved, edited_from, edited, CanEdit}
 use Rattle.markdown_engine.proofs.ChainLemmas.{linked_at-past}
 use Rattle.markdown_engine.proofs.EditLemmas.{start, moved-start, edited-at}
+use Rattle.markdown_engine.proofs.OpsLemmas.{and-left, and-right}
 
 -- Which events go.
 
@@ -30,21 +31,14 @@ none-removes log j (suc i) h =
 pub stays-where : (log : List Edit) (j : ℕ) → ((p : ℕ) → p ≤ j → p + removed_at p log ≤ j) → is_removed log j ≡ false
 stays-where log j h = none-removes log j j h
 
-or-true : (a b : Bool) → a ≡ true → (a || b) ≡ true
-or-true a b h = rw h refl
-
-or-also : (a b : Bool) → b ≡ true → (a || b) ≡ true
-or-also true b h = refl
-or-also false b h = h
-
 removes-at : (log : List Edit) (j i p : ℕ) → p ≤ i → j < p + removed_at p log → removed_by log j i ≡ true
 removes-at log j zero p l h =
     let e : p ≡ 0 = omega arith in
     below-is j (removed_at 0 log) (omega (arith, ap (λ n. removed_at n log) e))
 removes-at log j (suc i) p l h =
     elim (eqb_tells p (suc i)) [
-      | inl t ↦ or-true (nat_lt j (suc i + removed_at (suc i) log)) (removed_by log j i) (below-is j (suc i + removed_at (suc i) log) (omega (arith, t.1, ap (λ n. removed_at n log) t.1)))
-      | inr f ↦ or-also (nat_lt j (suc i + removed_at (suc i) log)) (removed_by log j i) (removes-at log j i p (omega arith) h)
+      | inl t ↦ or_left (nat_lt j (suc i + removed_at (suc i) log)) (removed_by log j i) (below-is j (suc i + removed_at (suc i) log) (omega (arith, t.1, ap (λ n. removed_at n log) t.1)))
+      | inr f ↦ or_right (nat_lt j (suc i + removed_at (suc i) log)) (removed_by log j i) (removes-at log j i p (omega arith) h)
     ]
 
 -- an event goes if the range of a place up to it reaches past it
@@ -228,14 +222,6 @@ places_test n (e ∷ log) = nat_le e.at n && places_test n log
 -- a test of whether edits can be applied, which computes
 abbrev pub can_edit : List Edit → List Event → Bool
 can_edit log es = places_test (length es) log && each_below (λ j. not (is_removed log j && linked_at es j)) (length es)
-
-and-left : (a b : Bool) → (a && b) ≡ true → a ≡ true
-and-left true b h = refl
-and-left false b h = h
-
-and-right : (a b : Bool) → (a && b) ≡ true → b ≡ true
-and-right true b h = h
-and-right false b h = absurd (false≢true h)
 
 le-from : (a b : ℕ) → nat_le a b ≡ true → a ≤ b
 le-from a b h = grind (arith, nat_tests)

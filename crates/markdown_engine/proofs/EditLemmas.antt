@@ -7,13 +7,11 @@ use Rattle.std.proofs.lemmas.Option.{get_or_from_slice_get, slice_get_within, sl
 use Rattle.std.proofs.lemmas.Bool.{false≢true}
 use Rattle.std.proofs.lemmas.Bool.Decides.{nat_tests, eqb_tells, leb_tells}
 use Rattle.markdown_engine.specs.declared.event.Event.{Event}
-use Rattle.markdown_engine.specs.declared.event.Kind.{Kind}
-use Rattle.markdown_engine.specs.declared.event.Kind.TheVariants.{Enter, Exit}
 use Rattle.markdown_engine.specs.declared.event.Link.{Link}
 use Rattle.markdown_engine.specs.declared.util.edit_map.Edit.{Edit}
 use Rattle.markdown_engine.specs.Chain.{previous_link, with_previous, link_previous, previous_of, has_link, previous_at, linked_at, MayLink, OnlyEnters, IsLinked, IsUnlinked}
 use Rattle.markdown_engine.specs.Edits.{removed_at, front_at, back_at, added_at, removed_by, is_removed, added_up_to, removed_before, moved_number, moved, edited_from, edited, AddsUnlinked, CanEdit}
-use Rattle.markdown_engine.proofs.ChainLemmas.{OnlyEnters-append, within-linked, IsLinked-prefix}
+use Rattle.markdown_engine.proofs.ChainLemmas.{OnlyEnters-append, has-previous, may-previous, within-linked, IsLinked-prefix}
 
 -- How many events stand before place i afterwards.
 
@@ -305,10 +303,6 @@ linked-previous k (Some l) q h = refl
 moved-previous : (log : List Edit) (e : Event) (q : ℕ) → previous_of (moved log e) ≡ Some q → (p : ℕ) × ((previous_of e ≡ Some p) × (q ≡ moved_number log p))
 moved-previous log e q h = map-back (moved_number log) (previous_of e) q (sym (linked-previous (option_map (moved_number log) (previous_of e)) e.link q h) ∙ h)
 
-has-previous : (k : Option ℕ) (l : Option Link) → has_link (previous_link k l) ≡ has_link l
-has-previous k None = refl
-has-previous k (Some l) = refl
-
 pub moved-linked : (log : List Edit) (e : Event) → has_link (moved log e).link ≡ has_link e.link
 moved-linked log e = has-previous (option_map (moved_number log) (previous_of e)) e.link
 
@@ -359,11 +353,6 @@ may-unlinked x u = let P : Option Link → Type 0 = λ l. MayLink x.kind l in su
 enters-each : (xs : List Event) → Each IsUnlinked xs → OnlyEnters xs
 enters-each [] h = tt
 enters-each (x ∷ xs) h = (may-unlinked x (h 0 x refl), enters-each xs (Each-tail IsUnlinked x xs h))
-
-may-previous : (k : Kind) (p : Option ℕ) (l : Option Link) → MayLink k l → MayLink k (previous_link p l)
-may-previous k p None h = tt
-may-previous Enter p (Some l) h = tt
-may-previous Exit p (Some l) h = h
 
 enters-stay : (log : List Edit) (b : Bool) (e : Event) → MayLink e.kind e.link → OnlyEnters (stay log b e)
 enters-stay log true e h = tt

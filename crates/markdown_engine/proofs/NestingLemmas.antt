@@ -10,7 +10,7 @@ use Rattle.markdown_engine.specs.declared.event.Name.{Name}
 use Rattle.markdown_engine.specs.contracts.event.Name.{the_type}
 use Rattle.markdown_engine.specs.Chain.{with_next, follower, chained_from, chained}
 use Rattle.std.specs.List.{list_any, Contains}
-use Rattle.std.proofs.lemmas.Bool.{false≢true}
+use Rattle.std.proofs.lemmas.Bool.{false≢true, or_right}
 use denote.Enum.Bare.{sameb, same_true, true_same}
 use Rattle.markdown_engine.specs.Nesting.{own_enter, outer, opened, open_after, open_before, point_at, IsNamed, IsNamedBack}
 
@@ -98,14 +98,10 @@ Contains-any (m ∷ ns) n h =
 pub any-Contains : (ns : List Name) (n : Name) → Contains ns n → list_any (λ y. same_name y n) ns ≡ true
 any-Contains ns n h = any-at ns n h.0 h.1 h.2
   where
-    or-right : (a b : Bool) → b ≡ true → (a || b) ≡ true
-    or-right true b h = refl
-    or-right false b h = h
-
     any-at : (ns : List Name) (n : Name) (k : ℕ) → k < length ns → get_or ns k n ≡ n → list_any (λ y. same_name y n) ns ≡ true
     any-at [] n k l e = absurd (omega arith)
     any-at (m ∷ ns) n zero l e = rw (true_same the_type m n e) refl
-    any-at (m ∷ ns) n (suc k) l e = or-right (same_name m n) (list_any (λ y. same_name y n) ns) (any-at ns n k (omega arith) e)
+    any-at (m ∷ ns) n (suc k) l e = or_right (same_name m n) (list_any (λ y. same_name y n) ns) (any-at ns n k (omega arith) e)
 
 pub named-at : (names : List Name) (es : List Event) (i : ℕ) (x : Event) → i < length es → IsNamed names es i → Contains names (get_or es i x).name
 named-at names es i x l h = subst (λ (e : Event). Contains names e.name) (sym (get_or_from_slice_get es i h.0 x h.1.0)) h.1.1

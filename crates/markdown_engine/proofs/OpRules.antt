@@ -1,5 +1,5 @@
 -- what the operations leave of each part of a tokenizer
-use Rattle.std.proofs.Common.{ℕ, ◌+◌, ◌++◌, [], None, Some, drop, suc, zero, sym, ap, ◌∙◌, arith, append-nil, add-one, length-drop, ◌≡◌, List, ◌∷◌, refl, length, slice_get, Bool, true, false, if◌then◌else◌}
+use Rattle.std.proofs.Common.{ℕ, ◌+◌, ◌≤◌, ◌++◌, [], None, Some, drop, suc, zero, sym, ap, ◌∙◌, arith, append-nil, add-one, length-drop, ◌≡◌, List, ◌∷◌, refl, length, slice_get, Bool, true, false, if◌then◌else◌}
 use Rattle.markdown_engine.specs.Lists.{rest_of, first_of}
 use Rattle.markdown_engine.specs.Codes.{Code}
 use Rattle.markdown_engine.specs.Place.{Place, moved, code_at, ahead_at, value_of}
@@ -88,7 +88,7 @@ failed-scratched s T = refl
 
 -- The codes ahead.
 
-drop-more : {A : Type 0} → (n : ℕ) (xs : List A) → drop (suc n) xs ≡ rest_of (drop n xs)
+pub drop-more : {A : Type 0} → (n : ℕ) (xs : List A) → drop (suc n) xs ≡ rest_of (drop n xs)
 drop-more zero [] = refl
 drop-more zero (x ∷ xs) = refl
 drop-more (suc n) [] = refl
@@ -148,6 +148,12 @@ some-ahead (c ∷ cs) v e = record { code = c; value = cc; whole = refl }
 
 pub ahead-some : (T : Tokenizer) (v : ℕ) → current_of T ≡ Some v → Begins v (ahead T)
 ahead-some T v e = some-ahead (ahead T) v (sym (current-ahead T) ∙ e)
+
+-- a code is left
+pub some-codes : (T : Tokenizer) (v : ℕ) → current_of T ≡ Some v → 1 ≤ length (ahead T)
+some-codes T v e =
+    let whole : length (ahead T) ≡ length (rest_of (ahead T)) + 1 = ap length (ahead-some T v e).whole ∙ sym (add-one _) in
+    omega arith
 
 pub left-consumed : (T : Tokenizer) (v : ℕ) → current_of T ≡ Some v → codes_left (consumed T) + 1 ≡ codes_left T
 left-consumed T v e =

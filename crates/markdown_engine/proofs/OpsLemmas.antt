@@ -50,7 +50,7 @@ pub and-right : (a b : Bool) → a && b ≡ true → b ≡ true
 and-right true b e = e
 and-right false b e = cc
 
-drop-rest : {A : Type 0} → (d : ℕ) (xs : List A) → drop d (rest_of xs) ≡ drop (suc d) xs
+pub drop-rest : {A : Type 0} → (d : ℕ) (xs : List A) → drop d (rest_of xs) ≡ drop (suc d) xs
 drop-rest zero [] = refl
 drop-rest (suc d) [] = refl
 drop-rest d (x ∷ xs) = refl

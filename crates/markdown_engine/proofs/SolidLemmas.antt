@@ -24,7 +24,7 @@ stop_of-some : (p q : Point) (cs : List Code) → cs ≢ [] → stop_of p cs ≡
 stop_of-some p q [] some = absurd (some refl)
 stop_of-some p q (c ∷ cs) some = refl
 
-start-append : (cs ds : List Code) → cs ≢ [] → start_of (cs ++ ds) ≡ start_of cs
+pub start-append : (cs ds : List Code) → cs ≢ [] → start_of (cs ++ ds) ≡ start_of cs
 start-append [] ds some = absurd (some refl)
 start-append (c ∷ cs) ds some = refl
 

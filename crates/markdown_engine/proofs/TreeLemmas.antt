@@ -15,7 +15,8 @@ use Rattle.markdown_engine.specs.declared.tokenizer.Tokenizer.{Tokenizer}
 use Rattle.markdown_engine.proofs.Laws.{Grown-refl}
 use Rattle.markdown_engine.proofs.OpRules.{ahead-applied}
 use Rattle.markdown_engine.proofs.OpsLemmas.{Grown-scratched}
-use Rattle.markdown_engine.proofs.PlaceLemmas.{start-here, stop-moved, ahead-moved_by, moved_by-append}
+use Rattle.markdown_engine.proofs.PlaceLemmas.{stop-moved, ahead-moved_by, moved_by-append}
+use Rattle.markdown_engine.proofs.PlaceRules.{point_ahead}
 
 pub done-consumes : (cs : List Code) (os : List Op) (T : Tokenizer) → done (consumes cs ++ os) T ≡ done os (passed cs T)
 unfolding passed applied
@@ -44,7 +45,7 @@ pub leaf-past : (n : Name) (link : Option Content) (connect : Bool) (c : Code) (
 unfolding applied passed past
 leaf-past n link connect c cs rest T e =
     let previous : Option ℕ = link_before connect T in
-    let first : point_of T.cursor ≡ c.start = start-here T.cursor c (cs ++ rest) e in
+    let first : point_of T.cursor ≡ c.start = point_ahead T.cursor c (cs ++ rest) e in
     let last : exit_point (moved_by (c ∷ cs) T.cursor) ≡ stop_of document_start (c ∷ cs) = stop-moved document_start c cs rest T.cursor e in
     rw (entered_leaf-is n link connect T, leaf-events (length T.events) n link previous c cs, leaf-codes n link c cs, first, last, append_assoc) refl
 
@@ -124,7 +125,7 @@ done-append (x ∷ xs) ys T = done-append xs ys (applied x T)
 -- the groups' places are those at which a run enters and leaves them
 solid-start : (cs rest : List Code) (T : Tokenizer) → cs ≢ [] → ahead T ≡ cs ++ rest → point_of T.cursor ≡ start_of cs
 solid-start [] rest T some e = absurd (some refl)
-solid-start (c ∷ cs) rest T some e = start-here T.cursor c (cs ++ rest) e
+solid-start (c ∷ cs) rest T some e = point_ahead T.cursor c (cs ++ rest) e
 
 solid-stop : (cs rest : List Code) (T : Tokenizer) → cs ≢ [] → ahead T ≡ cs ++ rest → exit_point (moved_by cs T.cursor) ≡ stop_of document_start cs
 solid-stop [] rest T some e = absurd (some refl)

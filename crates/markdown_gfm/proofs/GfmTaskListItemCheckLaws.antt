@@ -18,7 +18,7 @@ use Rattle.markdown_engine.specs.declared.tokenizer.TokenizeState.{TokenizeState
 use Rattle.markdown_engine.specs.declared.tokenizer.Tokenizer.{Tokenizer}
 use Rattle.markdown_engine.proofs.EndsLemmas.{scratched-same, left-read}
 use Rattle.markdown_engine.proofs.Laws.{if-step, code-step, Goes-plain, Grown-refl, restored-fails}
-use Rattle.markdown_engine.proofs.OpRules.{law_rules, ahead-none, ahead-some, attempts-scratched, left-scratched, left-ahead}
+use Rattle.markdown_engine.proofs.OpRules.{law_rules, ahead-none, ahead-some, attempts-scratched, left-scratched, left-ahead, some-codes}
 use Rattle.markdown_engine.proofs.OpsLemmas.{left-done, scratch-done}
 use Rattle.markdown_engine.proofs.TreeLemmas.{Fails-past}
 use Rattle.markdown_model.specs.CodeTests.{is_value, is_among, is_whitespace_code, is_empty, next_is}
@@ -28,14 +28,13 @@ use Rattle.markdown_model.specs.Lines.{linked_leaf}
 use Rattle.markdown_model.specs.Whitespace.{space_or_tab}
 use Rattle.markdown_partial.specs.SpaceSteps as S
 use Rattle.markdown_partial.specs.SpaceSteps.{most, rested}
-use Rattle.markdown_partial.proofs.LineLemmas.{span-takes}
 use Rattle.markdown_partial.proofs.SpacingLemmas.{space-all}
 use Rattle.markdown_leaf.specs.Program.{Program, preceded, tree_ops, program_of, KeepsAs}
-use Rattle.markdown_leaf.proofs.ProgramLemmas.{GoesOn-map, Goes-next, Goes-yes, Goes-no, EndsAs-program, some-codes}
-use Rattle.markdown_leaf.proofs.ReadingLemmas.{bind-some, bind-none, before-some, before-none, before-other, one-here, one-not, switched-on, switched-off, and-left, and-right, and-false, if-true, if-false}
+use Rattle.markdown_leaf.proofs.ProgramLemmas.{GoesOn-map, Goes-next, Goes-yes, Goes-no, EndsAs-program}
 use Rattle.markdown_leaf.proofs.WholeReadings.{Gives, Covers, IsSome, Gives-bind, Gives-before, Gives-switched, Gives-one, Gives-gives, Covers-group, Covers-row, Covers-leaf, some-first}
 use Rattle.markdown_gfm.specs.GfmTaskListItemCheck.{opening, value, closing, is_mark, is_space, may_begin, start_at, start_step, inside_at, inside_step, close_at, close_step, space_asked, looked, after_at, after_step, after_space_or_tab_at, after_space_or_tab_step, MayLook, IsOpened, check_here, start_ends, after_program, close_program, inside_program, inside_ends, close_ends, after_ends, after_space_or_tab_ends}
 use Rattle.markdown_gfm.proofs.LookLemmas.{Goes-looked}
+use Rattle.markdown_model.proofs.ReadingSteps.{span-takes, bind-some, bind-none, before-some, before-none, before-other, one-here, one-not, switched-on, switched-off, and-left, and-right, and-false, if-true, if-false}
 
 -- what the layer says of these states, and of the start of whitespace
 pub record Within (ready : StateName → Tokenizer → Type 0) (ends : StateName → Tokenizer → Bool → Tokenizer → Type 0) (weight : StateName → Tokenizer → ℕ) : Type 0 where

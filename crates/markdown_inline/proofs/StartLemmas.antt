@@ -9,7 +9,7 @@ use Rattle.markdown_engine.specs.declared.parser.Piece.{Piece}
 use Rattle.markdown_engine.specs.declared.event.Name.TheVariants as N
 use Rattle.markdown_engine.specs.declared.tokenizer.Tokenizer.{Tokenizer}
 use Rattle.markdown_engine.proofs.OpRules.{left-consumed}
-use Rattle.markdown_leaf.proofs.ContentSize.{codes-fit}
+use Rattle.markdown_engine.proofs.Bounds.{codes-fit}
 use Rattle.markdown_leaf.specs.RawText as X
 use Rattle.markdown_partial.proofs.AskedLaws.{asked-ready, eol-asked-ready}
 use Rattle.markdown_partial.specs.EolSteps as L

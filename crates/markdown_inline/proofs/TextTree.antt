@@ -6,7 +6,6 @@ use Rattle.markdown_engine.specs.Tree.{Forest, empty, leaf_then, group_then, lea
 use Rattle.markdown_engine.specs.declared.event.Content.{Content}
 use Rattle.markdown_engine.specs.declared.event.Name.{Name}
 use Rattle.markdown_engine.specs.declared.event.Name.TheVariants as N
-use Rattle.markdown_leaf.proofs.ReadingLemmas.{switched-off}
 use Rattle.markdown_model.specs.Element.{as_plain, switched, line_ending, data_code, code_span, math_span, Tries, tries, tried, first_check, text_element, AreElementsFrom, text_choice, code_before, AreElements, elements_of}
 use Rattle.markdown_model.specs.Grammar.{Reading}
 use Rattle.markdown_model.specs.Groups.{nest, after_loose, joined, loose, pair_group, assembled, tokens_of, paired, Token, item}
@@ -23,6 +22,7 @@ use Rattle.markdown_model.proofs.LinkFree.{Passes, Yields, yields_bind, yields_g
 use Rattle.markdown_inline.specs.Built.{IsBuilt}
 use Rattle.markdown_inline.specs.Elements.{IsNode, IsQuiet, is_run}
 use Rattle.markdown_inline.specs.Laws.NodeLemmas.{check_yields, escape_yields, reference_yields, break_yields, autolink_yields, span_here_yields, code_quiet, math_quiet}
+use Rattle.markdown_model.proofs.ReadingSteps.{switched-off}
 
 -- Trees without runs of markers.
 

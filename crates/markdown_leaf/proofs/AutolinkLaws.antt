@@ -1,6 +1,6 @@
 -- The laws of the states of an autolink.
 use Rattle.std.proofs.Common.{◌≡◌, ℕ, ◌+◌, ◌<◌, ◌≤◌, ◌==◌, ◌&&◌, ◌||◌, nat_lt, Bool, true, false, Option, Some, None, List, [], ◌∷◌, length, drop, refl, sym, ap, subst, ◌∙◌, arith}
-use Rattle.std.proofs.lemmas.Bool.{eqb-true}
+use Rattle.std.proofs.lemmas.Bool.{eqb-true, or_left}
 use Rattle.std.proofs.lemmas.Bool.Decides.{nat_tests}
 use Rattle.std.proofs.lemmas.Grind.{common_steps}
 use Rattle.markdown_engine.specs.Codes.{Code}
@@ -17,7 +17,7 @@ use Rattle.markdown_engine.specs.declared.state.StateName.TheVariants.{AutolinkO
 use Rattle.markdown_engine.specs.declared.tokenizer.TokenizeState.{TokenizeState}
 use Rattle.markdown_engine.specs.declared.tokenizer.Tokenizer.{Tokenizer}
 use Rattle.markdown_engine.proofs.Laws.{if-step, code-step}
-use Rattle.markdown_engine.proofs.OpRules.{ahead-none, ahead-some, Begins}
+use Rattle.markdown_engine.proofs.OpRules.{ahead-none, ahead-some, Begins, some-codes}
 use Rattle.markdown_model.specs.CodeTests.{is_value, is_alphanumeric, is_letter, next_is}
 use Rattle.markdown_model.specs.Grammar.{any_number}
 use Rattle.markdown_model.specs.Leaf.{uri, email_address, is_scheme_code, is_uri_code, is_local_code}
@@ -28,9 +28,9 @@ use Rattle.markdown_leaf.specs.Renaming.{Naming, NamesAs, renamed, preceded_by, 
 use Rattle.markdown_leaf.proofs.AutolinkReadings.{bracket-next, or-next, scheme-more, scheme-colon, scheme-here, scheme-other, scheme-long, uri-first, uri-none, url-more, url-end, local-more, local-at, local-other, email-first, email-none, label-more, label-long, label-unended, label-ended, domains-first, domains-none}
 use Rattle.markdown_leaf.proofs.AutolinkWhole.{whole-link, ended-here, ended-other, more-none, more-dot, bracket_ops, link-here, no-link}
 use Rattle.markdown_leaf.proofs.NamingLemmas.{renamed-entered, renamed-consumed, renamed-scratched, Goes-inside, Goes-inside-kept, Goes-over, Goes-refused, Goes-named, Goes-to, DoesAs-entered}
-use Rattle.markdown_leaf.proofs.ProgramLemmas.{GoesOn-map, Goes-no, EndsAs-program, DoesAs-then, kept, some-codes}
+use Rattle.markdown_leaf.proofs.ProgramLemmas.{GoesOn-map, Goes-no, EndsAs-program, DoesAs-then, kept}
 use Rattle.markdown_leaf.proofs.RawTextReady.{some-event}
-use Rattle.markdown_leaf.proofs.ReadingLemmas.{and-left, and-right, and-false}
+use Rattle.markdown_model.proofs.ReadingSteps.{and-left, and-right, and-false}
 
 -- what the layer says of these states
 pub record Within (ready : StateName → Tokenizer → Type 0) (ends : StateName → Tokenizer → Bool → Tokenizer → Type 0) (weight : StateName → Tokenizer → ℕ) : Type 0 where
@@ -61,12 +61,8 @@ pub record Within (ready : StateName → Tokenizer → Type 0) (ends : StateName
 
 -- Tests.
 
-or-first : (a b : Bool) → a ≡ true → a || b ≡ true
-or-first true b e = refl
-or-first false b e = cc
-
 letter-local : (c : Code) → is_letter c ≡ true → is_local_code c ≡ true
-letter-local c h = or-first (is_alphanumeric c) _ (or-first (is_letter c) _ h)
+letter-local c h = or_left (is_alphanumeric c) _ (or_left (is_letter c) _ h)
 
 or-here : (a b e : Bool) → a || b ≡ true → (a ≡ true → e ≡ true) → (b ≡ true → e ≡ true) → e ≡ true
 or-here true b e h f g = f refl
@@ -78,7 +74,7 @@ value-local n v h e = ap local_value (eqb-true v n e) ∙ h
 -- a code of a scheme may stand in an address
 scheme-local : (v : ℕ) → scheme_value v ≡ true → local_value v ≡ true
 scheme-local v h =
-    or-here (alphanumeric_value v) _ (local_value v) h (λ e. or-first (alphanumeric_value v) _ e) (λ e.
+    or-here (alphanumeric_value v) _ (local_value v) h (λ e. or_left (alphanumeric_value v) _ e) (λ e.
     or-here (v == 43) _ (local_value v) e (λ f. value-local 43 v refl f) (λ f.
     or-here (v == 45) _ (local_value v) f (λ g. value-local 45 v refl g) (λ g.
     or-here (v == 46) false (local_value v) g (λ i. value-local 46 v refl i) (λ i. cc))))

@@ -12,8 +12,8 @@ use Rattle.markdown_model.specs.Grammar.{Reading, ◌>>◌, ◌then_◌, gives, 
 use Rattle.markdown_model.specs.Leaf.{scheme, uri, email_address, domain_label, is_scheme_code, is_uri_code, is_local_code}
 use Rattle.markdown_leaf.specs.Autolink.{after, ended, up_to_bracket, or_else, ending, scheme_rest, local_rest, domains, more_labels, is_label_code, ends_well, label_rest, scheme_value, local_value}
 use Rattle.markdown_leaf.specs.Renaming.{preceded_by}
-use Rattle.markdown_leaf.proofs.RawTextReadings.{span-more, span-none, counted, none-more, one-more, some-here, some-none}
-use Rattle.markdown_leaf.proofs.ReadingLemmas.{bind-some, bind-none, one-here, one-not, some-span, some-nothing, any-number-is, then-some, then-none, then-other, switched-on, switched-off}
+use Rattle.markdown_leaf.proofs.RawTextReadings.{counted, none-more, one-more, some-here, some-none}
+use Rattle.markdown_model.proofs.ReadingSteps.{bind-some, bind-none, one-here, one-not, some-span, some-nothing, any-number-is, then-some, then-none, then-other, switched-on, switched-off, span-takes, span-none}
 
 -- Codes before what a reading gives.
 
@@ -70,7 +70,7 @@ colon = one (is_value 58) then_ any_number is_uri_code
 pub scheme-more : (k : ℕ) (c : Code) (cs : List Code) → is_scheme_code c ≡ true → scheme_rest k (c ∷ cs) ≡ with_first c (scheme_rest (k + 1) cs)
 scheme-more k c cs h =
     let s : List Code × List Code = span is_scheme_code cs in
-    ap (λ (r : List Code × List Code). if is_between 2 32 (k + length r.0) then after r.0 (colon r.1) else None) (span-more is_scheme_code c cs h)
+    ap (λ (r : List Code × List Code). if is_between 2 32 (k + length r.0) then after r.0 (colon r.1) else None) (span-takes is_scheme_code c cs h)
     ∙ ap (λ n. if is_between 2 32 n then after (c ∷ s.0) (colon s.1) else None) (counted k s.0 c)
     ∙ if-after (is_between 2 32 (k + 1 + length s.0)) c s.0 (colon s.1)
 
@@ -105,7 +105,7 @@ longer k c cs h = omega (arith, h)
 pub scheme-long : (k : ℕ) (c : Code) (cs : List Code) → is_scheme_code c ≡ true → 32 ≤ k → scheme_rest k (c ∷ cs) ≡ None
 scheme-long k c cs h l =
     let s : List Code × List Code = span is_scheme_code cs in
-    ap (λ (r : List Code × List Code). if is_between 2 32 (k + length r.0) then after r.0 (colon r.1) else None) (span-more is_scheme_code c cs h)
+    ap (λ (r : List Code × List Code). if is_between 2 32 (k + length r.0) then after r.0 (colon r.1) else None) (span-takes is_scheme_code c cs h)
     ∙ ap (λ b. if b then after (c ∷ s.0) (colon s.1) else None) (beyond-is 2 32 (k + length (c ∷ s.0)) (longer k c s.0 l))
 
 -- a scheme from its first letter on
@@ -141,7 +141,7 @@ uri-none cs h = then-none scheme colon cs (scheme-none cs h)
 -- URIs after the colon.
 
 pub url-more : (c : Code) (cs : List Code) → is_uri_code c ≡ true → any_number is_uri_code (c ∷ cs) ≡ with_first c (any_number is_uri_code cs)
-url-more c cs h = any-number-is is_uri_code (c ∷ cs) ∙ ap (λ (r : List Code × List Code). Some r) (span-more is_uri_code c cs h) ∙ ap (with_first c) (sym (any-number-is is_uri_code cs))
+url-more c cs h = any-number-is is_uri_code (c ∷ cs) ∙ ap (λ (r : List Code × List Code). Some r) (span-takes is_uri_code c cs h) ∙ ap (with_first c) (sym (any-number-is is_uri_code cs))
 
 pub url-end : (cs : List Code) → next_is is_uri_code cs ≡ false → any_number is_uri_code cs ≡ Some ([], cs)
 url-end cs h = any-number-is is_uri_code cs ∙ ap (λ (r : List Code × List Code). Some r) (span-none is_uri_code cs h)
@@ -154,7 +154,7 @@ at_sign = one (is_value 64) then_ domains
 pub local-more : (c : Code) (cs : List Code) → is_local_code c ≡ true → local_rest (c ∷ cs) ≡ with_first c (local_rest cs)
 local-more c cs h =
     let s : List Code × List Code = span is_local_code cs in
-    ap (λ (r : List Code × List Code). after r.0 (at_sign r.1)) (span-more is_local_code c cs h) ∙ after-more c s.0 (at_sign s.1)
+    ap (λ (r : List Code × List Code). after r.0 (at_sign r.1)) (span-takes is_local_code c cs h) ∙ after-more c s.0 (at_sign s.1)
 
 local-here : (cs : List Code) → next_is is_local_code cs ≡ false → local_rest cs ≡ at_sign cs
 local-here cs h = ap (λ (r : List Code × List Code). after r.0 (at_sign r.1)) (span-none is_local_code cs h) ∙ after-none (at_sign cs)
@@ -187,7 +187,7 @@ ends-first c (d ∷ ds) = refl
 pub label-more : (k : ℕ) (well : Bool) (c : Code) (cs : List Code) → is_label_code c ≡ true → label_rest k well (c ∷ cs) ≡ with_first c (label_rest (k + 1) (is_alphanumeric c) cs)
 label-more k well c cs h =
     let s : List Code × List Code = span is_label_code cs in
-    ap (λ (r : List Code × List Code). if nat_le (k + length r.0) 63 && ends_well well r.0 then after r.0 (more_labels r.1) else None) (span-more is_label_code c cs h)
+    ap (λ (r : List Code × List Code). if nat_le (k + length r.0) 63 && ends_well well r.0 then after r.0 (more_labels r.1) else None) (span-takes is_label_code c cs h)
     ∙ ap (λ n. if nat_le n 63 && ends_well well (c ∷ s.0) then after (c ∷ s.0) (more_labels s.1) else None) (counted k s.0 c)
     ∙ ap (λ b. if nat_le (k + 1 + length s.0) 63 && b then after (c ∷ s.0) (more_labels s.1) else None) (sym (ends-first c s.0))
     ∙ if-after (nat_le (k + 1 + length s.0) 63 && ends_well (is_alphanumeric c) s.0) c s.0 (more_labels s.1)
@@ -201,7 +201,7 @@ few-enough k h = grind (arith, nat_tests, common_steps)
 pub label-long : (k : ℕ) (well : Bool) (c : Code) (cs : List Code) → is_label_code c ≡ true → 63 ≤ k → label_rest k well (c ∷ cs) ≡ None
 label-long k well c cs h l =
     let s : List Code × List Code = span is_label_code cs in
-    ap (λ (r : List Code × List Code). if nat_le (k + length r.0) 63 && ends_well well r.0 then after r.0 (more_labels r.1) else None) (span-more is_label_code c cs h)
+    ap (λ (r : List Code × List Code). if nat_le (k + length r.0) 63 && ends_well well r.0 then after r.0 (more_labels r.1) else None) (span-takes is_label_code c cs h)
     ∙ ap (λ b. if b && ends_well well (c ∷ s.0) then after (c ∷ s.0) (more_labels s.1) else None) (too-many k c s.0 l)
 
 label-here : (k : ℕ) (well : Bool) (cs : List Code) → next_is is_label_code cs ≡ false → label_rest k well cs ≡ (if nat_le k 63 && well then after [] (more_labels cs) else None)

@@ -1,5 +1,5 @@
 -- Whole autolinks: the codes that their readings pass, and the operations of their trees.
-use Rattle.std.proofs.Common.{◌≡◌, ◌≢◌, ℕ, zero, suc, ◌+◌, ◌≤◌, ◌==◌, Bool, true, false, ◌&&◌, if◌then◌else◌, Option, Some, None, List, [], ◌∷◌, ◌++◌, length, refl, sym, ap, ◌∙◌, arith, append_assoc, append-nil}
+use Rattle.std.proofs.Common.{◌≡◌, ◌≢◌, ◌==◌, Bool, true, false, ◌&&◌, if◌then◌else◌, Option, Some, None, List, [], ◌∷◌, ◌++◌, refl, sym, ap, ◌∙◌, append_assoc, append-nil}
 use Rattle.std.proofs.lemmas.Bool.{eqb-true}
 use Rattle.markdown_engine.specs.Codes.{Code}
 use Rattle.markdown_engine.specs.Ops.{Op, Enter, Exit, Consume}
@@ -8,14 +8,16 @@ use Rattle.markdown_engine.specs.TreeOps.{consumes, ops_of}
 use Rattle.markdown_engine.specs.declared.event.Name.{Name}
 use Rattle.markdown_engine.specs.declared.event.Name.TheVariants as N
 use Rattle.markdown_model.specs.CodeTests.{is_value, is_letter, next_is}
-use Rattle.markdown_model.specs.Grammar.{Reading, ◌>>=◌, ◌>>◌, ◌then_◌, gives, one, some, provided, either, any_number, repeated, repeatedly, with_first}
+use Rattle.markdown_model.specs.Grammar.{Reading, ◌>>=◌, ◌>>◌, ◌then_◌, gives, one, some, provided, either, any_number, with_first}
 use Rattle.markdown_model.specs.Leaf.{scheme, uri, email_address, domain_label, in_angle_brackets, autolink, is_scheme_code, is_uri_code, is_local_code}
 use Rattle.markdown_leaf.specs.Autolink.{after, ended, up_to_bracket, or_else, ending, domains, more_labels, open_naming}
 use Rattle.markdown_leaf.specs.Program.{preceded, tree_ops, program_of}
 use Rattle.markdown_leaf.specs.Renaming.{opened, preceded_by}
 use Rattle.markdown_leaf.proofs.AutolinkReadings.{then-after, bracket-next}
-use Rattle.markdown_leaf.proofs.ReadingLemmas.{bind-some, bind-none, one-here, one-not, then-none, switched-on, switched-off}
-use Rattle.markdown_leaf.proofs.RepeatedReadings.{repeated-next, repeated-same, repeated-holds, left, Holds, Gives-repeated}
+use Rattle.markdown_model.proofs.ReadingSteps.{bind-some, bind-none, one-here, one-not, then-none, switched-on, switched-off}
+use Rattle.markdown_model.proofs.ReadingLaws.{and_then, repeatedly-next, repeatedly-holds, Holds, read-codes}
+use Rattle.markdown_model.proofs.Readings.{itself, takes_one, takes_then, takes_repeatedly, takes_domain_label}
+use Rattle.markdown_model.proofs.Consuming.{Consumes, one_takes, then_takes, takes_no_more}
 use Rattle.markdown_leaf.proofs.WholeReadings.{Gives, IsSome, Covers, Gives-bind, Gives-switched, Gives-either, Gives-gives, Gives-one, Gives-some, Gives-any, Gives-then, Covers-leaf, Covers-row, Covers-group, some-first}
 
 -- What the readings pass.
@@ -33,11 +35,15 @@ label-gives = Gives-bind _ _ IsSome IsSome (Gives-some _) (λ text ws p. given _
 abbrev dot_label : Reading (List Code)
 dot_label = one (is_value 46) then_ domain_label
 
-dot-gives : Gives IsSome dot_label
-dot-gives = Gives-then (one (is_value 46)) domain_label (Gives-one (is_value 46)) (weaker domain_label label-gives)
+dot_takes : Consumes 1 dot_label
+dot_takes = then_takes (one (is_value 46)) domain_label (one_takes (is_value 46)) (takes_no_more itself domain_label takes_domain_label)
+
+more-gives : Gives (λ x ws. x ≡ ws) more_labels
+more-gives cs x rest k =
+    record { codes = x; whole = read-codes itself more_labels (takes_repeatedly dot_label (takes_then (one (is_value 46)) domain_label (takes_one (is_value 46)) takes_domain_label)) cs rest x k; holds = refl }
 
 domains-gives : Gives IsSome domains
-domains-gives = Gives-then domain_label more_labels label-gives (Gives-repeated dot_label dot-gives)
+domains-gives = Gives-then domain_label more_labels label-gives more-gives
 
 scheme-gives : Gives IsSome scheme
 unfolding scheme
@@ -76,35 +82,26 @@ ended-other n cs h = ap (λ b. if b then Some (n, ending n) else None) h
 
 -- More labels.
 
-more-by : (n : ℕ) (cs : List Code) → next_is (is_value 46) cs ≡ false → repeated n dot_label cs ≡ Some ([], cs)
-unfolding repeated
-more-by zero cs h = refl
-more-by (suc n) cs h = repeated-next n dot_label cs None (then-none (one (is_value 46)) domain_label cs (one-not (is_value 46) cs h))
-
 pub more-none : (cs : List Code) → next_is (is_value 46) cs ≡ false → more_labels cs ≡ Some ([], cs)
-unfolding repeatedly
-more-none cs h = more-by (length cs) cs h
+more-none cs h = repeatedly-next dot_label dot_takes cs ∙ ap (and_then more_labels cs) (then-none (one (is_value 46)) domain_label cs (one-not (is_value 46) cs h))
 
 dot-here : (c : Code) (cs : List Code) → is_value 46 c ≡ true → dot_label (c ∷ cs) ≡ after (c ∷ []) (domain_label cs)
 dot-here c cs h = then-after (one (is_value 46)) domain_label (c ∷ cs) (c ∷ []) cs (one-here (is_value 46) c cs h)
 
-joined-by : (x y : List Code) (o : Option (List Code × List Code)) → Holds dot_label dot-gives o → (c : Code) → elim o as (λ _. Option (List Code × List Code)) [ None ↦ Some (c ∷ x, y) | Some s ↦ Some ((c ∷ x) ++ s.0, s.1) ] ≡ with_first c (after x o)
+joined-by : (x y : List Code) (o : Option (List Code × List Code)) → Holds o → (c : Code) → elim o as (λ _. Option (List Code × List Code)) [ None ↦ Some (c ∷ x, y) | Some s ↦ Some ((c ∷ x) ++ s.0, s.1) ] ≡ with_first c (after x o)
 joined-by x y o k c = ap (λ (z : Option (List Code × List Code)). elim z as (λ _. Option (List Code × List Code)) [ None ↦ Some (c ∷ x, y) | Some s ↦ Some ((c ∷ x) ++ s.0, s.1) ]) k.is ∙ ap (λ (z : Option (List Code × List Code)). with_first c (after x z)) (sym k.is)
 
 -- a dot, and whether a label follows
 dot-by : (c : Code) (cs : List Code) (o : Option (List Code × List Code)) → is_value 46 c ≡ true → domain_label cs ≡ o → up_to_bracket N.AutolinkEmail more_labels (c ∷ cs) ≡ preceded_by (Consume ∷ []) (up_to_bracket N.AutolinkEmail domains cs)
-unfolding repeatedly
 dot-by c cs None h e =
-    ap (ended N.AutolinkEmail) (repeated-next (length cs) dot_label (c ∷ cs) None (dot-here c cs h ∙ ap (after (c ∷ [])) e))
+    ap (ended N.AutolinkEmail) (repeatedly-next dot_label dot_takes (c ∷ cs) ∙ ap (and_then more_labels (c ∷ cs)) (dot-here c cs h ∙ ap (after (c ∷ [])) e))
     ∙ ended-other N.AutolinkEmail (c ∷ cs) (ap (λ v. v == 62) (eqb-true c.value 46 h))
     ∙ ap (λ o. preceded_by (Consume ∷ []) (ended N.AutolinkEmail o)) (sym (then-none domain_label more_labels cs e))
 dot-by c cs (Some r) h e =
-    let fewer : length r.1 + 1 ≤ length cs = left domain_label label-gives cs r.0 r.1 e in
-    let rounds : repeated (length cs) dot_label r.1 ≡ more_labels r.1 = repeated-same dot_label dot-gives (length cs) (length r.1) r.1 (omega (arith, fewer)) (omega arith) in
     bracket-next N.AutolinkEmail more_labels domains c cs (
-    repeated-next (length cs) dot_label (c ∷ cs) (Some (c ∷ r.0, r.1)) (dot-here c cs h ∙ ap (after (c ∷ [])) e)
-    ∙ joined-by r.0 r.1 (repeated (length cs) dot_label r.1) (repeated-holds dot_label dot-gives (length cs) r.1) c
-    ∙ ap (λ (z : Option (List Code × List Code)). with_first c (after r.0 z)) rounds
+    repeatedly-next dot_label dot_takes (c ∷ cs)
+    ∙ ap (and_then more_labels (c ∷ cs)) (dot-here c cs h ∙ ap (after (c ∷ [])) e)
+    ∙ joined-by r.0 r.1 (more_labels r.1) (repeatedly-holds dot_label r.1) c
     ∙ ap (with_first c) (sym (then-after domain_label more_labels cs r.0 r.1 e)))
 
 pub more-dot : (c : Code) (cs : List Code) → is_value 46 c ≡ true → up_to_bracket N.AutolinkEmail more_labels (c ∷ cs) ≡ preceded_by (Consume ∷ []) (up_to_bracket N.AutolinkEmail domains cs)

@@ -11,14 +11,14 @@ use Rattle.markdown_engine.specs.declared.state.StateName.{StateName}
 use Rattle.markdown_engine.specs.declared.state.StateName.TheVariants.{CharacterEscapeInside}
 use Rattle.markdown_engine.specs.declared.tokenizer.Tokenizer.{Tokenizer}
 use Rattle.markdown_engine.proofs.Laws.{if-step, code-step}
-use Rattle.markdown_engine.proofs.OpRules.{law_rules, ahead-none, ahead-some}
+use Rattle.markdown_engine.proofs.OpRules.{law_rules, ahead-none, ahead-some, some-codes}
 use Rattle.markdown_model.specs.CodeTests.{is_value, is_ascii_punctuation, next_is}
 use Rattle.markdown_model.specs.Grammar.{◌>>◌, ◌>>=◌, provided, one, gives}
 use Rattle.markdown_model.specs.Leaf.{escape, escape_tree}
 use Rattle.markdown_leaf.specs.CharacterEscape.{is_punctuation, is_on, opening, value, start_at, start_step, inside_at, inside_step, escape_here, inside_program, start_ends, inside_ends}
 use Rattle.markdown_leaf.specs.Program.{preceded, tree_ops, program_of, KeepsAs}
-use Rattle.markdown_leaf.proofs.ProgramLemmas.{GoesOn-map, Goes-next, Goes-yes, Goes-no, EndsAs-program, some-codes}
-use Rattle.markdown_leaf.proofs.ReadingLemmas.{bind-some, bind-none, one-here, one-not, switched-on, switched-off, and-left, and-right, and-false, if-true, if-false}
+use Rattle.markdown_leaf.proofs.ProgramLemmas.{GoesOn-map, Goes-next, Goes-yes, Goes-no, EndsAs-program}
+use Rattle.markdown_model.proofs.ReadingSteps.{bind-some, bind-none, one-here, one-not, switched-on, switched-off, and-left, and-right, and-false, if-true, if-false}
 use Rattle.markdown_leaf.proofs.WholeReadings.{Gives, Covers, IsSome, Gives-bind, Gives-switched, Gives-one, Gives-gives, Covers-group, Covers-row, Covers-leaf, some-first}
 
 -- what the layer says of these states

@@ -14,7 +14,7 @@ use Rattle.markdown_engine.specs.declared.state.StateName.TheVariants.{Character
 use Rattle.markdown_engine.specs.declared.tokenizer.TokenizeState.{TokenizeState}
 use Rattle.markdown_engine.specs.declared.tokenizer.Tokenizer.{Tokenizer}
 use Rattle.markdown_engine.proofs.Laws.{if-step, code-step}
-use Rattle.markdown_engine.proofs.OpRules.{law_rules, ahead-none, ahead-some}
+use Rattle.markdown_engine.proofs.OpRules.{law_rules, ahead-none, ahead-some, scratch-scratched, some-codes}
 use Rattle.markdown_engine.proofs.OpsLemmas.{scratch-done}
 use Rattle.markdown_model.specs.CodeTests.{is_value, is_among, is_alphanumeric, is_digit, is_hex_digit, next_is}
 use Rattle.markdown_model.specs.Grammar.{◌>>◌, provided, some}
@@ -23,8 +23,8 @@ use Rattle.markdown_util.specs.Reference.{html_5_rows, IsMarker, value_size_max}
 use Rattle.markdown_leaf.specs.CharacterReference.{IsAtRest, IsOpened, IsValue, is_on, marked, sized, rested, opening, number_sign, hexadecimal_sign, value_start, closing, begins_name, is_taken, start_at, start_step, named_step, open_at, open_step, decimal_step, numeric_at, numeric_step, value_at, value_step, reference_here, value_program, numeric_program, named_program, open_program, start_ends, open_ends, numeric_ends, value_ends}
 use Rattle.markdown_leaf.specs.Program.{Program, preceded, program_of, DoesAs, KeepsAs}
 use Rattle.markdown_leaf.proofs.CharacterReferenceReading.{reference-start, no-reference, value-close, value-more, value-end, value-stop}
-use Rattle.markdown_leaf.proofs.ProgramLemmas.{GoesOn-map, Goes-on, Goes-kept, Goes-next, Goes-ok, Goes-nok, Goes-no, EndsAs-program, some-codes, no-codes, scratch-scratched}
-use Rattle.markdown_leaf.proofs.ReadingLemmas.{and-left, and-right, and-false, if-true, if-false}
+use Rattle.markdown_leaf.proofs.ProgramLemmas.{GoesOn-map, Goes-on, Goes-kept, Goes-next, Goes-ok, Goes-nok, Goes-no, EndsAs-program, no-codes}
+use Rattle.markdown_model.proofs.ReadingSteps.{and-left, and-right, and-false, if-true, if-false}
 use Rattle.markdown_leaf.proofs.WholeReadings.{Gives, Covers, IsSome, IsNothing, Gives-bind, Gives-after, Gives-either, Gives-switched, Gives-one, Gives-some, Gives-test, Gives-gives, Covers-group, Covers-row, Covers-leaf, some-first}
 
 -- what the layer says of these states

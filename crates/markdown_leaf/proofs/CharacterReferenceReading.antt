@@ -14,9 +14,10 @@ use Rattle.markdown_model.specs.Leaf.{Parts, reference, reference_tree, named_pa
 use Rattle.markdown_util.specs.Reference.{html_5_rows, value_size_max, is_value_byte}
 use Rattle.markdown_leaf.specs.CharacterReference.{opening, number_sign, hexadecimal_sign, value_start, closing, begins_name, is_value_code, is_taken, value_of, value_program, numeric_program, named_program, open_program}
 use Rattle.markdown_leaf.specs.Program.{preceded, tree_ops, program_of}
-use Rattle.markdown_leaf.proofs.NameLemmas.{span-more, span-stop, span-same, name-short, length-values, same-code}
+use Rattle.markdown_leaf.proofs.NameLemmas.{name-short, length-values, same-code}
 use Rattle.markdown_leaf.proofs.ProgramLemmas.{preceded-twice}
-use Rattle.markdown_leaf.proofs.ReadingLemmas.{bind-some, bind-none, after-some, after-none, provided-true, provided-false, one-here, one-not, some-span, some-nothing, either-first, either-second, switched-on, switched-off, and-left, and-right, left-true, right-true, and-false, if-true, if-false}
+use Rattle.markdown_model.proofs.ReadingSteps.{bind-some, bind-none, after-some, after-none, provided-true, provided-false, one-here, one-not, some-span, some-nothing, either-first, either-second, switched-on, switched-off, and-left, and-right, left-true, right-true, and-false, if-true, if-false, span-takes, span-none}
+use Rattle.markdown_model.proofs.ReadingLaws.{span-agrees}
 
 -- Values.
 
@@ -38,7 +39,7 @@ between-size n max e h = grind arith
 pub value-close : (m n : ℕ) (c : Code) (cs : List Code) → (c.value == 59) ≡ true → nat_lt 0 n ≡ true → n ≤ value_size_max m → value_program m n (c ∷ cs) ≡ Some closing
 value-close m n c cs e h l =
     let other : is_value_code m c ≡ false = ap (is_value_byte m) (eq-true c.value 59 e) ∙ semicolon-byte m in
-    ap (value_of m n) (span-stop (is_value_code m) (c ∷ cs) other)
+    ap (value_of m n) (span-none (is_value_code m) (c ∷ cs) other)
     ∙ if-true _ (Some closing) None (rw (e, between-size n (value_size_max m) h l) refl)
 
 preceded-if : (os : List Op) (b : Bool) (x : List Op) → (if b then Some (os ++ x) else None) ≡ preceded os (if b then Some x else None)
@@ -50,7 +51,7 @@ unfolding is_taken
 value-more m n c cs e =
     let s : List Code × List Code = span (is_value_code m) cs in
     let size : n + suc (length s.0) ≡ (n + 1) + length s.0 = omega arith in
-    ap (value_of m n) (span-more (is_value_code m) c cs (and-right _ _ e))
+    ap (value_of m n) (span-takes (is_value_code m) c cs (and-right _ _ e))
     ∙ ap (λ k. if is_between 1 (value_size_max m) k && next_is (is_value 59) s.1 then Some (Consume ∷ consumes s.0 ++ closing) else None) size
     ∙ preceded-if (Consume ∷ []) (is_between 1 (value_size_max m) ((n + 1) + length s.0) && next_is (is_value 59) s.1) (consumes s.0 ++ closing)
 
@@ -67,8 +68,8 @@ pub value-stop : (m n : ℕ) (c : Code) (cs : List Code) → (c.value == 59) && 
 unfolding is_taken
 value-stop m n c cs e h =
     elim (is_value_code m c) as (λ b. is_value_code m c ≡ b → value_program m n (c ∷ cs) ≡ None) [
-      | true ↦ λ k. ap (value_of m n) (span-more (is_value_code m) c cs k) ∙ if-false _ _ _ (ap (λ b. b && next_is (is_value 59) (span (is_value_code m) cs).1) (too-many n (value_size_max m) (length (span (is_value_code m) cs).0) (right-true _ _ h k)))
-      | false ↦ λ k. ap (value_of m n) (span-stop (is_value_code m) (c ∷ cs) k)
+      | true ↦ λ k. ap (value_of m n) (span-takes (is_value_code m) c cs k) ∙ if-false _ _ _ (ap (λ b. b && next_is (is_value 59) (span (is_value_code m) cs).1) (too-many n (value_size_max m) (length (span (is_value_code m) cs).0) (right-true _ _ h k)))
+      | false ↦ λ k. ap (value_of m n) (span-none (is_value_code m) (c ∷ cs) k)
           ∙ (elim (c.value == 59) as (λ b. (c.value == 59) ≡ b → value_of m n ([], c ∷ cs) ≡ None) [
             | true ↦ λ t. if-false _ _ _ (ap (λ b. b && (c.value == 59)) (none-yet n (value_size_max m) (left-true _ _ e t)))
             | false ↦ λ t. if-false _ _ _ (ap (λ b. is_between 1 (value_size_max m) (n + 0) && b) t ∙ and-false _)
@@ -135,7 +136,7 @@ tail-by m os p ok f g cs (v ∷ vs) r e h =
 
 tail-program : (m : ℕ) (os : List Op) (p : Code → Bool) (ok : List Code → Bool) (f : List Code → List Code → Parts) → Begins os f → (cs : List Code) → ((c : Code) → p c ≡ is_value_code m c) → (is_empty (span p cs).0 ≡ false → ok (span p cs).0 ≡ nat_le (length (span p cs).0) (value_size_max m)) → part_ops (tail p ok f cs) ≡ preceded os (value_program m 0 cs)
 tail-program m os p ok f g cs same h =
-    tail-by m os p ok f g cs (span p cs).0 (span p cs).1 refl h ∙ ap (λ s. preceded os (value_of m 0 s)) (span-same p (is_value_code m) same cs)
+    tail-by m os p ok f g cs (span p cs).0 (span p cs).1 refl h ∙ ap (λ s. preceded os (value_of m 0 s)) (span-agrees p (is_value_code m) same cs)
 
 -- The three kinds.
 
@@ -237,7 +238,7 @@ hexadecimal-here c d x cs e h k =
 no-digits : (c d x : Code) (cs : List Code) → (c.value == 38) ≡ true → (d.value == 35) ≡ true → is_among (codes "xX") x ≡ true → decimal_parts (c ∷ d ∷ x ∷ cs) ≡ None
 no-digits c d x cs e h k =
     decimal-is c d (x ∷ cs) e h
-    ∙ tail-nothing is_digit (λ v. nat_le (length v) 7) (decimal_by c d) (x ∷ cs) (x ∷ cs) (span-stop is_digit (x ∷ cs) (letter-digit x.value (either-eq _ _ k)))
+    ∙ tail-nothing is_digit (λ v. nat_le (length v) 7) (decimal_by c d) (x ∷ cs) (x ∷ cs) (span-none is_digit (x ∷ cs) (letter-digit x.value (either-eq _ _ k)))
 
 -- a number sign begins no name
 sign-letter : (v : ℕ) → (v == 35) ≡ true → is_ascii_alphanumeric v ≡ false
@@ -246,7 +247,7 @@ sign-letter v e = ap is_ascii_alphanumeric (eq-true v 35 e)
 no-letters : (c d : Code) (cs : List Code) → (c.value == 38) ≡ true → (d.value == 35) ≡ true → named_parts html_5_rows (c ∷ d ∷ cs) ≡ None
 no-letters c d cs e h =
     named-is c (d ∷ cs) e
-    ∙ tail-nothing is_alphanumeric (is_name html_5_rows) (named_by c) (d ∷ cs) (d ∷ cs) (span-stop is_alphanumeric (d ∷ cs) (same-code d ∙ sign-letter d.value h))
+    ∙ tail-nothing is_alphanumeric (is_name html_5_rows) (named_by c) (d ∷ cs) (d ∷ cs) (span-none is_alphanumeric (d ∷ cs) (same-code d ∙ sign-letter d.value h))
 
 abbrev numbered : Reading Parts
 numbered = either decimal_parts hexadecimal_parts

@@ -12,14 +12,14 @@ use Rattle.markdown_engine.specs.declared.state.StateName.{StateName}
 use Rattle.markdown_engine.specs.declared.state.StateName.TheVariants.{HardBreakEscapeAfter}
 use Rattle.markdown_engine.specs.declared.tokenizer.Tokenizer.{Tokenizer}
 use Rattle.markdown_engine.proofs.Laws.{if-step, code-step}
-use Rattle.markdown_engine.proofs.OpRules.{law_rules, ahead-none, ahead-some}
+use Rattle.markdown_engine.proofs.OpRules.{law_rules, ahead-none, ahead-some, some-codes}
 use Rattle.markdown_model.specs.CodeTests.{is_value, next_is}
 use Rattle.markdown_model.specs.Grammar.{◌>>◌, provided, gives}
 use Rattle.markdown_model.specs.Leaf.{hard_break_escape}
 use Rattle.markdown_leaf.specs.HardBreakEscape.{is_on, opening, closing, start_at, start_step, after_at, after_step, break_here, after_program, start_ends, after_ends}
 use Rattle.markdown_leaf.specs.Program.{Program, preceded, tree_ops, program_of, KeepsAs}
-use Rattle.markdown_leaf.proofs.ProgramLemmas.{GoesOn-map, Goes-next, Goes-yes, Goes-no, EndsAs-program, some-codes}
-use Rattle.markdown_leaf.proofs.ReadingLemmas.{bind-some, bind-none, before-some, before-none, before-other, one-here, one-not, switched-on, switched-off, and-left, and-right, and-false, if-true, if-false}
+use Rattle.markdown_leaf.proofs.ProgramLemmas.{GoesOn-map, Goes-next, Goes-yes, Goes-no, EndsAs-program}
+use Rattle.markdown_model.proofs.ReadingSteps.{bind-some, bind-none, before-some, before-none, before-other, one-here, one-not, switched-on, switched-off, and-left, and-right, and-false, if-true, if-false}
 use Rattle.markdown_leaf.proofs.WholeReadings.{Gives, Covers, IsSome, Gives-bind, Gives-before, Gives-switched, Gives-one, Gives-gives, Covers-leaf}
 
 -- what the layer says of these states

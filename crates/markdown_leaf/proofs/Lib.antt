@@ -1,4 +1,3 @@
-pub mod ReadingLemmas
 pub mod WholeReadings
 pub mod ProgramLemmas
 pub mod CharacterEscapeLaws
@@ -10,12 +9,10 @@ pub mod StretchLemmas
 pub mod EscapeEvents
 pub mod RenamingLemmas
 pub mod NamingLemmas
-pub mod ContentSize
 pub mod RawTextReadings
 pub mod RawTextWhole
 pub mod RawTextReady
 pub mod RawTextLaws
-pub mod RepeatedReadings
 pub mod AutolinkReadings
 pub mod AutolinkWhole
 pub mod AutolinkLaws

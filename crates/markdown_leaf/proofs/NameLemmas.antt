@@ -18,7 +18,8 @@ use Rattle.markdown_leaf.specs.CharacterReference.{is_name_code, IsPassing, HasP
 use Rattle.markdown_model.specs.Leaf.{is_name}
 use Rattle.markdown_util.specs.Reference.{Table, html_5_rows, is_value, named_value}
 use Rattle.markdown_util.proofs.Tables.{html_5_sound}
-use Rattle.markdown_leaf.proofs.ReadingLemmas.{and-left, and-right, and-false, and-true}
+use Rattle.markdown_model.proofs.ReadingSteps.{and-left, and-right, and-false, and-true, span-takes, span-none}
+use Rattle.markdown_model.proofs.ReadingLaws.{span-agrees}
 use Rattle.std.specs.Str.{IsUtf8, IsAscii, bytes_eq}
 
 ascii-code : (b : ℕ) → is_ascii_alphanumeric b ≡ true → b < 128
@@ -37,13 +38,6 @@ name-utf8 bs e = IsUtf8-from_ascii bs (name-ascii bs e)
 
 -- What was passed.
 
-pub span-more : (p : Code → Bool) (c : Code) (cs : List Code) → p c ≡ true → ◌≡◌ {A = List Code × List Code} (span p (c ∷ cs)) (c ∷ (span p cs).0, (span p cs).1)
-span-more p c cs e = rw (e, span) refl
-
-pub span-stop : (p : Code → Bool) (cs : List Code) → next_is p cs ≡ false → ◌≡◌ {A = List Code × List Code} (span p cs) ([], cs)
-span-stop p [] e = refl
-span-stop p (c ∷ cs) e = rw (e, span) refl
-
 pub passing-start : (cs : List Code) (name : List ℕ) → IsPassing cs cs name 0
 passing-start cs name = record { passed = []; front = refl; back = refl; values = refl; count = refl; all = refl }
 
@@ -59,8 +53,8 @@ pub passing-more : (A B C : List Code) (c : Code) (name : List ℕ) (n : ℕ) �
 passing-more A B C c name n p l e h =
     record {
       passed = p.passed ++ c ∷ [];
-      front = p.front ∙ ap (λ xs. p.passed ++ xs) (ap (λ xs. (span is_name_code xs).0) e ∙ ap (λ (s : List Code × List Code). s.0) (span-more is_name_code c C h)) ∙ sym (append_assoc p.passed (c ∷ []) (span is_name_code C).0);
-      back = p.back ∙ ap (λ xs. (span is_name_code xs).1) e ∙ ap (λ (s : List Code × List Code). s.1) (span-more is_name_code c C h);
+      front = p.front ∙ ap (λ xs. p.passed ++ xs) (ap (λ xs. (span is_name_code xs).0) e ∙ ap (λ (s : List Code × List Code). s.0) (span-takes is_name_code c C h)) ∙ sym (append_assoc p.passed (c ∷ []) (span is_name_code C).0);
+      back = p.back ∙ ap (λ xs. (span is_name_code xs).1) e ∙ ap (λ (s : List Code × List Code). s.1) (span-takes is_name_code c C h);
       values = take_more_set name n c.value l ∙ ap (λ xs. xs ++ c.value ∷ []) p.values ∙ sym (values-append p.passed (c ∷ []));
       count = omega (arith, length-append p.passed (c ∷ []), p.count);
       all = ap (list_all is_ascii_alphanumeric) (values-append p.passed (c ∷ [])) ∙ list_all-append is_ascii_alphanumeric (values_of p.passed) (c.value ∷ []) ∙ rw (p.all, h) refl;
@@ -138,13 +132,6 @@ or-turned false false false = refl
 pub same-code : (c : Code) → is_alphanumeric c ≡ is_name_code c
 same-code c = or-turned (is_between 65 90 c.value) (is_between 97 122 c.value) (is_between 48 57 c.value)
 
-pub span-same : (p q : Code → Bool) → ((c : Code) → p c ≡ q c) → (cs : List Code) → span p cs ≡ span q cs
-span-same p q h [] = refl
-span-same p q h (c ∷ cs) =
-    let rest : span p cs ≡ span q cs = span-same p q h cs in
-    ap (λ (s : List Code × List Code). elim (p c) as (λ _. List Code × List Code) [ true ↦ (c ∷ s.0, s.1) | false ↦ ([], c ∷ cs) ]) rest
-    ∙ ap (λ b. elim b as (λ _. List Code × List Code) [ true ↦ (c ∷ (span q cs).0, (span q cs).1) | false ↦ ([], c ∷ cs) ]) (h c)
-
 pub length-values : (cs : List Code) → length (values_of cs) ≡ length cs
 length-values [] = refl
 length-values (c ∷ cs) = ap suc (length-values cs)
@@ -158,12 +145,12 @@ no-semicolon [] e = refl
 no-semicolon (c ∷ cs) e = cc
 
 begins-as : (A : List Code) → begins_name A ≡ is_name html_5_rows (span is_name_code A).0 && next_is (has_code 59) (span is_name_code A).1
-begins-as A = ap (λ (s : List Code × List Code). is_name html_5_rows s.0 && next_is (has_code 59) s.1) (span-same is_alphanumeric is_name_code same-code A)
+begins-as A = ap (λ (s : List Code × List Code). is_name html_5_rows s.0 && next_is (has_code 59) s.1) (span-agrees is_alphanumeric is_name_code same-code A)
 
 -- no code of a name is left
 all-passed : (A B : List Code) (name : List ℕ) (n : ℕ) → HasPassed A B name n → next_is is_name_code B ≡ false → begins_name A ≡ has_value html_5_rows (take n name) && next_is (has_code 59) B
 all-passed A B name n k e =
-    let stop : span is_name_code B ≡ ([], B) = span-stop is_name_code B e in
+    let stop : span is_name_code B ≡ ([], B) = span-none is_name_code B e in
     let front : (span is_name_code A).0 ≡ k.passing.passed = k.passing.front ∙ ap (λ (s : List Code × List Code). k.passing.passed ++ s.0) stop ∙ append-nil k.passing.passed in
     let back : (span is_name_code A).1 ≡ B = k.passing.back ∙ ap (λ (s : List Code × List Code). s.1) stop in
     begins-as A ∙ rw (front, back) (ap (λ x. has_value html_5_rows x && next_is (has_code 59) B) (sym k.passing.values))
@@ -177,7 +164,7 @@ stands-at A p name n k e =
 span-some : (p : Code → Bool) (cs : List Code) → next_is p cs ≡ true → 1 ≤ length (span p cs).0
 span-some p [] e = cc
 span-some p (c ∷ cs) e =
-    let size : length (span p (c ∷ cs)).0 ≡ suc (length (span p cs).0) = ap (λ (s : List Code × List Code). length s.0) (span-more p c cs e) in
+    let size : length (span p (c ∷ cs)).0 ≡ suc (length (span p cs).0) = ap (λ (s : List Code × List Code). length s.0) (span-takes p c cs e) in
     omega arith
 
 -- codes of a name are left, where there was no more room

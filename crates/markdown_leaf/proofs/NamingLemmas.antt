@@ -1,5 +1,5 @@
 -- How the states inside a leaf follow one another whose name is settled only at its end.
-use Rattle.std.proofs.Common.{◌≡◌, ℕ, zero, suc, ◌+◌, ◌-◌, ◌*◌, ◌<◌, ◌≤◌, Bool, true, false, Some, None, List, [], ◌∷◌, ◌++◌, length, take, drop, map, refl, sym, ap, subst, ◌∙◌, arith, append_assoc, append-nil}
+use Rattle.std.proofs.Common.{◌≡◌, ℕ, suc, ◌+◌, ◌-◌, ◌*◌, ◌<◌, ◌≤◌, Bool, true, false, Some, None, List, [], ◌∷◌, ◌++◌, length, take, drop, map, refl, sym, ap, subst, ◌∙◌, arith, append_assoc, append-nil}
 use Rattle.std.proofs.lemmas.List.{take-append-drop}
 use Rattle.std.proofs.lemmas.Grind.{common_steps}
 use Rattle.markdown_engine.specs.Codes.{Code}
@@ -16,8 +16,8 @@ use Rattle.markdown_engine.specs.declared.tokenizer.TokenizeState.{TokenizeState
 use Rattle.markdown_engine.specs.declared.tokenizer.Tokenizer.{Tokenizer}
 use Rattle.markdown_engine.proofs.Laws.{Goes-plain}
 use Rattle.markdown_engine.proofs.OpRules.{attempts-scratched, left-scratched}
-use Rattle.markdown_engine.proofs.OpsLemmas.{Grown-scratched, attempts-done, left-done}
-use Rattle.markdown_leaf.proofs.ProgramLemmas.{kept, done-scratched, ahead-after, DoesAs-then, Grown-after}
+use Rattle.markdown_engine.proofs.OpsLemmas.{Grown-scratched, attempts-done, left-done, drop-rest}
+use Rattle.markdown_leaf.proofs.ProgramLemmas.{kept, done-scratched, ahead-after, DoesAs-then, Grown-after, scratch-same}
 use Rattle.markdown_leaf.proofs.RenamingLemmas.{attempts-renamed}
 use Rattle.markdown_leaf.specs.Program.{Program, preceded, depth_after, DoesAs}
 use Rattle.markdown_leaf.specs.Renaming.{named, last_named, renamed, unopened, Naming, opened, under, preceded_by, NamesAs}
@@ -89,11 +89,6 @@ Grown-renamed d n T U g =
       same = ap (λ (x : Tokenizer). record x { events = take (length T.events - 1) T.events; stack = rest_of T.stack }) g.same;
     }
 
-drop-rest : {A : Type 0} → (d : ℕ) (xs : List A) → drop d (rest_of xs) ≡ drop (suc d) xs
-drop-rest zero [] = refl
-drop-rest (suc d) [] = refl
-drop-rest d (x ∷ xs) = refl
-
 pub Grown-unopened : (d : ℕ) (s : TokenizeState) (T : Tokenizer) → Grown d (unopened T) (scratched s T)
 unfolding unopened unwound scratched
 Grown-unopened d s T =
@@ -152,10 +147,6 @@ pub NamesAs-same : (d : ℕ) (p q : Naming) (s : TokenizeState) (T : Tokenizer) 
 NamesAs-same d p q s T e true U k = record { name = k.name; ops = k.ops; holds = e ∙ k.holds; left = k.left }
 NamesAs-same d p q s T e false U k = record { none = e ∙ k.none; grown = k.grown; scratch = k.scratch }
 
-scratch-is : (s : TokenizeState) (T U : Tokenizer) → U ≡ scratched s T → U.tokenize_state ≡ s
-unfolding scratched
-scratch-is s T U e = ap (λ (x : Tokenizer). x.tokenize_state) e
-
 -- The steps of a state, by what the run from there is claimed to end with.
 module _ (ready : StateName → Tokenizer → Type 0) (ends : StateName → Tokenizer → Bool → Tokenizer → Type 0) (weight : StateName → Tokenizer → ℕ) where
   -- on with a state, after operations on a tokenizer that has as many codes left
@@ -204,4 +195,4 @@ module _ (ready : StateName → Tokenizer → Type 0) (ends : StateName → Toke
   pub Goes-refused : (k d : ℕ) (p : Naming) (s : TokenizeState) (T : Tokenizer) → T.attempts ≡ [] → p (ahead T) ≡ None → GoesOn ready ends weight (weight_at k T) (NamesAs d p s T) (stepped State.Nok (scratched s T))
   Goes-refused k d p s T alone e =
       Goes-plain ready ends weight (weight_at k T) (NamesAs d p s T) State.Nok (scratched s T) (attempts-scratched s T ∙ alone) tt (omega arith)
-      (λ ok U x. subst (λ b. NamesAs d p s T b U) (sym x.0) (record { none = e; grown = subst (λ (V : Tokenizer). Grown d (unopened T) V) (sym x.1) (Grown-unopened d s T); scratch = scratch-is s T U x.1 }))
+      (λ ok U x. subst (λ b. NamesAs d p s T b U) (sym x.0) (record { none = e; grown = subst (λ (V : Tokenizer). Grown d (unopened T) V) (sym x.1) (Grown-unopened d s T); scratch = scratch-same s T U x.1 }))

@@ -1,9 +1,8 @@
 -- How the states of a construct follow one another, by the operations that are to come.
-use Rattle.std.proofs.Common.{append_assoc, ◌≡◌, ℕ, ◌+◌, ◌*◌, ◌<◌, ◌≤◌, Bool, true, false, Option, Some, None, List, [], ◌∷◌, ◌++◌, length, drop, add-one, refl, sym, ap, subst, ◌∙◌, arith}
+use Rattle.std.proofs.Common.{append_assoc, ◌≡◌, ℕ, ◌+◌, ◌*◌, ◌<◌, ◌≤◌, Bool, true, false, Option, Some, None, List, [], ◌∷◌, ◌++◌, length, drop, refl, sym, ap, subst, ◌∙◌, arith}
 use Rattle.markdown_engine.specs.Codes.{Code}
-use Rattle.markdown_engine.specs.Lists.{rest_of}
 use Rattle.markdown_engine.specs.Grown.{Grown}
-use Rattle.markdown_engine.specs.Ops.{Op, current_of, Enter, Exit, EnterLink, EnterConnected, Consume, ahead, applied, done, op_depth, op_stays, stays, moves, scratched}
+use Rattle.markdown_engine.specs.Ops.{Op, Enter, Exit, EnterLink, EnterConnected, Consume, ahead, applied, done, op_depth, op_stays, stays, moves, scratched}
 use Rattle.markdown_engine.specs.Past.{TreeReading, EndsAs}
 use Rattle.markdown_engine.specs.Runs.{Goes, GoesOn, Stepped, stepped, settled, ends_state, ready_state, weight_state}
 use Rattle.markdown_engine.specs.Tree.{Forest, leaf_codes}
@@ -17,7 +16,7 @@ use Rattle.markdown_engine.specs.declared.tokenizer.TokenizeState.{TokenizeState
 use Rattle.markdown_engine.specs.declared.tokenizer.Tokenizer.{Tokenizer}
 use Rattle.markdown_engine.proofs.EndsLemmas.{scratched-same}
 use Rattle.markdown_engine.proofs.Laws.{Goes-plain, Grown-refl}
-use Rattle.markdown_engine.proofs.OpRules.{ahead-some, attempts-scratched, left-scratched}
+use Rattle.markdown_engine.proofs.OpRules.{attempts-scratched, left-scratched}
 use Rattle.markdown_engine.proofs.OpsLemmas.{Grown-applied, Grown-scratched, ahead-done, attempts-done, left-done, scratch-done, and-left, and-right}
 use Rattle.markdown_engine.proofs.TreeLemmas.{done-append, ops-past, ahead-past}
 use Rattle.markdown_leaf.proofs.WholeReadings.{Gives, Covers}
@@ -91,7 +90,7 @@ falls os r T j k h l = omega (arith, left-done os T h, left-scratched r (done os
 Grown-same : (d : ℕ) (s : TokenizeState) (T U : Tokenizer) → U ≡ scratched s T → Grown d T U
 Grown-same d s T U e = subst (λ (x : Tokenizer). Grown d T x) (sym e) (Grown-scratched d s T (scratched s T) (Grown-refl d (scratched s T)))
 
-scratch-same : (s : TokenizeState) (T U : Tokenizer) → U ≡ scratched s T → U.tokenize_state ≡ s
+pub scratch-same : (s : TokenizeState) (T U : Tokenizer) → U ≡ scratched s T → U.tokenize_state ≡ s
 unfolding scratched
 scratch-same s T U e = ap (λ (x : Tokenizer). x.tokenize_state) e
 
@@ -140,18 +139,8 @@ module _ (ready : StateName → Tokenizer → Type 0) (ends : StateName → Toke
   pub Goes-no : (k d : ℕ) (p : Program) (T : Tokenizer) → T.attempts ≡ [] → p (ahead T) ≡ None → GoesOn ready ends weight (weight_at k T) (KeepsAs d p T) (stepped Nok T)
   Goes-no k d p T alone e = subst (λ (V : Tokenizer). GoesOn ready ends weight (weight_at k T) (KeepsAs d p T) (stepped Nok V)) (scratched-same T) (Goes-nok k d p T.tokenize_state T alone e)
 
--- a code is left
-pub some-codes : (T : Tokenizer) (c : ℕ) → current_of T ≡ Some c → 1 ≤ length (ahead T)
-some-codes T c e =
-    let whole : length (ahead T) ≡ length (rest_of (ahead T)) + 1 = ap length (ahead-some T c e).whole ∙ sym (add-one _) in
-    omega arith
-
 pub no-codes : (T : Tokenizer) → 0 ≤ length (ahead T)
 no-codes T = omega arith
-
-pub scratch-scratched : (s : TokenizeState) (T : Tokenizer) → (scratched s T).tokenize_state ≡ s
-unfolding scratched
-scratch-scratched s T = refl
 
 -- Whole constructs.
 

@@ -14,18 +14,18 @@ use Rattle.markdown_engine.specs.declared.state.StateName.TheVariants.{RawTextSe
 use Rattle.markdown_engine.specs.declared.tokenizer.TokenizeState.{TokenizeState}
 use Rattle.markdown_engine.specs.declared.tokenizer.Tokenizer.{Tokenizer}
 use Rattle.markdown_engine.proofs.Laws.{if-step, code-step}
-use Rattle.markdown_engine.proofs.OpRules.{ahead-none, ahead-some, Begins}
+use Rattle.markdown_engine.proofs.OpRules.{ahead-none, ahead-some, Begins, some-codes}
 use Rattle.markdown_model.specs.CodeTests.{is_value, is_some_code, next_is}
 use Rattle.markdown_model.specs.Leaf.{SpanNames, code_names, math_names}
-use Rattle.markdown_leaf.specs.Program.{Program, preceded, program_of, DoesAs, KeepsAs}
+use Rattle.markdown_leaf.specs.Program.{Program, preceded, program_of, KeepsAs}
 use Rattle.markdown_leaf.specs.RawText.{names_in, begun, rested, with_size, with_size_b, is_same, is_barred, follows_escape, code_just_before, code_is_on, math_is_on, single_dollar, opened, start_at, start_step, after_opening, sequence_open_at, sequence_open_step, between_at, between_step, after_data, data_at, data_step, after_run, sequence_close_at, sequence_close_step, StartReady, SequenceOpenReady, BetweenReady, DataReady, SequenceCloseReady, span_at, inside_program, is_data, data_program, run_naming, opening_program, start_ends, sequence_open_ends, between_ends, data_ends, sequence_close_ends}
 use Rattle.markdown_leaf.specs.Renaming.{Naming, renamed}
 use Rattle.markdown_leaf.proofs.NamingLemmas.{Goes-entered, Goes-inside, Goes-settled, Goes-named}
-use Rattle.markdown_leaf.proofs.ProgramLemmas.{GoesOn-map, Goes-on, Goes-kept, Goes-nok, Goes-no, EndsAs-program, some-codes}
+use Rattle.markdown_leaf.proofs.ProgramLemmas.{GoesOn-map, Goes-on, Goes-kept, Goes-nok, Goes-no, EndsAs-program}
 use Rattle.markdown_leaf.proofs.RawTextReadings.{inside-none, inside-ending, inside-data, inside-run, data-more, data-end, run-more, run-closed, run-other, open-more, open-end, code-opens, math-opens-here, no-span}
 use Rattle.markdown_leaf.proofs.RawTextReady.{start-opened, opened-more, opened-between, between-ending, between-data, between-run, data-next, data-between, run-next, run-between, opening-says}
 use Rattle.markdown_leaf.proofs.RawTextWhole.{whole-here}
-use Rattle.markdown_leaf.proofs.ReadingLemmas.{and-left, and-right, if-true, if-false}
+use Rattle.markdown_model.proofs.ReadingSteps.{and-left, and-right, if-true, if-false}
 use Rattle.markdown_leaf.proofs.WholeReadings.{Gives, Covers, Gives-either}
 
 -- what the layer says of these states

@@ -1,6 +1,6 @@
 -- What the reading of a span gives, by what stands there.
 use Rattle.std.proofs.Common.{◌≡◌, ℕ, ◌+◌, ◌==◌, Bool, true, false, ◌&&◌, ◌||◌, not, nat_lt, if◌then◌else◌, Option, Some, None, List, [], ◌∷◌, ◌++◌, length, refl, sym, ap, ◌∙◌, arith, append_assoc}
-use Rattle.std.proofs.lemmas.Bool.{eqb-true}
+use Rattle.std.proofs.lemmas.Bool.{eqb-true, and_left}
 use Rattle.std.proofs.lemmas.Bool.Decides.{nat_tests}
 use Rattle.std.proofs.lemmas.Grind.{common_steps}
 use Rattle.markdown_engine.specs.Codes.{Code, is_line_ending}
@@ -14,7 +14,7 @@ use Rattle.markdown_model.specs.CodeTests.{is_value, next_is, is_empty, is_some_
 use Rattle.markdown_model.specs.Grammar.{◌>>=◌, ◌>>◌, gives, provided, either, some, span}
 use Rattle.markdown_model.specs.Lines.{joins, stretches, line_leaf, line_leaves}
 use Rattle.markdown_model.specs.Leaf.{SpanNames, code_names, math_names, closing_run, closing, span_of, span_here}
-use Rattle.markdown_leaf.proofs.ReadingLemmas.{bind-some, bind-none, switched-on, switched-off, either-first, either-second}
+use Rattle.markdown_model.proofs.ReadingSteps.{bind-some, bind-none, switched-on, switched-off, either-first, either-second, span-takes, span-none, and-false}
 use Rattle.markdown_leaf.proofs.StretchLemmas.{stretch-alone, stretch-span}
 use Rattle.markdown_leaf.specs.Program.{preceded, tree_ops, program_of}
 use Rattle.markdown_leaf.specs.RawText.{closed_ops, inside_program, is_data, data_program, run_naming, opens, opening_program}
@@ -50,10 +50,6 @@ not-right true b e = cc
 not-right false true e = cc
 not-right false false e = refl
 
-and-first : (a b : Bool) → a ≡ false → a && b ≡ false
-and-first false b e = refl
-and-first true b e = cc
-
 and-second : (a b : Bool) → a ≡ true → a && b ≡ b
 and-second true b e = refl
 and-second false b e = cc
@@ -74,20 +70,9 @@ none-more n = omega arith
 pub counted : (n : ℕ) (cs : List Code) (c : Code) → n + length (c ∷ cs) ≡ n + 1 + length cs
 counted n cs c = omega arith
 
-pub span-more : (p : Code → Bool) (c : Code) (cs : List Code) → p c ≡ true → ◌≡◌ {A = List Code × List Code} (span p (c ∷ cs)) (c ∷ (span p cs).0, (span p cs).1)
-span-more p c cs h = rw (h, span) refl
-
-pub span-none : (p : Code → Bool) (cs : List Code) → next_is p cs ≡ false → ◌≡◌ {A = List Code × List Code} (span p cs) ([], cs)
-span-none p [] h = refl
-span-none p (c ∷ cs) h = rw (h, span) refl
-
 left-false : (a : Bool) → a && true ≡ false → a ≡ false
 left-false true e = e
 left-false false e = refl
-
-and-none : (a : Bool) → a && false ≡ false
-and-none true = refl
-and-none false = refl
 
 -- Operations in a row.
 
@@ -142,13 +127,13 @@ module _ (m : ℕ) (names : SpanNames) (size : ℕ) where
   inside-ending e c cs h =
       let other : (10 == m) ≡ false = flipped m 10 e in
       ap (λ ss. closed_ops names (closing_run (is_value m) size ss)) (stretch-alone (is_value m) c cs (ending-alone c cs h))
-      ∙ closed-past N.LineEnding c [] (stretches (is_value m) cs) (ending-leaf c [] h) (and-first (is_value m c) (length (c ∷ []) == size) (other-value c.value 10 m other h))
+      ∙ closed-past N.LineEnding c [] (stretches (is_value m) cs) (ending-leaf c [] h) (and_left (is_value m c) (length (c ∷ []) == size) (other-value c.value 10 m other h))
 
   pub inside-data : (c : Code) (cs : List Code) → is_data m names size c ≡ true → inside_program m names size (c ∷ cs) ≡ preceded (Enter names.text ∷ Consume ∷ []) (data_program m names size cs)
   inside-data c cs h =
       let s : List Code × List Code = span (is_data m names size) cs in
       ap (λ ss. closed_ops names (closing_run (is_value m) size ss)) (stretch-span (is_value m) (is_data m names size) (λ a b k. agree-data a b k) c cs h)
-      ∙ closed-past names.text c s.0 (stretches (is_value m) s.1) (text-leaf c s.0 (not-left (is_line_ending c) (is_value m c) h)) (and-first (is_value m c) (length (c ∷ s.0) == size) (not-right (is_line_ending c) (is_value m c) h))
+      ∙ closed-past names.text c s.0 (stretches (is_value m) s.1) (text-leaf c s.0 (not-left (is_line_ending c) (is_value m c) h)) (and_left (is_value m c) (length (c ∷ s.0) == size) (not-right (is_line_ending c) (is_value m c) h))
       ∙ sym (preceded-twice (Enter names.text ∷ Consume ∷ []) (consumes s.0 ++ Exit names.text ∷ []) (inside_program m names size s.1))
 
   closed-here : (c : Code) (front : List Code) (ss : List (List Code)) → (next_is (is_value m) (c ∷ front) && length (c ∷ front) == size) ≡ true → closed_ops names (closing_run (is_value m) size ((c ∷ front) ∷ ss)) ≡ Some (Enter names.sequence ∷ Consume ∷ (consumes front ++ Exit names.sequence ∷ Exit names.whole ∷ []))
@@ -174,7 +159,7 @@ module _ (m : ℕ) (names : SpanNames) (size : ℕ) where
   pub data-more : (c : Code) (cs : List Code) → is_data m names size c ≡ true → data_program m names size (c ∷ cs) ≡ preceded (Consume ∷ []) (data_program m names size cs)
   data-more c cs h =
       let s : List Code × List Code = span (is_data m names size) cs in
-      ap (λ (r : List Code × List Code). preceded (consumes r.0 ++ Exit names.text ∷ []) (inside_program m names size r.1)) (span-more (is_data m names size) c cs h)
+      ap (λ (r : List Code × List Code). preceded (consumes r.0 ++ Exit names.text ∷ []) (inside_program m names size r.1)) (span-takes (is_data m names size) c cs h)
       ∙ sym (preceded-twice (Consume ∷ []) (consumes s.0 ++ Exit names.text ∷ []) (inside_program m names size s.1))
 
   pub data-end : (cs : List Code) → next_is (is_data m names size) cs ≡ false → data_program m names size cs ≡ preceded (Exit names.text ∷ []) (inside_program m names size cs)
@@ -195,7 +180,7 @@ module _ (m : ℕ) (names : SpanNames) (size : ℕ) where
   pub run-more : (passed : ℕ) (c : Code) (cs : List Code) → is_value m c ≡ true → run_naming m names size passed (c ∷ cs) ≡ preceded_by (Consume ∷ []) (run_naming m names size (passed + 1) cs)
   run-more passed c cs h =
       let s : List Code × List Code = span (is_value m) cs in
-      ap (λ (r : List Code × List Code). run_answer passed r) (span-more (is_value m) c cs h)
+      ap (λ (r : List Code × List Code). run_answer passed r) (span-takes (is_value m) c cs h)
       ∙ ap (λ n. if n == size then Some (names.sequence, Consume ∷ (consumes s.0 ++ Exit names.sequence ∷ Exit names.whole ∷ [])) else under names.text (preceded (Consume ∷ (consumes s.0 ++ Exit names.text ∷ [])) (inside_program m names size s.1))) (counted passed s.0 c)
       ∙ answer-more (passed + 1 + length s.0 == size) s.0 (inside_program m names size s.1)
 
@@ -225,7 +210,7 @@ module _ (single : Bool) (m : ℕ) (names : SpanNames) where
   pub open-more : (passed : ℕ) (c : Code) (cs : List Code) → is_value m c ≡ true → opening_program single m names passed (c ∷ cs) ≡ preceded (Consume ∷ []) (opening_program single m names (passed + 1) cs)
   open-more passed c cs h =
       let s : List Code × List Code = span (is_value m) cs in
-      ap (λ (r : List Code × List Code). opening_answer passed r) (span-more (is_value m) c cs h)
+      ap (λ (r : List Code × List Code). opening_answer passed r) (span-takes (is_value m) c cs h)
       ∙ ap (λ n. if opens single m n then preceded (Consume ∷ (consumes s.0 ++ Exit names.sequence ∷ [])) (inside_program m names n s.1) else None) (counted passed s.0 c)
       ∙ opening-more (opens single m (passed + 1 + length s.0)) s.0 (inside_program m names (passed + 1 + length s.0) s.1)
 
@@ -238,7 +223,7 @@ module _ (single : Bool) (m : ℕ) (names : SpanNames) where
 
 pub some-here : (p : Code → Bool) (c : Code) (cs : List Code) → p c ≡ true → some p (c ∷ cs) ≡ Some (c ∷ (span p cs).0, (span p cs).1)
 unfolding some
-some-here p c cs h = ap (λ (r : List Code × List Code). elim (is_empty r.0) as (λ _. Option (List Code × List Code)) [ true ↦ None | false ↦ Some r ]) (span-more p c cs h)
+some-here p c cs h = ap (λ (r : List Code × List Code). elim (is_empty r.0) as (λ _. Option (List Code × List Code)) [ true ↦ None | false ↦ Some r ]) (span-takes p c cs h)
 
 pub some-none : (p : Code → Bool) (cs : List Code) → next_is p cs ≡ false → some p cs ≡ None
 unfolding some
@@ -290,7 +275,7 @@ module _ (single : Bool) (m : ℕ) (names : SpanNames) (allowed : ℕ → Bool) 
       ] h
 
 math-opens : (single : Bool) (n : ℕ) → (single || nat_lt 1 (1 + n)) ≡ opens single 36 (1 + n)
-math-opens true n = sym (ap not (and-none (1 + n == 1)))
+math-opens true n = sym (ap not (and-false (1 + n == 1)))
 math-opens false n = grind (arith, nat_tests, common_steps)
 
 -- the readings of both kinds of span
@@ -302,13 +287,13 @@ module _ (on_code on_math single escaped : Bool) (previous : Option Code) where
 
   pub code-opens : (c : Code) (cs : List Code) → (c.value == 96) ≡ true → on_code ≡ true → (escaped || not (is_some_code (is_value 96) previous)) ≡ true → program_of both (c ∷ cs) ≡ preceded (Enter N.CodeText ∷ Enter N.CodeTextSequence ∷ Consume ∷ []) (opening_program single 96 code_names 1 cs)
   code-opens c cs h on free =
-      ap tree_ops (either-first _ _ (c ∷ cs) (here-off single 36 math_names (λ n. single || nat_lt 1 n) on_math escaped previous (c ∷ cs) (and-first _ _ (other-value c.value 96 36 refl h)))
+      ap tree_ops (either-first _ _ (c ∷ cs) (here-off single 36 math_names (λ n. single || nat_lt 1 n) on_math escaped previous (c ∷ cs) (and_left _ _ (other-value c.value 96 36 refl h)))
       ∙ here-on single 96 code_names (λ n. true) on_code escaped previous (c ∷ cs) on free)
       ∙ span-opens single 96 code_names (λ n. true) (λ n. refl) c cs h
 
   pub math-opens-here : (c : Code) (cs : List Code) → (c.value == 36) ≡ true → on_math ≡ true → (escaped || not (is_some_code (is_value 36) previous)) ≡ true → program_of both (c ∷ cs) ≡ preceded (Enter N.MathText ∷ Enter N.MathTextSequence ∷ Consume ∷ []) (opening_program single 36 math_names 1 cs)
   math-opens-here c cs h on free =
-      ap tree_ops (either-second _ _ (c ∷ cs) (here-off single 96 code_names (λ n. true) on_code escaped previous (c ∷ cs) (and-first _ _ (other-value c.value 36 96 refl h)))
+      ap tree_ops (either-second _ _ (c ∷ cs) (here-off single 96 code_names (λ n. true) on_code escaped previous (c ∷ cs) (and_left _ _ (other-value c.value 36 96 refl h)))
       ∙ here-on single 36 math_names (λ n. single || nat_lt 1 n) on_math escaped previous (c ∷ cs) on free)
       ∙ span-opens single 36 math_names (λ n. single || nat_lt 1 n) (λ n. math-opens single n) c cs h
 

@@ -1,47 +1,24 @@
 -- The reading of a span covers the codes that it passes.
-use Rattle.std.proofs.Common.{◌≡◌, ℕ, ◌==◌, Bool, true, false, ◌&&◌, Option, Some, None, List, [], ◌∷◌, ◌++◌, length, refl, sym, ap, subst, ◌∙◌, append_assoc, append-nil}
+use Rattle.std.proofs.Common.{◌≡◌, ℕ, Bool, true, false, Option, None, List, [], ◌∷◌, ◌++◌, length, refl, sym, subst, ◌∙◌, append-nil}
 use Rattle.markdown_engine.specs.Codes.{Code, is_line_ending}
 use Rattle.markdown_engine.specs.Tree.{Forest, ◌⊕◌, leaf, group}
 use Rattle.markdown_engine.specs.declared.event.Name.{Name}
 use Rattle.markdown_engine.specs.declared.event.Name.TheVariants as N
-use Rattle.markdown_model.specs.CodeTests.{is_value, next_is}
+use Rattle.markdown_model.specs.CodeTests.{is_value}
 use Rattle.markdown_model.specs.Grammar.{◌>>◌, provided}
-use Rattle.markdown_model.specs.Leaf.{SpanNames, joined_codes, closing_run, closing, span_of, span_here}
-use Rattle.markdown_model.specs.Lines.{stretches, line_leaf, line_leaves}
-use Rattle.markdown_leaf.proofs.StretchLemmas.{joined-stretches}
-use Rattle.markdown_leaf.proofs.WholeReadings.{Gives, IsSome, Covers, both-parts, Gives-bind, Gives-switched, Gives-gives, Gives-some, Covers-leaf, Covers-row, Covers-group, some-first}
+use Rattle.markdown_model.specs.Leaf.{SpanNames, joined_codes, closing, span_of, span_here}
+use Rattle.markdown_model.specs.Lines.{line_leaf, line_leaves}
+use Rattle.markdown_leaf.proofs.WholeReadings.{Gives, IsSome, Covers, Gives-bind, Gives-switched, Gives-gives, Gives-some, Covers-leaf, Covers-row, Covers-group, some-first}
+use Rattle.markdown_model.proofs.ReadingLaws.{read-codes}
+use Rattle.markdown_model.proofs.Readings.{span_codes, covers_closing}
 
 -- The inside and the closing run.
 
 abbrev pub Parts : List (List Code) × List Code → List Code → Type 0
 Parts x ws = joined_codes x.0 ++ x.1 ≡ ws
 
-run-joined : (p : Code → Bool) (n : ℕ) (ss : List (List Code)) (x : List (List Code) × List Code) (rest : List Code) → ◌≡◌ {A = Option ((List (List Code) × List Code) × List Code)} (closing_run p n ss) (Some (x, rest)) → joined_codes ss ≡ (joined_codes x.0 ++ x.1) ++ rest
-unfolding closing_run
-run-joined p n [] x rest k = cc
-run-joined p n (s ∷ ss) x rest k =
-    elim (next_is p s && length s == n) as (λ b. ◌≡◌ {A = Option ((List (List Code) × List Code) × List Code)} (elim b as (λ _. Option ((List (List Code) × List Code) × List Code)) [ true ↦ Some (([], s), joined_codes ss) | false ↦ elim (closing_run p n ss) as (λ _. Option ((List (List Code) × List Code) × List Code)) [ None ↦ None | Some r ↦ Some ((s ∷ r.0.0, r.0.1), r.1) ] ]) (Some (x, rest)) → s ++ joined_codes ss ≡ (joined_codes x.0 ++ x.1) ++ rest) [
-      | true ↦ λ h. run-here s ss x rest h
-      | false ↦ λ h. elim (closing_run p n ss) as (λ o. closing_run p n ss ≡ o → ◌≡◌ {A = Option ((List (List Code) × List Code) × List Code)} (elim o as (λ _. Option ((List (List Code) × List Code) × List Code)) [ None ↦ None | Some r ↦ Some ((s ∷ r.0.0, r.0.1), r.1) ]) (Some (x, rest)) → s ++ joined_codes ss ≡ (joined_codes x.0 ++ x.1) ++ rest) [
-        | None ↦ λ _ l. cc
-        | Some r ↦ λ j l. run-later s ss r x rest (run-joined p n ss r.0 r.1 j) l
-      ] refl h
-    ] k
-  where
-    run-here : (s : List Code) (ss : List (List Code)) (x : List (List Code) × List Code) (rest : List Code) → ◌≡◌ {A = Option ((List (List Code) × List Code) × List Code)} (Some (([], s), joined_codes ss)) (Some (x, rest)) → s ++ joined_codes ss ≡ (joined_codes x.0 ++ x.1) ++ rest
-    run-here s ss x rest h = let same = both-parts ([], s) x (joined_codes ss) rest h in ap (λ xs. s ++ xs) same.1 ∙ ap (λ (y : List (List Code) × List Code). (joined_codes y.0 ++ y.1) ++ rest) same.0
-
-    run-later : (s : List Code) (ss : List (List Code)) (r : (List (List Code) × List Code) × List Code) (x : List (List Code) × List Code) (rest : List Code) → joined_codes ss ≡ (joined_codes r.0.0 ++ r.0.1) ++ r.1 → ◌≡◌ {A = Option ((List (List Code) × List Code) × List Code)} (Some ((s ∷ r.0.0, r.0.1), r.1)) (Some (x, rest)) → s ++ joined_codes ss ≡ (joined_codes x.0 ++ x.1) ++ rest
-    run-later s ss r x rest j l =
-        let same = both-parts (s ∷ r.0.0, r.0.1) x r.1 rest l in
-        ap (λ xs. s ++ xs) j
-        ∙ sym (append_assoc s (joined_codes r.0.0 ++ r.0.1) r.1)
-        ∙ ap (λ xs. xs ++ r.1) (sym (append_assoc s (joined_codes r.0.0) r.0.1))
-        ∙ ap (λ (y : List (List Code) × List Code). (joined_codes y.0 ++ y.1) ++ r.1) same.0
-        ∙ ap (λ xs. (joined_codes x.0 ++ x.1) ++ xs) same.1
-
 pub Gives-closing : (p : Code → Bool) (n : ℕ) → Gives Parts (closing p n)
-Gives-closing p n cs x rest k = record { codes = joined_codes x.0 ++ x.1; whole = sym (joined-stretches p cs) ∙ run-joined p n (stretches p cs) x rest k; holds = refl }
+Gives-closing p n cs x rest k = record { codes = joined_codes x.0 ++ x.1; whole = read-codes span_codes (closing p n) (covers_closing p n) cs rest x k; holds = refl }
 
 -- The leaves inside.
 

@@ -8,6 +8,7 @@ use Rattle.markdown_engine.proofs.SolidLemmas.{IsSolid-leaf, IsSolid-row, IsSoli
 use Rattle.markdown_engine.proofs.TreeLemmas.{leaf_codes-row}
 use Rattle.markdown_model.specs.CodeTests.{is_empty}
 use Rattle.markdown_model.specs.Grammar.{Reading, ◌>>=◌, ◌>>◌, gives, provided, either, before, one, some, any_number, span, ◌then_◌}
+use Rattle.markdown_model.proofs.Leaves.{codes-leaf, span-append}
 
 -- it has passed some codes, of which this holds with what it gives
 pub record Read {A : Type 0} (Q : A → List Code → Type 0) (cs : List Code) (x : A) (rest : List Code) : Type 0 where
@@ -107,12 +108,8 @@ Gives-one p (c ∷ cs) x rest k = one-by (p c) c cs x rest k
 
 -- Trees.
 
-leaf-codes : (n : Name) (ws : List Code) → leaf_codes (leaf n ws) ≡ ws
-leaf-codes n [] = refl
-leaf-codes n (c ∷ cs) = append-nil (c ∷ cs)
-
 pub Covers-leaf : (n : Name) (x ws : List Code) → x ≡ ws → Covers (leaf n x) ws
-Covers-leaf n x ws e = (IsSolid-leaf n x, leaf-codes n x ∙ e)
+Covers-leaf n x ws e = (IsSolid-leaf n x, codes-leaf n x ∙ e)
 
 pub Covers-row : (t u : Forest) (xs ys : List Code) → Covers t xs → Covers u ys → Covers (t ⊕ u) (xs ++ ys)
 Covers-row t u xs ys p q = (IsSolid-row t u p.0 q.0, leaf_codes-row t u ∙ ap (λ z. z ++ leaf_codes u) p.1 ∙ ap (λ z. xs ++ z) q.1)
@@ -127,14 +124,6 @@ some-first (x ∷ xs) ys h = λ e. cc
 
 -- Several codes.
 
-span-by : (b : Bool) (c : Code) (cs : List Code) (s : List Code × List Code) → cs ≡ s.0 ++ s.1 → let r : List Code × List Code = elim b as (λ _. List Code × List Code) [ true ↦ (c ∷ s.0, s.1) | false ↦ ([], c ∷ cs) ] in c ∷ cs ≡ r.0 ++ r.1
-span-by true c cs s e = ap (λ xs. c ∷ xs) e
-span-by false c cs s e = refl
-
-pub span-whole : (p : Code → Bool) (cs : List Code) → cs ≡ (span p cs).0 ++ (span p cs).1
-span-whole p [] = refl
-span-whole p (c ∷ cs) = span-by (p c) c cs (span p cs) (span-whole p cs)
-
 some-by : (cs : List Code) (s : List Code × List Code) (x rest : List Code) → cs ≡ s.0 ++ s.1 → ◌≡◌ {A = Option (List Code × List Code)} (elim (is_empty s.0) as (λ _. Option (List Code × List Code)) [ true ↦ None | false ↦ Some s ]) (Some (x, rest)) → Read IsSome cs x rest
 some-by cs ([], r) x rest e k = cc
 some-by cs (w ∷ ws, r) x rest e k =
@@ -143,13 +132,13 @@ some-by cs (w ∷ ws, r) x rest e k =
 
 pub Gives-some : (p : Code → Bool) → Gives IsSome (some p)
 unfolding some
-Gives-some p cs x rest k = some-by cs (span p cs) x rest (span-whole p cs) k
+Gives-some p cs x rest k = some-by cs (span p cs) x rest (sym (span-append p cs)) k
 
 pub Gives-any : (p : Code → Bool) → Gives (λ x ws. x ≡ ws) (any_number p)
 unfolding any_number
 Gives-any p cs x rest k =
     let same = both-parts (span p cs).0 x (span p cs).1 rest k in
-    record { codes = x; whole = span-whole p cs ∙ ap (λ xs. xs ++ (span p cs).1) same.0 ∙ ap (λ ys. x ++ ys) same.1; holds = refl }
+    record { codes = x; whole = sym (span-append p cs) ∙ ap (λ xs. xs ++ (span p cs).1) same.0 ∙ ap (λ ys. x ++ ys) same.1; holds = refl }
 
 -- a test passes nothing
 abbrev pub IsNothing : List Code → List Code → Type 0

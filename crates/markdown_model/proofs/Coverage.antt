@@ -13,10 +13,11 @@ use Rattle.markdown_model.specs.Pairs.{Pair}
 use Rattle.markdown_model.specs.Groups.{Token, item, opens, closes, nested, pair_group, loose, assembled, cut_front, run_tokens, closing_sizes, opening_sizes, tokens_of, paired, pair_names}
 use Rattle.markdown_model.specs.Passes.{data_onto, merged, trimmed, trimmed_data, blank_name, begins_line_ending, is_nothing, mailed}
 use Rattle.markdown_model.specs.Email.{with_emails}
-use Rattle.markdown_model.proofs.Leaves.{codes-join, codes-leaf, span-append}
+use Rattle.markdown_model.proofs.Leaves.{codes-leaf, span-append}
 use Rattle.markdown_model.proofs.Readings.{itself}
 use Rattle.markdown_model.proofs.Literals.{codes-with_emails}
 use Rattle.markdown_model.proofs.Nesting.{codes_of_all, codes-joined, codes-nested, word_codes}
+use Rattle.markdown_engine.proofs.TreeLemmas.{leaf_codes-row}
 
 -- Merging.
 
@@ -49,8 +50,8 @@ cut_lead-append false cs = refl
 
 pub codes-three : (a b c : Name) (xs ys zs : List Code) → leaf_codes (leaf a xs ⊕ leaf b ys ⊕ leaf c zs) ≡ (xs ++ ys) ++ zs
 codes-three a b c xs ys zs =
-    codes-join (leaf a xs) (leaf b ys ⊕ leaf c zs)
-    ∙ (λ i. codes-leaf a xs i ++ (codes-join (leaf b ys) (leaf c zs) ∙ (λ j. codes-leaf b ys j ++ codes-leaf c zs j)) i)
+    leaf_codes-row (leaf a xs) (leaf b ys ⊕ leaf c zs)
+    ∙ (λ i. codes-leaf a xs i ++ (leaf_codes-row (leaf b ys) (leaf c zs) ∙ (λ j. codes-leaf b ys j ++ codes-leaf c zs j)) i)
     ∙ sym (append_assoc xs ys zs)
 
 pub codes-trimmed_data : (front back hard : Bool) (cs : List Code) → leaf_codes (trimmed_data front back hard cs) ≡ cs
@@ -64,7 +65,7 @@ pub codes-trimmed : (hard front whole : Bool) (f : Forest) → leaf_codes (trimm
 unfolding trimmed
 codes-trimmed hard front whole empty = refl
 codes-trimmed hard front whole (leaf_then Name.Data None cs rest) =
-    codes-join (trimmed_data front (begins_line_ending rest || (whole && is_nothing rest)) (hard && begins_line_ending rest) cs) (trimmed hard false whole rest)
+    leaf_codes-row (trimmed_data front (begins_line_ending rest || (whole && is_nothing rest)) (hard && begins_line_ending rest) cs) (trimmed hard false whole rest)
     ∙ (λ i. codes-trimmed_data front (begins_line_ending rest || (whole && is_nothing rest)) (hard && begins_line_ending rest) cs i ++ codes-trimmed hard false whole rest i)
 codes-trimmed hard front whole (leaf_then Name.LineEnding link cs rest) = ap (λ x. cs ++ x) (codes-trimmed hard true whole rest)
 codes-trimmed hard front whole (leaf_then name link cs rest) = ap (λ x. cs ++ x) (codes-trimmed hard false whole rest)
@@ -75,7 +76,7 @@ codes-trimmed hard front whole (group_then name enter exit inside rest) = λ i. 
 pub codes-mailed : (f : Forest) → leaf_codes (mailed f) ≡ leaf_codes f
 unfolding mailed
 codes-mailed empty = refl
-codes-mailed (leaf_then Name.Data None cs rest) = codes-join (with_emails cs) (mailed rest) ∙ (λ i. codes-with_emails cs i ++ codes-mailed rest i)
+codes-mailed (leaf_then Name.Data None cs rest) = leaf_codes-row (with_emails cs) (mailed rest) ∙ (λ i. codes-with_emails cs i ++ codes-mailed rest i)
 codes-mailed (leaf_then name link cs rest) = ap (λ x. cs ++ x) (codes-mailed rest)
 codes-mailed (group_then Name.Link enter exit inside rest) = ap (λ x. leaf_codes inside ++ x) (codes-mailed rest)
 codes-mailed (group_then name enter exit inside rest) = λ i. codes-mailed inside i ++ codes-mailed rest i
@@ -97,7 +98,7 @@ token_codes-append (closes c ∷ ts) us = ap (λ x. c ++ x) (token_codes-append 
 pub codes-pair_group : (front : List Code) (inside : List Forest) (back : List Code) → codes_of_all (pair_group front inside back) ≡ front ++ (codes_of_all inside ++ back)
 codes-pair_group front inside back =
     append-nil _ ∙ append-nil _
-    ∙ codes-join (leaf (pair_names (marker_of front) (length front)).1 front) _
+    ∙ leaf_codes-row (leaf (pair_names (marker_of front) (length front)).1 front) _
     ∙ (λ i. codes-leaf (pair_names (marker_of front) (length front)).1 front i ++ (codes-joined inside i ++ codes-leaf (pair_names (marker_of front) (length front)).1 back i))
 
 pub codes-loose : (cs : List Code) → codes_of_all (loose cs) ≡ cs

@@ -11,10 +11,11 @@ use Rattle.markdown_model.specs.Setting.{Setting}
 use Rattle.markdown_model.specs.LabelEnd.{Element, plain, starts, ends, Label, label_back, label_before, is_barred, full_reference, collapsed_reference, shortcut, shortcut_before_bracket, reference_after_label, after_label, footnote_call, link_or_image, link_kind, outcome_of, label_end}
 use Rattle.markdown_model.specs.Groups.{nested, joined}
 use Rattle.markdown_model.specs.Passes.{Start, End, as_bracket, start_marker, start_tree, label_group, loose_start, loose_end, labelled, labels_of}
-use Rattle.markdown_model.proofs.Leaves.{codes-join, codes-leaf}
+use Rattle.markdown_model.proofs.Leaves.{codes-leaf}
 use Rattle.markdown_model.proofs.Readings.{Covers, codes_laws, bind, given, if_passed, one_of, by_next, where_not, takes_one, covers_resource, covers_label}
 use Rattle.markdown_model.proofs.Nesting.{codes_of_all, codes-joined, codes_of_all-append, codes-nested, word_codes}
 use Rattle.markdown_model.proofs.Coverage.{codes-loose}
+use Rattle.markdown_engine.proofs.TreeLemmas.{leaf_codes-row}
 
 -- How many starts are unused: each end uses up one, if there is one.
 
@@ -124,8 +125,8 @@ closed (marker, None) = marker
 closed (marker, Some outcome) = marker ++ leaf_codes outcome.1
 
 pub codes-start_tree : (kind : LabelKind) (cs : List Code) → leaf_codes (start_tree kind cs) ≡ cs
-codes-start_tree LabelKind.Image cs = append-nil _ ∙ codes-join (leaf Name.LabelImageMarker (take 1 cs)) (leaf Name.LabelMarker (drop 1 cs)) ∙ (λ i. codes-leaf Name.LabelImageMarker (take 1 cs) i ++ codes-leaf Name.LabelMarker (drop 1 cs) i) ∙ take-append-drop 1 cs
-codes-start_tree LabelKind.GfmFootnote cs = append-nil _ ∙ codes-join (leaf Name.LabelMarker (take 1 cs)) (leaf Name.GfmFootnoteCallMarker (drop 1 cs)) ∙ (λ i. codes-leaf Name.LabelMarker (take 1 cs) i ++ codes-leaf Name.GfmFootnoteCallMarker (drop 1 cs) i) ∙ take-append-drop 1 cs
+codes-start_tree LabelKind.Image cs = append-nil _ ∙ leaf_codes-row (leaf Name.LabelImageMarker (take 1 cs)) (leaf Name.LabelMarker (drop 1 cs)) ∙ (λ i. codes-leaf Name.LabelImageMarker (take 1 cs) i ++ codes-leaf Name.LabelMarker (drop 1 cs) i) ∙ take-append-drop 1 cs
+codes-start_tree LabelKind.GfmFootnote cs = append-nil _ ∙ leaf_codes-row (leaf Name.LabelMarker (take 1 cs)) (leaf Name.GfmFootnoteCallMarker (drop 1 cs)) ∙ (λ i. codes-leaf Name.LabelMarker (take 1 cs) i ++ codes-leaf Name.GfmFootnoteCallMarker (drop 1 cs) i) ∙ take-append-drop 1 cs
 codes-start_tree LabelKind.Link cs = append-nil _ ∙ codes-leaf Name.LabelMarker cs
 codes-start_tree LabelKind.GfmUndefinedFootnote cs = append-nil _ ∙ codes-leaf Name.LabelMarker cs
 
@@ -145,8 +146,8 @@ pub codes-label_group : (kind : LabelKind) (marker : List Code) (inside : Forest
     → leaf_codes (label_group kind marker inside back tail) ≡ marker ++ (leaf_codes inside ++ (back ++ leaf_codes tail))
 codes-label_group kind marker inside back tail =
     append-nil _
-    ∙ codes-join (group Name.Label (start_tree kind front ⊕ text_group Name.LabelText (stop_of document_start front) (start_of back) (leaf Name.Data caret ⊕ inside) ⊕ group Name.LabelEnd (leaf Name.LabelMarker back))) tail
-    ∙ ap (λ x. x ++ leaf_codes tail) (append-nil _ ∙ codes-join (start_tree kind front) _ ∙ (λ i. codes-start_tree kind front i ++ (inner i ++ (append-nil _ ∙ codes-leaf Name.LabelMarker back) i)))
+    ∙ leaf_codes-row (group Name.Label (start_tree kind front ⊕ text_group Name.LabelText (stop_of document_start front) (start_of back) (leaf Name.Data caret ⊕ inside) ⊕ group Name.LabelEnd (leaf Name.LabelMarker back))) tail
+    ∙ ap (λ x. x ++ leaf_codes tail) (append-nil _ ∙ leaf_codes-row (start_tree kind front) _ ∙ (λ i. codes-start_tree kind front i ++ (inner i ++ (append-nil _ ∙ codes-leaf Name.LabelMarker back) i)))
     ∙ regroup front caret (leaf_codes inside) back (leaf_codes tail)
     ∙ ap (λ x. x ++ (leaf_codes inside ++ (back ++ leaf_codes tail))) (whole_marker kind marker)
   where
@@ -157,7 +158,7 @@ codes-label_group kind marker inside back tail =
     caret = drop (length front) marker
 
     inner : leaf_codes (leaf Name.Data caret ⊕ inside) ≡ caret ++ leaf_codes inside
-    inner = codes-join (leaf Name.Data caret) inside ∙ ap (λ x. x ++ leaf_codes inside) (codes-leaf Name.Data caret)
+    inner = leaf_codes-row (leaf Name.Data caret) inside ∙ ap (λ x. x ++ leaf_codes inside) (codes-leaf Name.Data caret)
 
     regroup : (a b c d e : List Code) → (a ++ ((b ++ c) ++ d)) ++ e ≡ (a ++ b) ++ (c ++ (d ++ e))
     regroup a b c d e = simp append_assoc

@@ -1,15 +1,10 @@
 -- The codes that the leaves of a row cover.
-use Rattle.std.proofs.Common.{◌≡◌, Bool, true, false, List, [], ◌∷◌, ◌++◌, refl, sym, ◌∙◌, ap}
-use Rattle.std.proofs.lemmas.List.{append_assoc, append-nil}
+use Rattle.std.proofs.Common.{◌≡◌, Bool, true, false, List, [], ◌∷◌, ◌++◌, refl, ap}
+use Rattle.std.proofs.lemmas.List.{append-nil}
 use Rattle.markdown_engine.specs.declared.event.Name.{Name}
 use Rattle.markdown_engine.specs.Codes.{Code}
-use Rattle.markdown_engine.specs.Tree.{Forest, empty, leaf_then, group_then, leaf, ◌⊕◌, leaf_codes}
+use Rattle.markdown_engine.specs.Tree.{leaf, leaf_codes}
 use Rattle.markdown_model.specs.Grammar.{span}
-
-pub codes-join : (a b : Forest) → leaf_codes (a ⊕ b) ≡ leaf_codes a ++ leaf_codes b
-codes-join empty b = refl
-codes-join (leaf_then name link cs rest) b = ap (λ x. cs ++ x) (codes-join rest b) ∙ sym (append_assoc cs (leaf_codes rest) (leaf_codes b))
-codes-join (group_then name enter exit inside rest) b = ap (λ x. leaf_codes inside ++ x) (codes-join rest b) ∙ sym (append_assoc (leaf_codes inside) (leaf_codes rest) (leaf_codes b))
 
 pub codes-leaf : (name : Name) (cs : List Code) → leaf_codes (leaf name cs) ≡ cs
 codes-leaf name [] = refl

@@ -14,6 +14,7 @@ pub mod LabelMatching
 pub mod PairFacts
 pub mod UnusedStarts
 pub mod ReadingLaws
+pub mod ReadingSteps
 pub mod EventNumbers
 pub mod LinkFree
 pub mod LinkPasses

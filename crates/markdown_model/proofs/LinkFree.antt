@@ -1,5 +1,5 @@
 -- No construct but a label reads a link or a footnote call.
-use Rattle.std.proofs.Common.{◌≡◌, ℕ, Bool, true, false, ◌&&◌, ◌||◌, not, List, [], ◌∷◌, refl, ◌∙◌, ap, Option, Some, None}
+use Rattle.std.proofs.Common.{◌≡◌, ℕ, Bool, true, false, ◌&&◌, ◌||◌, not, List, [], ◌∷◌, refl, sym, ◌∙◌, ap, Option, Some, None}
 use Rattle.std.proofs.lemmas.Bool.{or_parts}
 use Rattle.markdown_engine.specs.declared.event.Name.{Name}
 use Rattle.markdown_engine.specs.declared.event.Content.{Content}
@@ -21,17 +21,17 @@ use Rattle.markdown_model.specs.Laws.{is_link, holds_link, AreApart}
 abbrev pub IsFree : Forest → Type 0
 IsFree t = holds_link t ≡ false
 
-or_right : (a b c : Bool) → (a || (b || c)) ≡ ((a || b) || c)
-or_right true b c = refl
-or_right false b c = refl
+pub or_assoc : (a b c : Bool) → ((a || b) || c) ≡ (a || (b || c))
+or_assoc true b c = refl
+or_assoc false b c = refl
 
 pub holds-join : (a b : Forest) → holds_link (a ⊕ b) ≡ (holds_link a || holds_link b)
 holds-join empty b = refl
 holds-join (leaf_then name link cs rest) b = holds-join rest b
 holds-join (group_then name enter exit inside rest) b =
     ap (λ x. is_link name || (holds_link inside || x)) (holds-join rest b)
-    ∙ ap (λ x. is_link name || x) (or_right (holds_link inside) (holds_link rest) (holds_link b))
-    ∙ or_right (is_link name) (holds_link inside || holds_link rest) (holds_link b)
+    ∙ ap (λ x. is_link name || x) (sym (or_assoc (holds_link inside) (holds_link rest) (holds_link b)))
+    ∙ sym (or_assoc (is_link name) (holds_link inside || holds_link rest) (holds_link b))
 
 pub holds-leaf : (name : Name) (cs : List Code) → holds_link (leaf name cs) ≡ false
 holds-leaf name [] = refl

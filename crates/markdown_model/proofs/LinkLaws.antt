@@ -16,8 +16,8 @@ use Rattle.markdown_model.specs.Inline.{raw_tree, finished_text, text_tree}
 use Rattle.markdown_model.specs.Laws.{UnusedStart, with_link, unused_starts, IsLabelOf, is_link, holds_link, AreApart, LinksDoNotNest}
 use Rattle.markdown_model.proofs.ElementLaws.{text_elements}
 use Rattle.markdown_model.proofs.UnusedStarts.{ends_take_the_nearest}
-use Rattle.markdown_model.proofs.LinkFree.{IsFree, Passes, Yields, Free, yields_bind, yields_gives, yields_either, then_any, holds-join, holds-leaf, free-apart, free_escape, free_hard_break_escape, free_reference, free_autolink, free_task_check, free_span_here, free_html, free_protocol, free_www, free_after_label}
-use Rattle.markdown_model.proofs.LinkPasses.{or_assoc, or_false, apart-leaf, apart-join, apart-merged, apart-trimmed, apart-mailed, apart-paired, any_holds, AllApart, any_holds-append, all_apart-append, holds-joined, apart-joined}
+use Rattle.markdown_model.proofs.LinkFree.{IsFree, Passes, Yields, Free, yields_bind, yields_gives, yields_either, then_any, holds-join, holds-leaf, free-apart, free_escape, free_hard_break_escape, free_reference, free_autolink, free_task_check, free_span_here, free_html, free_protocol, free_www, free_after_label, or_assoc}
+use Rattle.markdown_model.proofs.LinkPasses.{or_false, apart-leaf, apart-join, apart-merged, apart-trimmed, apart-mailed, apart-paired, any_holds, AllApart, any_holds-append, all_apart-append, holds-joined, apart-joined, holds-loose}
 
 -- What an element is, where these starts before it are unused: no construct but a label is a link, and
 -- where an end makes one, none ended after its start.
@@ -299,9 +299,6 @@ apart-label_group kind marker inside back tail h k a = (
   where
     no : false ≡ true → ⊥
     no e = cc
-
-holds-loose : (cs : List Code) → any_holds (loose cs) ≡ false
-holds-loose cs = or_false _ ∙ holds-leaf Name.Data cs
 
 apart-loose : (cs : List Code) → AllApart (loose cs)
 apart-loose cs = (apart-leaf Name.Data cs, tt)

@@ -11,11 +11,7 @@ use Rattle.markdown_model.specs.Pairs.{Pair}
 use Rattle.markdown_model.specs.Groups.{Token, item, opens, closes, nest, nested, onto, after_loose, joined, loose, pair_names, pair_group, closing_sizes, opening_sizes, cut_front, run_tokens, assembled, tokens_of, paired}
 use Rattle.markdown_model.specs.Passes.{data_onto, merged, begins_line_ending, is_nothing, trimmed_data, trimmed, mailed}
 use Rattle.markdown_model.specs.Laws.{is_link, holds_link, AreApart}
-use Rattle.markdown_model.proofs.LinkFree.{IsFree, holds-join, holds-leaf, free-apart}
-
-pub or_assoc : (a b c : Bool) → ((a || b) || c) ≡ (a || (b || c))
-or_assoc true b c = refl
-or_assoc false b c = refl
+use Rattle.markdown_model.proofs.LinkFree.{IsFree, holds-join, holds-leaf, free-apart, or_assoc}
 
 pub or_false : (a : Bool) → (a || false) ≡ a
 or_false true = refl
@@ -237,7 +233,7 @@ apart-pair_group front inside back h = (
   tt,
 )
 
-holds-loose : (cs : List Code) → any_holds (loose cs) ≡ false
+pub holds-loose : (cs : List Code) → any_holds (loose cs) ≡ false
 holds-loose cs = or_false _ ∙ holds-leaf Name.Data cs
 
 abbrev nest_pairs : List Token → List Forest × Frames

@@ -9,8 +9,9 @@ use Rattle.markdown_model.specs.CodeTests.{is_value, is_empty, next_is, is_alpha
 use Rattle.markdown_model.specs.Grammar.{span}
 use Rattle.markdown_model.specs.Literal.{letters, domain, path, path_from, ends_path, count_if, domain_from, is_domain, is_domain_code, protocol_literal, www_from_here, www_literal, may_precede_www, begins_with_www}
 use Rattle.markdown_model.specs.Email.{is_local, is_word, email_protocol, is_xmpp, email_domain, is_email_domain, email_at, email_leaves, with_emails}
-use Rattle.markdown_model.proofs.Leaves.{codes-leaf, codes-join, span-append}
+use Rattle.markdown_model.proofs.Leaves.{codes-leaf, span-append}
 use Rattle.markdown_model.proofs.Readings.{Covers, Takes, itself, codes_laws, bind, given, if_passed, one_of, chosen_at, takes_one}
+use Rattle.markdown_engine.proofs.TreeLemmas.{leaf_codes-row}
 
 pub takes_letters : (ns : List ℕ) → Takes (letters ns)
 unfolding letters
@@ -138,8 +139,8 @@ codes-email_leaves (suc n) before (c ∷ cs) = by_answer (email_at before c cs) 
         → leaf_codes (elim r [ None ↦ email_leaves n (c ∷ before) cs | Some x ↦ leaf Name.Data x.0 ⊕ x.1 ⊕ email_leaves n [] x.2 ]) ≡ reverse before ++ c ∷ cs
     by_answer None h more = more (c ∷ before) cs ∙ reverse-first c before cs
     by_answer (Some x) h more =
-        codes-join (leaf Name.Data x.0) (x.1 ⊕ email_leaves n [] x.2)
-        ∙ (λ i. codes-leaf Name.Data x.0 i ++ (codes-join x.1 (email_leaves n [] x.2) ∙ ap (λ z. leaf_codes x.1 ++ z) (more [] x.2)) i)
+        leaf_codes-row (leaf Name.Data x.0) (x.1 ⊕ email_leaves n [] x.2)
+        ∙ (λ i. codes-leaf Name.Data x.0 i ++ (leaf_codes-row x.1 (email_leaves n [] x.2) ∙ ap (λ z. leaf_codes x.1 ++ z) (more [] x.2)) i)
         ∙ h
 
 pub codes-with_emails : (cs : List Code) → leaf_codes (with_emails cs) ≡ cs

@@ -4,7 +4,7 @@ use Rattle.std.proofs.lemmas.List.{append_assoc, append-nil}
 use Rattle.markdown_engine.specs.Codes.{Code}
 use Rattle.markdown_engine.specs.Tree.{Forest, leaf_codes}
 use Rattle.markdown_model.specs.Groups.{Bracketed, item, opens, closes, nest, nested, onto, after_loose, joined}
-use Rattle.markdown_model.proofs.Leaves.{codes-join}
+use Rattle.markdown_engine.proofs.TreeLemmas.{leaf_codes-row}
 
 abbrev pub codes_of_all : List Forest → List Code
 codes_of_all [] = []
@@ -12,7 +12,7 @@ codes_of_all (f ∷ fs) = leaf_codes f ++ codes_of_all fs
 
 pub codes-joined : (fs : List Forest) → leaf_codes (joined fs) ≡ codes_of_all fs
 codes-joined [] = refl
-codes-joined (f ∷ fs) = codes-join f (joined fs) ∙ ap (λ x. leaf_codes f ++ x) (codes-joined fs)
+codes-joined (f ∷ fs) = leaf_codes-row f (joined fs) ∙ ap (λ x. leaf_codes f ++ x) (codes-joined fs)
 
 pub codes_of_all-append : (fs gs : List Forest) → codes_of_all (fs ++ gs) ≡ codes_of_all fs ++ codes_of_all gs
 codes_of_all-append [] gs = refl

@@ -15,7 +15,7 @@ use Rattle.markdown_model.specs.Laws.{Cross, PairsAreSound, Shape, shape_of, Pai
 
 -- What a pair takes of a run.
 
-taken_opener : (p : Pair) → taken_by p.opener p ≡ p.size
+pub taken_opener : (p : Pair) → taken_by p.opener p ≡ p.size
 taken_opener p = by_test (p.opener == p.opener) (eq-eqb p.opener p.opener refl)
   where
     by_test : (b : Bool) → b ≡ true → (if b || p.closer == p.opener then p.size else 0) ≡ p.size

@@ -1,11 +1,12 @@
 -- A container has exactly one pair list.
-use Rattle.std.proofs.Common.{◌≡◌, ℕ, zero, suc, ◌+◌, ◌-◌, ◌≤◌, ◌<◌, Bool, true, false, ◌||◌, not, List, [], ◌∷◌, ◌++◌, length, if◌then◌else◌, ◌==◌, ◌⊎◌, ⊎_elim, zero-add, refl, sym, ◌∙◌, subst, arith, IsTrue, Option, Some, None, sum_by, nat_lt}
+use Rattle.std.proofs.Common.{◌≡◌, ℕ, zero, suc, ◌+◌, ◌-◌, ◌≤◌, ◌<◌, Bool, true, false, not, List, [], ◌∷◌, ◌++◌, length, ◌==◌, ◌⊎◌, ⊎_elim, zero-add, refl, sym, ◌∙◌, subst, arith, IsTrue, Option, Some, None, sum_by, nat_lt}
 use Rattle.std.proofs.lemmas.Bool.{ltb-true, lt-ltb, eq-eqb, eqb-true}
 use Rattle.std.proofs.lemmas.List.Sums.{sum_by_push, sum_by-cons}
 use Rattle.std.specs.List.{list_any, list_all}
 use Rattle.markdown_model.specs.Setting.{Setting}
 use Rattle.markdown_model.specs.Runs.{Run, marker_of}
 use Rattle.markdown_model.specs.Pairs.{Pair, run_at, taken_by, remaining, is_strictly_within, is_refused_by_three, is_refused_as_tilde, IsEligible, NoneEligible, IsNextPair, ArePairsFrom, IsPairList, pair_size, is_eligible, opener_below, next_pair_from, pairs_after, pair_list}
+use Rattle.markdown_model.proofs.PairFacts.{taken_opener}
 
 -- The test computes what is eligible.
 
@@ -255,13 +256,6 @@ left_at_least earlier (r ∷ rs) k (suc j) i e = omega (arith, left_at_least ear
 
 -- Existence.
 
-taken_of_opener : (p : Pair) → taken_by p.opener p ≡ p.size
-taken_of_opener p = by_test (p.opener == p.opener) (eq-eqb p.opener p.opener refl)
-  where
-    by_test : (b : Bool) → b ≡ true → (if b || p.closer == p.opener then p.size else 0) ≡ p.size
-    by_test true e = refl
-    by_test false e = absurd (cc)
-
 module _ (s : Setting) (runs : List Run) where
   are_pairs : (n : ℕ) (earlier : List Pair) (last : ℕ) → left_of earlier runs 0 ≤ n → ArePairsFrom s runs (length runs) earlier last (pairs_after s runs n earlier last)
   unfolding pairs_after
@@ -284,7 +278,7 @@ module _ (s : Setting) (runs : List Run) where
           size_left = rw h.size (omega (arith, opener, closer))
 
           falls : left_of (earlier ++ p ∷ []) runs 0 < left_of earlier runs 0
-          falls = left_falls earlier p runs 0 p.opener p.opener (sym (zero-add p.opener)) (rw taken_of_opener size_left) opener
+          falls = left_falls earlier p runs 0 p.opener p.opener (sym (zero-add p.opener)) (rw taken_opener size_left) opener
 
       by_next : (r : Option Pair) → IsNext s runs earlier last r
           → ((p : Pair) → left_of (earlier ++ p ∷ []) runs 0 ≤ n → ArePairsFrom s runs (length runs) (earlier ++ p ∷ []) p.closer (pairs_after s runs n (earlier ++ p ∷ []) p.closer))

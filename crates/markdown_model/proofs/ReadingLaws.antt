@@ -37,7 +37,7 @@ span-stops p (c ∷ cs) = by_test (p c) refl (span-stops p cs)
     by_test false e h = e
 
 -- two tests that agree span alike
-span-agrees : (p q : Code → Bool) → ((c : Code) → p c ≡ q c) → (cs : List Code) → span p cs ≡ span q cs
+pub span-agrees : (p q : Code → Bool) → ((c : Code) → p c ≡ q c) → (cs : List Code) → span p cs ≡ span q cs
 span-agrees p q same [] = refl
 span-agrees p q same (c ∷ cs) = λ i. elim (same c i) as (λ _. List Code × List Code) [ true ↦ (c ∷ (span-agrees p q same cs i).0, (span-agrees p q same cs i).1) | false ↦ ([], c ∷ cs) ]
 
@@ -145,6 +145,29 @@ module _ (a : Reading (List Code)) (takes : Consumes 1 a) where
           ≡ and_then (repeatedly a) cs r
       by_answer None l = refl
       by_answer (Some x) l = ap (λ z. elim z as (λ _. Option (List Code × List Code)) [ None ↦ Some x | Some y ↦ Some (x.0 ++ y.0, y.1) ]) (repeated-more (length cs) (length x.1) x.1 (omega arith) (omega arith))
+
+-- it always holds
+pub record Holds (o : Option (List Code × List Code)) : Type 0 where
+  pub codes : List Code
+  pub rest : List Code
+  pub is : o ≡ Some (codes, rest)
+
+pub repeated-holds : (a : Reading (List Code)) (n : ℕ) (cs : List Code) → Holds (repeated n a cs)
+unfolding repeated
+repeated-holds a zero cs = record { codes = []; rest = cs; is = refl }
+repeated-holds a (suc n) cs = by_answer (a cs)
+  where
+    by_answer : (r : Option (List Code × List Code)) → Holds (and_then (repeated n a) cs r)
+    by_answer None = record { codes = []; rest = cs; is = refl }
+    by_answer (Some x) =
+        elim (repeated n a x.1) as (λ z. Holds (elim z as (λ _. Option (List Code × List Code)) [ None ↦ Some x | Some y ↦ Some (x.0 ++ y.0, y.1) ])) [
+          | None ↦ record { codes = x.0; rest = x.1; is = refl }
+          | Some y ↦ record { codes = x.0 ++ y.0; rest = y.1; is = refl }
+        ]
+
+pub repeatedly-holds : (a : Reading (List Code)) (cs : List Code) → Holds (repeatedly a cs)
+unfolding repeatedly
+repeatedly-holds a cs = repeated-holds a (length cs) cs
 
 -- The code before.
 

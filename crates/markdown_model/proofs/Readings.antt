@@ -15,7 +15,8 @@ use Rattle.markdown_model.specs.Whitespace.{space_or_tab, spacing, spaces_across
 use Rattle.markdown_model.specs.Leaf.{Parts, reference, named_parts, decimal_parts, hexadecimal_parts, escape, in_angle_brackets, hard_break_escape, task_check, scheme, domain_label, uri, email_address, autolink, closing_run, closing, joined_codes, span_of, span_here, SpanNames}
 use Rattle.markdown_model.specs.Html.{html, html_text, spaces, optional_spaces, quoted_value, unquoted_value, attribute_name, attribute_value, attribute, tag_name, open_tag, closing_tag, comment, instruction, declaration, cdata}
 use Rattle.markdown_model.specs.Resource.{string_group, between_markers, StringNames, label, title_between, title, title_names, raw_from, literal_destination, raw_destination, destination, DestinationNames, resource_names, spaced_title, destination_and_title, resource}
-use Rattle.markdown_model.proofs.Leaves.{codes-join, codes-leaf, span-append}
+use Rattle.markdown_model.proofs.Leaves.{codes-leaf, span-append}
+use Rattle.markdown_engine.proofs.TreeLemmas.{leaf_codes-row}
 
 -- `codes_of` says which codes a value covers, and `read` what was read before the reading.
 abbrev pub At : {A : Type 0} → (A → List Code) → List Code → List Code → Option (A × List Code) → Type 0
@@ -29,7 +30,7 @@ pub record Covers {A : Type 0} (codes_of : A → List Code) (read : List Code) (
 abbrev pub itself : List Code → List Code
 itself cs = cs
 
-pub ruleset codes_laws = (codes-join, codes-leaf, append-nil, append_assoc)
+pub ruleset codes_laws = (leaf_codes-row, codes-leaf, append-nil, append_assoc)
 
 module _ {A B : Type 0} (f : A → List Code) (g : B → List Code) (read : List Code) where
   pub bind : (a : Reading A) (b : A → Reading B) → Covers f [] a → ((x : A) → Covers g (read ++ f x) (b x)) → Covers g read (a >>= b)
@@ -271,7 +272,7 @@ codes-line_leaf name link s = by_test (next_is is_line_ending s)
 
 pub codes-line_leaves : (name : Name) (ss : List (List Code)) → leaf_codes (line_leaves name ss) ≡ joined_codes ss
 codes-line_leaves name [] = refl
-codes-line_leaves name (s ∷ ss) = codes-join (line_leaf name None s) (line_leaves name ss) ∙ (λ i. codes-line_leaf name None s i ++ codes-line_leaves name ss i)
+codes-line_leaves name (s ∷ ss) = leaf_codes-row (line_leaf name None s) (line_leaves name ss) ∙ (λ i. codes-line_leaf name None s i ++ codes-line_leaves name ss i)
 
 codes-lines_from : (name : Name) (link : Option Content) (later : Bool) (ss : List (List Code)) → leaf_codes (lines_from name link later ss) ≡ joined_codes ss
 codes-lines_from name link later [] = refl
@@ -283,10 +284,10 @@ codes-lines_from name link later (s ∷ ss) = by_test (later && not (next_is is_
           | false ↦ line_leaf name link s ⊕ lines_from name link (next_is is_line_ending s) ss
         ]) ≡ s ++ joined_codes ss
     by_test true h =
-        codes-join (linked_leaf Name.SpaceOrTab link (span is_blank s).0) (linked_leaf name link (span is_blank s).1 ⊕ lines_from name link false ss)
-        ∙ (λ i. codes-linked_leaf Name.SpaceOrTab link (span is_blank s).0 i ++ (codes-join (linked_leaf name link (span is_blank s).1) (lines_from name link false ss) ∙ (λ j. codes-linked_leaf name link (span is_blank s).1 j ++ h false j)) i)
+        leaf_codes-row (linked_leaf Name.SpaceOrTab link (span is_blank s).0) (linked_leaf name link (span is_blank s).1 ⊕ lines_from name link false ss)
+        ∙ (λ i. codes-linked_leaf Name.SpaceOrTab link (span is_blank s).0 i ++ (leaf_codes-row (linked_leaf name link (span is_blank s).1) (lines_from name link false ss) ∙ (λ j. codes-linked_leaf name link (span is_blank s).1 j ++ h false j)) i)
         ∙ sym (append_assoc (span is_blank s).0 (span is_blank s).1 (joined_codes ss)) ∙ ap (λ z. z ++ joined_codes ss) (span-append is_blank s)
-    by_test false h = codes-join (line_leaf name link s) (lines_from name link (next_is is_line_ending s) ss) ∙ (λ i. codes-line_leaf name link s i ++ h (next_is is_line_ending s) i)
+    by_test false h = leaf_codes-row (line_leaf name link s) (lines_from name link (next_is is_line_ending s) ss) ∙ (λ i. codes-line_leaf name link s i ++ h (next_is is_line_ending s) i)
 
 pub codes-lines : (name : Name) (link : Option Content) (cs : List Code) → leaf_codes (lines name link cs) ≡ cs
 codes-lines name link cs = codes-lines_from name link false (stretches (λ c. true) cs) ∙ joined_codes-stretches (λ c. true) cs
@@ -490,7 +491,7 @@ covers_resource =
 
 -- Spans.
 
-abbrev span_codes : List (List Code) × List Code → List Code
+abbrev pub span_codes : List (List Code) × List Code → List Code
 span_codes r = joined_codes r.0 ++ r.1
 
 closing_at : (marker : Code → Bool) (n : ℕ) (ss : List (List Code)) → At span_codes [] (joined_codes ss) (closing_run marker n ss)

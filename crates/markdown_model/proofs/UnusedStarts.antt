@@ -3,16 +3,13 @@ use Rattle.std.proofs.Common.{◌≡◌, ℕ, zero, suc, Bool, true, false, ◌&
 use Rattle.std.specs.List.{list_any}
 use Rattle.markdown_model.specs.LabelEnd.{Element, plain, starts, ends, Label, label_back, label_before, is_image, makes_link, is_barred}
 use Rattle.markdown_model.specs.Laws.{UnusedStart, with_link, unused_starts, IsLabelOf, EndsTakeTheNearest}
+use Rattle.markdown_model.proofs.LinkFree.{or_assoc}
 
 -- the label found, where `link` says that a link or a call stands inside it already
 abbrev IsFound : Bool → List UnusedStart → Option Label → Type 0
 IsFound link [] l = l ≡ None
 IsFound link (u ∷ more) l =
     (label : Label) × (l ≡ Some label) × (label.kind ≡ u.kind) × (label.marker ≡ u.marker) × (list_any makes_link label.inside ≡ (u.before_link || link))
-
-or_assoc : (a b c : Bool) → ((a || b) || c) ≡ (a || (b || c))
-or_assoc true b c = refl
-or_assoc false b c = refl
 
 drop-map : (link : Bool) (d : ℕ) (us : List UnusedStart) → drop d (map (with_link link) (drop 1 us)) ≡ map (with_link link) (drop (suc d) us)
 drop-map link d [] = none d

@@ -11,7 +11,8 @@ use Rattle.markdown_model.specs.Grammar.{span}
 use Rattle.markdown_model.specs.Whitespace.{begins_filled_line}
 use Rattle.markdown_partial.specs.SpaceSteps.{at_blank}
 use Rattle.markdown_partial.specs.EolSteps.{at_line_ending, goes_on_line}
-use Rattle.markdown_partial.proofs.LineLemmas.{span-parts, span-takes, span-stops}
+use Rattle.markdown_model.proofs.Leaves.{span-append}
+use Rattle.markdown_model.proofs.ReadingSteps.{span-takes, span-none}
 
 -- Tests on the code at hand, as tests on the codes ahead.
 
@@ -58,10 +59,6 @@ here p T e =
 
 -- Stretches of blank codes, and the first so many of them.
 
-pub span-none : (p : Code → Bool) (cs : List Code) → next_is p cs ≡ false → span p cs ≡ ([], cs)
-span-none p [] e = refl
-span-none p (c ∷ cs) e = span-stops p c cs e
-
 take-parts : (n : ℕ) (xs ys : List Code) → take n xs ++ drop (length (take n xs)) (xs ++ ys) ≡ xs ++ ys
 take-parts zero xs ys = refl
 take-parts (suc n) [] ys = refl
@@ -71,7 +68,7 @@ pub taken-parts : (n : ℕ) (p : Code → Bool) (cs : List Code) → cs ≡ take
 taken-parts n p cs =
     let law : take n (span p cs).0 ++ drop (length (take n (span p cs).0)) ((span p cs).0 ++ (span p cs).1) ≡ (span p cs).0 ++ (span p cs).1 = take-parts n (span p cs).0 (span p cs).1 in
     let P : List Code → Type 0 = λ xs. xs ≡ take n (span p cs).0 ++ drop (length (take n (span p cs).0)) xs in
-    subst P (span-parts p cs) (sym law)
+    subst P (span-append p cs) (sym law)
 
 pub taken-first : (n : ℕ) (p : Code → Bool) (c : Code) (cs : List Code) → p c ≡ true → take (suc n) (span p (c ∷ cs)).0 ≡ c ∷ take n (span p cs).0
 taken-first n p c cs e = ap (λ (s : List Code × List Code). take (suc n) s.0) (span-takes p c cs e)
@@ -79,7 +76,7 @@ taken-first n p c cs e = ap (λ (s : List Code × List Code). take (suc n) s.0) 
 pub taken-none : (n : ℕ) (p : Code → Bool) (cs : List Code) → next_is p cs && nat_lt 0 n ≡ false → take n (span p cs).0 ≡ []
 taken-none zero p cs e = refl
 taken-none (suc n) p [] e = refl
-taken-none (suc n) p (c ∷ cs) e = ap (λ (s : List Code × List Code). take (suc n) s.0) (span-stops p c cs (stops (p c) n e)) where
+taken-none (suc n) p (c ∷ cs) e = ap (λ (s : List Code × List Code). take (suc n) s.0) (span-none p (c ∷ cs) (stops (p c) n e)) where
   stops : (b : Bool) (n : ℕ) → b && nat_lt 0 (suc n) ≡ false → b ≡ false
   stops false n e = refl
   stops true n e = let more : nat_lt 0 (suc n) ≡ true = grind arith in cc
@@ -92,11 +89,11 @@ take-all (suc n) (x ∷ xs) h = let k : length xs ≤ n = omega arith in ap (λ 
 
 -- where there are no more codes than may be taken, all that pass are
 pub taken-all : (n : ℕ) (p : Code → Bool) (cs : List Code) → length cs ≤ n → take n (span p cs).0 ≡ (span p cs).0
-taken-all n p cs h = take-all n (span p cs).0 (omega (arith, h, ap length (span-parts p cs), length-append (span p cs).0 (span p cs).1))
+taken-all n p cs h = take-all n (span p cs).0 (omega (arith, h, ap length (span-append p cs), length-append (span p cs).0 (span p cs).1))
 
 drop-append : (xs ys : List Code) → drop (length xs) (xs ++ ys) ≡ ys
 drop-append [] ys = refl
 drop-append (x ∷ xs) ys = drop-append xs ys
 
 pub dropped : (p : Code → Bool) (cs : List Code) → drop (length (span p cs).0) cs ≡ (span p cs).1
-dropped p cs = ap (drop (length (span p cs).0)) (sym (span-parts p cs)) ∙ drop-append (span p cs).0 (span p cs).1
+dropped p cs = ap (drop (length (span p cs).0)) (sym (span-append p cs)) ∙ drop-append (span p cs).0 (span p cs).1

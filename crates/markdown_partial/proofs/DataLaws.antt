@@ -16,13 +16,14 @@ use Rattle.markdown_engine.specs.declared.tokenizer.TokenizeState.{TokenizeState
 use Rattle.markdown_engine.specs.declared.tokenizer.Tokenizer.{Tokenizer}
 use Rattle.markdown_engine.proofs.EndsLemmas.{EndsAs-then, scratched-same}
 use Rattle.markdown_engine.proofs.Laws.{Goes-plain, if-step, code-step}
-use Rattle.markdown_engine.proofs.OpRules.{Begins, ahead-none, ahead-some}
+use Rattle.markdown_engine.proofs.OpRules.{Begins, ahead-none, ahead-some, some-codes}
 use Rattle.markdown_engine.proofs.OpsLemmas.{Goes-ops, ahead-done, left-done}
 use Rattle.markdown_engine.proofs.TreeLemmas.{done-leaf, leaf-past, ahead-past}
 use Rattle.markdown_model.specs.Lines.{data_up_to}
 use Rattle.markdown_partial.specs.DataSteps.{marks, markers_of, ending, opening, passing, start_at, start_step, at_break_at, at_break_step, leaving, inside_at, inside_step, more_data, is_plain, stretch_of, past_stretch, start_ends, at_break_ends, inside_ends}
 use Rattle.markdown_partial.proofs.RunLemmas.{EndsAs-same, EndsAs-here, Goes-wider}
-use Rattle.markdown_partial.proofs.LineLemmas.{up_to_break, span-parts, data-then, ending-then, more-goes, more-stops, break-stops, break-goes}
+use Rattle.markdown_partial.proofs.LineLemmas.{up_to_break, data-then, ending-then, more-goes, more-stops, break-stops, break-goes}
+use Rattle.markdown_model.proofs.Leaves.{span-append}
 
 -- what the layer says of the states of data
 pub record Within (ready : StateName → Tokenizer → Type 0) (ends : StateName → Tokenizer → Bool → Tokenizer → Type 0) (weight : StateName → Tokenizer → ℕ) : Type 0 where
@@ -83,19 +84,16 @@ opening-closes T v e h ok U k =
     let b : Begins v (ahead T) = ahead-some T v e in
     let cs : List Code = rest_of (ahead T) in
     let w : List Code × List Code = up_to_break (markers_of T) cs in
-    let whole : ahead T ≡ (b.code ∷ w.0) ++ w.1 = b.whole ∙ ap (λ xs. b.code ∷ xs) (sym (span-parts (is_plain (markers_of T)) cs)) in
+    let whole : ahead T ≡ (b.code ∷ w.0) ++ w.1 = b.whole ∙ ap (λ xs. b.code ∷ xs) (sym (span-append (is_plain (markers_of T)) cs)) in
     let V : Tokenizer = exited N.Data (passed (stretch_of (done opening T)) (done opening T)) in
     let is : V ≡ past None (leaf N.Data (b.code ∷ w.0)) T = ap (λ xs. exited N.Data (passed xs (done opening T))) (stretch-opening T) ∙ data-past b.code w.0 w.1 T whole in
     closes (leaf N.Data (b.code ∷ w.0)) w.1 T V refl is (whole ∙ ap (λ xs. xs ++ w.1) (sym (append-nil (b.code ∷ w.0))))
     (ap (data_up_to (markers_of T)) b.whole ∙ data-then (markers_of T) b.code cs (ap (λ x. x == 10) b.value ∙ h)) ok U k
 
-one-ahead : (T : Tokenizer) (v : ℕ) → current_of T ≡ Some v → 1 ≤ length (ahead T)
-one-ahead T v e = omega (arith, ap length (ahead-some T v e).whole)
-
 passing-law : (ready : StateName → Tokenizer → Type 0) (ends : StateName → Tokenizer → Bool → Tokenizer → Type 0) (weight : StateName → Tokenizer → ℕ) → Within ready ends weight → (T : Tokenizer) → T.attempts ≡ [] → (v : ℕ) → current_of T ≡ Some v → GoesOn ready ends weight (weight_at 1 T) (start_ends T) (passing v T)
 passing-law ready ends weight within T alone v e =
     let P : Stepped → Type 0 = GoesOn ready ends weight (weight_at 1 T) (start_ends T) in
-    let one : 1 ≤ length (ahead T) = one-ahead T v e in
+    let one : 1 ≤ length (ahead T) = some-codes T v e in
     if-step P (v == 10) (stepped (Next DataAtBreak) (done ending T)) (stepped (Next DataInside) (done opening T))
     (λ h. let less : codes_left (done ending T) + 1 ≡ codes_left T = left-done ending T one in
     Goes-ops ready ends weight (weight_at 1 T) (start_ends T) (Next DataAtBreak) ending T alone (within.at_break_ready (done ending T)) (rw within.at_break_weight (omega (arith, less))) (λ ok U k. ending-closes T v e h ok U (within.at_break_end (done ending T) ok U k)))
@@ -195,5 +193,5 @@ inside-law ready ends weight within T alone token =
     (λ v e. if-step P ((v == 10) || marks (markers_of T) v) (leaving T) (stepped (Next DataInside) (done (Consume ∷ []) T))
     (λ h. leave (stretch-stops T v e h))
     (λ h. let Y : Tokenizer = done (Consume ∷ []) T in
-    let less : codes_left Y + 1 ≡ codes_left T = left-done (Consume ∷ []) T (one-ahead T v e) in
+    let less : codes_left Y + 1 ≡ codes_left T = left-done (Consume ∷ []) T (some-codes T v e) in
     Goes-ops ready ends weight n (inside_ends T) (Next DataInside) (Consume ∷ []) T alone (within.inside_ready Y (stack-consumed T token)) (rw within.inside_weight (omega (arith, less))) (λ ok U k. stretch-goes T v e h ok U (within.inside_end Y ok U k))))

@@ -27,11 +27,13 @@ use Rattle.markdown_partial.specs.SpaceSteps as S
 use Rattle.markdown_partial.specs.SpaceSteps.{most, at_blank, rested}
 use Rattle.markdown_partial.specs.EolSteps.{space_asked, eol_rested, held, joins, joined, start_step, after_first_step, at_line_ending, ending_entered, at_eol_step, after_eol_step, goes_on_line, after_more_step, EolReady, StartReady, AfterFirstReady, indent, at_ending, start_ends, after_first_ends, at_eol_ends, after_eol_ends, after_more_ends}
 use Rattle.markdown_partial.proofs.RunLemmas.{EndsAs-same}
-use Rattle.markdown_partial.proofs.LineLemmas.{span-parts}
-use Rattle.markdown_partial.proofs.BlankLemmas.{Here, here, blank-ahead, ending-ahead, filled-ahead, span-none}
+use Rattle.markdown_partial.proofs.BlankLemmas.{Here, here, blank-ahead, ending-ahead, filled-ahead}
 use Rattle.markdown_partial.proofs.SpacingLemmas.{nothing, space-all, ending-here, ending-none, spacing-then, spacing-none}
 use Rattle.markdown_partial.proofs.SpaceLaws.{Goes-ended}
-use Rattle.markdown_partial.proofs.LeafLemmas.{linked-codes, entered-attempts}
+use Rattle.markdown_partial.proofs.LeafLemmas.{entered-attempts}
+use Rattle.markdown_model.proofs.Leaves.{span-append}
+use Rattle.markdown_model.proofs.ReadingSteps.{span-none}
+use Rattle.markdown_model.proofs.Readings.{codes-linked_leaf}
 
 -- what the layer says of the states of whitespace with a line ending, and of the start of whitespace
 pub record Within (ready : StateName → Tokenizer → Type 0) (ends : StateName → Tokenizer → Bool → Tokenizer → Type 0) (weight : StateName → Tokenizer → ℕ) : Type 0 where
@@ -121,7 +123,7 @@ indent-closed : (link : Option Content) (previous : Option ℕ) (s : TokenizeSta
 unfolding scratched
 indent-closed link previous s T true U h k =
     let b : List Code × List Code = span is_blank (ahead T) in
-    let whole : ahead T ≡ leaf_codes (linked_leaf N.SpaceOrTab link b.0) ++ b.1 = sym (span-parts is_blank (ahead T)) ∙ ap (λ x. x ++ b.1) (sym (linked-codes N.SpaceOrTab link b.0)) in
+    let whole : ahead T ≡ leaf_codes (linked_leaf N.SpaceOrTab link b.0) ++ b.1 = sym (span-append is_blank (ahead T)) ∙ ap (λ x. x ++ b.1) (sym (codes-linked_leaf N.SpaceOrTab link b.0)) in
     record { tree = linked_leaf N.SpaceOrTab link b.0; rest = b.1; holds = rw (← h) refl; left = k; whole = whole; after = ap ahead k ∙ ahead-past previous _ (scratched s T) _ whole }
 indent-closed link previous s T false U h k = record { refused = rw (← h) refl; fails = Fails-past previous _ s T U k }
 
@@ -224,7 +226,7 @@ ending-closed c T U h r j ok V k =
     let t : Forest = linked_leaf N.LineEnding s.space_or_tab_eol_content (c ∷ []) in
     let P : TokenizeState → Type 0 = λ q. EndsAs (indent q.space_or_tab_eol_content) (link_before q.space_or_tab_eol_connect U) (eol_rested q) U ok V in
     EndsAs-then (at_ending s.space_or_tab_eol_content s.space_or_tab_eol_ok) (indent s.space_or_tab_eol_content) (link_before s.space_or_tab_eol_connect T) (link_before (joins s.space_or_tab_eol_content s.space_or_tab_eol_connect) U) t (joined s) (eol_rested s) T U j.left
-    (j.here ∙ ap (λ x. x ++ ahead U) (sym (linked-codes N.LineEnding s.space_or_tab_eol_content (c ∷ []))))
+    (j.here ∙ ap (λ x. x ++ ahead U) (sym (codes-linked_leaf N.LineEnding s.space_or_tab_eol_content (c ∷ []))))
     (joined-previous s.space_or_tab_eol_content s.space_or_tab_eol_connect c (joined s) T U r.contents j.left)
     (ap (at_ending s.space_or_tab_eol_content s.space_or_tab_eol_ok) j.here ∙ ending-here s.space_or_tab_eol_content s.space_or_tab_eol_ok c (ahead U) h)
     ok V (subst P j.scratch k)
@@ -294,7 +296,7 @@ start-first T U r e h g ok V k =
     let now : Q (rested s) = subst P (spaced-scratch T U g) k in
     let rest : Q s = subst Q r.resting now in
     EndsAs-then (spacing link) (at_ending link true) (link_before s.space_or_tab_eol_connect T) (link_before s.space_or_tab_eol_connect U) t (rested (space_asked s)) (eol_rested s) T U g.left
-    (sym (span-parts is_blank (ahead T)) ∙ ap (λ x. x ++ b.1) (sym (linked-codes N.SpaceOrTab link b.0)) ∙ ap (λ x. leaf_codes t ++ x) (sym g.after))
+    (sym (span-append is_blank (ahead T)) ∙ ap (λ x. x ++ b.1) (sym (codes-linked_leaf N.SpaceOrTab link b.0)) ∙ ap (λ x. leaf_codes t ++ x) (sym g.after))
     (plain-previous link s.space_or_tab_eol_connect b.0 T U e (unconnected T r e))
     (spacing-then link (ahead T) h ∙ ap (λ cs. behind t (at_ending link true cs)) (sym g.after))
     ok V rest

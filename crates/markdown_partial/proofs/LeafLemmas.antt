@@ -1,19 +1,12 @@
 -- leaves that may be linked
-use Rattle.std.proofs.Common.{◌≡◌, Bool, Option, List, [], ◌∷◌, refl, ap, append-nil}
-use Rattle.markdown_engine.specs.Codes.{Code}
+use Rattle.std.proofs.Common.{◌≡◌, Bool, Option, refl, ap}
 use Rattle.markdown_engine.specs.Ops.{IsOpen}
 use Rattle.markdown_engine.specs.Past.{entered_leaf}
-use Rattle.markdown_engine.specs.Tree.{leaf_codes}
 use Rattle.markdown_engine.specs.Weights.{codes_left, left_at}
 use Rattle.markdown_engine.specs.declared.event.Content.{Content}
 use Rattle.markdown_engine.specs.declared.event.Name.{Name}
 use Rattle.markdown_engine.specs.declared.tokenizer.Tokenizer.{Tokenizer}
 use Rattle.markdown_engine.proofs.TreeLemmas.{entered_leaf-is}
-use Rattle.markdown_model.specs.Lines.{linked_leaf}
-
-pub linked-codes : (name : Name) (link : Option Content) (cs : List Code) → leaf_codes (linked_leaf name link cs) ≡ cs
-linked-codes name link [] = refl
-linked-codes name link (c ∷ cs) = append-nil (c ∷ cs)
 
 -- entering a leaf changes neither the place nor the scratch fields
 pub entered-cursor : (n : Name) (link : Option Content) (connect : Bool) (T : Tokenizer) → (entered_leaf n link connect T).cursor ≡ T.cursor

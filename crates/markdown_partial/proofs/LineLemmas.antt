@@ -1,5 +1,5 @@
 -- how codes are cut into lines and stretches of data
-use Rattle.std.proofs.Common.{◌≡◌, ℕ, Bool, true, false, ◌&&◌, ◌||◌, not, Some, None, List, [], ◌∷◌, ◌++◌, refl, sym, ap, subst, ◌∙◌}
+use Rattle.std.proofs.Common.{◌≡◌, ℕ, Bool, true, false, ◌&&◌, ◌||◌, not, Some, None, List, [], ◌∷◌, refl, sym, ap, subst, ◌∙◌}
 use Rattle.markdown_engine.specs.Codes.{Code, is_line_ending}
 use Rattle.markdown_engine.specs.Past.{behind}
 use Rattle.markdown_engine.specs.Tree.{Forest, empty, leaf, ◌⊕◌}
@@ -8,40 +8,12 @@ use Rattle.markdown_model.specs.CodeTests.{is_among}
 use Rattle.markdown_model.specs.Grammar.{span}
 use Rattle.markdown_model.specs.Lines.{joins, onto_stretch, lines_of, line_leaf, line_leaves, data_up_to}
 use Rattle.markdown_partial.specs.DataSteps.{is_plain, more_data}
-
-parts : (b : Bool) (c : Code) (cs : List Code) (s : List Code × List Code) → s.0 ++ s.1 ≡ cs → let r : List Code × List Code = elim b [ true ↦ (c ∷ s.0, s.1) | false ↦ ([], c ∷ cs) ] in r.0 ++ r.1 ≡ c ∷ cs
-parts true c cs s e = ap (λ x. c ∷ x) e
-parts false c cs s e = refl
-
-pub span-parts : (p : Code → Bool) (cs : List Code) → (span p cs).0 ++ (span p cs).1 ≡ cs
-span-parts p [] = refl
-span-parts p (c ∷ cs) = parts (p c) c cs (span p cs) (span-parts p cs)
-
-pub span-takes : (p : Code → Bool) (c : Code) (cs : List Code) → p c ≡ true → span p (c ∷ cs) ≡ (c ∷ (span p cs).0, (span p cs).1)
-span-takes p c cs e = ap (λ (b : Bool). let r : List Code × List Code = elim b [ true ↦ (c ∷ (span p cs).0, (span p cs).1) | false ↦ ([], c ∷ cs) ] in r) e
-
-pub span-stops : (p : Code → Bool) (c : Code) (cs : List Code) → p c ≡ false → span p (c ∷ cs) ≡ ([], c ∷ cs)
-span-stops p c cs e = ap (λ (b : Bool). let r : List Code × List Code = elim b [ true ↦ (c ∷ (span p cs).0, (span p cs).1) | false ↦ ([], c ∷ cs) ] in r) e
-
--- the stretches begin with one that has a code
-pub record Headed (ss : List (List Code)) : Type 0 where
-  pub first : Code
-  pub others : List Code
-  pub more : List (List Code)
-  pub is : ss ≡ (first ∷ others) ∷ more
+use Rattle.markdown_model.proofs.ReadingSteps.{span-takes, span-none}
+use Rattle.markdown_model.proofs.ReadingLaws.{lines_of-ending}
 
 onto : (b : Bool) → Code → Code → List Code → List (List Code) → List (List Code)
 onto true c d ds more = (c ∷ d ∷ ds) ∷ more
 onto false c d ds more = (c ∷ []) ∷ (d ∷ ds) ∷ more
-
-headed : (b : Bool) (c d : Code) (ds : List Code) (more : List (List Code)) → let ss : List (List Code) = elim b [ true ↦ (c ∷ d ∷ ds) ∷ more | false ↦ (c ∷ []) ∷ (d ∷ ds) ∷ more ] in Headed ss
-headed true c d ds more = record { first = c; others = d ∷ ds; more = more; is = refl }
-headed false c d ds more = record { first = c; others = []; more = (d ∷ ds) ∷ more; is = refl }
-
-onto-headed : (c : Code) (ss : List (List Code)) → Headed (onto_stretch (λ x. true) c ss)
-onto-headed c [] = record { first = c; others = []; more = []; is = refl }
-onto-headed c ([] ∷ more) = record { first = c; others = []; more = more; is = refl }
-onto-headed c ((d ∷ ds) ∷ more) = headed (joins (λ x. true) c d) c d ds more
 
 onto-first : (c d : Code) (ds : List Code) (more : List (List Code)) (b : Bool) → joins (λ x. true) c d ≡ b → onto_stretch (λ x. true) c ((d ∷ ds) ∷ more) ≡ onto b c d ds more
 unfolding onto
@@ -51,11 +23,6 @@ onto-first c d ds more false e = ap (λ (b : Bool). let ss : List (List Code) = 
 -- whether two codes join where every code passes
 tied : Bool → Bool → Bool
 tied a b = not (a || b) && ((true && true) || not (true || true))
-
-tied-first : (a b : Bool) → a ≡ true → tied a b ≡ false
-unfolding tied
-tied-first true b e = refl
-tied-first false b e = cc
 
 tied-second : (a b : Bool) → b ≡ true → tied a b ≡ false
 unfolding tied
@@ -69,11 +36,6 @@ tied-both false false e f = refl
 tied-both true b e f = cc
 tied-both false true e f = cc
 
--- a line ending stands alone
-onto-ending : (c d : Code) (ds : List Code) (more : List (List Code)) → is_line_ending c ≡ true → onto_stretch (λ x. true) c ((d ∷ ds) ∷ more) ≡ (c ∷ []) ∷ (d ∷ ds) ∷ more
-unfolding onto tied
-onto-ending c d ds more e = onto-first c d ds more false (tied-first (is_line_ending c) (is_line_ending d) e)
-
 onto-before : (c d : Code) (ds : List Code) (more : List (List Code)) → is_line_ending d ≡ true → onto_stretch (λ x. true) c ((d ∷ ds) ∷ more) ≡ (c ∷ []) ∷ (d ∷ ds) ∷ more
 unfolding onto tied
 onto-before c d ds more e = onto-first c d ds more false (tied-second (is_line_ending c) (is_line_ending d) e)
@@ -81,12 +43,6 @@ onto-before c d ds more e = onto-first c d ds more false (tied-second (is_line_e
 onto-same : (c d : Code) (ds : List Code) (more : List (List Code)) → is_line_ending c ≡ false → is_line_ending d ≡ false → onto_stretch (λ x. true) c ((d ∷ ds) ∷ more) ≡ (c ∷ d ∷ ds) ∷ more
 unfolding onto tied
 onto-same c d ds more e f = onto-first c d ds more true (tied-both (is_line_ending c) (is_line_ending d) e f)
-
-pub lines-ending : (c : Code) (cs : List Code) → is_line_ending c ≡ true → lines_of (c ∷ cs) ≡ (c ∷ []) ∷ lines_of cs
-lines-ending c [] e = refl
-lines-ending c (d ∷ cs) e =
-    let h : Headed (lines_of (d ∷ cs)) = onto-headed d (lines_of cs) in
-    ap (onto_stretch (λ x. true) c) h.is ∙ onto-ending c h.first h.others h.more e ∙ ap (λ ss. (c ∷ []) ∷ ss) (sym h.is)
 
 -- The codes up to the next marker, and those of the stretch at hand.
 
@@ -131,16 +87,16 @@ pub plain-is : (markers : List ℕ) (c : Code) → is_line_ending c ≡ false �
 plain-is markers c e f = plain-none (is_line_ending c) (is_among markers c) e f
 
 marker-stops : (markers : List ℕ) (c : Code) (cs : List Code) → is_among markers c ≡ true → up_to_marker markers (c ∷ cs) ≡ ([], c ∷ cs)
-marker-stops markers c cs e = span-stops (λ d. not (is_among markers d)) c cs (not-true (is_among markers c) e)
+marker-stops markers c cs e = span-none (λ d. not (is_among markers d)) (c ∷ cs) (not-true (is_among markers c) e)
 
 marker-takes : (markers : List ℕ) (c : Code) (cs : List Code) → is_among markers c ≡ false → up_to_marker markers (c ∷ cs) ≡ (c ∷ (up_to_marker markers cs).0, (up_to_marker markers cs).1)
 marker-takes markers c cs e = span-takes (λ d. not (is_among markers d)) c cs (not-false (is_among markers c) e)
 
 break-at-marker : (markers : List ℕ) (c : Code) (cs : List Code) → is_among markers c ≡ true → up_to_break markers (c ∷ cs) ≡ ([], c ∷ cs)
-break-at-marker markers c cs e = span-stops (is_plain markers) c cs (plain-marker (is_line_ending c) (is_among markers c) e)
+break-at-marker markers c cs e = span-none (is_plain markers) (c ∷ cs) (plain-marker (is_line_ending c) (is_among markers c) e)
 
 break-at-ending : (markers : List ℕ) (c : Code) (cs : List Code) → is_line_ending c ≡ true → up_to_break markers (c ∷ cs) ≡ ([], c ∷ cs)
-break-at-ending markers c cs e = span-stops (is_plain markers) c cs (plain-ending (is_line_ending c) (is_among markers c) e)
+break-at-ending markers c cs e = span-none (is_plain markers) (c ∷ cs) (plain-ending (is_line_ending c) (is_among markers c) e)
 
 pub break-takes : (markers : List ℕ) (c : Code) (cs : List Code) → is_line_ending c ≡ false → is_among markers c ≡ false → up_to_break markers (c ∷ cs) ≡ (c ∷ (up_to_break markers cs).0, (up_to_break markers cs).1)
 break-takes markers c cs e f = span-takes (is_plain markers) c cs (plain-is markers c e f)
@@ -154,7 +110,7 @@ cut-by true ending markers c d cs e f g h =
 cut-by false true markers c d cs e f g h =
     let whole : up_to_marker markers (d ∷ cs) ≡ (d ∷ (up_to_marker markers cs).0, (up_to_marker markers cs).1) = marker-takes markers d cs f in
     let part : up_to_break markers (d ∷ cs) ≡ ([], d ∷ cs) = break-at-ending markers d cs g in
-    let lines : lines_of (d ∷ (up_to_marker markers cs).0) ≡ (d ∷ []) ∷ lines_of (up_to_marker markers cs).0 = lines-ending d (up_to_marker markers cs).0 g in
+    let lines : lines_of (d ∷ (up_to_marker markers cs).0) ≡ (d ∷ []) ∷ lines_of (up_to_marker markers cs).0 = lines_of-ending d (up_to_marker markers cs).0 g in
     let two : lines_of (c ∷ d ∷ (up_to_marker markers cs).0) ≡ (c ∷ []) ∷ lines_of (d ∷ (up_to_marker markers cs).0) =
     ap (onto_stretch (λ x. true) c) lines ∙ onto-before c d [] (lines_of (up_to_marker markers cs).0) g ∙ ap (λ ss. (c ∷ []) ∷ ss) (sym lines) in
     let now : Cut markers c (up_to_marker markers (d ∷ cs)) ([], d ∷ cs) =
@@ -194,7 +150,7 @@ pub ending-then : (markers : List ℕ) (c : Code) (cs : List Code) → is_line_e
 unfolding data_up_to
 ending-then markers c cs e =
     let more : Forest = line_leaves N.Data (lines_of (up_to_marker markers cs).0) in
-    ap (λ ss. Some (line_leaves N.Data ss, (up_to_marker markers cs).1)) (lines-ending c (up_to_marker markers cs).0 e)
+    ap (λ ss. Some (line_leaves N.Data ss, (up_to_marker markers cs).1)) (lines_of-ending c (up_to_marker markers cs).0 e)
     ∙ ap (λ t. Some (t ⊕ more, (up_to_marker markers cs).1)) (leaf-ending c [] e)
 
 -- where no marker stands more data is data from here on
@@ -206,7 +162,7 @@ pub more-stops : (markers : List ℕ) (c : Code) (cs : List Code) → is_among m
 more-stops markers c cs e = ap (λ (s : List Code × List Code). Some (line_leaves N.Data (lines_of s.0), s.1)) (marker-stops markers c cs e)
 
 pub break-stops : (markers : List ℕ) (c : Code) (cs : List Code) → is_line_ending c || is_among markers c ≡ true → up_to_break markers (c ∷ cs) ≡ ([], c ∷ cs)
-break-stops markers c cs e = span-stops (is_plain markers) c cs (not-true (is_line_ending c || is_among markers c) e)
+break-stops markers c cs e = span-none (is_plain markers) (c ∷ cs) (not-true (is_line_ending c || is_among markers c) e)
 
 pub break-goes : (markers : List ℕ) (c : Code) (cs : List Code) → is_line_ending c || is_among markers c ≡ false → up_to_break markers (c ∷ cs) ≡ (c ∷ (up_to_break markers cs).0, (up_to_break markers cs).1)
 break-goes markers c cs e = span-takes (is_plain markers) c cs (not-false (is_line_ending c || is_among markers c) e)

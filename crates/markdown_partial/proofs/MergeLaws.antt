@@ -16,13 +16,15 @@ use Rattle.markdown_engine.specs.declared.event.Name.TheVariants as N
 use Rattle.markdown_engine.specs.declared.event.Point.{Point}
 use Rattle.markdown_engine.specs.declared.util.edit_map.Edit.{Edit}
 use Rattle.markdown_engine.proofs.TreeLemmas.{length-appended_from}
+use Rattle.markdown_engine.proofs.SolidLemmas.{start-append}
+use Rattle.markdown_engine.proofs.OpRules.{drop-more}
 use Rattle.markdown_model.specs.Passes.{merged, data_onto}
 use Rattle.markdown_partial.specs.Merge.{is_data, opens_data, closes_data, opening, closing, joint, marked, joints, HasData}
-use Rattle.markdown_partial.proofs.MergeMarks.{drop-suc, removed, removed-is, stays-other, goes-next, goes-after, stays-next}
+use Rattle.markdown_partial.proofs.MergeMarks.{removed, removed-is, stays-other, goes-next, goes-after, stays-next}
 
 -- Names.
 
-data-name : (n : Name) → is_data n ≡ true → n ≡ N.Data
+pub data-name : (n : Name) → is_data n ≡ true → n ≡ N.Data
 data-name N.Data e = refl
 data-name _ e = cc
 
@@ -259,7 +261,7 @@ record Next (es : List Event) (n m : ℕ) (f : Bool) (previous : Option ℕ) (e 
 drop-two : (es : List Event) (n : ℕ) (e x : Event) (rest : List Event) → drop n es ≡ e ∷ x ∷ rest → drop (n + 2) es ≡ rest
 drop-two es n e x rest h =
     let same : n + 2 ≡ suc (suc n) = omega arith in
-    ap (λ i. drop i es) same ∙ drop-suc (suc n) es ∙ ap rest_of (drop-suc n es ∙ ap rest_of h)
+    ap (λ i. drop i es) same ∙ drop-more (suc n) es ∙ ap rest_of (drop-more n es ∙ ap rest_of h)
 
 number-is : (es : List Event) (n m : ℕ) → n ≡ removed_before (log_of es) n + m + 0 → moved_number (log_of es) n ≡ m
 number-is es n m h = omega (arith, h, more-none n 0 es)
@@ -331,10 +333,6 @@ leaf-linked es name c cs rest law n m f previous tail h =
     }
 
 -- Data.
-
-start-append : (cs ds : List Code) → cs ≢ [] → start_of (cs ++ ds) ≡ start_of cs
-start-append [] ds h = absurd (h refl)
-start-append (c ∷ cs) ds h = refl
 
 stop-append : (p : Point) (cs ds : List Code) → ds ≢ [] → stop_of p (cs ++ ds) ≡ stop_of document_start ds
 stop-append p [] [] h = absurd (h refl)
@@ -452,7 +450,7 @@ law-group es name a b inside rest law_inside law_rest n m f previous tail h =
     let f-is : f ≡ false = sym h.flag ∙ stay in
     let count : n ≡ removed_before (log_of es) n + m + 0 = subst (λ c. n ≡ removed_before (log_of es) n + m + one c) f-is h.counted in
     let n1 : n + 1 ≡ suc n = omega arith in
-    let there1 : drop (n + 1) es ≡ inner ++ x ∷ more = ap (λ i. drop i es) n1 ∙ drop-suc n es ∙ ap rest_of there in
+    let there1 : drop (n + 1) es ≡ inner ++ x ∷ more = ap (λ i. drop i es) n1 ∙ drop-more n es ∙ ap rest_of there in
     let count1 : removed_before (log_of es) (n + 1) ≡ removed_before (log_of es) n + 0 = ap (removed_before (log_of es)) n1 ∙ count-step es n false stay in
     let r = law_inside (n + 1) (m + 1) false None (x ∷ more) (record {
       there = there1;
@@ -470,7 +468,7 @@ law-group es name a b inside rest law_inside law_rest n m f previous tail h =
     let m2 : m + 1 + mi + 1 ≡ m + 2 + mi = omega arith in
     let count2 : removed_before (log_of es) (n + 2 + ci) ≡ removed_before (log_of es) k + 0 = ap (removed_before (log_of es)) n2 ∙ count-step es k false stay2 in
     let t = law_rest (n + 2 + ci) (m + 2 + mi) false previous tail (record {
-      there = ap (λ i. drop i es) n2 ∙ drop-suc k es ∙ ap rest_of there2;
+      there = ap (λ i. drop i es) n2 ∙ drop-more k es ∙ ap rest_of there2;
       flag = ap (removed es) n2 ∙ stays-next es k x more there2 refl closes;
       counted = omega (arith, r.count, count2);
       first = λ c. absurd (bool-clash false c refl);

@@ -10,12 +10,7 @@ use Rattle.std.specs.List.{All}
 use Rattle.markdown_engine.specs.declared.event.Event.{Event}
 use Rattle.markdown_engine.specs.declared.util.edit_map.Edit.{Edit}
 use Rattle.markdown_partial.specs.Merge.{is_enter, is_data, opens_data, closes_data, opening, closing, joint, joints, marked, removal}
-
-pub drop-suc : {A : Type 0} → (n : ℕ) (xs : List A) → drop (suc n) xs ≡ rest_of (drop n xs)
-drop-suc zero [] = refl
-drop-suc zero (x ∷ xs) = refl
-drop-suc (suc n) [] = refl
-drop-suc (suc n) (x ∷ xs) = drop-suc n xs
+use Rattle.markdown_engine.proofs.OpRules.{drop-more}
 
 joint-three : (es : List Event) (i j k : ℕ) (a b c : Event) → j ≡ i + 1 → k ≡ i + 2 → k < length es → a ≡ get_or es i a → b ≡ get_or es j b → c ≡ get_or es k c → joint (drop i es) ≡ opens_data a && (closes_data b && opens_data c)
 joint-three es i j k a b c p q l e f g =
@@ -65,7 +60,7 @@ joints-next i es h l = next (drop (i - 2) es) (drop (i + 1 - 2) es) (i - 2) (i -
     next (x ∷ xs) ys n m k e f g h = rw (e, f, h) refl
 
     rest-drop-next : (n k : ℕ) (xs : List Event) → k ≡ n + 1 → drop k xs ≡ drop 1 (drop n xs)
-    rest-drop-next n k xs e = let same : k ≡ suc n = omega (arith, e) in ap (λ m. drop m xs) same ∙ drop-suc n xs
+    rest-drop-next n k xs e = let same : k ≡ suc n = omega (arith, e) in ap (λ m. drop m xs) same ∙ drop-more n xs
 
 pub marks-more : (i : ℕ) (es : List Event) (old new : List Edit) → 2 ≤ i → i < length es → new ≡ old ++ marked (joint (drop (i - 2) es)) (i - 1) → old ++ joints (i - 2) (drop (i - 2) es) ≡ joints 0 es → new ++ joints (i + 1 - 2) (drop (i + 1 - 2) es) ≡ joints 0 es
 marks-more i es old new h l e k =
@@ -175,23 +170,23 @@ joint-before-two (a ∷ b ∷ ds) e es h k = ap (λ x. opens_data a && (closes_d
 -- what is no data stays
 pub stays-other : (es : List Event) (k : ℕ) (e : Event) (rest : List Event) → drop k es ≡ e ∷ rest → opens_data e ≡ false → closes_data e ≡ false → removed es k ≡ false
 stays-other es zero e rest h o c = refl
-stays-other es (suc zero) e rest h o c = joint-before es e rest (sym (drop-suc 0 es) ∙ h) c
+stays-other es (suc zero) e rest h o c = joint-before es e rest (sym (drop-more 0 es) ∙ h) c
 stays-other es (suc (suc k)) e rest h o c =
-    ap (λ b. b || joint (drop k es)) (joint-before (drop (suc k) es) e rest (sym (drop-suc (suc k) es) ∙ h) c)
-    ∙ joint-before-two (drop k es) e rest (ap rest_of (sym (drop-suc k es)) ∙ sym (drop-suc (suc k) es) ∙ h) o
+    ap (λ b. b || joint (drop k es)) (joint-before (drop (suc k) es) e rest (sym (drop-more (suc k) es) ∙ h) c)
+    ∙ joint-before-two (drop k es) e rest (ap rest_of (sym (drop-more k es)) ∙ sym (drop-more (suc k) es) ∙ h) o
 
 -- behind an event that is no Exit of data an event goes only with a joint that begins there
 pub goes-next : (es : List Event) (k : ℕ) (e : Event) (rest : List Event) → drop k es ≡ e ∷ rest → closes_data e ≡ false → removed es (suc k) ≡ joint (e ∷ rest)
 goes-next es zero e rest h c = ap joint h
 goes-next es (suc k) e rest h c =
-    ap (λ b. joint (drop (suc k) es) || b) (joint-before (drop k es) e rest (sym (drop-suc k es) ∙ h) c)
+    ap (λ b. joint (drop (suc k) es) || b) (joint-before (drop k es) e rest (sym (drop-more k es) ∙ h) c)
     ∙ or-false (joint (drop (suc k) es))
     ∙ ap joint h
 
 -- and so behind two events, of which the second is no Enter of data
 pub goes-after : (es : List Event) (k : ℕ) (e x : Event) (rest : List Event) → drop k es ≡ e ∷ x ∷ rest → opens_data x ≡ false → removed es (suc (suc k)) ≡ joint (e ∷ x ∷ rest)
 goes-after es k e x rest h o =
-    ap (λ b. b || joint (drop k es)) (ap joint (drop-suc k es ∙ ap rest_of h) ∙ no-joint x rest o) ∙ ap joint h
+    ap (λ b. b || joint (drop k es)) (ap joint (drop-more k es ∙ ap rest_of h) ∙ no-joint x rest o) ∙ ap joint h
 
 pub stays-next : (es : List Event) (k : ℕ) (e : Event) (rest : List Event) → drop k es ≡ e ∷ rest → opens_data e ≡ false → closes_data e ≡ false → removed es (suc k) ≡ false
 stays-next es k e rest h o c = goes-next es k e rest h c ∙ no-joint e rest o

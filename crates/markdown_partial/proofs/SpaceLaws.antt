@@ -23,9 +23,10 @@ use Rattle.markdown_model.specs.Grammar.{span}
 use Rattle.markdown_model.specs.Lines.{linked_leaf}
 use Rattle.markdown_model.specs.Whitespace.{space_or_tab}
 use Rattle.markdown_partial.specs.SpaceSteps.{at_blank, sized, rested, start_step, inside_step, ended, after_step, StartReady, start_ends, taken, inside_ends, after_ends}
-use Rattle.markdown_partial.proofs.LeafLemmas.{linked-codes, entered-cursor, entered-scratch, entered-attempts, entered-open, entered-left}
+use Rattle.markdown_partial.proofs.LeafLemmas.{entered-cursor, entered-scratch, entered-attempts, entered-open, entered-left}
 use Rattle.markdown_partial.proofs.BlankLemmas.{Here, here, blank-ahead, taken-parts, taken-first, taken-none}
 use Rattle.markdown_partial.proofs.SpacingLemmas.{space-holds, space-refused}
+use Rattle.markdown_model.proofs.Readings.{codes-linked_leaf}
 
 -- what the layer says of the states of whitespace
 pub record Within (ready : StateName → Tokenizer → Type 0) (ends : StateName → Tokenizer → Bool → Tokenizer → Type 0) (weight : StateName → Tokenizer → ℕ) : Type 0 where
@@ -113,7 +114,7 @@ unfolding scratched
 space-closed name link min max previous s T true U h k =
     let ws : List Code = take max (span is_blank (ahead T)).0 in
     let rest : List Code = drop (length ws) (ahead T) in
-    let whole : ahead T ≡ leaf_codes (linked_leaf name link ws) ++ rest = taken-parts max is_blank (ahead T) ∙ ap (λ x. x ++ rest) (sym (linked-codes name link ws)) in
+    let whole : ahead T ≡ leaf_codes (linked_leaf name link ws) ++ rest = taken-parts max is_blank (ahead T) ∙ ap (λ x. x ++ rest) (sym (codes-linked_leaf name link ws)) in
     record { tree = linked_leaf name link ws; rest = rest; holds = space-holds name link min max (ahead T) (sym h); left = k; whole = whole; after = ap ahead k ∙ ahead-past previous (linked_leaf name link ws) (scratched s T) rest whole }
 space-closed name link min max previous s T false U h k =
     record { refused = space-refused name link min max (ahead T) (sym h); fails = Fails-past previous _ s T U k }

@@ -12,8 +12,8 @@ use Rattle.markdown_model.specs.Grammar.{Reading, ◌>>=◌, gives, either, befo
 use Rattle.markdown_model.specs.Lines.{linked_leaf}
 use Rattle.markdown_model.specs.Whitespace.{space_or_tab, spaces_on_line, spaces_across, spacing, begins_filled_line}
 use Rattle.markdown_partial.specs.EolSteps.{indent, at_ending}
-use Rattle.markdown_partial.proofs.LineLemmas.{span-takes}
-use Rattle.markdown_partial.proofs.BlankLemmas.{Heads, heads, span-none, taken-all, dropped}
+use Rattle.markdown_partial.proofs.BlankLemmas.{Heads, heads, taken-all, dropped}
+use Rattle.markdown_model.proofs.ReadingSteps.{bind-some, bind-none, one-here, one-other, span-takes, span-none}
 
 -- Bounded whitespace.
 
@@ -63,22 +63,6 @@ across_from link front = do
   back ← before (any_number is_blank) begins_filled_line
   gives (linked_leaf N.SpaceOrTab link front ⊕ linked_leaf N.LineEnding link ending ⊕ linked_leaf N.SpaceOrTab link back)
 
-bind-some : {A B : Type 0} (a : Reading A) (next : A → Reading B) (cs : List Code) (x : A) (rest : List Code) → a cs ≡ Some (x, rest) → (a >>= next) cs ≡ next x rest
-unfolding ◌>>=◌
-bind-some a next cs x rest e = rw (e, ◌>>=◌) refl
-
-bind-none : {A B : Type 0} (a : Reading A) (next : A → Reading B) (cs : List Code) → a cs ≡ None → (a >>= next) cs ≡ None
-unfolding ◌>>=◌
-bind-none a next cs e = rw (e, ◌>>=◌) refl
-
-one-here : (p : Code → Bool) (c : Code) (cs : List Code) → p c ≡ true → one p (c ∷ cs) ≡ Some (c ∷ [], cs)
-unfolding one
-one-here p c cs e = rw (e, one) refl
-
-one-other : (p : Code → Bool) (c : Code) (cs : List Code) → p c ≡ false → one p (c ∷ cs) ≡ None
-unfolding one
-one-other p c cs e = rw (e, one) refl
-
 -- the blank codes of the next line, after a line ending
 abbrev across_after : Option Content → List Code → List Code → Reading Forest
 across_after link front ending = do
@@ -92,7 +76,7 @@ across-indent false link front ending cs h = rw (h, ◌>>=◌, before, any_numbe
 
 across-ending : (b : Bool) (link : Option Content) (front : List Code) (c : Code) (cs : List Code) → is_line_ending c ≡ b → across_from link front (c ∷ cs) ≡ behind (linked_leaf N.SpaceOrTab link front) (at_ending link false (c ∷ cs))
 across-ending true link front c cs h =
-    bind-some (one is_line_ending) (across_after link front) (c ∷ cs) (c ∷ []) cs (one-here is_line_ending c cs h)
+    bind-some (one is_line_ending) (across_after link front) (c ∷ cs) (c ∷ []) cs _ (one-here is_line_ending c cs h) refl
     ∙ across-indent (begins_filled_line (span is_blank cs).1) link front (c ∷ []) cs refl
     ∙ ap (behind (linked_leaf N.SpaceOrTab link front)) (sym (ending-here link false c cs h))
 across-ending false link front c cs h =
@@ -106,7 +90,7 @@ across-from link front (c ∷ cs) = across-ending (is_line_ending c) link front 
 
 across-is : (link : Option Content) (cs : List Code) → spaces_across link cs ≡ behind (linked_leaf N.SpaceOrTab link (span is_blank cs).0) (at_ending link false (span is_blank cs).1)
 unfolding spaces_across any_number
-across-is link cs = bind-some (any_number is_blank) (across_from link) cs (span is_blank cs).0 (span is_blank cs).1 refl ∙ across-from link (span is_blank cs).0 (span is_blank cs).1
+across-is link cs = bind-some (any_number is_blank) (across_from link) cs (span is_blank cs).0 (span is_blank cs).1 _ refl refl ∙ across-from link (span is_blank cs).0 (span is_blank cs).1
 
 -- blank codes with no line ending after them
 on_line : Option Content → List Code × List Code → Option (Forest × List Code)

@@ -21,7 +21,6 @@ use Rattle.markdown_model.specs.Passes.{trimmed, trimmed_data, blank_name, begin
 use Rattle.markdown_partial.specs.Merge.{is_data, opens_data}
 use Rattle.markdown_partial.specs.Trim.{trimmed_events, between}
 use Rattle.markdown_partial.specs.TrimEvents.{is_ending, closes_ending, goes_before, HasParts}
-use Rattle.markdown_partial.proofs.MergeMarks.{drop-suc}
 use Rattle.markdown_partial.proofs.MergeLaws.{drop-part}
 use Rattle.markdown_engine.specs.Walk.{IsPoint}
 use Rattle.markdown_engine.specs.Codes.{codes_of, is_code_before, place_of, point_at}
@@ -33,6 +32,7 @@ use Rattle.markdown_partial.specs.TrimEvents.{IsPart, HasPlaces}
 use Rattle.markdown_partial.proofs.TrimWalks.{forward-as, bool-clash}
 use Rattle.markdown_partial.proofs.TrimMarks.{begins_data, comes, flag, log_of, added-here, stays-here, goes-first, goes-second}
 use Rattle.markdown_partial.proofs.TrimRows.{three-leaves, kept_of, lead_of, tail_of}
+use Rattle.markdown_engine.proofs.OpRules.{drop-more}
 
 -- Trimming, step by step.
 
@@ -200,7 +200,7 @@ module _ (bytes : List ℕ) (hard whole : Bool) (es : List Event) where
     fresh : Fresh (n + 1)
 
   drop-next : (n : ℕ) (e : Event) (rest : List Event) → drop n es ≡ e ∷ rest → drop (n + 1) es ≡ rest
-  drop-next n e rest h = let one : n + 1 ≡ suc n = omega arith in ap (λ i. drop i es) one ∙ drop-suc n es ∙ ap rest_of h
+  drop-next n e rest h = let one : n + 1 ≡ suc n = omega arith in ap (λ i. drop i es) one ∙ drop-more n es ∙ ap rest_of h
 
   flag-after : (n : ℕ) (e : Event) (rest : List Event) → drop n es ≡ e ∷ rest → flag (n + 1) whole es ≡ closes_ending e
   flag-after n e rest h = let one : n + 1 ≡ suc n = omega arith in ap (λ i. flag i whole es) one ∙ flag-next n whole es e rest h ∙ ap first_closes h

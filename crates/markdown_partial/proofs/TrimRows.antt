@@ -21,8 +21,8 @@ use Rattle.markdown_engine.proofs.TreeLemmas.{appended_from-row}
 use Rattle.markdown_model.specs.Grammar.{span}
 use Rattle.markdown_model.specs.Passes.{blank_name}
 use Rattle.markdown_model.proofs.Leaves.{span-append}
+use Rattle.markdown_model.proofs.ReadingSteps.{span-takes, span-none}
 use Rattle.markdown_partial.specs.Trim.{between, IsStretch, end_of_kept, end_of_lead, is_same_place, leaf_events, trimmed_events}
-use Rattle.markdown_partial.proofs.LineLemmas.{span-takes, span-stops}
 use Rattle.markdown_partial.proofs.TrimWalks.{IsBegun, IsEnded, stretch-cases, forward-as, backward, begun-of, ended-of, ended-where, begun-where, last_kept}
 
 -- Stretches, split.
@@ -89,7 +89,7 @@ tailed (x ∷ xs) c = x ∷ xs ++ c ∷ []
 
 one-span : (c : Code) (b : Bool) → is_blank c ≡ b → (span is_blank (c ∷ [])).1 ≡ (if b then [] else c ∷ [])
 one-span c true h = ap (λ (s : List Code × List Code). s.1) (span-takes is_blank c [] h)
-one-span c false h = ap (λ (s : List Code × List Code). s.1) (span-stops is_blank c [] h)
+one-span c false h = ap (λ (s : List Code × List Code). s.1) (span-none is_blank (c ∷ []) h)
 
 span-one : (x : Code) (xs : List Code) (c : Code) (b : Bool) → is_blank x ≡ b → (span is_blank (xs ++ c ∷ [])).1 ≡ tailed (span is_blank xs).1 c → (span is_blank (x ∷ xs ++ c ∷ [])).1 ≡ tailed (span is_blank (x ∷ xs)).1 c
 span-one x xs c true h more =
@@ -97,8 +97,8 @@ span-one x xs c true h more =
     ∙ more
     ∙ ap (λ (s : List Code × List Code). tailed s.1 c) (sym (span-takes is_blank x xs h))
 span-one x xs c false h more =
-    ap (λ (s : List Code × List Code). s.1) (span-stops is_blank x (xs ++ c ∷ []) h)
-    ∙ ap (λ (s : List Code × List Code). tailed s.1 c) (sym (span-stops is_blank x xs h))
+    ap (λ (s : List Code × List Code). s.1) (span-none is_blank (x ∷ xs ++ c ∷ []) h)
+    ∙ ap (λ (s : List Code × List Code). tailed s.1 c) (sym (span-none is_blank (x ∷ xs) h))
 
 span-snoc : (xs : List Code) (c : Code) → (span is_blank (xs ++ c ∷ [])).1 ≡ tailed (span is_blank xs).1 c
 span-snoc [] c = one-span c (is_blank c) refl

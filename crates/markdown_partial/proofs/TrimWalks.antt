@@ -13,8 +13,8 @@ use Rattle.markdown_engine.proofs.Points.{IsToward, toward, there-point}
 use Rattle.markdown_engine.proofs.Standings.{none-before, passes}
 use Rattle.markdown_model.specs.CodeTests.{is_real_space}
 use Rattle.markdown_partial.specs.SpaceSteps.{at_blank}
-use Rattle.markdown_partial.proofs.LineLemmas.{span-takes, span-stops}
 use Rattle.markdown_partial.specs.Trim.{between, IsStretch, end_of_lead, at_real_space, is_hard_break, is_same_place}
+use Rattle.markdown_model.proofs.ReadingSteps.{span-takes, span-none}
 
 -- a stretch that is not at its end has a first code
 pub record IsBegun (bytes : List ℕ) (p q : Point) : Type 0 where
@@ -137,7 +137,7 @@ lead-yes p c cs h = ap (λ (s : List Code × List Code). stop_of p s.0) (span-ta
 
 lead-no : (p : Point) (c : Code) (cs : List Code) → is_blank c ≡ false → end_of_lead p (c ∷ cs) ≡ p
 unfolding end_of_lead
-lead-no p c cs h = ap (λ (s : List Code × List Code). stop_of p s.0) (span-stops is_blank c cs h)
+lead-no p c cs h = ap (λ (s : List Code × List Code). stop_of p s.0) (span-none is_blank (c ∷ cs) h)
 
 pub lead-next : (bytes : List ℕ) (p q r : Point) (t : Bool) → IsBegun bytes p q → r ≡ next_point bytes p → t ≡ at_blank (value_from bytes p) → t ≡ true → end_of_lead p (between bytes p q) ≡ end_of_lead r (between bytes r q)
 lead-next bytes p q r t b e f h =

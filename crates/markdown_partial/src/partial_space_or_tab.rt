@@ -1,7 +1,7 @@
 // Whitespace on one line: spaces, tabs and virtual spaces, as many as stand there, within bounds.
 #![tactic(auto, using(markdown_engine::proofs::OpRules::op_rules), unfolding(markdown_engine::specs::Ops::scratched))]
 
-ghost use Rattle.std.specs.Prelude.{◌≡◌, IfOk, OnErr, IsTrue, true, false, None, []};
+ghost use Rattle.std.specs.Prelude.{◌≡◌, IfOk, OnErr, IsTrue, true, false, None};
 ghost use Rattle.markdown_engine.specs.Ops.{IsOpen, LinkedBefore, scratched};
 ghost use Rattle.markdown_engine.specs.declared.event.Name.TheVariants.{SpaceOrTab};
 ghost use Rattle.markdown_engine.specs.declared.state.StateName.TheVariants.{SpaceOrTabStart};
@@ -136,21 +136,8 @@ pub fn after(tokenizer: &mut Tokenizer) -> Result<State, AllocError>
 #[cfg(test)]
 mod tests {
     use super::*;
+    use crate::fixtures::nothing;
     use markdown_engine::configuration::ParseOptions;
-    use markdown_engine::parser::ParseState;
-    use std::alloc::Global;
-
-    // A document without text.
-    fn nothing(alloc: Global, options: &ParseOptions) -> ParseState<'_>
-        ensures { result.bytes.now ≡ [] }
-    {
-        ParseState {
-            bytes: b"",
-            options,
-            definitions: Vec::new(alloc),
-            gfm_footnote_definitions: Vec::new(alloc),
-        }
-    }
 
     #[test]
     fn asks_for_what_the_options_say(rt: HostRuntime) {

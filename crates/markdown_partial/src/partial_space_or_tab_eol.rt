@@ -1,7 +1,7 @@
 // Whitespace with at most one line ending: blank codes on one line, or a line ending with the blank codes around it.
 #![tactic(auto, using(markdown_engine::proofs::OpRules::op_rules), unfolding(markdown_engine::specs::Ops::scratched, markdown_engine::specs::Ops::attempted, markdown_engine::specs::Ops::frame_of))]
 
-ghost use Rattle.std.specs.Prelude.{◌≡◌, IfOk, OnErr, IsTrue, true, false, None, []};
+ghost use Rattle.std.specs.Prelude.{◌≡◌, IfOk, OnErr, IsTrue, true, false, None};
 ghost use Rattle.markdown_engine.specs.Ops.{LinkedBefore, scratched};
 ghost use Rattle.markdown_engine.specs.declared.state.StateName.TheVariants.{SpaceOrTabStart, SpaceOrTabEolStart};
 ghost use Rattle.markdown_partial.specs.EolSteps.{eol_asked, space_asked, eol_rested, start_step, after_first_step, at_eol_step, after_eol_step, after_more_step};
@@ -171,21 +171,8 @@ pub fn after_more(tokenizer: &mut Tokenizer) -> Result<State, AllocError>
 #[cfg(test)]
 mod tests {
     use super::*;
+    use crate::fixtures::nothing;
     use markdown_engine::configuration::ParseOptions;
-    use markdown_engine::parser::ParseState;
-    use std::alloc::Global;
-
-    // A document without text.
-    fn nothing(alloc: Global, options: &ParseOptions) -> ParseState<'_>
-        ensures { result.bytes.now ≡ [] }
-    {
-        ParseState {
-            bytes: b"",
-            options,
-            definitions: Vec::new(alloc),
-            gfm_footnote_definitions: Vec::new(alloc),
-        }
-    }
 
     #[test]
     fn asks_for_what_the_options_say(rt: HostRuntime) {

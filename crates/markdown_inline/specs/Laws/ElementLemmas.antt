@@ -27,7 +27,7 @@ use Rattle.markdown_model.specs.LabelEnd.{Element, plain, starts, ends}
 use Rattle.markdown_model.specs.Lines.{data_up_to, line_leaf, line_leaves, lines_of, onto_stretch}
 use Rattle.markdown_model.proofs.DataLaws.{code_leaf, code_leaves, row_of}
 use Rattle.markdown_model.proofs.ReadingLaws.{code_before-append}
-use Rattle.markdown_partial.proofs.LineLemmas.{span-parts}
+use Rattle.markdown_model.proofs.Leaves.{span-append}
 use Rattle.markdown_inline.specs.Elements.{HasLines, IsSingle, IsNode, StandsAfter, Elements, Advances, AllElements, Finishes}
 use Rattle.markdown_inline.specs.Onto.{merged_onto}
 use Rattle.markdown_inline.specs.Laws.NodeLemmas.{quiet-lines-of, quiet-node-unlinked}
@@ -288,7 +288,7 @@ data-elements : (choice : Choice) (markers : List ℕ) (T U : Tokenizer) (c : Co
 unfolding leaf_elements past_leaves past_code
 data-elements choice markers T U c cs t rest whole is from left covers after others earlier previous here =
     let s : List Code × List Code = unmarked markers cs in
-    let split : ahead T ≡ (c ∷ s.0) ++ rest = whole ∙ ap (λ xs. c ∷ xs) (sym (span-parts (λ d. not (is_among markers d)) cs)) ∙ ap (λ xs. (c ∷ s.0) ++ xs) from in
+    let split : ahead T ≡ (c ∷ s.0) ++ rest = whole ∙ ap (λ xs. c ∷ xs) (sym (span-append (λ d. not (is_among markers d)) cs)) ∙ ap (λ xs. (c ∷ s.0) ++ xs) from in
     let some : 1 ≤ length (leaf_codes t) = omega (arith, ap length split, ap length covers, length-append (c ∷ s.0) rest, length-append (leaf_codes t) rest) in
     let next : List Element = plain (code_leaf c) ∷ earlier in
     record {
@@ -315,7 +315,7 @@ data-parts choice given markers T U c cs whole k holds first others =
     let d = data-reads markers (ahead T) c cs k.tree k.rest whole holds in
     let s : List Code × List Code = unmarked markers cs in
     let left : U ≡ past None k.tree T = k.left ∙ ap (past None k.tree) (scratched-same T) in
-    let split : ahead T ≡ (c ∷ s.0) ++ ahead U = whole ∙ ap (λ xs. c ∷ xs) (sym (span-parts (λ d. not (is_among markers d)) cs)) ∙ ap (λ xs. (c ∷ s.0) ++ xs) (d.1 ∙ sym k.after) in
+    let split : ahead T ≡ (c ∷ s.0) ++ ahead U = whole ∙ ap (λ xs. c ∷ xs) (sym (span-append (λ d. not (is_among markers d)) cs)) ∙ ap (λ xs. (c ∷ s.0) ++ xs) (d.1 ∙ sym k.after) in
     record {
       tree = k.tree;
       has_lines = subst HasLines d.0 (HasLines-lines (c ∷ s.0));

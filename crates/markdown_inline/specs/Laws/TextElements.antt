@@ -8,7 +8,6 @@ use Rattle.markdown_engine.specs.Tree.{Forest, leaf}
 use Rattle.markdown_engine.specs.declared.event.Name.TheVariants as N
 use Rattle.markdown_engine.specs.declared.configuration.ParseOptions.{ParseOptions}
 use Rattle.markdown_engine.specs.declared.tokenizer.Tokenizer.{Tokenizer}
-use Rattle.markdown_leaf.proofs.ReadingLemmas.{bind-some, bind-none, one-here, one-other, either-first, either-second, either-some, switched-on, switched-off}
 use Rattle.markdown_leaf.specs.RawText.{span_at}
 use Rattle.markdown_leaf.proofs.RawTextReadings.{here-off}
 use Rattle.markdown_model.specs.CodeTests.{is_among, is_value, is_some_code}
@@ -21,6 +20,7 @@ use Rattle.markdown_model.proofs.DataLaws.{code_leaf}
 use Rattle.markdown_inline.specs.Elements.{StandsAfter}
 use Rattle.markdown_inline.specs.Built.{IsBuilt}
 use Rattle.markdown_inline.specs.TextSteps.{text_markers}
+use Rattle.markdown_model.proofs.ReadingSteps.{bind-some, bind-none, one-here, one-other, either-first, either-second, either-some, switched-on, switched-off}
 
 -- the element of what a construct reads here, or of the code by itself
 abbrev pub element_here : Code → List Code → Option (Forest × List Code) → Option (Element × List Code)

@@ -1,5 +1,4 @@
 -- The laws of the states of a text.
-use Rattle.markdown_leaf.proofs.ReadingLemmas.{switched-off}
 use Rattle.markdown_model.specs.Leaf.{task_check}
 use Rattle.markdown_model.specs.CodeTests.{last_code}
 use Rattle.std.proofs.Common.{◌≡◌, ◌≢◌, ℕ, ◌+◌, ◌*◌, ◌<◌, ◌≤◌, ◌==◌, ◌||◌, Bool, true, false, if◌then◌else◌, Option, Some, None, List, [], ◌∷◌, inl, inr, refl, sym, ap, subst, ◌∙◌, arith, length, length-append, is_none, ◌&&◌}
@@ -40,6 +39,7 @@ use Rattle.markdown_inline.specs.Laws.NodeLemmas.{check-node, escape-node, refer
 use Rattle.markdown_inline.specs.Laws.TextElements.{off_markers}
 use Rattle.markdown_inline.specs.Laws.TextTries.{ReadsNodes, ReadsElements, none-valued, check-reads, no-check-at-end, reference-reads, reference-alone, autolink-reads, autolink-alone, escape-reads, break-reads, break-alone, span-reads, span-alone, off-alone, other-alone, other-data}
 use Rattle.markdown_inline.specs.Laws.ElementLemmas.{before-past, advances-finishes, finishes-end, node-advances, data-advances}
+use Rattle.markdown_model.proofs.ReadingSteps.{switched-off}
 
 -- Past an element the choice and the scratch fields are as they were.
 

@@ -1,5 +1,4 @@
 -- What is tried at a code of a text: where it holds, it is the element at hand, and where nothing holds, the code is one by itself.
-use Rattle.markdown_leaf.proofs.ReadingLemmas.{bind-none}
 use Rattle.markdown_model.specs.Element.{first_check}
 use Rattle.markdown_model.specs.Grammar.{◌>>◌, provided, one}
 use Rattle.std.proofs.Common.{◌≡◌, ℕ, ◌+◌, ◌≤◌, ◌==◌, ◌||◌, true, false, Option, Some, None, List, ◌∷◌, length, refl, sym, ap, ◌∙◌, Bool, ◌&&◌, is_none, []}
@@ -28,6 +27,7 @@ use Rattle.markdown_inline.specs.Elements.{IsNode, StandsAfter}
 use Rattle.markdown_inline.specs.Settings.{text_setting_of}
 use Rattle.markdown_inline.specs.TextSteps.{text_markers, text_setting, text_choice_of, StandsAlone}
 use Rattle.markdown_inline.specs.Laws.TextElements.{off_markers, plain_of, plain-switched, off-or-none, check-element, span-element, reference-element, autolink-element, escape-element, break-element, off-element, other-element}
+use Rattle.markdown_model.proofs.ReadingSteps.{bind-none}
 
 -- what a construct reads is a tree that stands by itself
 abbrev pub ReadsNodes : TreeReading → Tokenizer → Type 0

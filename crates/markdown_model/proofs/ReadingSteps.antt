@@ -1,6 +1,7 @@
 -- What the readings of a grammar give, by what stands there.
 use Rattle.std.proofs.Common.{◌≡◌, Bool, true, false, ◌&&◌, if◌then◌else◌, Option, Some, None, List, [], ◌∷◌, ◌++◌, refl, ap}
 use Rattle.markdown_engine.specs.Codes.{Code}
+pub use Rattle.markdown_engine.proofs.OpsLemmas.{and-left, and-right}
 use Rattle.markdown_model.specs.CodeTests.{is_empty, next_is}
 use Rattle.markdown_model.specs.Grammar.{Reading, ◌>>=◌, ◌>>◌, provided, either, before, one, some, any_number, span, ◌then_◌}
 
@@ -54,6 +55,15 @@ before-other a p cs x rest e h = rw (e, h, before) refl
 pub before-none : {A : Type 0} (a : Reading A) (p : List Code → Bool) (cs : List Code) → a cs ≡ None → before a p cs ≡ None
 unfolding before
 before-none a p cs e = rw (e, before) refl
+
+-- Spans.
+
+pub span-takes : (p : Code → Bool) (c : Code) (cs : List Code) → p c ≡ true → ◌≡◌ {A = List Code × List Code} (span p (c ∷ cs)) (c ∷ (span p cs).0, (span p cs).1)
+span-takes p c cs e = rw (e, span) refl
+
+pub span-none : (p : Code → Bool) (cs : List Code) → next_is p cs ≡ false → ◌≡◌ {A = List Code × List Code} (span p cs) ([], cs)
+span-none p [] e = refl
+span-none p (c ∷ cs) e = rw (e, span) refl
 
 -- Some codes.
 
@@ -119,14 +129,6 @@ pub switched-off : {B : Type 0} (b : Reading B) (on : Bool) (cs : List Code) →
 switched-off b on cs e = after-none (provided on) b cs (provided-false on cs e)
 
 -- Tests.
-
-pub and-left : (a b : Bool) → a && b ≡ true → a ≡ true
-and-left true b e = refl
-and-left false b e = cc
-
-pub and-right : (a b : Bool) → a && b ≡ true → b ≡ true
-and-right true b e = e
-and-right false b e = cc
 
 pub and-true : (a : Bool) → a && true ≡ a
 and-true true = refl
