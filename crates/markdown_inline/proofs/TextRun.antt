@@ -42,7 +42,6 @@ built-same s off = λ i. record s {
       gfm_autolink_literal = sym off.no_literals i;
       gfm_label_start_footnote = sym off.no_footnotes i;
       gfm_strikethrough = sym off.no_strikethrough i;
-      html_text = sym off.no_html i;
       label_end = sym off.no_label_end i;
       label_start_image = sym off.no_image i;
       label_start_link = sym off.no_link i;

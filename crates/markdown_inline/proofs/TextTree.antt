@@ -21,7 +21,7 @@ use Rattle.markdown_model.proofs.ElementLaws.{text_elements, same_text_elements}
 use Rattle.markdown_model.proofs.LinkFree.{Passes, Yields, yields_bind, yields_gives, yields_passed, yields_either, then_any}
 use Rattle.markdown_inline.specs.Built.{IsBuilt}
 use Rattle.markdown_inline.specs.Elements.{IsNode, IsQuiet, is_run}
-use Rattle.markdown_inline.specs.Laws.NodeLemmas.{check_yields, escape_yields, reference_yields, break_yields, autolink_yields, span_here_yields, code_quiet, math_quiet}
+use Rattle.markdown_inline.specs.Laws.NodeLemmas.{check_yields, html_yields, escape_yields, reference_yields, break_yields, autolink_yields, span_here_yields, code_quiet, math_quiet}
 use Rattle.markdown_model.proofs.ReadingSteps.{switched-off}
 
 -- Trees without runs of markers.
@@ -151,7 +151,7 @@ module _ (s : Setting) (built : IsBuilt s.options.constructs) (end : ℕ) (earli
                 (
                   off_yields _ _ built.no_strikethrough,
                   (
-                    yields_either _ _ _ (on_yields _ _ (plain_yields _ autolink_yields)) (off_yields _ _ built.no_html),
+                    yields_either _ _ _ (on_yields _ _ (plain_yields _ autolink_yields)) (on_yields _ _ (plain_yields _ html_yields)),
                     (
                       off_yields _ _ built.no_literals,
                       (

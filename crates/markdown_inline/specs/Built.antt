@@ -9,7 +9,6 @@ pub record IsBuilt (on : Constructs) : Type 0 where
   pub no_literals : on.gfm_autolink_literal ≡ false
   pub no_footnotes : on.gfm_label_start_footnote ≡ false
   pub no_strikethrough : on.gfm_strikethrough ≡ false
-  pub no_html : on.html_text ≡ false
   pub no_label_end : on.label_end ≡ false
   pub no_image : on.label_start_image ≡ false
   pub no_link : on.label_start_link ≡ false
@@ -21,7 +20,6 @@ built_constructs on = record on {
   gfm_autolink_literal = false;
   gfm_label_start_footnote = false;
   gfm_strikethrough = false;
-  html_text = false;
   label_end = false;
   label_start_image = false;
   label_start_link = false;

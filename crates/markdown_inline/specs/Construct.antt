@@ -3,10 +3,11 @@ use Rattle.std.specs.Prelude.{◌≡◌, ℕ, Bool, true, false, Option, None}
 use Rattle.markdown_engine.specs.Ops.{ahead, scratched}
 use Rattle.markdown_engine.specs.Past.{TreeReading, Reads, link_before}
 use Rattle.markdown_engine.specs.declared.state.StateName.{StateName}
-use Rattle.markdown_engine.specs.declared.state.StateName.TheVariants.{AutolinkStart, CharacterEscapeStart, CharacterReferenceStart, DataStart, GfmTaskListItemCheckStart, HardBreakEscapeStart, RawTextStart, SpaceOrTabStart, SpaceOrTabEolStart}
+use Rattle.markdown_engine.specs.declared.state.StateName.TheVariants.{AutolinkStart, CharacterEscapeStart, CharacterReferenceStart, DataStart, GfmTaskListItemCheckStart, HardBreakEscapeStart, HtmlTextStart, RawTextStart, SpaceOrTabStart, SpaceOrTabEolStart}
 use Rattle.markdown_engine.specs.declared.tokenizer.TokenizeState.{TokenizeState}
 use Rattle.markdown_engine.specs.declared.tokenizer.Tokenizer.{Tokenizer}
 use Rattle.markdown_gfm.specs.GfmTaskListItemCheck as C
+use Rattle.markdown_html.specs.HtmlText as H
 use Rattle.markdown_leaf.specs.CharacterReference as R
 use Rattle.markdown_leaf.specs.RawText as X
 use Rattle.markdown_model.specs.Grammar.{◌>>◌, provided}
@@ -26,6 +27,7 @@ IsConstruct CharacterEscapeStart T = Unit {0}
 IsConstruct CharacterReferenceStart T = R.IsAtRest T
 IsConstruct HardBreakEscapeStart T = Unit {0}
 IsConstruct AutolinkStart T = T.tokenize_state.size ≡ 0
+IsConstruct HtmlTextStart T = H.StartReady T
 IsConstruct RawTextStart T = X.StartReady T
 IsConstruct DataStart T = Unit {0}
 IsConstruct GfmTaskListItemCheckStart T = C.MayLook T
@@ -40,6 +42,7 @@ construct_reading CharacterEscapeStart T = provided T.parse_state.now.options.no
 construct_reading CharacterReferenceStart T = provided T.parse_state.now.options.now.constructs.character_reference >> reference html_5_rows
 construct_reading HardBreakEscapeStart T = provided T.parse_state.now.options.now.constructs.hard_break_escape >> hard_break_escape
 construct_reading AutolinkStart T = provided T.parse_state.now.options.now.constructs.autolink >> autolink
+construct_reading HtmlTextStart T = H.html_here T
 construct_reading RawTextStart T = X.span_at T
 construct_reading DataStart T = data_up_to T.tokenize_state.markers
 construct_reading GfmTaskListItemCheckStart T = C.check_here T

@@ -8,10 +8,18 @@ pub mod StringPasts
 pub mod StringLaws
 pub mod TextTries
 pub mod TextLaws
-use Rattle.std.proofs.Common.{◌≡◌, [], refl}
+use Rattle.std.proofs.Common.{◌≡◌, Bool, [], refl}
 use Rattle.markdown_engine.specs.Runs.{Lawful}
-use Rattle.markdown_engine.specs.declared.state.StateName.TheVariants.{CharacterEscapeStart, CharacterEscapeInside, CharacterReferenceStart, CharacterReferenceOpen, CharacterReferenceNumeric, CharacterReferenceValue, HardBreakEscapeStart, HardBreakEscapeAfter, AutolinkStart, AutolinkOpen, AutolinkSchemeOrEmailAtext, AutolinkSchemeInsideOrEmailAtext, AutolinkUrlInside, AutolinkEmailAtext, AutolinkEmailAtSignOrDot, AutolinkEmailLabel, AutolinkEmailValue, RawTextStart, RawTextSequenceOpen, RawTextBetween, RawTextData, RawTextSequenceClose, SpaceOrTabStart, SpaceOrTabInside, SpaceOrTabAfter, SpaceOrTabEolStart, SpaceOrTabEolAfterFirst, SpaceOrTabEolAtEol, SpaceOrTabEolAfterEol, SpaceOrTabEolAfterMore, DataStart, DataAtBreak, DataInside, StringStart, StringBefore, StringBeforeData, TextStart, TextBefore, TextBeforeHtml, TextBeforeHardBreakEscape, TextBeforeLabelStartLink, TextBeforeData, AttentionStart, GfmAutolinkLiteralProtocolStart, GfmAutolinkLiteralWwwStart, GfmLabelStartFootnoteStart, GfmTaskListItemCheckStart, GfmTaskListItemCheckInside, GfmTaskListItemCheckClose, GfmTaskListItemCheckAfter, GfmTaskListItemCheckAfterSpaceOrTab, HtmlTextStart, LabelEndStart, LabelStartImageStart, LabelStartLinkStart}
+use Rattle.markdown_engine.specs.Weights.{weight_at}
+use Rattle.markdown_engine.specs.declared.tokenizer.Tokenizer.{Tokenizer}
+use Rattle.markdown_engine.specs.declared.state.StateName.TheVariants.{CharacterEscapeStart, CharacterEscapeInside, CharacterReferenceStart, CharacterReferenceOpen, CharacterReferenceNumeric, CharacterReferenceValue, HardBreakEscapeStart, HardBreakEscapeAfter, AutolinkStart, AutolinkOpen, AutolinkSchemeOrEmailAtext, AutolinkSchemeInsideOrEmailAtext, AutolinkUrlInside, AutolinkEmailAtext, AutolinkEmailAtSignOrDot, AutolinkEmailLabel, AutolinkEmailValue, RawTextStart, RawTextSequenceOpen, RawTextBetween, RawTextData, RawTextSequenceClose, SpaceOrTabStart, SpaceOrTabInside, SpaceOrTabAfter, SpaceOrTabEolStart, SpaceOrTabEolAfterFirst, SpaceOrTabEolAtEol, SpaceOrTabEolAfterEol, SpaceOrTabEolAfterMore, DataStart, DataAtBreak, DataInside, StringStart, StringBefore, StringBeforeData, TextStart, TextBefore, TextBeforeHtml, TextBeforeHardBreakEscape, TextBeforeLabelStartLink, TextBeforeData, AttentionStart, GfmAutolinkLiteralProtocolStart, GfmAutolinkLiteralWwwStart, GfmLabelStartFootnoteStart, GfmTaskListItemCheckStart, GfmTaskListItemCheckInside, GfmTaskListItemCheckClose, GfmTaskListItemCheckAfter, GfmTaskListItemCheckAfterSpaceOrTab, HtmlTextStart, HtmlTextOpen, HtmlTextDeclarationOpen, HtmlTextCommentOpenInside, HtmlTextComment, HtmlTextCommentClose, HtmlTextCommentEnd, HtmlTextCdata, HtmlTextCdataClose, HtmlTextCdataEnd, HtmlTextDeclaration, HtmlTextInstruction, HtmlTextInstructionClose, HtmlTextTagCloseStart, HtmlTextTagClose, HtmlTextTagCloseBetween, HtmlTextTagOpen, HtmlTextTagOpenBetween, HtmlTextTagOpenAttributeName, HtmlTextTagOpenAttributeNameAfter, HtmlTextTagOpenAttributeValueBefore, HtmlTextTagOpenAttributeValueQuotedAfter, HtmlTextTagOpenAttributeValueUnquoted, HtmlTextEnd, HtmlTextCdataOpenInside, HtmlTextTagOpenAttributeValueQuoted, HtmlTextLineEndingBefore, HtmlTextLineEndingAfter, HtmlTextLineEndingAfterPrefix, LabelEndStart, LabelStartImageStart, LabelStartLinkStart}
 use Rattle.markdown_gfm.proofs.GfmTaskListItemCheckLaws as C
+use Rattle.markdown_html.proofs.HtmlTextLaws as H
+use Rattle.markdown_html.proofs.LineEndingLaws as HL
+use Rattle.markdown_html.proofs.StartLaw as HS
+use Rattle.markdown_html.specs.HtmlText as HT
+use Rattle.markdown_html.specs.Rests as Q
+use Rattle.markdown_html.specs.Rests.{Part, state_of, Open, DeclarationOpen, CommentOpenInside, Comment, CommentClose, CommentEnd, Cdata, CdataClose, CdataEnd, Declaration, Instruction, InstructionClose, TagCloseStart, TagClose, TagCloseBetween, TagOpen, TagOpenBetween, AttributeName, AttributeNameAfter, ValueBefore, ValueQuotedAfter, ValueUnquoted, End}
 use Rattle.markdown_leaf.proofs.AutolinkLaws as A
 use Rattle.markdown_leaf.proofs.CharacterEscapeLaws as E
 use Rattle.markdown_leaf.proofs.CharacterReferenceLaws as R
@@ -139,6 +147,107 @@ check-within = record {
   after_space_or_tab_weight = λ T. refl;
 }
 
+-- the states of HTML that leave the scratch fields alone
+html-ready : (k : Part) (T : Tokenizer) → HT.PartReady T → ready_of (state_of k) T
+html-ready Open T h = h
+html-ready DeclarationOpen T h = h
+html-ready CommentOpenInside T h = h
+html-ready Comment T h = h
+html-ready CommentClose T h = h
+html-ready CommentEnd T h = h
+html-ready Cdata T h = h
+html-ready CdataClose T h = h
+html-ready CdataEnd T h = h
+html-ready Declaration T h = h
+html-ready Instruction T h = h
+html-ready InstructionClose T h = h
+html-ready TagCloseStart T h = h
+html-ready TagClose T h = h
+html-ready TagCloseBetween T h = h
+html-ready TagOpen T h = h
+html-ready TagOpenBetween T h = h
+html-ready AttributeName T h = h
+html-ready AttributeNameAfter T h = h
+html-ready ValueBefore T h = h
+html-ready ValueQuotedAfter T h = h
+html-ready ValueUnquoted T h = h
+html-ready End T h = h
+
+html-end : (k : Part) (T : Tokenizer) (ok : Bool) (U : Tokenizer) → ends_of (state_of k) T ok U → HT.part_ends k T ok U
+html-end Open T ok U h = h
+html-end DeclarationOpen T ok U h = h
+html-end CommentOpenInside T ok U h = h
+html-end Comment T ok U h = h
+html-end CommentClose T ok U h = h
+html-end CommentEnd T ok U h = h
+html-end Cdata T ok U h = h
+html-end CdataClose T ok U h = h
+html-end CdataEnd T ok U h = h
+html-end Declaration T ok U h = h
+html-end Instruction T ok U h = h
+html-end InstructionClose T ok U h = h
+html-end TagCloseStart T ok U h = h
+html-end TagClose T ok U h = h
+html-end TagCloseBetween T ok U h = h
+html-end TagOpen T ok U h = h
+html-end TagOpenBetween T ok U h = h
+html-end AttributeName T ok U h = h
+html-end AttributeNameAfter T ok U h = h
+html-end ValueBefore T ok U h = h
+html-end ValueQuotedAfter T ok U h = h
+html-end ValueUnquoted T ok U h = h
+html-end End T ok U h = h
+
+html-weight : (k : Part) (T : Tokenizer) → weight_of (state_of k) T ≡ weight_at (Q.rank_of k) T
+html-weight Open T = refl
+html-weight DeclarationOpen T = refl
+html-weight CommentOpenInside T = refl
+html-weight Comment T = refl
+html-weight CommentClose T = refl
+html-weight CommentEnd T = refl
+html-weight Cdata T = refl
+html-weight CdataClose T = refl
+html-weight CdataEnd T = refl
+html-weight Declaration T = refl
+html-weight Instruction T = refl
+html-weight InstructionClose T = refl
+html-weight TagCloseStart T = refl
+html-weight TagClose T = refl
+html-weight TagCloseBetween T = refl
+html-weight TagOpen T = refl
+html-weight TagOpenBetween T = refl
+html-weight AttributeName T = refl
+html-weight AttributeNameAfter T = refl
+html-weight ValueBefore T = refl
+html-weight ValueQuotedAfter T = refl
+html-weight ValueUnquoted T = refl
+html-weight End T = refl
+
+html-within : HL.Within ready_of ends_of weight_of
+html-within = record {
+  part_ready = html-ready;
+  part_end = html-end;
+  part_weight = html-weight;
+  cdata_ready = λ T h. h;
+  cdata_end = λ T ok U h. h;
+  cdata_weight = λ T. refl;
+  quoted_ready = λ T h. h;
+  quoted_end = λ T ok U h. h;
+  quoted_weight = λ T. refl;
+  before_ready = λ T h. h;
+  before_end = λ T ok U h. h;
+  before_weight = λ T. refl;
+  after_ready = λ T h. h;
+  after_end = λ T ok U h. h;
+  after_weight = λ T. refl;
+  prefix_ready = λ T h. h;
+  prefix_end = λ T ok U h. h;
+  prefix_weight = λ T. refl;
+  space_ready = λ T h. h;
+  space_end = λ T ok U h. h;
+  space_weight = λ T. refl;
+}
+
 data-within : D.Within ready_of ends_of weight_of
 data-within = record { at_break_ready = λ T. tt; at_break_end = λ T ok U h. h; at_break_weight = λ T. refl; inside_ready = λ T h. h; inside_end = λ T ok U h. h; inside_weight = λ T. refl }
 
@@ -203,6 +312,35 @@ laws_of GfmTaskListItemCheckInside T alone r = C.inside-law ready_of ends_of wei
 laws_of GfmTaskListItemCheckClose T alone r = C.close-law ready_of ends_of weight_of check-within T alone r
 laws_of GfmTaskListItemCheckAfter T alone r = C.after-law ready_of ends_of weight_of check-within T alone r
 laws_of GfmTaskListItemCheckAfterSpaceOrTab T alone r = C.after_space_or_tab-law ready_of ends_of weight_of T alone
+laws_of HtmlTextStart T alone r = HS.start-law ready_of ends_of weight_of html-within T alone r
+laws_of HtmlTextOpen T alone r = H.open-law ready_of ends_of weight_of html-within T alone r
+laws_of HtmlTextDeclarationOpen T alone r = H.declaration_open-law ready_of ends_of weight_of html-within T alone r
+laws_of HtmlTextCommentOpenInside T alone r = H.comment_open_inside-law ready_of ends_of weight_of html-within T alone r
+laws_of HtmlTextComment T alone r = H.comment-law ready_of ends_of weight_of html-within T alone r
+laws_of HtmlTextCommentClose T alone r = H.comment_close-law ready_of ends_of weight_of html-within T alone r
+laws_of HtmlTextCommentEnd T alone r = H.comment_end-law ready_of ends_of weight_of html-within T alone r
+laws_of HtmlTextCdata T alone r = H.cdata-law ready_of ends_of weight_of html-within T alone r
+laws_of HtmlTextCdataClose T alone r = H.cdata_close-law ready_of ends_of weight_of html-within T alone r
+laws_of HtmlTextCdataEnd T alone r = H.cdata_end-law ready_of ends_of weight_of html-within T alone r
+laws_of HtmlTextDeclaration T alone r = H.declaration-law ready_of ends_of weight_of html-within T alone r
+laws_of HtmlTextInstruction T alone r = H.instruction-law ready_of ends_of weight_of html-within T alone r
+laws_of HtmlTextInstructionClose T alone r = H.instruction_close-law ready_of ends_of weight_of html-within T alone r
+laws_of HtmlTextTagCloseStart T alone r = H.tag_close_start-law ready_of ends_of weight_of html-within T alone r
+laws_of HtmlTextTagClose T alone r = H.tag_close-law ready_of ends_of weight_of html-within T alone r
+laws_of HtmlTextTagCloseBetween T alone r = H.tag_close_between-law ready_of ends_of weight_of html-within T alone r
+laws_of HtmlTextTagOpen T alone r = H.tag_open-law ready_of ends_of weight_of html-within T alone r
+laws_of HtmlTextTagOpenBetween T alone r = H.tag_open_between-law ready_of ends_of weight_of html-within T alone r
+laws_of HtmlTextTagOpenAttributeName T alone r = H.tag_open_attribute_name-law ready_of ends_of weight_of html-within T alone r
+laws_of HtmlTextTagOpenAttributeNameAfter T alone r = H.tag_open_attribute_name_after-law ready_of ends_of weight_of html-within T alone r
+laws_of HtmlTextTagOpenAttributeValueBefore T alone r = H.tag_open_attribute_value_before-law ready_of ends_of weight_of html-within T alone r
+laws_of HtmlTextTagOpenAttributeValueQuotedAfter T alone r = H.tag_open_attribute_value_quoted_after-law ready_of ends_of weight_of html-within T alone r
+laws_of HtmlTextTagOpenAttributeValueUnquoted T alone r = H.tag_open_attribute_value_unquoted-law ready_of ends_of weight_of html-within T alone r
+laws_of HtmlTextEnd T alone r = H.end-law ready_of ends_of weight_of html-within T alone r
+laws_of HtmlTextCdataOpenInside T alone r = H.cdata_open_inside-law ready_of ends_of weight_of html-within T alone r
+laws_of HtmlTextTagOpenAttributeValueQuoted T alone r = H.tag_open_attribute_value_quoted-law ready_of ends_of weight_of html-within T alone r
+laws_of HtmlTextLineEndingBefore T alone r = HL.before-law ready_of ends_of weight_of html-within T alone r
+laws_of HtmlTextLineEndingAfter T alone r = HL.after-law ready_of ends_of weight_of html-within T alone r
+laws_of HtmlTextLineEndingAfterPrefix T alone r = HL.prefix-law ready_of ends_of weight_of html-within T alone r
 laws_of TextStart T alone r = M.start-law T alone r
 laws_of TextBefore T alone r = M.before-law T alone r
 laws_of TextBeforeHtml T alone r = M.before_html-law T alone r
@@ -213,7 +351,6 @@ laws_of AttentionStart T alone r = M.never-law T alone
 laws_of GfmAutolinkLiteralProtocolStart T alone r = M.never-law T alone
 laws_of GfmAutolinkLiteralWwwStart T alone r = M.never-law T alone
 laws_of GfmLabelStartFootnoteStart T alone r = M.never-law T alone
-laws_of HtmlTextStart T alone r = M.never-law T alone
 laws_of LabelEndStart T alone r = M.never-law T alone
 laws_of LabelStartImageStart T alone r = M.never-law T alone
 laws_of LabelStartLinkStart T alone r = M.never-law T alone

@@ -9,6 +9,7 @@ use Rattle.markdown_engine.specs.declared.state.StateName.{StateName}
 use Rattle.markdown_engine.specs.declared.state.StateName.TheVariants.{AttentionStart, AutolinkStart, CharacterEscapeStart, CharacterReferenceStart, DataStart, GfmAutolinkLiteralProtocolStart, GfmAutolinkLiteralWwwStart, GfmLabelStartFootnoteStart, GfmTaskListItemCheckStart, HardBreakEscapeStart, HtmlTextStart, LabelEndStart, LabelStartImageStart, LabelStartLinkStart, RawTextStart, TextBefore, TextBeforeData, TextBeforeHardBreakEscape, TextBeforeHtml, TextBeforeLabelStartLink}
 use Rattle.markdown_engine.specs.declared.tokenizer.Tokenizer.{Tokenizer}
 use Rattle.markdown_gfm.specs.GfmTaskListItemCheck as C
+use Rattle.markdown_leaf.specs.Autolink.{link_here}
 use Rattle.markdown_leaf.specs.CharacterEscape.{escape_here}
 use Rattle.markdown_leaf.specs.RawText as X
 use Rattle.markdown_model.proofs.DataLaws.{code_leaf}
@@ -90,10 +91,11 @@ pub record StartReady (T : Tokenizer) : Type 0 where
   pub spans : X.StartReady T
   pub look : C.MayLook T
 
--- data stops at the markers of a text, and the fields in which spans, references and autolinks count are at rest
+-- data stops at the markers of a text, and the fields in which spans, references and autolinks count are at rest, and those of whitespace
 pub record IsMarked (T : Tokenizer) : Type 0 where
   pub markers : T.tokenize_state.markers ≡ text_markers
   pub spans : X.StartReady T
+  pub look : C.MayLook T
 
 -- and no check of a list item stands here
 pub record BeforeReady (T : Tokenizer) : Type 0 where
@@ -111,6 +113,12 @@ pub record BeforeDataReady (T : Tokenizer) : Type 0 where
   pub before : BeforeReady T
   pub some_code : current_of T ≢ None
   pub alone : StandsAlone T
+
+-- a `<` is at hand that begins no autolink
+pub record BeforeHtmlReady (T : Tokenizer) : Type 0 where
+  pub before : BeforeReady T
+  pub angle : current_of T ≡ Some 60
+  pub no_autolink : link_here T (ahead T) ≡ None
 
 -- a backslash is at hand that escapes nothing
 pub record BeforeBreakReady (T : Tokenizer) : Type 0 where

@@ -10,6 +10,7 @@ pub mod string;
 pub mod text;
 
 pub use markdown_gfm::gfm_task_list_item_check;
+pub use markdown_html::html_text;
 pub use markdown_leaf::{
     autolink, character_escape, character_reference, hard_break_escape, raw_text,
 };

@@ -80,7 +80,7 @@ pub fn text(
     requires { IsTextContent parse_state.now.bytes.now pieces.now }
     ensures events { let on = parse_state.now.options.now.constructs in
         on.attention ≡ false → on.gfm_autolink_literal ≡ false → on.gfm_label_start_footnote ≡ false → on.gfm_strikethrough ≡ false
-        → on.html_text ≡ false → on.label_end ≡ false → on.label_start_image ≡ false → on.label_start_link ≡ false
+        → on.label_end ≡ false → on.label_start_image ≡ false → on.label_start_link ≡ false
         → IfOk result (λ run. run.events.items ≡ text_events (text_setting_of parse_state.now first_of_item) pieces.now) }
     ensures as_built { IfOk result (λ run. run.events.items ≡ text_events (as_built (text_setting_of parse_state.now first_of_item)) pieces.now) }
     ensures probes { let on = parse_state.now.options.now.constructs in on.attention ≡ false → on.gfm_strikethrough ≡ false → IfOk result (λ run. run.probes ≡ 0) }
@@ -111,7 +111,7 @@ fn put_back<'a>(
 }
 
 /// Reads one construct at the tokenizer's place, by the name of the state that starts it: `CharacterEscapeStart`, `CharacterReferenceStart`,
-/// `HardBreakEscapeStart`, `AutolinkStart`, `RawTextStart` (a code span, or a math span), `GfmTaskListItemCheckStart`; `DataStart`, which takes
+/// `HardBreakEscapeStart`, `AutolinkStart`, `HtmlTextStart`, `RawTextStart` (a code span, or a math span), `GfmTaskListItemCheckStart`; `DataStart`, which takes
 /// the bytes at which it stops from the scratch field `markers`, and holds everywhere; `SpaceOrTabStart` or `SpaceOrTabEolStart`, after the
 /// setter that asks for it.
 ///

@@ -11,6 +11,7 @@ use markdown_engine::state::{State, StateName};
 use markdown_engine::subtokenize::Subresult;
 use markdown_engine::tokenizer::Tokenizer;
 use markdown_gfm::gfm_task_list_item_check;
+use markdown_html::html_text;
 use markdown_leaf::{autolink, character_escape, character_reference, hard_break_escape, raw_text};
 use markdown_partial::{partial_data, partial_space_or_tab, partial_space_or_tab_eol};
 use std::alloc::AllocError;
@@ -41,6 +42,41 @@ fn dispatch(name: StateName, tokenizer: &mut Tokenizer) -> Result<State, AllocEr
         StateName::AutolinkEmailAtSignOrDot => autolink::email_at_sign_or_dot(tokenizer),
         StateName::AutolinkEmailLabel => autolink::email_label(tokenizer),
         StateName::AutolinkEmailValue => autolink::email_value(tokenizer),
+        StateName::HtmlTextStart => html_text::start(tokenizer),
+        StateName::HtmlTextOpen => html_text::open(tokenizer),
+        StateName::HtmlTextDeclarationOpen => html_text::declaration_open(tokenizer),
+        StateName::HtmlTextCommentOpenInside => html_text::comment_open_inside(tokenizer),
+        StateName::HtmlTextComment => html_text::comment(tokenizer),
+        StateName::HtmlTextCommentClose => html_text::comment_close(tokenizer),
+        StateName::HtmlTextCommentEnd => html_text::comment_end(tokenizer),
+        StateName::HtmlTextCdata => html_text::cdata(tokenizer),
+        StateName::HtmlTextCdataClose => html_text::cdata_close(tokenizer),
+        StateName::HtmlTextCdataEnd => html_text::cdata_end(tokenizer),
+        StateName::HtmlTextDeclaration => html_text::declaration(tokenizer),
+        StateName::HtmlTextInstruction => html_text::instruction(tokenizer),
+        StateName::HtmlTextInstructionClose => html_text::instruction_close(tokenizer),
+        StateName::HtmlTextTagCloseStart => html_text::tag_close_start(tokenizer),
+        StateName::HtmlTextTagClose => html_text::tag_close(tokenizer),
+        StateName::HtmlTextTagCloseBetween => html_text::tag_close_between(tokenizer),
+        StateName::HtmlTextTagOpen => html_text::tag_open(tokenizer),
+        StateName::HtmlTextTagOpenBetween => html_text::tag_open_between(tokenizer),
+        StateName::HtmlTextTagOpenAttributeName => html_text::tag_open_attribute_name(tokenizer),
+        StateName::HtmlTextTagOpenAttributeNameAfter => html_text::tag_open_attribute_name_after(
+            tokenizer,
+        ),
+        StateName::HtmlTextTagOpenAttributeValueBefore =>
+            html_text::tag_open_attribute_value_before(tokenizer),
+        StateName::HtmlTextTagOpenAttributeValueQuotedAfter =>
+            html_text::tag_open_attribute_value_quoted_after(tokenizer),
+        StateName::HtmlTextTagOpenAttributeValueUnquoted =>
+            html_text::tag_open_attribute_value_unquoted(tokenizer),
+        StateName::HtmlTextEnd => html_text::end(tokenizer),
+        StateName::HtmlTextCdataOpenInside => html_text::cdata_open_inside(tokenizer),
+        StateName::HtmlTextTagOpenAttributeValueQuoted =>
+            html_text::tag_open_attribute_value_quoted(tokenizer),
+        StateName::HtmlTextLineEndingBefore => html_text::line_ending_before(tokenizer),
+        StateName::HtmlTextLineEndingAfter => html_text::line_ending_after(tokenizer),
+        StateName::HtmlTextLineEndingAfterPrefix => html_text::line_ending_after_prefix(tokenizer),
         StateName::RawTextStart => raw_text::start(tokenizer),
         StateName::RawTextSequenceOpen => raw_text::sequence_open(tokenizer),
         StateName::RawTextBetween => raw_text::between(tokenizer),
@@ -78,7 +114,6 @@ fn dispatch(name: StateName, tokenizer: &mut Tokenizer) -> Result<State, AllocEr
         | StateName::GfmAutolinkLiteralProtocolStart
         | StateName::GfmAutolinkLiteralWwwStart
         | StateName::GfmLabelStartFootnoteStart
-        | StateName::HtmlTextStart
         | StateName::LabelEndStart
         | StateName::LabelStartImageStart
         | StateName::LabelStartLinkStart => Ok(State::Nok),

@@ -1,9 +1,9 @@
 -- How the codes of a text are cut: a stretch from its first code on.
-use Rattle.std.proofs.Common.{◌≡◌, Bool, true, false, List, [], ◌∷◌, ap, ◌∙◌}
+use Rattle.std.proofs.Common.{◌≡◌, Bool, true, false, List, [], ◌∷◌, refl, ap, ◌∙◌}
 use Rattle.markdown_engine.specs.Codes.{Code}
 use Rattle.markdown_model.specs.CodeTests.{next_is}
 use Rattle.markdown_model.specs.Grammar.{span}
-use Rattle.markdown_model.specs.Lines.{joins, stretches}
+use Rattle.markdown_model.specs.Lines.{joins, onto_stretch, stretches}
 use Rattle.markdown_model.proofs.ReadingLaws.{span-agrees, stretches-next}
 use Rattle.markdown_model.proofs.ReadingSteps.{span-none}
 
@@ -29,3 +29,7 @@ stretch-alone p c cs e = stretches-next p c cs ∙ ap (first-then p c) (span-non
 pub stretch-span : (p q : Code → Bool) → ((c d : Code) → q c ≡ true → joins p c d ≡ q d) → (c : Code) (cs : List Code) → q c ≡ true → stretches p (c ∷ cs) ≡ (c ∷ (span q cs).0) ∷ stretches p (span q cs).1
 unfolding first-then
 stretch-span p q agrees c cs e = stretches-next p c cs ∙ ap (first-then p c) (span-agrees (joins p c) q (λ d. agrees c d e) cs)
+
+-- A code that joins it stands before its stretch.
+pub stretch-joined : (p : Code → Bool) (c d : Code) (cs ds : List Code) (ss : List (List Code)) → joins p c d ≡ true → stretches p (d ∷ cs) ≡ (d ∷ ds) ∷ ss → stretches p (c ∷ d ∷ cs) ≡ (c ∷ d ∷ ds) ∷ ss
+stretch-joined p c d cs ds ss e h = ap (onto_stretch p c) h ∙ rw (e, onto_stretch) refl

@@ -1,7 +1,8 @@
 -- Constructs read nodes, and pass at least one code.
-use Rattle.std.proofs.Common.{◌≡◌, ◌≢◌, ℕ, ◌+◌, ◌≤◌, Bool, true, false, List, [], ◌∷◌, length, Option, None, Some, refl, ap, subst}
+use Rattle.markdown_model.specs.Html.{html}
+use Rattle.std.proofs.Common.{◌≡◌, ◌≢◌, ℕ, ◌+◌, ◌≤◌, Bool, true, false, List, [], ◌∷◌, length, Option, None, Some, refl, ap, subst, not, ◌&&◌}
 use Rattle.std.specs.Prelude.{nat_lt, ◌||◌, codes}
-use Rattle.markdown_engine.specs.Codes.{Code, is_line_ending}
+use Rattle.markdown_engine.specs.Codes.{Code, is_line_ending, is_blank}
 use Rattle.markdown_engine.specs.Past.{last_link}
 use Rattle.markdown_engine.specs.Tree.{Forest, empty, leaf_then, group_then, leaf, group, ◌⊕◌}
 use Rattle.markdown_engine.specs.declared.event.Content.{Content}
@@ -10,10 +11,10 @@ use Rattle.markdown_engine.specs.declared.event.Name.TheVariants as N
 use Rattle.markdown_engine.specs.declared.tokenizer.Tokenizer.{Tokenizer}
 use Rattle.markdown_leaf.specs.RawText.{is_escape, span_at, single_dollar, follows_escape, code_just_before}
 use Rattle.markdown_model.specs.CodeTests.{next_is, is_among}
-use Rattle.markdown_model.specs.Grammar.{Reading, ◌>>◌, provided, one}
+use Rattle.markdown_model.specs.Grammar.{Reading, ◌>>◌, provided, one, span}
 use Rattle.markdown_model.specs.Leaf.{escape, reference, hard_break_escape, autolink, in_angle_brackets, span_of, span_here, SpanNames, code_names, math_names, task_check}
-use Rattle.markdown_model.specs.Lines.{linked_leaf, line_leaf, line_leaves}
-use Rattle.markdown_model.proofs.Consuming.{Left, Consumes, passed_takes, either_takes, escape_takes, reference_takes, hard_break_takes, autolink_takes, span_here_takes, task_check_takes}
+use Rattle.markdown_model.specs.Lines.{linked_leaf, line_leaf, line_leaves, lines_from, lines_of}
+use Rattle.markdown_model.proofs.Consuming.{Left, Consumes, passed_takes, either_takes, escape_takes, reference_takes, hard_break_takes, autolink_takes, span_here_takes, task_check_takes, html_takes}
 use Rattle.markdown_model.proofs.LinkFree.{Passes, Yields, yields_bind, yields_gives, yields_passed, yields_either, yields_before, then_any}
 use Rattle.markdown_partial.specs.Merge.{is_data}
 use Rattle.markdown_partial.specs.TrimEvents.{is_ending}
@@ -185,3 +186,21 @@ check_yields =
 
 pub check-node : (on : Bool) (cs : List Code) (t : Forest) (rest : List Code) → (provided on >> task_check) cs ≡ Some (t, rest) → IsNode t × (1 + length rest ≤ length cs)
 check-node on = node-of _ (yields_passed IsNode on task_check check_yields) (passed_takes 1 on task_check task_check_takes)
+
+-- HTML.
+
+-- text of several lines, with blank codes set apart
+quiet-lines-from : (name : Name) (later : Bool) (ss : List (List Code)) → is_data name ≡ false → is_run name ≡ false → IsQuiet (lines_from name None later ss)
+quiet-lines-from name later [] d r = tt
+quiet-lines-from name later (s ∷ ss) d r =
+    elim (later && not (next_is is_line_ending s)) as (λ b. IsQuiet (elim b as (λ _. Forest) [ true ↦ linked_leaf N.SpaceOrTab None (span is_blank s).0 ⊕ linked_leaf name None (span is_blank s).1 ⊕ lines_from name None false ss | false ↦ line_leaf name None s ⊕ lines_from name None (next_is is_line_ending s) ss ])) [
+      | true ↦ quiet-row _ _ (quiet-linked N.SpaceOrTab None (span is_blank s).0 refl refl) (quiet-row _ _ (quiet-linked name None (span is_blank s).1 d r) (quiet-lines-from name false ss d r))
+      | false ↦ quiet-row _ _ (quiet-line name None s d r) (quiet-lines-from name (next_is is_line_ending s) ss d r)
+    ]
+
+pub html_yields : Yields IsNode html
+unfolding html
+html_yields = then_any _ _ _ λ text. yields_gives _ _ (group-node N.HtmlText _ refl refl (quiet-lines-from N.HtmlTextData false (lines_of text) refl refl))
+
+pub html-node : (on : Bool) (cs : List Code) (t : Forest) (rest : List Code) → (provided on >> html) cs ≡ Some (t, rest) → IsNode t × (1 + length rest ≤ length cs)
+html-node on = node-of _ (yields_passed IsNode on html html_yields) (passed_takes 1 on html html_takes)

@@ -13,6 +13,7 @@ use Rattle.markdown_leaf.proofs.RawTextReadings.{here-off}
 use Rattle.markdown_model.specs.CodeTests.{is_among, is_value, is_some_code}
 use Rattle.markdown_model.specs.Element.{as_plain, switched, line_ending, data_code, code_span, math_span, Tries, tries, tried, first_check, text_element, ends_escaped}
 use Rattle.markdown_model.specs.Grammar.{Reading, ◌>>◌, ◌>>=◌, provided, either, gives, one}
+use Rattle.markdown_model.specs.Html.{html}
 use Rattle.markdown_model.specs.LabelEnd.{Element, plain}
 use Rattle.markdown_model.specs.Leaf.{escape, reference, hard_break_escape, autolink, task_check, span_here, code_names, math_names}
 use Rattle.markdown_model.specs.Setting.{Setting}
@@ -206,16 +207,32 @@ module _ (s : Setting) (built : IsBuilt s.options.constructs) (end : ℕ) (earli
   unfolding tries tried
   reference-element c cs o e h = one-row 38 s.options.constructs.character_reference (reference s.references) c cs o e refl refl refl h
 
-  -- Rows of two constructs, the second of which is off.
+  -- A `<`.
 
-  pub autolink-element : (c : Code) (cs : List Code) (o : Option (Forest × List Code)) → c.value ≡ 60
-      → (provided s.options.constructs.autolink >> autolink) (c ∷ cs) ≡ o → text_element s end earlier previous (c ∷ cs) ≡ element_here c cs o
-  unfolding tries tried
-  autolink-element c cs o e h =
-      text-row 60 _ c cs e refl refl
-      ∙ plain-or-data _ c cs o (value-other 60 c e refl)
-      (either-first (switched s.options.constructs.autolink (as_plain autolink)) _ (c ∷ cs) (switched-none s.options.constructs.html_text _ (c ∷ cs) built.no_html)
-      ∙ plain-switched s.options.constructs.autolink autolink (c ∷ cs) ∙ ap plain_of h)
+  angle_row : Reading Element
+  angle_row = either (switched s.options.constructs.autolink (as_plain autolink)) (switched s.options.constructs.html_text (as_plain html))
+
+  angle-at : (c : Code) (cs : List Code) → c.value ≡ 60 → text_element s end earlier previous (c ∷ cs) ≡ either angle_row data_code (c ∷ cs)
+  unfolding tries tried angle_row
+  angle-at c cs e = text-row 60 _ c cs e refl refl
+
+  pub autolink-element : (c : Code) (cs : List Code) (t : Forest) (rest : List Code) → c.value ≡ 60
+      → (provided s.options.constructs.autolink >> autolink) (c ∷ cs) ≡ Some (t, rest) → text_element s end earlier previous (c ∷ cs) ≡ Some (plain t, rest)
+  unfolding angle_row plain_of
+  autolink-element c cs t rest e h =
+      angle-at c cs e
+      ∙ plain-or-data angle_row c cs (Some (t, rest)) (value-other 60 c e refl)
+      (either-some (switched s.options.constructs.autolink (as_plain autolink)) _ (c ∷ cs) (plain t, rest) (plain-switched s.options.constructs.autolink autolink (c ∷ cs) ∙ ap plain_of h))
+
+  pub html-element : (c : Code) (cs : List Code) (o : Option (Forest × List Code)) → c.value ≡ 60
+      → (provided s.options.constructs.autolink >> autolink) (c ∷ cs) ≡ None → (provided s.options.constructs.html_text >> html) (c ∷ cs) ≡ o
+      → text_element s end earlier previous (c ∷ cs) ≡ element_here c cs o
+  unfolding angle_row plain_of
+  html-element c cs o e none h =
+      angle-at c cs e
+      ∙ plain-or-data angle_row c cs o (value-other 60 c e refl)
+      (either-second (switched s.options.constructs.autolink (as_plain autolink)) _ (c ∷ cs) (plain-switched s.options.constructs.autolink autolink (c ∷ cs) ∙ ap plain_of none)
+      ∙ plain-switched s.options.constructs.html_text html (c ∷ cs) ∙ ap plain_of h)
 
   -- A backslash.
 

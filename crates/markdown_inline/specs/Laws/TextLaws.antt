@@ -22,6 +22,8 @@ use Rattle.markdown_engine.proofs.EndsLemmas.{scratched-same}
 use Rattle.markdown_engine.proofs.Laws.{Follows, Goes-plain, Goes-attempt, code-step, restored-fails, Grown-refl}
 use Rattle.markdown_engine.proofs.OpRules.{attempts-registered, attempts-scratched, left-scratched, left-ahead}
 use Rattle.markdown_gfm.specs.GfmTaskListItemCheck as C
+use Rattle.markdown_html.specs.HtmlText as H
+use Rattle.markdown_partial.specs.SpaceSteps as W
 use Rattle.markdown_leaf.specs.Autolink.{link_here}
 use Rattle.markdown_leaf.specs.CharacterEscape.{escape_here}
 use Rattle.markdown_leaf.specs.CharacterReference.{IsAtRest, reference_here}
@@ -33,11 +35,11 @@ use Rattle.markdown_util.specs.Reference.{html_5_rows}
 use Rattle.markdown_inline.specs.Elements.{Advances, Finishes}
 use Rattle.markdown_inline.specs.Layer.{ready_of, ends_of, weight_of}
 use Rattle.markdown_inline.specs.StringSteps.{is_on}
-use Rattle.markdown_inline.specs.TextSteps.{text_markers, text_marked, text_passed, trying, start_step, first_try, tries_at, before_at, before_step, before_html_step, before_hard_break_escape_step, before_label_start_link_step, before_data_step, text_setting, text_choice_of, StartReady, IsMarked, BeforeReady, BeforeDataReady, BeforeBreakReady, StandsAlone, before_ends, start_ends}
+use Rattle.markdown_inline.specs.TextSteps.{text_markers, text_marked, text_passed, trying, start_step, first_try, tries_at, before_at, before_step, before_html_step, before_hard_break_escape_step, before_label_start_link_step, before_data_step, text_setting, text_choice_of, StartReady, IsMarked, BeforeReady, BeforeHtmlReady, BeforeDataReady, BeforeBreakReady, StandsAlone, before_ends, start_ends}
 use Rattle.markdown_inline.specs.Unbuilt.{never, never_step, never_ends}
-use Rattle.markdown_inline.specs.Laws.NodeLemmas.{check-node, escape-node, reference-node, break-node, autolink-node, span-node}
+use Rattle.markdown_inline.specs.Laws.NodeLemmas.{check-node, html-node, escape-node, reference-node, break-node, autolink-node, span-node}
 use Rattle.markdown_inline.specs.Laws.TextElements.{off_markers}
-use Rattle.markdown_inline.specs.Laws.TextTries.{ReadsNodes, ReadsElements, none-valued, check-reads, no-check-at-end, reference-reads, reference-alone, autolink-reads, autolink-alone, escape-reads, break-reads, break-alone, span-reads, span-alone, off-alone, other-alone, other-data}
+use Rattle.markdown_inline.specs.Laws.TextTries.{ReadsNodes, ReadsElements, none-valued, check-reads, no-check-at-end, reference-reads, reference-alone, autolink-reads, html-reads, html-alone, escape-reads, break-reads, break-alone, span-reads, span-alone, off-alone, other-alone, other-data}
 use Rattle.markdown_inline.specs.Laws.ElementLemmas.{before-past, advances-finishes, finishes-end, node-advances, data-advances}
 use Rattle.markdown_model.proofs.ReadingSteps.{switched-off}
 
@@ -61,6 +63,7 @@ marked-past T U e l r =
     record {
       markers = ap (λ (s : TokenizeState). s.markers) e ∙ r.markers;
       spans = record { rest = e ∙ r.spans.rest ∙ ap X.rested (sym e); fits = omega (arith, l, r.spans.fits) };
+      look = record { resting = ap W.rested e ∙ r.look.resting ∙ sym e; short = omega (arith, l, r.look.short) };
     }
 
 -- past an element no check may begin
@@ -209,7 +212,7 @@ module _ (T : Tokenizer) (alone : T.attempts ≡ []) (ready : BeforeReady T) whe
   tries-autolink : current_of T ≡ Some 60 → Before (trying AutolinkStart TextBeforeHtml T)
   tries-autolink d =
       try-law 7 T AutolinkStart TextBeforeHtml (link_here T) alone (at-rest-reference T ready.marked).size (omega arith) ready.marked (λ ok U g. g) (λ t rest g. autolink-node (is_on T).autolink (ahead T) t rest g) (autolink-reads T d)
-      (λ none. record { goes_on = to-alone T 60 ready d (autolink-alone T d none); falls = omega arith; closed = λ ok V h. h })
+      (λ none. record { goes_on = record { before = ready; angle = d; no_autolink = none }; falls = omega arith; closed = λ ok V h. h })
 
   tries-escape : current_of T ≡ Some 92 → Before (trying CharacterEscapeStart TextBeforeHardBreakEscape T)
   tries-escape d =
@@ -251,9 +254,16 @@ module _ (T : Tokenizer) (alone : T.attempts ≡ []) (ready : BeforeReady T) whe
       (λ e. Goes-plain ready_of ends_of weight_of (weight_at 7 T) (before_ends T) Ok (text_passed T) (passed-attempts T alone) tt (omega arith) (at-end T e))
       (λ v e. tries v e)
 
-pub before_html-law : (T : Tokenizer) → T.attempts ≡ [] → BeforeDataReady T → GoesOn ready_of ends_of weight_of (weight_at 6 T) (before_ends T) (before_html_step T)
+html-ready : (T : Tokenizer) → IsMarked T → H.StartReady T
+html-ready T r = record { spaces = record { resting = r.look.resting; short = r.look.short }; rest = sym (html-rest T r) }
+  where
+    html-rest : (T : Tokenizer) → IsMarked T → T.tokenize_state ≡ H.rested T.tokenize_state
+    html-rest T r = r.spans.rest ∙ ap H.rested (sym r.spans.rest)
+
+pub before_html-law : (T : Tokenizer) → T.attempts ≡ [] → BeforeHtmlReady T → GoesOn ready_of ends_of weight_of (weight_at 6 T) (before_ends T) (before_html_step T)
 before_html-law T alone r =
-    off-law 6 T HtmlTextStart TextBeforeData alone r.before.marked tt (omega arith) (λ ok U g. g) (record { goes_on = r; falls = omega arith; closed = λ ok V h. h })
+    try-law 6 T HtmlTextStart TextBeforeData (H.html_here T) alone (html-ready T r.before.marked) (omega arith) r.before.marked (λ ok U g. g) (λ t rest g. html-node (is_on T).html_text (ahead T) t rest g) (html-reads T r.angle r.no_autolink)
+    (λ none. to-data 6 T 60 (omega arith) r.before r.angle (html-alone T r.angle r.no_autolink none))
 
 pub before_label_start_link-law : (T : Tokenizer) → T.attempts ≡ [] → BeforeDataReady T → GoesOn ready_of ends_of weight_of (weight_at 6 T) (before_ends T) (before_label_start_link_step T)
 before_label_start_link-law T alone r =
@@ -278,13 +288,17 @@ before_data-law T alone r =
     (λ g earlier previous c cs h. other-data T earlier previous c cs h)))
     (λ U a k. absurd (data-holds T.tokenize_state.markers (ahead T) k.refused))
 
-marked-start : (T : Tokenizer) → X.StartReady T → IsMarked (text_marked T)
+spans-marked : (T : Tokenizer) → X.StartReady T → X.StartReady (text_marked T)
 unfolding scratched
-marked-start T r = record { markers = refl; spans = record { rest = ap {A = TokenizeState} (λ s. record s { markers = text_markers }) r.rest; fits = r.fits } }
+spans-marked T r = record { rest = ap {A = TokenizeState} (λ s. record s { markers = text_markers }) r.rest; fits = r.fits }
 
 look-marked : (T : Tokenizer) → C.MayLook T → C.MayLook (text_marked T)
 unfolding scratched
 look-marked T r = record { resting = ap {A = TokenizeState} (λ s. record s { markers = text_markers }) r.resting; short = r.short }
+
+marked-start : (T : Tokenizer) → StartReady T → IsMarked (text_marked T)
+unfolding scratched
+marked-start T r = record { markers = refl; spans = spans-marked T r.spans; look = look-marked T r.look }
 
 check-elements : (T : Tokenizer) (o : Option ℕ) → current_of T ≡ o → ReadsElements (C.check_here T) T
 check-elements T None e = no-check-at-end T e
@@ -294,8 +308,8 @@ pub start-law : (T : Tokenizer) → T.attempts ≡ [] → StartReady T → GoesO
 start-law T alone r =
     let M : Tokenizer = text_marked T in
     let s : TokenizeState = record T.tokenize_state { markers = text_markers } in
-    let marked : IsMarked M = marked-start T r.spans in
+    let marked : IsMarked M = marked-start T r in
     subst (λ n. GoesOn ready_of ends_of weight_of n (before_ends M) (start_step T)) (weight-marked T)
-    (try-law 8 M GfmTaskListItemCheckStart TextBefore (C.check_here M) (attempts-scratched s T ∙ alone) (look-marked T r.look) (omega arith) marked (λ ok U g. g)
+    (try-law 8 M GfmTaskListItemCheckStart TextBefore (C.check_here M) (attempts-scratched s T ∙ alone) marked.look (omega arith) marked (λ ok U g. g)
     (λ t rest g. check-node (C.may_begin M) (ahead M) t rest g) (check-elements M (current_of M) refl)
     (λ none. record { goes_on = record { marked = marked; unchecked = none }; falls = omega arith; closed = λ ok V h. h }))

@@ -12,6 +12,7 @@ use Rattle.markdown_engine.specs.Tree.{Forest}
 use Rattle.markdown_engine.specs.declared.tokenizer.Tokenizer.{Tokenizer}
 use Rattle.markdown_engine.proofs.OpRules.{Begins, ahead-some, current-ahead, ahead-none}
 use Rattle.markdown_gfm.specs.GfmTaskListItemCheck.{check_here, may_begin}
+use Rattle.markdown_html.specs.HtmlText.{html_here}
 use Rattle.markdown_leaf.specs.Autolink.{link_here}
 use Rattle.markdown_leaf.specs.CharacterEscape.{escape_here}
 use Rattle.markdown_leaf.specs.CharacterReference.{reference_here}
@@ -26,7 +27,7 @@ use Rattle.markdown_inline.specs.Built.{IsBuilt, as_built}
 use Rattle.markdown_inline.specs.Elements.{IsNode, StandsAfter}
 use Rattle.markdown_inline.specs.Settings.{text_setting_of}
 use Rattle.markdown_inline.specs.TextSteps.{text_markers, text_setting, text_choice_of, StandsAlone}
-use Rattle.markdown_inline.specs.Laws.TextElements.{off_markers, plain_of, plain-switched, off-or-none, check-element, span-element, reference-element, autolink-element, escape-element, break-element, off-element, other-element}
+use Rattle.markdown_inline.specs.Laws.TextElements.{off_markers, plain_of, plain-switched, off-or-none, check-element, span-element, reference-element, autolink-element, html-element, escape-element, break-element, off-element, other-element}
 use Rattle.markdown_model.proofs.ReadingSteps.{bind-none}
 
 -- what a construct reads is a tree that stands by itself
@@ -49,7 +50,6 @@ built-off s = record {
   no_literals = refl;
   no_footnotes = refl;
   no_strikethrough = refl;
-  no_html = refl;
   no_label_end = refl;
   no_image = refl;
   no_link = refl;
@@ -94,11 +94,21 @@ reference-alone T e =
 
 pub autolink-reads : (T : Tokenizer) → current_of T ≡ Some 60 → ReadsElements (link_here T) T
 autolink-reads T e =
-    at-hand (link_here T) T 60 e (λ c cs t rest v holds earlier previous stands. autolink-element (text_setting T) (now-built T) (end_in T) earlier previous c cs (Some (t, rest)) v holds)
+    at-hand (link_here T) T 60 e (λ c cs t rest v holds earlier previous stands. autolink-element (text_setting T) (now-built T) (end_in T) earlier previous c cs t rest v holds)
 
-pub autolink-alone : (T : Tokenizer) → current_of T ≡ Some 60 → OrStandsAlone (link_here T) T
-autolink-alone T e =
-    alone-at (link_here T) T 60 e (λ c cs v none earlier previous stands. autolink-element (text_setting T) (now-built T) (end_in T) earlier previous c cs None v none)
+-- HTML where no autolink is
+no-link-at : (T : Tokenizer) (c : Code) (cs : List Code) → link_here T (ahead T) ≡ None → ahead T ≡ c ∷ cs → link_here T (c ∷ cs) ≡ None
+no-link-at T c cs none w = ap (link_here T) (sym w) ∙ none
+
+pub html-reads : (T : Tokenizer) → current_of T ≡ Some 60 → link_here T (ahead T) ≡ None → ReadsElements (html_here T) T
+html-reads T e none t rest holds earlier previous stands =
+    let b : Begins 60 (ahead T) = ahead-some T 60 e in
+    ap (text_choice_of T earlier previous) b.whole
+    ∙ html-element (text_setting T) (now-built T) (end_in T) earlier previous b.code (rest_of (ahead T)) (Some (t, rest)) b.value (no-link-at T b.code (rest_of (ahead T)) none b.whole) (ap (html_here T) (sym b.whole) ∙ holds)
+
+pub html-alone : (T : Tokenizer) → current_of T ≡ Some 60 → link_here T (ahead T) ≡ None → OrStandsAlone (html_here T) T
+html-alone T e none refused earlier previous c cs stands w =
+    html-element (text_setting T) (now-built T) (end_in T) earlier previous c cs None (value-here T 60 c cs e w) (no-link-at T c cs none w) (ap (html_here T) (sym w) ∙ refused)
 
 pub escape-reads : (T : Tokenizer) → current_of T ≡ Some 92 → ReadsElements (escape_here T) T
 escape-reads T e =

@@ -14,7 +14,6 @@ fn built(math_text: bool, math_text_single_dollar: bool) -> ParseOptions {
         gfm_label_start_footnote: false,
         gfm_strikethrough: false,
         gfm_task_list_item: false,
-        html_text: false,
         label_end: false,
         label_start_image: false,
         label_start_link: false,
@@ -128,6 +127,34 @@ fn reads_hard_breaks_by_spaces(rt: HostRuntime) -> Result<(), Fail> {
             "Data 0-1, SpaceOrTab 1-4, LineEnding 4-5, Data 5-6",
         ),
         ("a  ", "Data 0-1, SpaceOrTab 1-3"),
+    ];
+    expect(&rt, rt.alloc(), &built(false, true), &cases)?;
+    Ok(())
+}
+
+#[test]
+fn reads_html(rt: HostRuntime) -> Result<(), Fail> {
+    let cases = [
+        ("<b>", "HtmlText 0-3 [HtmlTextData 0-3]"),
+        ("</b >", "HtmlText 0-5 [HtmlTextData 0-5]"),
+        ("<?a?>", "HtmlText 0-5 [HtmlTextData 0-5]"),
+        ("<??>", "HtmlText 0-4 [HtmlTextData 0-4]"),
+        ("<!a>", "HtmlText 0-4 [HtmlTextData 0-4]"),
+        ("<![CDATA[]]>", "HtmlText 0-12 [HtmlTextData 0-12]"),
+        ("<!--->", "HtmlText 0-6 [HtmlTextData 0-6]"),
+        ("<?>", "Data 0-3"),
+        ("<a b=/c>", "HtmlText 0-8 [HtmlTextData 0-8]"),
+        ("<a b=c/>", "HtmlText 0-8 [HtmlTextData 0-8]"),
+        ("<a b=c/d>", "Data 0-9"),
+        ("<a b=\"c\"d>", "Data 0-10"),
+        (
+            "<!--a\nb-->",
+            "HtmlText 0-10 [HtmlTextData 0-5, LineEnding 5-6, HtmlTextData 6-10]",
+        ),
+        (
+            "<![CDA `a`",
+            "Data 0-7, CodeText 7-10 [CodeTextSequence 7-8, CodeTextData 8-9, CodeTextSequence 9-10]",
+        ),
     ];
     expect(&rt, rt.alloc(), &built(false, true), &cases)?;
     Ok(())

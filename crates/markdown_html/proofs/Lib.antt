@@ -1,0 +1,11 @@
+pub mod LineLemmas
+pub mod BreakLemmas
+pub mod CodeReadings
+pub mod KindReadings
+pub mod TagReadings
+pub mod HtmlTextReady
+pub mod LineEndingLaws
+pub mod PartLaws
+pub mod HtmlTextLaws
+pub mod HtmlTextWhole
+pub mod StartLaw

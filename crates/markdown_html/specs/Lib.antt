@@ -1,0 +1,4 @@
+pub mod Values
+pub mod LineOps
+pub mod Rests
+pub mod HtmlText
