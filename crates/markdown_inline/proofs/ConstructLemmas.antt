@@ -5,7 +5,7 @@ use Rattle.markdown_engine.specs.Past.{TreeReading, Refuses}
 use Rattle.markdown_engine.specs.Runs.{restored}
 use Rattle.markdown_engine.specs.declared.state.State.TheVariants as State
 use Rattle.markdown_engine.specs.declared.state.StateName.{StateName}
-use Rattle.markdown_engine.specs.declared.state.StateName.TheVariants.{AutolinkStart, CharacterEscapeStart, CharacterReferenceStart, DataStart, GfmTaskListItemCheckStart, HardBreakEscapeStart, HtmlTextStart, RawTextStart, SpaceOrTabStart, SpaceOrTabEolStart}
+use Rattle.markdown_engine.specs.declared.state.StateName.TheVariants.{AutolinkStart, CharacterEscapeStart, CharacterReferenceStart, DataStart, DestinationStart, LabelStart, TitleStart, GfmTaskListItemCheckStart, HardBreakEscapeStart, HtmlTextStart, RawTextStart, SpaceOrTabStart, SpaceOrTabEolStart}
 use Rattle.markdown_engine.specs.declared.tokenizer.TokenizeState.{TokenizeState}
 use Rattle.markdown_engine.specs.declared.tokenizer.Tokenizer.{Tokenizer}
 use Rattle.markdown_engine.proofs.Laws.{restored-fails}
@@ -29,6 +29,9 @@ refused-stays CharacterEscapeStart T U V c k e = refuses-stays _ None T.tokenize
 refused-stays CharacterReferenceStart T U V c k e = refuses-stays _ None T.tokenize_state T U V k e
 refused-stays HardBreakEscapeStart T U V c k e = refuses-stays _ None T.tokenize_state T U V k e
 refused-stays AutolinkStart T U V c k e = refuses-stays _ None T.tokenize_state T U V k e
+refused-stays DestinationStart T U V c k e = refuses-stays _ None T.tokenize_state T U V k e
+refused-stays TitleStart T U V c k e = refuses-stays _ None T.tokenize_state T U V k e
+refused-stays LabelStart T U V c k e = refuses-stays _ None T.tokenize_state T U V k e
 refused-stays HtmlTextStart T U V c k e = refuses-stays _ None T.tokenize_state T U V k e
 refused-stays RawTextStart T U V c k e = refuses-stays _ None T.tokenize_state T U V k e
 refused-stays DataStart T U V c k e = refuses-stays _ None T.tokenize_state T U V k e

@@ -3,7 +3,7 @@ use Rattle.std.specs.Prelude.{◌≡◌, ℕ, Bool, true, false, Option, None}
 use Rattle.markdown_engine.specs.Ops.{ahead, scratched}
 use Rattle.markdown_engine.specs.Past.{TreeReading, Reads, link_before}
 use Rattle.markdown_engine.specs.declared.state.StateName.{StateName}
-use Rattle.markdown_engine.specs.declared.state.StateName.TheVariants.{AutolinkStart, CharacterEscapeStart, CharacterReferenceStart, DataStart, GfmTaskListItemCheckStart, HardBreakEscapeStart, HtmlTextStart, RawTextStart, SpaceOrTabStart, SpaceOrTabEolStart}
+use Rattle.markdown_engine.specs.declared.state.StateName.TheVariants.{AutolinkStart, CharacterEscapeStart, CharacterReferenceStart, DataStart, DestinationStart, LabelStart, TitleStart, GfmTaskListItemCheckStart, HardBreakEscapeStart, HtmlTextStart, RawTextStart, SpaceOrTabStart, SpaceOrTabEolStart}
 use Rattle.markdown_engine.specs.declared.tokenizer.TokenizeState.{TokenizeState}
 use Rattle.markdown_engine.specs.declared.tokenizer.Tokenizer.{Tokenizer}
 use Rattle.markdown_gfm.specs.GfmTaskListItemCheck as C
@@ -14,8 +14,13 @@ use Rattle.markdown_model.specs.Grammar.{◌>>◌, provided}
 use Rattle.markdown_model.specs.Leaf.{escape, reference, hard_break_escape, autolink}
 use Rattle.markdown_model.specs.Lines.{data_up_to}
 use Rattle.markdown_model.specs.Whitespace.{space_or_tab, spacing}
+use Rattle.markdown_model.specs.Resource.{destination, title, label}
 use Rattle.markdown_partial.specs.EolSteps as L
 use Rattle.markdown_partial.specs.SpaceSteps as W
+use Rattle.markdown_string.specs.Destination as SD
+use Rattle.markdown_string.specs.Title as ST
+use Rattle.markdown_string.specs.Label as SL
+use Rattle.markdown_string.specs.Text as SX
 use Rattle.markdown_util.specs.Reference.{html_5_rows}
 
 -- The states that start a construct, each with what it asks for: the scratch fields that it counts in are at rest. A span, and whitespace
@@ -27,6 +32,9 @@ IsConstruct CharacterEscapeStart T = Unit {0}
 IsConstruct CharacterReferenceStart T = R.IsAtRest T
 IsConstruct HardBreakEscapeStart T = Unit {0}
 IsConstruct AutolinkStart T = T.tokenize_state.size ≡ 0
+IsConstruct DestinationStart T = SD.StartReady T
+IsConstruct TitleStart T = ST.StartReady T
+IsConstruct LabelStart T = SL.StartReady T
 IsConstruct HtmlTextStart T = H.StartReady T
 IsConstruct RawTextStart T = X.StartReady T
 IsConstruct DataStart T = Unit {0}
@@ -42,6 +50,9 @@ construct_reading CharacterEscapeStart T = provided T.parse_state.now.options.no
 construct_reading CharacterReferenceStart T = provided T.parse_state.now.options.now.constructs.character_reference >> reference html_5_rows
 construct_reading HardBreakEscapeStart T = provided T.parse_state.now.options.now.constructs.hard_break_escape >> hard_break_escape
 construct_reading AutolinkStart T = provided T.parse_state.now.options.now.constructs.autolink >> autolink
+construct_reading DestinationStart T = destination T.tokenize_state.size_b (SD.names_in T.tokenize_state)
+construct_reading TitleStart T = title (SX.names_in T.tokenize_state)
+construct_reading LabelStart T = label (SX.names_in T.tokenize_state)
 construct_reading HtmlTextStart T = H.html_here T
 construct_reading RawTextStart T = X.span_at T
 construct_reading DataStart T = data_up_to T.tokenize_state.markers

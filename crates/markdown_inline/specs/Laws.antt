@@ -12,7 +12,7 @@ use Rattle.std.proofs.Common.{◌≡◌, Bool, [], refl}
 use Rattle.markdown_engine.specs.Runs.{Lawful}
 use Rattle.markdown_engine.specs.Weights.{weight_at}
 use Rattle.markdown_engine.specs.declared.tokenizer.Tokenizer.{Tokenizer}
-use Rattle.markdown_engine.specs.declared.state.StateName.TheVariants.{CharacterEscapeStart, CharacterEscapeInside, CharacterReferenceStart, CharacterReferenceOpen, CharacterReferenceNumeric, CharacterReferenceValue, HardBreakEscapeStart, HardBreakEscapeAfter, AutolinkStart, AutolinkOpen, AutolinkSchemeOrEmailAtext, AutolinkSchemeInsideOrEmailAtext, AutolinkUrlInside, AutolinkEmailAtext, AutolinkEmailAtSignOrDot, AutolinkEmailLabel, AutolinkEmailValue, RawTextStart, RawTextSequenceOpen, RawTextBetween, RawTextData, RawTextSequenceClose, SpaceOrTabStart, SpaceOrTabInside, SpaceOrTabAfter, SpaceOrTabEolStart, SpaceOrTabEolAfterFirst, SpaceOrTabEolAtEol, SpaceOrTabEolAfterEol, SpaceOrTabEolAfterMore, DataStart, DataAtBreak, DataInside, StringStart, StringBefore, StringBeforeData, TextStart, TextBefore, TextBeforeHtml, TextBeforeHardBreakEscape, TextBeforeLabelStartLink, TextBeforeData, AttentionStart, GfmAutolinkLiteralProtocolStart, GfmAutolinkLiteralWwwStart, GfmLabelStartFootnoteStart, GfmTaskListItemCheckStart, GfmTaskListItemCheckInside, GfmTaskListItemCheckClose, GfmTaskListItemCheckAfter, GfmTaskListItemCheckAfterSpaceOrTab, HtmlTextStart, HtmlTextOpen, HtmlTextDeclarationOpen, HtmlTextCommentOpenInside, HtmlTextComment, HtmlTextCommentClose, HtmlTextCommentEnd, HtmlTextCdata, HtmlTextCdataClose, HtmlTextCdataEnd, HtmlTextDeclaration, HtmlTextInstruction, HtmlTextInstructionClose, HtmlTextTagCloseStart, HtmlTextTagClose, HtmlTextTagCloseBetween, HtmlTextTagOpen, HtmlTextTagOpenBetween, HtmlTextTagOpenAttributeName, HtmlTextTagOpenAttributeNameAfter, HtmlTextTagOpenAttributeValueBefore, HtmlTextTagOpenAttributeValueQuotedAfter, HtmlTextTagOpenAttributeValueUnquoted, HtmlTextEnd, HtmlTextCdataOpenInside, HtmlTextTagOpenAttributeValueQuoted, HtmlTextLineEndingBefore, HtmlTextLineEndingAfter, HtmlTextLineEndingAfterPrefix, LabelEndStart, LabelStartImageStart, LabelStartLinkStart}
+use Rattle.markdown_engine.specs.declared.state.StateName.TheVariants.{CharacterEscapeStart, CharacterEscapeInside, CharacterReferenceStart, CharacterReferenceOpen, CharacterReferenceNumeric, CharacterReferenceValue, HardBreakEscapeStart, HardBreakEscapeAfter, AutolinkStart, AutolinkOpen, AutolinkSchemeOrEmailAtext, AutolinkSchemeInsideOrEmailAtext, AutolinkUrlInside, AutolinkEmailAtext, AutolinkEmailAtSignOrDot, AutolinkEmailLabel, AutolinkEmailValue, RawTextStart, RawTextSequenceOpen, RawTextBetween, RawTextData, RawTextSequenceClose, SpaceOrTabStart, SpaceOrTabInside, SpaceOrTabAfter, SpaceOrTabEolStart, SpaceOrTabEolAfterFirst, SpaceOrTabEolAtEol, SpaceOrTabEolAfterEol, SpaceOrTabEolAfterMore, DataStart, DataAtBreak, DataInside, StringStart, StringBefore, StringBeforeData, DestinationStart, DestinationEnclosedBefore, DestinationEnclosed, DestinationEnclosedEscape, DestinationRaw, DestinationRawEscape, TitleStart, TitleBegin, TitleAtBreak, TitleAfterEol, TitleInside, TitleEscape, TitleNok, LabelStart, LabelAtBreak, LabelEolAfter, LabelInside, LabelEscape, LabelNok, TextStart, TextBefore, TextBeforeHtml, TextBeforeHardBreakEscape, TextBeforeLabelStartLink, TextBeforeData, AttentionStart, GfmAutolinkLiteralProtocolStart, GfmAutolinkLiteralWwwStart, GfmLabelStartFootnoteStart, GfmTaskListItemCheckStart, GfmTaskListItemCheckInside, GfmTaskListItemCheckClose, GfmTaskListItemCheckAfter, GfmTaskListItemCheckAfterSpaceOrTab, HtmlTextStart, HtmlTextOpen, HtmlTextDeclarationOpen, HtmlTextCommentOpenInside, HtmlTextComment, HtmlTextCommentClose, HtmlTextCommentEnd, HtmlTextCdata, HtmlTextCdataClose, HtmlTextCdataEnd, HtmlTextDeclaration, HtmlTextInstruction, HtmlTextInstructionClose, HtmlTextTagCloseStart, HtmlTextTagClose, HtmlTextTagCloseBetween, HtmlTextTagOpen, HtmlTextTagOpenBetween, HtmlTextTagOpenAttributeName, HtmlTextTagOpenAttributeNameAfter, HtmlTextTagOpenAttributeValueBefore, HtmlTextTagOpenAttributeValueQuotedAfter, HtmlTextTagOpenAttributeValueUnquoted, HtmlTextEnd, HtmlTextCdataOpenInside, HtmlTextTagOpenAttributeValueQuoted, HtmlTextLineEndingBefore, HtmlTextLineEndingAfter, HtmlTextLineEndingAfterPrefix, LabelEndStart, LabelStartImageStart, LabelStartLinkStart}
 use Rattle.markdown_gfm.proofs.GfmTaskListItemCheckLaws as C
 use Rattle.markdown_html.proofs.HtmlTextLaws as H
 use Rattle.markdown_html.proofs.LineEndingLaws as HL
@@ -21,6 +21,10 @@ use Rattle.markdown_html.specs.HtmlText as HT
 use Rattle.markdown_html.specs.Rests as Q
 use Rattle.markdown_html.specs.Rests.{Part, state_of, Open, DeclarationOpen, CommentOpenInside, Comment, CommentClose, CommentEnd, Cdata, CdataClose, CdataEnd, Declaration, Instruction, InstructionClose, TagCloseStart, TagClose, TagCloseBetween, TagOpen, TagOpenBetween, AttributeName, AttributeNameAfter, ValueBefore, ValueQuotedAfter, ValueUnquoted, End}
 use Rattle.markdown_leaf.proofs.AutolinkLaws as A
+use Rattle.markdown_string.proofs.DestinationLaws as SD
+use Rattle.markdown_string.proofs.TitleLaws as ST
+use Rattle.markdown_string.proofs.LabelLaws as SL
+use Rattle.markdown_string.proofs.TextEnding as SE
 use Rattle.markdown_leaf.proofs.CharacterEscapeLaws as E
 use Rattle.markdown_leaf.proofs.CharacterReferenceLaws as R
 use Rattle.markdown_leaf.proofs.HardBreakEscapeLaws as B
@@ -248,6 +252,71 @@ html-within = record {
   space_weight = λ T. refl;
 }
 
+eol-text-within : SE.EolWithin ready_of ends_of weight_of
+eol-text-within = record { eol_ready = λ T h. h; eol_end = λ T ok U h. h; eol_weight = λ T. refl }
+
+destination-within : SD.Within ready_of ends_of weight_of
+destination-within = record {
+  before_ready = λ T h. h;
+  before_end = λ T ok U h. h;
+  before_weight = λ T. refl;
+  enclosed_ready = λ T h. h;
+  enclosed_end = λ T ok U h. h;
+  enclosed_weight = λ T. refl;
+  enclosed_escape_ready = λ T h. h;
+  enclosed_escape_end = λ T ok U h. h;
+  enclosed_escape_weight = λ T. refl;
+  raw_ready = λ T h. h;
+  raw_end = λ T ok U h. h;
+  raw_weight = λ T. refl;
+  raw_escape_ready = λ T h. h;
+  raw_escape_end = λ T ok U h. h;
+  raw_escape_weight = λ T. refl;
+}
+
+title-within : ST.Within ready_of ends_of weight_of
+title-within = record {
+  eol = eol-text-within;
+  begin_ready = λ T h. h;
+  begin_end = λ T ok U h. h;
+  begin_weight = λ T. refl;
+  at_break_ready = λ T h. h;
+  at_break_end = λ T ok U h. h;
+  at_break_weight = λ T. refl;
+  after_eol_ready = λ T h. h;
+  after_eol_end = λ T ok U h. h;
+  after_eol_weight = λ T. refl;
+  nok_ready = λ T. tt;
+  nok_end = λ T ok U h. h;
+  nok_weight = λ T. refl;
+  inside_ready = λ T h. h;
+  inside_end = λ T ok U h. h;
+  inside_weight = λ T. refl;
+  escape_ready = λ T h. h;
+  escape_end = λ T ok U h. h;
+  escape_weight = λ T. refl;
+}
+
+label-within : SL.Within ready_of ends_of weight_of
+label-within = record {
+  eol = eol-text-within;
+  at_break_ready = λ T h. h;
+  at_break_end = λ T ok U h. h;
+  at_break_weight = λ T. refl;
+  eol_after_ready = λ T h. h;
+  eol_after_end = λ T ok U h. h;
+  eol_after_weight = λ T. refl;
+  nok_ready = λ T. tt;
+  nok_end = λ T ok U h. h;
+  nok_weight = λ T. refl;
+  inside_ready = λ T h. h;
+  inside_end = λ T ok U h. h;
+  inside_weight = λ T. refl;
+  escape_ready = λ T h. h;
+  escape_end = λ T ok U h. h;
+  escape_weight = λ T. refl;
+}
+
 data-within : D.Within ready_of ends_of weight_of
 data-within = record { at_break_ready = λ T. tt; at_break_end = λ T ok U h. h; at_break_weight = λ T. refl; inside_ready = λ T h. h; inside_end = λ T ok U h. h; inside_weight = λ T. refl }
 
@@ -341,6 +410,25 @@ laws_of HtmlTextTagOpenAttributeValueQuoted T alone r = H.tag_open_attribute_val
 laws_of HtmlTextLineEndingBefore T alone r = HL.before-law ready_of ends_of weight_of html-within T alone r
 laws_of HtmlTextLineEndingAfter T alone r = HL.after-law ready_of ends_of weight_of html-within T alone r
 laws_of HtmlTextLineEndingAfterPrefix T alone r = HL.prefix-law ready_of ends_of weight_of html-within T alone r
+laws_of DestinationStart T alone r = SD.start-law ready_of ends_of weight_of destination-within T alone r
+laws_of DestinationEnclosedBefore T alone r = SD.enclosed_before-law ready_of ends_of weight_of destination-within T alone r
+laws_of DestinationEnclosed T alone r = SD.enclosed-law ready_of ends_of weight_of destination-within T alone r
+laws_of DestinationEnclosedEscape T alone r = SD.enclosed_escape-law ready_of ends_of weight_of destination-within T alone r
+laws_of DestinationRaw T alone r = SD.raw-law ready_of ends_of weight_of destination-within T alone r
+laws_of DestinationRawEscape T alone r = SD.raw_escape-law ready_of ends_of weight_of destination-within T alone r
+laws_of TitleStart T alone r = ST.start-law ready_of ends_of weight_of title-within T alone r
+laws_of TitleBegin T alone r = ST.begin-law ready_of ends_of weight_of title-within T alone r
+laws_of TitleAtBreak T alone r = ST.at_break-law ready_of ends_of weight_of title-within T alone r
+laws_of TitleAfterEol T alone r = ST.after_eol-law ready_of ends_of weight_of title-within T alone r
+laws_of TitleInside T alone r = ST.inside-law ready_of ends_of weight_of title-within T alone r
+laws_of TitleEscape T alone r = ST.escape-law ready_of ends_of weight_of title-within T alone r
+laws_of TitleNok T alone r = ST.nok-law ready_of ends_of weight_of title-within T alone
+laws_of LabelStart T alone r = SL.start-law ready_of ends_of weight_of label-within T alone r
+laws_of LabelAtBreak T alone r = SL.at_break-law ready_of ends_of weight_of label-within T alone r
+laws_of LabelEolAfter T alone r = SL.eol_after-law ready_of ends_of weight_of label-within T alone r
+laws_of LabelInside T alone r = SL.inside-law ready_of ends_of weight_of label-within T alone r
+laws_of LabelEscape T alone r = SL.escape-law ready_of ends_of weight_of label-within T alone r
+laws_of LabelNok T alone r = SL.nok-law ready_of ends_of weight_of label-within T alone
 laws_of TextStart T alone r = M.start-law T alone r
 laws_of TextBefore T alone r = M.before-law T alone r
 laws_of TextBeforeHtml T alone r = M.before_html-law T alone r

@@ -6,12 +6,15 @@ use Rattle.markdown_engine.specs.Weights.{weight_at}
 use Rattle.markdown_engine.specs.declared.event.Name.TheVariants as N
 use Rattle.markdown_engine.specs.declared.state.State.TheVariants.{Nok}
 use Rattle.markdown_engine.specs.declared.state.StateName.{StateName}
-use Rattle.markdown_engine.specs.declared.state.StateName.TheVariants.{CharacterEscapeStart, CharacterEscapeInside, CharacterReferenceStart, CharacterReferenceOpen, CharacterReferenceNumeric, CharacterReferenceValue, HardBreakEscapeStart, HardBreakEscapeAfter, AutolinkStart, AutolinkOpen, AutolinkSchemeOrEmailAtext, AutolinkSchemeInsideOrEmailAtext, AutolinkUrlInside, AutolinkEmailAtext, AutolinkEmailAtSignOrDot, AutolinkEmailLabel, AutolinkEmailValue, RawTextStart, RawTextSequenceOpen, RawTextBetween, RawTextData, RawTextSequenceClose, SpaceOrTabStart, SpaceOrTabInside, SpaceOrTabAfter, SpaceOrTabEolStart, SpaceOrTabEolAfterFirst, SpaceOrTabEolAtEol, SpaceOrTabEolAfterEol, SpaceOrTabEolAfterMore, DataStart, DataAtBreak, DataInside, StringStart, StringBefore, StringBeforeData, TextStart, TextBefore, TextBeforeHtml, TextBeforeHardBreakEscape, TextBeforeLabelStartLink, TextBeforeData, AttentionStart, GfmAutolinkLiteralProtocolStart, GfmAutolinkLiteralWwwStart, GfmLabelStartFootnoteStart, GfmTaskListItemCheckStart, GfmTaskListItemCheckInside, GfmTaskListItemCheckClose, GfmTaskListItemCheckAfter, GfmTaskListItemCheckAfterSpaceOrTab, HtmlTextStart, HtmlTextOpen, HtmlTextDeclarationOpen, HtmlTextCommentOpenInside, HtmlTextComment, HtmlTextCommentClose, HtmlTextCommentEnd, HtmlTextCdata, HtmlTextCdataClose, HtmlTextCdataEnd, HtmlTextDeclaration, HtmlTextInstruction, HtmlTextInstructionClose, HtmlTextTagCloseStart, HtmlTextTagClose, HtmlTextTagCloseBetween, HtmlTextTagOpen, HtmlTextTagOpenBetween, HtmlTextTagOpenAttributeName, HtmlTextTagOpenAttributeNameAfter, HtmlTextTagOpenAttributeValueBefore, HtmlTextTagOpenAttributeValueQuotedAfter, HtmlTextTagOpenAttributeValueUnquoted, HtmlTextEnd, HtmlTextCdataOpenInside, HtmlTextTagOpenAttributeValueQuoted, HtmlTextLineEndingBefore, HtmlTextLineEndingAfter, HtmlTextLineEndingAfterPrefix, LabelEndStart, LabelStartImageStart, LabelStartLinkStart}
+use Rattle.markdown_engine.specs.declared.state.StateName.TheVariants.{CharacterEscapeStart, CharacterEscapeInside, CharacterReferenceStart, CharacterReferenceOpen, CharacterReferenceNumeric, CharacterReferenceValue, HardBreakEscapeStart, HardBreakEscapeAfter, AutolinkStart, AutolinkOpen, AutolinkSchemeOrEmailAtext, AutolinkSchemeInsideOrEmailAtext, AutolinkUrlInside, AutolinkEmailAtext, AutolinkEmailAtSignOrDot, AutolinkEmailLabel, AutolinkEmailValue, RawTextStart, RawTextSequenceOpen, RawTextBetween, RawTextData, RawTextSequenceClose, SpaceOrTabStart, SpaceOrTabInside, SpaceOrTabAfter, SpaceOrTabEolStart, SpaceOrTabEolAfterFirst, SpaceOrTabEolAtEol, SpaceOrTabEolAfterEol, SpaceOrTabEolAfterMore, DataStart, DataAtBreak, DataInside, StringStart, StringBefore, StringBeforeData, DestinationStart, DestinationEnclosedBefore, DestinationEnclosed, DestinationEnclosedEscape, DestinationRaw, DestinationRawEscape, TitleStart, TitleBegin, TitleAtBreak, TitleAfterEol, TitleInside, TitleEscape, TitleNok, LabelStart, LabelAtBreak, LabelEolAfter, LabelInside, LabelEscape, LabelNok, TextStart, TextBefore, TextBeforeHtml, TextBeforeHardBreakEscape, TextBeforeLabelStartLink, TextBeforeData, AttentionStart, GfmAutolinkLiteralProtocolStart, GfmAutolinkLiteralWwwStart, GfmLabelStartFootnoteStart, GfmTaskListItemCheckStart, GfmTaskListItemCheckInside, GfmTaskListItemCheckClose, GfmTaskListItemCheckAfter, GfmTaskListItemCheckAfterSpaceOrTab, HtmlTextStart, HtmlTextOpen, HtmlTextDeclarationOpen, HtmlTextCommentOpenInside, HtmlTextComment, HtmlTextCommentClose, HtmlTextCommentEnd, HtmlTextCdata, HtmlTextCdataClose, HtmlTextCdataEnd, HtmlTextDeclaration, HtmlTextInstruction, HtmlTextInstructionClose, HtmlTextTagCloseStart, HtmlTextTagClose, HtmlTextTagCloseBetween, HtmlTextTagOpen, HtmlTextTagOpenBetween, HtmlTextTagOpenAttributeName, HtmlTextTagOpenAttributeNameAfter, HtmlTextTagOpenAttributeValueBefore, HtmlTextTagOpenAttributeValueQuotedAfter, HtmlTextTagOpenAttributeValueUnquoted, HtmlTextEnd, HtmlTextCdataOpenInside, HtmlTextTagOpenAttributeValueQuoted, HtmlTextLineEndingBefore, HtmlTextLineEndingAfter, HtmlTextLineEndingAfterPrefix, LabelEndStart, LabelStartImageStart, LabelStartLinkStart}
 use Rattle.markdown_engine.specs.declared.tokenizer.Tokenizer.{Tokenizer}
 use Rattle.markdown_gfm.specs.GfmTaskListItemCheck as C
 use Rattle.markdown_html.specs.HtmlText as H
 use Rattle.markdown_html.specs.Rests as Q
 use Rattle.markdown_leaf.specs.Autolink as A
+use Rattle.markdown_string.specs.Destination as SD
+use Rattle.markdown_string.specs.Title as ST
+use Rattle.markdown_string.specs.Label as SL
 use Rattle.markdown_leaf.specs.CharacterEscape as E
 use Rattle.markdown_leaf.specs.CharacterReference as R
 use Rattle.markdown_leaf.specs.HardBreakEscape as B
@@ -94,6 +97,25 @@ ready_of HtmlTextTagOpenAttributeValueQuoted T = H.QuotedReady T
 ready_of HtmlTextLineEndingBefore T = H.BeforeReady T
 ready_of HtmlTextLineEndingAfter T = H.AfterReady T
 ready_of HtmlTextLineEndingAfterPrefix T = H.AfterReady T
+ready_of DestinationStart T = SD.StartReady T
+ready_of DestinationEnclosedBefore T = SD.BeforeReady T
+ready_of DestinationEnclosed T = SD.EnclosedReady T
+ready_of DestinationEnclosedEscape T = SD.EnclosedReady T
+ready_of DestinationRaw T = SD.RawReady T
+ready_of DestinationRawEscape T = SD.RawReady T
+ready_of TitleStart T = ST.StartReady T
+ready_of TitleBegin T = ST.BeginReady T
+ready_of TitleAtBreak T = ST.BreakReady T
+ready_of TitleAfterEol T = ST.AfterEolReady T
+ready_of TitleInside T = ST.InsideReady T
+ready_of TitleEscape T = ST.InsideReady T
+ready_of TitleNok T = Unit {0}
+ready_of LabelStart T = SL.StartReady T
+ready_of LabelAtBreak T = SL.BreakReady T
+ready_of LabelEolAfter T = SL.EolAfterReady T
+ready_of LabelInside T = SL.InsideReady T
+ready_of LabelEscape T = SL.EscapeReady T
+ready_of LabelNok T = Unit {0}
 ready_of TextStart T = M.StartReady T
 ready_of TextBefore T = M.BeforeReady T
 ready_of TextBeforeHtml T = M.BeforeHtmlReady T
@@ -180,6 +202,25 @@ step_of HtmlTextTagOpenAttributeValueQuoted T = H.tag_open_attribute_value_quote
 step_of HtmlTextLineEndingBefore T = H.line_ending_before_step T
 step_of HtmlTextLineEndingAfter T = H.line_ending_after_step T
 step_of HtmlTextLineEndingAfterPrefix T = H.line_ending_after_prefix_step T
+step_of DestinationStart T = SD.start_step T
+step_of DestinationEnclosedBefore T = SD.enclosed_before_step T
+step_of DestinationEnclosed T = SD.enclosed_step T
+step_of DestinationEnclosedEscape T = SD.enclosed_escape_step T
+step_of DestinationRaw T = SD.raw_step T
+step_of DestinationRawEscape T = SD.raw_escape_step T
+step_of TitleStart T = ST.start_step T
+step_of TitleBegin T = ST.begin_step T
+step_of TitleAtBreak T = ST.at_break_step T
+step_of TitleAfterEol T = ST.after_eol_step T
+step_of TitleInside T = ST.inside_step T
+step_of TitleEscape T = ST.escape_step T
+step_of TitleNok T = ST.nok_step T
+step_of LabelStart T = SL.start_step T
+step_of LabelAtBreak T = SL.at_break_step T
+step_of LabelEolAfter T = SL.eol_after_step T
+step_of LabelInside T = SL.inside_step T
+step_of LabelEscape T = SL.escape_step T
+step_of LabelNok T = SL.nok_step T
 step_of TextStart T = M.start_step T
 step_of TextBefore T = M.before_step T
 step_of TextBeforeHtml T = M.before_html_step T
@@ -266,6 +307,25 @@ ends_of HtmlTextTagOpenAttributeValueQuoted T ok U = H.quoted_ends T ok U
 ends_of HtmlTextLineEndingBefore T ok U = H.line_ending_before_ends T ok U
 ends_of HtmlTextLineEndingAfter T ok U = H.line_ending_after_ends T ok U
 ends_of HtmlTextLineEndingAfterPrefix T ok U = H.line_ending_after_prefix_ends T ok U
+ends_of DestinationStart T ok U = SD.start_ends T ok U
+ends_of DestinationEnclosedBefore T ok U = SD.enclosed_before_ends T ok U
+ends_of DestinationEnclosed T ok U = SD.enclosed_ends T ok U
+ends_of DestinationEnclosedEscape T ok U = SD.enclosed_escape_ends T ok U
+ends_of DestinationRaw T ok U = SD.raw_ends T ok U
+ends_of DestinationRawEscape T ok U = SD.raw_escape_ends T ok U
+ends_of TitleStart T ok U = ST.start_ends T ok U
+ends_of TitleBegin T ok U = ST.begin_ends T ok U
+ends_of TitleAtBreak T ok U = ST.at_break_ends T ok U
+ends_of TitleAfterEol T ok U = ST.after_eol_ends T ok U
+ends_of TitleInside T ok U = ST.inside_ends T ok U
+ends_of TitleEscape T ok U = ST.escape_ends T ok U
+ends_of TitleNok T ok U = ST.nok_ends T ok U
+ends_of LabelStart T ok U = SL.start_ends T ok U
+ends_of LabelAtBreak T ok U = SL.at_break_ends T ok U
+ends_of LabelEolAfter T ok U = SL.eol_after_ends T ok U
+ends_of LabelInside T ok U = SL.inside_ends T ok U
+ends_of LabelEscape T ok U = SL.escape_ends T ok U
+ends_of LabelNok T ok U = SL.nok_ends T ok U
 ends_of TextStart T ok U = M.start_ends T ok U
 ends_of TextBefore T ok U = M.before_ends T ok U
 ends_of TextBeforeHtml T ok U = M.before_ends T ok U
@@ -353,6 +413,25 @@ rank_of HtmlTextTagOpenAttributeValueQuoted = 2
 rank_of HtmlTextLineEndingBefore = 1
 rank_of HtmlTextLineEndingAfter = 4
 rank_of HtmlTextLineEndingAfterPrefix = 1
+rank_of DestinationStart = 4
+rank_of DestinationEnclosedBefore = 3
+rank_of DestinationEnclosed = 1
+rank_of DestinationEnclosedEscape = 2
+rank_of DestinationRaw = 1
+rank_of DestinationRawEscape = 2
+rank_of TitleStart = 11
+rank_of TitleBegin = 10
+rank_of TitleAtBreak = 9
+rank_of TitleAfterEol = 10
+rank_of TitleInside = 10
+rank_of TitleEscape = 11
+rank_of TitleNok = 1
+rank_of LabelStart = 11
+rank_of LabelAtBreak = 9
+rank_of LabelEolAfter = 10
+rank_of LabelInside = 10
+rank_of LabelEscape = 11
+rank_of LabelNok = 1
 rank_of TextStart = 8
 rank_of TextBefore = 7
 rank_of TextBeforeHtml = 6

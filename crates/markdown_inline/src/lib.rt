@@ -17,4 +17,5 @@ pub use markdown_leaf::{
 pub use markdown_partial::{
     partial_data, partial_space_or_tab, partial_space_or_tab_eol, partial_whitespace,
 };
+pub use markdown_string::{partial_destination, partial_label, partial_title};
 pub use markdown_util::util;

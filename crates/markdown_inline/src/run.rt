@@ -111,18 +111,19 @@ fn put_back<'a>(
 }
 
 /// Reads one construct at the tokenizer's place, by the name of the state that starts it: `CharacterEscapeStart`, `CharacterReferenceStart`,
-/// `HardBreakEscapeStart`, `AutolinkStart`, `HtmlTextStart`, `RawTextStart` (a code span, or a math span), `GfmTaskListItemCheckStart`; `DataStart`, which takes
-/// the bytes at which it stops from the scratch field `markers`, and holds everywhere; `SpaceOrTabStart` or `SpaceOrTabEolStart`, after the
-/// setter that asks for it.
+/// `HardBreakEscapeStart`, `AutolinkStart`, `HtmlTextStart`, `RawTextStart` (a code span, or a math span), `GfmTaskListItemCheckStart`;
+/// `DestinationStart`, `TitleStart` and `LabelStart`, which take their names from the scratch fields `token_1` to `token_5`, and a destination
+/// the depth of its parentheses from `size_b`; `DataStart`, which takes the bytes at which it stops from the scratch field `markers`, and holds
+/// everywhere; `SpaceOrTabStart` or `SpaceOrTabEolStart`, after the setter that asks for it.
 ///
 /// Where the construct holds, its events are appended, and the tokenizer stands at its end; otherwise it is as before. The scratch fields are
 /// as before in either case, but that whitespace puts its own fields to rest. The error comes where a growth is refused; then `failed` is
 /// true. It comes at once where `failed` is true already.
 ///
-/// The scratch fields that a construct counts in are at rest before, as they are in a new tokenizer. `RawTextStart`, `SpaceOrTabEolStart` and
-/// `GfmTaskListItemCheckStart` ask that fewer codes are left than a `usize` counts, which holds over every content: it has at most four codes for each byte. Whitespace
-/// that is to be connected asks for a linked event just before, and with a line ending for a content too; and where whitespace with a line
-/// ending has a content, no blank code is at hand.
+/// The scratch fields that a construct counts in are at rest before, as they are in a new tokenizer. Where a construct counts codes, or reads
+/// whitespace, it asks that fewer are left than a `usize` counts, which holds over every content: it has at most four codes for each byte.
+/// Whitespace that is to be connected asks for a linked event just before, and with a line ending for a content too; and where whitespace with
+/// a line ending has a content, no blank code is at hand.
 pub fn construct(name: StateName, tokenizer: &mut Tokenizer) -> Result<bool, AllocError>
     requires construct { IsConstruct name tokenizer.old }
     requires alone { tokenizer.old.attempts ≡ [] }

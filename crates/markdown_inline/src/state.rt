@@ -14,6 +14,7 @@ use markdown_gfm::gfm_task_list_item_check;
 use markdown_html::html_text;
 use markdown_leaf::{autolink, character_escape, character_reference, hard_break_escape, raw_text};
 use markdown_partial::{partial_data, partial_space_or_tab, partial_space_or_tab_eol};
+use markdown_string::{partial_destination, partial_label, partial_title};
 use std::alloc::AllocError;
 
 // Calls the state of this name, one of those that are built.
@@ -97,6 +98,25 @@ fn dispatch(name: StateName, tokenizer: &mut Tokenizer) -> Result<State, AllocEr
         StateName::SpaceOrTabEolAtEol => partial_space_or_tab_eol::at_eol(tokenizer),
         StateName::SpaceOrTabEolAfterEol => partial_space_or_tab_eol::after_eol(tokenizer),
         StateName::SpaceOrTabEolAfterMore => partial_space_or_tab_eol::after_more(tokenizer),
+        StateName::DestinationStart => partial_destination::start(tokenizer),
+        StateName::DestinationEnclosedBefore => partial_destination::enclosed_before(tokenizer),
+        StateName::DestinationEnclosed => partial_destination::enclosed(tokenizer),
+        StateName::DestinationEnclosedEscape => partial_destination::enclosed_escape(tokenizer),
+        StateName::DestinationRaw => partial_destination::raw(tokenizer),
+        StateName::DestinationRawEscape => partial_destination::raw_escape(tokenizer),
+        StateName::TitleStart => partial_title::start(tokenizer),
+        StateName::TitleBegin => partial_title::begin(tokenizer),
+        StateName::TitleAtBreak => partial_title::at_break(tokenizer),
+        StateName::TitleAfterEol => partial_title::after_eol(tokenizer),
+        StateName::TitleInside => partial_title::inside(tokenizer),
+        StateName::TitleEscape => partial_title::escape(tokenizer),
+        StateName::TitleNok => partial_title::nok(tokenizer),
+        StateName::LabelStart => partial_label::start(tokenizer),
+        StateName::LabelAtBreak => partial_label::at_break(tokenizer),
+        StateName::LabelEolAfter => partial_label::eol_after(tokenizer),
+        StateName::LabelInside => partial_label::inside(tokenizer),
+        StateName::LabelEscape => partial_label::escape(tokenizer),
+        StateName::LabelNok => partial_label::nok(tokenizer),
         StateName::DataStart => partial_data::start(tokenizer),
         StateName::DataAtBreak => partial_data::at_break(tokenizer),
         StateName::DataInside => partial_data::inside(tokenizer),

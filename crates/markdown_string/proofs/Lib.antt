@@ -1,0 +1,12 @@
+pub mod LinkedLemmas
+pub mod EscapeReadings
+pub mod DestinationReadings
+pub mod DestinationLaws
+pub mod TextLines
+pub mod TextReadings
+pub mod TextEnding
+pub mod TextRuns
+pub mod TitleReadings
+pub mod TitleLaws
+pub mod LabelReadings
+pub mod LabelLaws

@@ -1,0 +1,107 @@
+-- What the states of a text have in common: their conditions over a step, and runs that fail.
+use Rattle.std.proofs.Common.{◌≡◌, ℕ, ◌+◌, ◌≤◌, ◌&&◌, not, Bool, true, false, if◌then◌else◌, Option, Some, None, List, [], ◌∷◌, ◌++◌, length, drop, refl, sym, ap, subst, ◌∙◌, arith}
+use Rattle.markdown_engine.specs.Chain.{has_link}
+use Rattle.markdown_engine.specs.Grown.{Grown}
+use Rattle.markdown_engine.specs.Lists.{rest_of}
+use Rattle.markdown_engine.specs.Ops.{Op, Consume, ahead, done, scratched, moves, stays, ends_linked}
+use Rattle.markdown_engine.specs.Weights.{codes_left}
+use Rattle.markdown_engine.specs.declared.event.Event.{Event}
+use Rattle.markdown_engine.specs.declared.event.Name.{Name}
+use Rattle.markdown_engine.specs.declared.state.State.{State}
+use Rattle.markdown_engine.specs.declared.tokenizer.TokenizeState.{TokenizeState}
+use Rattle.markdown_engine.specs.declared.tokenizer.Tokenizer.{Tokenizer}
+use Rattle.markdown_engine.proofs.Laws.{Grown-refl}
+use Rattle.markdown_engine.proofs.OpRules.{left-scratched}
+use Rattle.markdown_engine.proofs.OpsLemmas.{Grown-scratched, left-done}
+use Rattle.markdown_leaf.specs.Program.{Program, preceded, depth_after, DoesAs}
+use Rattle.markdown_partial.specs.EolSteps.{WhitespaceAtRest}
+use Rattle.markdown_string.specs.Text.{joined, enter_text, ends_open, TextReady}
+
+-- Links.
+
+pub open-append : (es : List Event) (e : Event) → has_link e.link ≡ true → ends_open (es ++ e ∷ []) ≡ true
+open-append [] e h = h
+open-append (x ∷ []) e h = h
+open-append (x ∷ y ∷ es) e h = open-append (y ∷ es) e h
+
+both-true : (a b : Bool) → a ≡ true → b ≡ false → a && not b ≡ true
+both-true true false e h = refl
+both-true true true e h = cc
+both-true false b e h = cc
+
+pub open-closed : (es : List Event) (x : Event) → ends_open es ≡ true → has_link x.link ≡ false → ends_linked (es ++ x ∷ []) ≡ true
+open-closed [] x h k = cc
+open-closed (e ∷ []) x h k = both-true (has_link e.link) (has_link x.link) h k
+open-closed (e ∷ y ∷ []) x h k = open-closed (y ∷ []) x h k
+open-closed (e ∷ y ∷ z ∷ es) x h k = open-closed (y ∷ z ∷ es) x h k
+
+-- Open events.
+
+drop-rest : (n : List Name) → drop 3 n ≡ drop 2 (rest_of n)
+drop-rest [] = refl
+drop-rest (x ∷ n) = refl
+
+-- without the innermost one
+pub open-rest : (a b c : Name) (ns : List Name) → ns ≡ a ∷ b ∷ c ∷ drop 3 ns → rest_of ns ≡ b ∷ c ∷ drop 2 (rest_of ns)
+open-rest a b c ns h = ap rest_of h ∙ ap (λ xs. b ∷ c ∷ xs) (drop-rest ns)
+
+-- The fields of whitespace, and the codes left.
+
+pub text-after : (os : List Op) (r : TokenizeState) (T : Tokenizer) → moves os ≤ length (ahead T) → TextReady T → WhitespaceAtRest r → TextReady (scratched r (done os T))
+unfolding scratched
+text-after os r T h k rest = record { short = omega (arith, k.short, left-done os T h, left-scratched r (done os T)); resting = rest }
+
+-- fewer codes are left, and the scratch fields are the same
+pub text-same : (T U : Tokenizer) → TextReady T → codes_left U + 1 ≤ codes_left T → U.tokenize_state ≡ T.tokenize_state → TextReady U
+text-same T U k fewer e = record { short = omega (arith, k.short, fewer); resting = subst (λ (s : TokenizeState). WhitespaceAtRest s) (sym e) k.resting }
+
+pub rest-joined : (s : TokenizeState) → WhitespaceAtRest s → WhitespaceAtRest (joined s)
+rest-joined s r = record { space = ap joined r.space; eol = ap joined r.eol }
+
+-- the scratch fields are those before, and as many codes or fewer are left
+pub text-kept : (os : List Op) (T : Tokenizer) → moves os ≤ length (ahead T) → (done os T).tokenize_state ≡ T.tokenize_state → TextReady T → TextReady (done os T)
+unfolding scratched
+text-kept os T h e k =
+    let after : TextReady (scratched T.tokenize_state (done os T)) = text-after os T.tokenize_state T h k k.resting in
+    record { short = after.short; resting = subst (λ (s : TokenizeState). WhitespaceAtRest s) (sym e) k.resting }
+
+-- The Enter of data and its first code.
+
+pub stays-data : (b : Bool) → stays 2 (enter_text b ∷ Consume ∷ []) ≡ true
+stays-data true = refl
+stays-data false = refl
+
+pub moves-data : (b : Bool) (P : ℕ → Type 0) → P 1 → P (moves (enter_text b ∷ Consume ∷ []))
+moves-data true P h = h
+moves-data false P h = h
+
+pub depth-data : (b : Bool) (P : ℕ → Type 0) → P 3 → P (depth_after 2 (enter_text b ∷ Consume ∷ []))
+depth-data true P h = h
+depth-data false P h = h
+
+-- Runs that fail.
+
+pub fails-same : (d : ℕ) (s : TokenizeState) (T U : Tokenizer) → U ≡ scratched s T → Grown d T U
+fails-same d s T U e = subst (λ (x : Tokenizer). Grown d T x) (sym e) (Grown-scratched d s T (scratched s T) (Grown-refl d (scratched s T)))
+
+scratch-same : (s : TokenizeState) (T U : Tokenizer) → U ≡ scratched s T → U.tokenize_state ≡ s
+unfolding scratched
+scratch-same s T U e = ap (λ (x : Tokenizer). x.tokenize_state) e
+
+pub DoesAs-fails : (d : ℕ) (p : Program) (s : TokenizeState) (T : Tokenizer) → p (ahead T) ≡ None → (ok : Bool) (U : Tokenizer) → (ok ≡ false) × (U ≡ scratched s T) → DoesAs d p s T ok U
+DoesAs-fails d p s T e true U k = let no : true ≡ false = k.0 in cc
+DoesAs-fails d p s T e false U k = record { none = e; grown = fails-same d s T U k.1; scratch = scratch-same s T U k.1 }
+
+-- the scratch fields that a run is claimed to leave, under another name
+pub DoesAs-as : (d : ℕ) (p : Program) (s r : TokenizeState) (T : Tokenizer) (ok : Bool) (U : Tokenizer) → s ≡ r → DoesAs d p s T ok U → DoesAs d p r T ok U
+DoesAs-as d p s r T ok U e k = subst (λ q. DoesAs d p q T ok U) e k
+
+-- by a test
+pub state-by : (Q : State → Type 0) (b : Bool) (x y : State) → (b ≡ true → Q x) → (b ≡ false → Q y) → Q (if b then x else y)
+state-by Q true x y f g = f refl
+state-by Q false x y f g = g refl
+
+-- no operations before a program
+pub none-before : (o : Option (List Op)) → o ≡ preceded [] o
+none-before None = refl
+none-before (Some os) = refl

@@ -1,0 +1,396 @@
+-- The laws of the states of a title.
+use Rattle.std.proofs.Common.{◌≡◌, ℕ, ◌+◌, ◌*◌, ◌≤◌, ◌<◌, ◌==◌, ◌||◌, Bool, true, false, Some, None, List, [], ◌∷◌, length, drop, refl, sym, ap, subst, ◌∙◌, arith}
+use Rattle.std.proofs.lemmas.Bool.{eqb-true}
+use Rattle.markdown_engine.specs.Codes.{Code, is_line_ending}
+use Rattle.markdown_engine.specs.Lists.{rest_of}
+use Rattle.markdown_engine.specs.Ops.{Op, Enter, Exit, Consume, current_of, ahead, applied, done, scratched}
+use Rattle.markdown_engine.specs.Runs.{Stepped, GoesOn, stepped}
+use Rattle.markdown_engine.specs.Weights.{weight_at}
+use Rattle.markdown_engine.specs.declared.event.Name.TheVariants as N
+use Rattle.markdown_engine.specs.declared.state.State.TheVariants.{Next, Retry, Nok}
+use Rattle.markdown_engine.specs.declared.state.StateName.{StateName}
+use Rattle.markdown_engine.specs.declared.state.StateName.TheVariants.{TitleBegin, TitleAtBreak, TitleAfterEol, TitleInside, TitleEscape, TitleNok}
+use Rattle.markdown_engine.specs.declared.tokenizer.TokenizeState.{TokenizeState}
+use Rattle.markdown_engine.specs.declared.tokenizer.Tokenizer.{Tokenizer}
+use Rattle.markdown_engine.proofs.Laws.{Goes-plain, Follows, if-step, code-step}
+use Rattle.markdown_engine.proofs.OpRules.{ahead-none, ahead-some, Begins, attempts-scratched, some-codes}
+use Rattle.markdown_model.specs.CodeTests.{is_value, is_among, next_is}
+use Rattle.markdown_model.specs.Resource.{StringNames, title}
+use Rattle.markdown_leaf.specs.Program.{Program, preceded, DoesAs, KeepsAs}
+use Rattle.markdown_leaf.proofs.ProgramLemmas.{GoesOn-map, Goes-on, Goes-kept, Goes-ok, Goes-no, done-scratched, no-codes}
+use Rattle.markdown_partial.specs.EolSteps.{WhitespaceAtRest}
+use Rattle.markdown_string.specs.LinkedOps.{program_of}
+use Rattle.markdown_string.specs.Text.{closing, ending, names_in, joined, enter_text, text_entered, TextReady, ends_filled}
+use Rattle.markdown_string.specs.Title.{begun, rested, opening, opened, start_at, start_step, beginning, begin_at, begin_step, next_state, passing, at_break_at, at_break_step, after_eol_step, nok_step, leaving, inside_at, inside_step, escapes, escape_at, escape_step, is_closer, StartReady, BeginReady, BreakReady, AfterEolReady, InsideReady, start_ends, inside_program, break_program, begin_program, begin_ends, at_break_ends, after_eol_ends, nok_ends, inside_ends, escape_ends}
+use Rattle.markdown_string.proofs.LinkedLemmas.{EndsAs-linked}
+use Rattle.markdown_string.proofs.TextEnding.{EolWithin, Passed, DoesAs-ending, ending-law}
+use Rattle.markdown_string.proofs.TextReadings.{filled-data, filled-ending, filled-none, breaks-end, breaks-stop, breaks-data, breaks-ending, breaks-blank, insides-end, insides-next, insides-taken, insides-bare, leave-end, leave-stop, leave-ending}
+use Rattle.markdown_string.proofs.TextRuns.{open-append, open-closed, open-rest, text-after, text-same, text-kept, rest-joined, DoesAs-fails, state-by, stays-data, moves-data, depth-data, none-before}
+use Rattle.markdown_string.proofs.TitleReadings.{title-plain, closer-line, title-none, title-double, title-single, title-paren, title-covers}
+use Rattle.markdown_model.proofs.ReadingSteps.{if-true, if-false}
+
+-- what the layer says of these states
+pub record Within (ready : StateName → Tokenizer → Type 0) (ends : StateName → Tokenizer → Bool → Tokenizer → Type 0) (weight : StateName → Tokenizer → ℕ) : Type 0 where
+  pub eol : EolWithin ready ends weight
+  pub begin_ready : (T : Tokenizer) → BeginReady T → ready TitleBegin T
+  pub begin_end : (T : Tokenizer) (ok : Bool) (U : Tokenizer) → ends TitleBegin T ok U → begin_ends T ok U
+  pub begin_weight : (T : Tokenizer) → weight TitleBegin T ≡ weight_at 10 T
+  pub at_break_ready : (T : Tokenizer) → BreakReady T → ready TitleAtBreak T
+  pub at_break_end : (T : Tokenizer) (ok : Bool) (U : Tokenizer) → ends TitleAtBreak T ok U → at_break_ends T ok U
+  pub at_break_weight : (T : Tokenizer) → weight TitleAtBreak T ≡ weight_at 9 T
+  pub after_eol_ready : (T : Tokenizer) → AfterEolReady T → ready TitleAfterEol T
+  pub after_eol_end : (T : Tokenizer) (ok : Bool) (U : Tokenizer) → ends TitleAfterEol T ok U → after_eol_ends T ok U
+  pub after_eol_weight : (T : Tokenizer) → weight TitleAfterEol T ≡ weight_at 10 T
+  pub nok_ready : (T : Tokenizer) → ready TitleNok T
+  pub nok_end : (T : Tokenizer) (ok : Bool) (U : Tokenizer) → ends TitleNok T ok U → nok_ends T ok U
+  pub nok_weight : (T : Tokenizer) → weight TitleNok T ≡ weight_at 1 T
+  pub inside_ready : (T : Tokenizer) → InsideReady T → ready TitleInside T
+  pub inside_end : (T : Tokenizer) (ok : Bool) (U : Tokenizer) → ends TitleInside T ok U → inside_ends T ok U
+  pub inside_weight : (T : Tokenizer) → weight TitleInside T ≡ weight_at 10 T
+  pub escape_ready : (T : Tokenizer) → InsideReady T → ready TitleEscape T
+  pub escape_end : (T : Tokenizer) (ok : Bool) (U : Tokenizer) → ends TitleEscape T ok U → escape_ends T ok U
+  pub escape_weight : (T : Tokenizer) → weight TitleEscape T ≡ weight_at 11 T
+
+-- The conditions.
+
+rest-begun : (m : ℕ) (s : TokenizeState) → WhitespaceAtRest s → WhitespaceAtRest (begun m s)
+rest-begun m s r = record { space = ap (begun m) r.space; eol = ap (begun m) r.eol }
+
+begun-ready : (m : ℕ) (T : Tokenizer) → 1 ≤ length (ahead T) → is_closer m ≡ true → StartReady T → BeginReady (scratched (begun m T.tokenize_state) (done (opening (names_in T.tokenize_state)) T))
+unfolding scratched applied
+begun-ready m T more h k =
+    let after : TextReady (scratched (begun m T.tokenize_state) (done (opening (names_in T.tokenize_state)) T)) = text-after (opening (names_in T.tokenize_state)) (begun m T.tokenize_state) T more k.text (rest-begun m T.tokenize_state k.text.resting) in
+    record { text = record { short = after.short; resting = after.resting }; closer = h; stand_open = refl; first = ap (λ (s : TokenizeState). s.connect) (sym k.rest) }
+
+entered-ready : (T : Tokenizer) → BeginReady T → BreakReady (done (Enter T.tokenize_state.token_3 ∷ []) T)
+unfolding applied
+entered-ready T k =
+    let after : TextReady (done (Enter T.tokenize_state.token_3 ∷ []) T) = text-kept (Enter T.tokenize_state.token_3 ∷ []) T (no-codes T) refl k.text in
+    record {
+      text = record { short = after.short; resting = after.resting };
+      closer = k.closer;
+      stand_open = ap (λ ns. T.tokenize_state.token_3 ∷ ns) k.stand_open;
+      linked = λ h. let no : false ≡ true = sym k.first ∙ h in cc;
+    }
+
+left-ready : (T : Tokenizer) → InsideReady T → BreakReady (done (Exit N.Data ∷ []) T)
+unfolding applied
+left-ready T k =
+    let after : TextReady (done (Exit N.Data ∷ []) T) = text-kept (Exit N.Data ∷ []) T (no-codes T) refl k.text in
+    record {
+      text = record { short = after.short; resting = after.resting };
+      closer = k.closer;
+      stand_open = open-rest N.Data T.tokenize_state.token_3 T.tokenize_state.token_1 T.stack k.stand_open;
+      linked = λ h. open-closed T.events _ k.linked refl;
+    }
+
+passed-ready : (T : Tokenizer) → 1 ≤ length (ahead T) → InsideReady T → InsideReady (done (Consume ∷ []) T)
+unfolding applied
+passed-ready T more k =
+    let after : TextReady (done (Consume ∷ []) T) = text-kept (Consume ∷ []) T more refl k.text in
+    record { text = record { short = after.short; resting = after.resting }; closer = k.closer; stand_open = k.stand_open; connect = k.connect; linked = k.linked }
+
+data-ready : (b : Bool) (T : Tokenizer) → 1 ≤ length (ahead T) → BreakReady T → InsideReady (scratched (joined T.tokenize_state) (done (enter_text b ∷ Consume ∷ []) T))
+unfolding scratched applied
+data-ready true T more k =
+    let after : TextReady (scratched (joined T.tokenize_state) (done (enter_text true ∷ Consume ∷ []) T)) = text-after (enter_text true ∷ Consume ∷ []) (joined T.tokenize_state) T more k.text (rest-joined T.tokenize_state k.text.resting) in
+    record { text = record { short = after.short; resting = after.resting }; closer = k.closer; stand_open = ap (λ ns. N.Data ∷ ns) k.stand_open; connect = refl; linked = open-append T.events _ refl }
+data-ready false T more k =
+    let after : TextReady (scratched (joined T.tokenize_state) (done (enter_text false ∷ Consume ∷ []) T)) = text-after (enter_text false ∷ Consume ∷ []) (joined T.tokenize_state) T more k.text (rest-joined T.tokenize_state k.text.resting) in
+    record { text = record { short = after.short; resting = after.resting }; closer = k.closer; stand_open = ap (λ ns. N.Data ∷ ns) k.stand_open; connect = refl; linked = open-append T.events _ refl }
+
+eol-ready : (c : Code) (cs : List Code) (T U : Tokenizer) → BreakReady T → Passed T.tokenize_state.connect c cs T U → AfterEolReady U
+eol-ready c cs T U k j =
+    record {
+      text = text-same T U k.text j.fewer j.scratch;
+      closer = ap (λ (s : TokenizeState). is_closer s.marker) j.scratch ∙ k.closer;
+      stand_open = subst (λ (s : TokenizeState). U.stack ≡ s.token_3 ∷ s.token_1 ∷ drop 2 U.stack) (sym j.scratch) (subst (λ ns. ns ≡ T.tokenize_state.token_3 ∷ T.tokenize_state.token_1 ∷ drop 2 ns) (sym j.stack) k.stand_open);
+      linked = j.linked;
+    }
+
+joined-ready : (T : Tokenizer) → AfterEolReady T → BreakReady (scratched (joined T.tokenize_state) T)
+unfolding scratched
+joined-ready T k = record { text = record { short = k.text.short; resting = rest-joined T.tokenize_state k.text.resting }; closer = k.closer; stand_open = k.stand_open; linked = λ h. k.linked }
+
+-- Tests.
+
+or-left : (a b : Bool) → a || b ≡ false → a ≡ false
+or-left false b e = refl
+or-left true b e = cc
+
+or-right : (a b : Bool) → a || b ≡ false → b ≡ false
+or-right false b e = e
+or-right true b e = cc
+
+or-by : {Q : Type 0} (a b : Bool) → a || b ≡ true → (a ≡ true → Q) → (b ≡ true → Q) → Q
+or-by true b h f g = f refl
+or-by false b h f g = g h
+
+module _ (ready : StateName → Tokenizer → Type 0) (ends : StateName → Tokenizer → Bool → Tokenizer → Type 0) (weight : StateName → Tokenizer → ℕ) (within : Within ready ends weight) where
+  pub nok-law : (T : Tokenizer) → T.attempts ≡ [] → GoesOn ready ends weight (weight_at 1 T) (nok_ends T) (nok_step T)
+  nok-law T alone =
+      Goes-plain ready ends weight (weight_at 1 T) (nok_ends T) Nok (scratched (rested T.tokenize_state) T) (attempts-scratched _ T ∙ alone) tt (omega arith) (λ ok U k. k)
+
+  eol-says : (T : Tokenizer) (ok : Bool) (U : Tokenizer) → at_break_ends (scratched (joined T.tokenize_state) T) ok U → DoesAs 2 (break_program T.tokenize_state.marker (names_in T.tokenize_state) true) (rested T.tokenize_state) (scratched (joined T.tokenize_state) T) ok U
+  unfolding scratched
+  eol-says T ok U k = k
+
+  pub after_eol-law : (T : Tokenizer) → T.attempts ≡ [] → AfterEolReady T → GoesOn ready ends weight (weight_at 10 T) (after_eol_ends T) (after_eol_step T)
+  after_eol-law T alone k =
+      let s : TokenizeState = T.tokenize_state in
+      let q : Program = break_program s.marker (names_in s) true in
+      Goes-on ready ends weight 10 9 2 q q [] (rested s) (joined s) T (Retry TitleAtBreak) alone refl (no-codes T) (omega arith)
+      (none-before (q (ahead T)))
+      (within.at_break_ready _ (joined-ready T k))
+      (within.at_break_weight _)
+      (λ ok U x. eol-says T ok U (within.at_break_end _ ok U x))
+
+  -- In a stretch.
+
+  -- on past a code that passes
+  goes-inside : (T : Tokenizer) → T.attempts ≡ [] → InsideReady T → (c : ℕ) → current_of T ≡ Some c → inside_program T.tokenize_state.marker (names_in T.tokenize_state) false (ahead T) ≡ preceded (Consume ∷ []) (inside_program T.tokenize_state.marker (names_in T.tokenize_state) (c == 92) (drop 1 (ahead T))) → GoesOn ready ends weight (weight_at 10 T) (inside_ends T) (passing c T)
+  unfolding applied
+  goes-inside T alone k c h same =
+      let s : TokenizeState = T.tokenize_state in
+      let q : Bool → Program = inside_program s.marker (names_in s) in
+      let V : Tokenizer = done (Consume ∷ []) T in
+      state-by (λ st. GoesOn ready ends weight (weight_at 10 T) (inside_ends T) (stepped st V)) (c == 92) (Next TitleEscape) (Next TitleInside)
+      (λ f. Goes-kept ready ends weight 10 11 3 (q false) (q true) (Consume ∷ []) (rested s) T (Next TitleEscape) alone refl (some-codes T c h) (omega arith)
+      (same ∙ ap (λ b. preceded (Consume ∷ []) (q b (drop 1 (ahead T)))) f)
+      (within.escape_ready _ (passed-ready T (some-codes T c h) k))
+      (within.escape_weight _)
+      (λ ok U x. within.escape_end _ ok U x))
+      (λ f. Goes-kept ready ends weight 10 10 3 (q false) (q false) (Consume ∷ []) (rested s) T (Next TitleInside) alone refl (some-codes T c h) (omega arith)
+      (same ∙ ap (λ b. preceded (Consume ∷ []) (q b (drop 1 (ahead T)))) f)
+      (within.inside_ready _ (passed-ready T (some-codes T c h) k))
+      (within.inside_weight _)
+      (λ ok U x. within.inside_end _ ok U x))
+
+  goes-leave : (T : Tokenizer) → T.attempts ≡ [] → InsideReady T → inside_program T.tokenize_state.marker (names_in T.tokenize_state) false (ahead T) ≡ preceded (Exit N.Data ∷ []) (break_program T.tokenize_state.marker (names_in T.tokenize_state) true (ahead T)) → GoesOn ready ends weight (weight_at 10 T) (inside_ends T) (leaving T)
+  unfolding applied
+  goes-leave T alone k same =
+      let s : TokenizeState = T.tokenize_state in
+      let q : Program = break_program s.marker (names_in s) s.connect in
+      Goes-kept ready ends weight 10 9 3 (inside_program s.marker (names_in s) false) q (Exit N.Data ∷ []) (rested s) T (Retry TitleAtBreak) alone refl (no-codes T) (omega arith)
+      (same ∙ ap (λ b. preceded (Exit N.Data ∷ []) (break_program s.marker (names_in s) b (ahead T))) (sym k.connect))
+      (within.at_break_ready _ (left-ready T k))
+      (within.at_break_weight _)
+      (λ ok U x. within.at_break_end _ ok U x)
+
+  pub inside-law : (T : Tokenizer) → T.attempts ≡ [] → InsideReady T → GoesOn ready ends weight (weight_at 10 T) (inside_ends T) (inside_step T)
+  inside-law T alone k =
+      let s : TokenizeState = T.tokenize_state in
+      let m : ℕ = s.marker in
+      let names : StringNames = names_in s in
+      let takes : Code → Bool = is_among (92 ∷ m ∷ []) in
+      let p : Program = inside_program m names false in
+      let P : Stepped → Type 0 = GoesOn ready ends weight (weight_at 10 T) (inside_ends T) in
+      let here : List Code → Type 0 = λ xs. p xs ≡ preceded (Exit N.Data ∷ []) (break_program m names true xs) in
+      code-step P (current_of T) (λ o. inside_at o T)
+      (λ e. goes-leave T alone k (subst here (sym (ahead-none T e)) (leave-end (is_value m) takes (λ x. false) (title-plain m k.closer) (ending names) (ends_filled true))))
+      (λ c e.
+      let b : Begins c (ahead T) = ahead-some T c e in
+      let cs : List Code = rest_of (ahead T) in
+      if-step P (c == 10 || c == m) _ _
+      (λ h. goes-leave T alone k (subst here (sym b.whole) (or-by (c == 10) (c == m) h
+      (λ g. leave-ending (is_value m) takes (λ x. false) (title-plain m k.closer) (ending names) (ends_filled true) b.code cs (ap (λ v. v == 10) b.value ∙ g))
+      (λ g. leave-stop (is_value m) takes (λ x. false) (title-plain m k.closer) (ending names) (ends_filled true) b.code cs (ap (λ v. v == m) b.value ∙ g)))))
+      (λ h.
+      let line : is_line_ending b.code ≡ false = ap (λ v. v == 10) b.value ∙ or-left _ _ h in
+      goes-inside T alone k c e
+      (ap p b.whole ∙ insides-next (is_value m) takes (λ x. false) (title-plain m k.closer) (ending names) (ends_filled true) (ends_filled true) (c == 92) b.code cs (ap (λ v. v == m) b.value ∙ or-right _ _ h) refl line (ap (λ v. v == 92) b.value) (λ text. filled-data b.code text line))))
+
+  escape-goes : (T : Tokenizer) → T.attempts ≡ [] → InsideReady T → inside_program T.tokenize_state.marker (names_in T.tokenize_state) true (ahead T) ≡ inside_program T.tokenize_state.marker (names_in T.tokenize_state) false (ahead T) → GoesOn ready ends weight (weight_at 11 T) (escape_ends T) (stepped (Retry TitleInside) T)
+  escape-goes T alone k same =
+      let s : TokenizeState = T.tokenize_state in
+      let q : Bool → Program = inside_program s.marker (names_in s) in
+      Goes-kept ready ends weight 11 10 3 (q true) (q false) [] (rested s) T (Retry TitleInside) alone refl (no-codes T) (omega arith)
+      (same ∙ none-before (q false (ahead T)))
+      (within.inside_ready _ k)
+      (within.inside_weight _)
+      (λ ok U x. within.inside_end _ ok U x)
+
+  pub escape-law : (T : Tokenizer) → T.attempts ≡ [] → InsideReady T → GoesOn ready ends weight (weight_at 11 T) (escape_ends T) (escape_step T)
+  unfolding applied
+  escape-law T alone k =
+      let s : TokenizeState = T.tokenize_state in
+      let m : ℕ = s.marker in
+      let names : StringNames = names_in s in
+      let takes : Code → Bool = is_among (92 ∷ m ∷ []) in
+      let q : Bool → Program = inside_program m names in
+      let P : Stepped → Type 0 = GoesOn ready ends weight (weight_at 11 T) (escape_ends T) in
+      let same : List Code → Type 0 = λ xs. q true xs ≡ q false xs in
+      code-step P (current_of T) (λ o. escape_at o T)
+      (λ e. escape-goes T alone k (subst same (sym (ahead-none T e)) (insides-end (is_value m) takes (λ x. false) (title-plain m k.closer) (ending names) (ends_filled true) true ∙ sym (insides-end (is_value m) takes (λ x. false) (title-plain m k.closer) (ending names) (ends_filled true) false))))
+      (λ c e.
+      let b : Begins c (ahead T) = ahead-some T c e in
+      let cs : List Code = rest_of (ahead T) in
+      if-step P (escapes m c) _ _
+      (λ h.
+      let taken : takes b.code ≡ true = ap (escapes m) b.value ∙ h in
+      let line : is_line_ending b.code ≡ false = taken-line m k.closer b.code taken in
+      Goes-kept ready ends weight 11 10 3 (q true) (q false) (Consume ∷ []) (rested s) T (Next TitleInside) alone refl (some-codes T c e) (omega arith)
+      (ap (q true) b.whole ∙ insides-taken (is_value m) takes (λ x. false) (title-plain m k.closer) (ending names) (ends_filled true) (ends_filled true) b.code cs taken line (λ text. filled-data b.code text line))
+      (within.inside_ready _ (passed-ready T (some-codes T c e) k))
+      (within.inside_weight _)
+      (λ ok U x. within.inside_end _ ok U x))
+      (λ h. escape-goes T alone k (subst same (sym b.whole) (insides-bare (is_value m) takes (λ x. false) (title-plain m k.closer) (ending names) (ends_filled true) b.code cs (ap (escapes m) b.value ∙ h))))) where
+        taken-line : (m : ℕ) → is_closer m ≡ true → (c : Code) → is_among (92 ∷ m ∷ []) c ≡ true → is_line_ending c ≡ false
+        taken-line m k c h =
+            or-by (c.value == 92) (is_value m c || false) h
+            (λ g. ap (λ v. v == 10) (eqb-true c.value 92 g))
+            (λ g. or-by (is_value m c) false g (λ f. closer-line m k c f) (λ f. let no : false ≡ true = f in cc))
+
+  -- Between two stretches.
+
+  nok-goes : (T : Tokenizer) → T.attempts ≡ [] → break_program T.tokenize_state.marker (names_in T.tokenize_state) T.tokenize_state.connect (ahead T) ≡ None → Follows ready ends weight (weight_at 9 T) (at_break_ends T) (Next TitleNok) T
+  nok-goes T alone e =
+      record {
+        goes_on = within.nok_ready T;
+        falls = rw within.nok_weight (omega arith);
+        closed = λ ok U x. DoesAs-fails 2 (break_program T.tokenize_state.marker (names_in T.tokenize_state) T.tokenize_state.connect) (rested T.tokenize_state) T e ok U (within.nok_end T ok U x);
+      }
+
+  inside-says : (b : Bool) (T : Tokenizer) (ok : Bool) (U : Tokenizer) → inside_ends (scratched (joined T.tokenize_state) (done (enter_text b ∷ Consume ∷ []) T)) ok U → DoesAs 3 (inside_program T.tokenize_state.marker (names_in T.tokenize_state) false) (rested T.tokenize_state) (scratched (joined T.tokenize_state) (done (enter_text b ∷ Consume ∷ []) T)) ok U
+  unfolding scratched
+  inside-says b T ok U k = k
+
+  escape-says : (b : Bool) (T : Tokenizer) (ok : Bool) (U : Tokenizer) → escape_ends (scratched (joined T.tokenize_state) (done (enter_text b ∷ Consume ∷ []) T)) ok U → DoesAs 3 (inside_program T.tokenize_state.marker (names_in T.tokenize_state) true) (rested T.tokenize_state) (scratched (joined T.tokenize_state) (done (enter_text b ∷ Consume ∷ []) T)) ok U
+  unfolding scratched
+  escape-says b T ok U k = k
+
+  -- data begins
+  data-goes : (T : Tokenizer) → T.attempts ≡ [] → BreakReady T → (c : ℕ) → current_of T ≡ Some c → break_program T.tokenize_state.marker (names_in T.tokenize_state) T.tokenize_state.connect (ahead T) ≡ preceded (enter_text T.tokenize_state.connect ∷ Consume ∷ []) (inside_program T.tokenize_state.marker (names_in T.tokenize_state) (c == 92) (drop 1 (ahead T))) → GoesOn ready ends weight (weight_at 9 T) (at_break_ends T) (passing c (text_entered T))
+  data-goes T alone k c e same =
+      let s : TokenizeState = T.tokenize_state in
+      let connect : Bool = s.connect in
+      let os : List Op = enter_text connect ∷ Consume ∷ [] in
+      let p : Program = break_program s.marker (names_in s) connect in
+      let q : Bool → Program = inside_program s.marker (names_in s) in
+      let more : 1 ≤ length (ahead T) = some-codes T c e in
+      let V : Tokenizer = scratched (joined s) (done os T) in
+      let there : V ≡ done (Consume ∷ []) (text_entered T) = sym (done-scratched (Consume ∷ []) (joined s) (done (enter_text connect ∷ []) T)) in
+      subst (λ (x : Tokenizer). GoesOn ready ends weight (weight_at 9 T) (at_break_ends T) (stepped (next_state c) x)) there
+      (state-by (λ st. GoesOn ready ends weight (weight_at 9 T) (at_break_ends T) (stepped st V)) (c == 92) (Next TitleEscape) (Next TitleInside)
+      (λ f. Goes-on ready ends weight 9 11 2 p (q true) os (rested s) (joined s) T (Next TitleEscape) alone (stays-data connect) (moves-data connect (λ n. n ≤ length (ahead T)) more) (moves-data connect (λ n. 11 < 256 * n + 9) (omega arith))
+      (same ∙ ap (λ b. preceded os (q b (drop 1 (ahead T)))) f ∙ moves-data connect (λ n. preceded os (q true (drop 1 (ahead T))) ≡ preceded os (q true (drop n (ahead T)))) refl)
+      (within.escape_ready _ (data-ready connect T more k))
+      (within.escape_weight _)
+      (λ ok U x. depth-data connect (λ d. DoesAs d (q true) (rested s) V ok U) (escape-says connect T ok U (within.escape_end _ ok U x))))
+      (λ f. Goes-on ready ends weight 9 10 2 p (q false) os (rested s) (joined s) T (Next TitleInside) alone (stays-data connect) (moves-data connect (λ n. n ≤ length (ahead T)) more) (moves-data connect (λ n. 10 < 256 * n + 9) (omega arith))
+      (same ∙ ap (λ b. preceded os (q b (drop 1 (ahead T)))) f ∙ moves-data connect (λ n. preceded os (q false (drop 1 (ahead T))) ≡ preceded os (q false (drop n (ahead T)))) refl)
+      (within.inside_ready _ (data-ready connect T more k))
+      (within.inside_weight _)
+      (λ ok U x. depth-data connect (λ d. DoesAs d (q false) (rested s) V ok U) (inside-says connect T ok U (within.inside_end _ ok U x)))))
+
+  -- behind a line ending and blank codes
+  eol-goes : (T : Tokenizer) → BreakReady T → (c : Code) (cs : List Code) → ahead T ≡ c ∷ cs → is_line_ending c ≡ true → (U : Tokenizer) → Passed T.tokenize_state.connect c cs T U → Follows ready ends weight (weight_at 9 T) (at_break_ends T) (Next TitleAfterEol) U
+  eol-goes T k c cs whole line U j =
+      let s : TokenizeState = T.tokenize_state in
+      let m : ℕ = s.marker in
+      let names : StringNames = names_in s in
+      let p : Program = break_program m names s.connect in
+      let q : Program = break_program m names true in
+      let reads : p (ahead T) ≡ _ =
+      ap p whole ∙ breaks-ending (is_value m) (is_among (92 ∷ m ∷ [])) (λ x. false) (title-plain m k.closer) (ending names) (ends_filled true) s.connect c cs line j.filled (λ ws text w b. filled-ending c ws text line w b) in
+      record {
+        goes_on = within.after_eol_ready U (eol-ready c cs T U k j);
+        falls = rw within.after_eol_weight (omega (arith, j.fewer));
+        closed = λ ok V x. DoesAs-ending p q s.connect c cs (rested s) T U j reads ok V (subst (λ (r : TokenizeState). DoesAs 2 (break_program r.marker (names_in r) true) (rested r) U ok V) j.scratch (within.after_eol_end U ok V x));
+      }
+
+  pub at_break-law : (T : Tokenizer) → T.attempts ≡ [] → BreakReady T → GoesOn ready ends weight (weight_at 9 T) (at_break_ends T) (at_break_step T)
+  at_break-law T alone k =
+      let s : TokenizeState = T.tokenize_state in
+      let m : ℕ = s.marker in
+      let names : StringNames = names_in s in
+      let connect : Bool = s.connect in
+      let takes : Code → Bool = is_among (92 ∷ m ∷ []) in
+      let p : Program = break_program m names connect in
+      let P : Stepped → Type 0 = GoesOn ready ends weight (weight_at 9 T) (at_break_ends T) in
+      code-step P (current_of T) (λ o. at_break_at o T)
+      (λ e.
+      let f = nok-goes T alone (ap p (ahead-none T e) ∙ breaks-end (is_value m) takes (λ x. false) (title-plain m k.closer) (ending names) (ends_filled true) connect) in
+      Goes-plain ready ends weight (weight_at 9 T) (at_break_ends T) (Retry TitleNok) T alone f.goes_on f.falls f.closed)
+      (λ c e.
+      let b : Begins c (ahead T) = ahead-some T c e in
+      let cs : List Code = rest_of (ahead T) in
+      if-step P (c == m) _ _
+      (λ h. Goes-ok ready ends weight 9 2 p (ending names) (rested s) T alone
+      (ap p b.whole ∙ breaks-stop (is_value m) takes (λ x. false) (title-plain m k.closer) (ending names) (ends_filled true) connect b.code cs (ap (λ v. v == m) b.value ∙ h) refl))
+      (λ h. if-step P (c == 10) _ _
+      (λ g.
+      let line : is_line_ending b.code ≡ true = ap (λ v. v == 10) b.value ∙ g in
+      ending-law ready ends weight within.eol (weight_at 9 T) (at_break_ends T) TitleAfterEol TitleNok T c b alone k.text k.linked line (omega arith) (
+        λ U now j. eol-goes T k b.code cs b.whole line U j,
+        λ u. nok-goes T alone (ap p b.whole ∙ breaks-blank (is_value m) takes (λ x. false) (title-plain m k.closer) (ending names) (ends_filled true) connect b.code cs line u (λ ws d text w l. filled-none b.code ws d text line w l)),
+      ))
+      (λ g.
+      let line : is_line_ending b.code ≡ false = ap (λ v. v == 10) b.value ∙ g in
+      data-goes T alone k c e
+      (ap p b.whole ∙ breaks-data (is_value m) takes (λ x. false) (title-plain m k.closer) (ending names) (ends_filled true) (ends_filled true) connect (c == 92) b.code cs (ap (λ v. v == m) b.value ∙ h) refl line (ap (λ v. v == 92) b.value) (λ text. filled-data b.code text line)))))
+
+  -- From the start.
+
+  begin-goes : (T : Tokenizer) → T.attempts ≡ [] → BeginReady T → next_is (is_value T.tokenize_state.marker) (ahead T) ≡ false → GoesOn ready ends weight (weight_at 10 T) (begin_ends T) (beginning T)
+  unfolding applied
+  begin-goes T alone k h =
+      let s : TokenizeState = T.tokenize_state in
+      let names : StringNames = names_in s in
+      Goes-kept ready ends weight 10 9 1 (begin_program s.marker names) (break_program s.marker names s.connect) (Enter names.text ∷ []) (rested s) T (Retry TitleAtBreak) alone refl (no-codes T) (omega arith)
+      (if-false _ _ _ h ∙ ap (λ b. preceded (Enter names.text ∷ []) (break_program s.marker names b (ahead T))) (sym k.first))
+      (within.at_break_ready _ (entered-ready T k))
+      (within.at_break_weight _)
+      (λ ok U x. within.at_break_end _ ok U x)
+
+  pub begin-law : (T : Tokenizer) → T.attempts ≡ [] → BeginReady T → GoesOn ready ends weight (weight_at 10 T) (begin_ends T) (begin_step T)
+  begin-law T alone k =
+      let s : TokenizeState = T.tokenize_state in
+      let m : ℕ = s.marker in
+      let names : StringNames = names_in s in
+      let P : Stepped → Type 0 = GoesOn ready ends weight (weight_at 10 T) (begin_ends T) in
+      code-step P (current_of T) (λ o. begin_at o T)
+      (λ e. begin-goes T alone k (ap (next_is (is_value m)) (ahead-none T e)))
+      (λ c e.
+      let b : Begins c (ahead T) = ahead-some T c e in
+      let here : next_is (is_value m) (ahead T) ≡ (c == m) = ap (next_is (is_value m)) b.whole ∙ ap (λ v. v == m) b.value in
+      if-step P (c == m) _ _
+      (λ h. Goes-ok ready ends weight 10 1 (begin_program m names) (closing names) (rested s) T alone (if-true _ _ _ (here ∙ h)))
+      (λ h. begin-goes T alone k (here ∙ h)))
+
+  begin-says : (m : ℕ) (T : Tokenizer) → rested T.tokenize_state ≡ T.tokenize_state → (ok : Bool) (U : Tokenizer) → begin_ends (scratched (begun m T.tokenize_state) (done (opening (names_in T.tokenize_state)) T)) ok U → DoesAs 1 (begin_program m (names_in T.tokenize_state)) T.tokenize_state (scratched (begun m T.tokenize_state) (done (opening (names_in T.tokenize_state)) T)) ok U
+  unfolding scratched
+  begin-says m T e ok U k = subst (λ q. DoesAs 1 (begin_program m (names_in T.tokenize_state)) q (scratched (begun m T.tokenize_state) (done (opening (names_in T.tokenize_state)) T)) ok U) e k
+
+  opens : (m : ℕ) (T : Tokenizer) → T.attempts ≡ [] → StartReady T → 1 ≤ length (ahead T) → is_closer m ≡ true → program_of (title (names_in T.tokenize_state)) (ahead T) ≡ preceded (opening (names_in T.tokenize_state)) (begin_program m (names_in T.tokenize_state) (drop 1 (ahead T))) → GoesOn ready ends weight (weight_at 11 T) (KeepsAs 0 (program_of (title (names_in T.tokenize_state))) T) (opened m T)
+  opens m T alone k more h same =
+      let s : TokenizeState = T.tokenize_state in
+      let names : StringNames = names_in s in
+      Goes-on ready ends weight 11 10 0 (program_of (title names)) (begin_program m names) (opening names) s (begun m s) T (Next TitleBegin) alone refl more (omega arith)
+      same
+      (within.begin_ready _ (begun-ready m T more h k))
+      (within.begin_weight _)
+      (λ ok U x. begin-says m T k.rest ok U (within.begin_end _ ok U x))
+
+  pub start-law : (T : Tokenizer) → T.attempts ≡ [] → StartReady T → GoesOn ready ends weight (weight_at 11 T) (start_ends T) (start_step T)
+  start-law T alone k =
+      let s : TokenizeState = T.tokenize_state in
+      let names : StringNames = names_in s in
+      let p : Program = program_of (title names) in
+      let E : Bool → Tokenizer → Type 0 = KeepsAs 0 p T in
+      let P : Stepped → Type 0 = GoesOn ready ends weight (weight_at 11 T) E in
+      GoesOn-map ready ends weight (weight_at 11 T) E (start_ends T) (start_step T) (λ ok U x. EndsAs-linked (title names) (title-covers names) s T ok U x)
+      (code-step P (current_of T) (λ o. start_at o T)
+      (λ e. Goes-no ready ends weight 11 0 p T alone (ap p (ahead-none T e) ∙ title-none names [] refl refl refl))
+      (λ c e.
+      let b : Begins c (ahead T) = ahead-some T c e in
+      let cs : List Code = rest_of (ahead T) in
+      let more : 1 ≤ length (ahead T) = some-codes T c e in
+      if-step P (c == 34) _ _
+      (λ h. opens 34 T alone k more refl (ap p b.whole ∙ title-double names b.code cs (ap (λ v. v == 34) b.value ∙ h)))
+      (λ h. if-step P (c == 39) _ _
+      (λ g. opens 39 T alone k more refl (ap p b.whole ∙ title-single names b.code cs (ap (λ v. v == 39) b.value ∙ g)))
+      (λ g. if-step P (c == 40) _ _
+      (λ f. opens 41 T alone k more refl (ap p b.whole ∙ title-paren names b.code cs (ap (λ v. v == 40) b.value ∙ f)))
+      (λ f. Goes-no ready ends weight 11 0 p T alone
+      (ap p b.whole ∙ title-none names (b.code ∷ cs) (ap (λ v. v == 34) b.value ∙ h) (ap (λ v. v == 39) b.value ∙ g) (ap (λ v. v == 40) b.value ∙ f)))))))

@@ -1,0 +1,209 @@
+-- What the states of a destination do, and how runs from them end.
+use Rattle.std.specs.Prelude.{◌≡◌, ℕ, ◌+◌, ◌-◌, Bool, true, false, ◌&&◌, ◌||◌, nat_lt, ◌==◌, if◌then◌else◌, codes, Option, Some, None, List, [], ◌∷◌, ◌++◌, drop}
+use Rattle.markdown_engine.specs.Codes.{Code, is_line_ending}
+use Rattle.markdown_engine.specs.Ops.{Op, Enter, Exit, EnterLink, Consume, done, current_of, scratched}
+use Rattle.markdown_engine.specs.Past.{EndsAs}
+use Rattle.markdown_engine.specs.Runs.{Stepped, stepped}
+use Rattle.markdown_engine.specs.TreeOps.{consumes}
+use Rattle.markdown_engine.specs.declared.event.Content.TheVariants as Content
+use Rattle.markdown_engine.specs.declared.event.Name.{Name}
+use Rattle.markdown_engine.specs.declared.event.Name.TheVariants as N
+use Rattle.markdown_engine.specs.declared.state.State.TheVariants.{Next, Retry, Nok}
+use Rattle.markdown_engine.specs.declared.state.State.TheVariants as State
+use Rattle.markdown_engine.specs.declared.state.StateName.TheVariants.{DestinationEnclosedBefore, DestinationEnclosed, DestinationEnclosedEscape, DestinationRaw, DestinationRawEscape}
+use Rattle.markdown_engine.specs.declared.tokenizer.TokenizeState.{TokenizeState}
+use Rattle.markdown_engine.specs.declared.tokenizer.Tokenizer.{Tokenizer}
+use Rattle.markdown_model.specs.CodeTests.{is_value, is_among, is_between, next_is}
+use Rattle.markdown_model.specs.Grammar.{escaped_from}
+use Rattle.markdown_model.specs.Resource.{DestinationNames, destination, raw_from}
+use Rattle.markdown_leaf.specs.Program.{Program, preceded, DoesAs, KeepsAs}
+use Rattle.markdown_leaf.specs.RawText.{AreOpen, with_size}
+
+abbrev pub names_in : TokenizeState → DestinationNames
+names_in s = record { whole = s.token_1; literal = s.token_2; marker = s.token_3; raw = s.token_4; text = s.token_5 }
+
+-- Tests on the value of a code.
+
+abbrev pub control_value : ℕ → Bool
+control_value v = is_between 1 31 v || v == 127
+
+-- no destination without brackets begins so
+abbrev pub bars_value : ℕ → Bool
+bars_value v = control_value v || (v == 32 || v == 41)
+
+-- it ends before these where no parenthesis is open
+abbrev pub stops_value : ℕ → Bool
+stops_value v = v == 9 || (v == 10 || (v == 32 || v == 41))
+
+-- What the states do.
+
+abbrev pub opening : DestinationNames → List Op
+opening names = Enter names.whole ∷ Enter names.literal ∷ Enter names.marker ∷ Consume ∷ Exit names.marker ∷ []
+
+abbrev pub raw_opening : DestinationNames → List Op
+raw_opening names = Enter names.whole ∷ Enter names.raw ∷ Enter names.text ∷ EnterLink N.Data Content.String ∷ []
+
+abbrev pub text_opening : DestinationNames → List Op
+text_opening names = Enter names.text ∷ EnterLink N.Data Content.String ∷ []
+
+abbrev pub closing : DestinationNames → List Op
+closing names = Enter names.marker ∷ Consume ∷ Exit names.marker ∷ Exit names.literal ∷ Exit names.whole ∷ []
+
+-- after the text between the brackets
+abbrev pub ending : DestinationNames → List Op
+ending names = Exit N.Data ∷ Exit names.text ∷ closing names
+
+abbrev pub raw_ending : DestinationNames → List Op
+raw_ending names = Exit N.Data ∷ Exit names.text ∷ Exit names.raw ∷ Exit names.whole ∷ []
+
+abbrev pub start_at : Option ℕ → Tokenizer → Stepped
+start_at None T = stepped Nok T
+start_at (Some c) T =
+    if c == 60 then stepped (Next DestinationEnclosedBefore) (done (opening (names_in T.tokenize_state)) T)
+    else (if bars_value c then stepped Nok T
+    else stepped (Retry DestinationRaw) (done (raw_opening (names_in T.tokenize_state)) T))
+
+abbrev pub start_step : Tokenizer → Stepped
+start_step T = start_at (current_of T) T
+
+abbrev pub closed : Tokenizer → Stepped
+closed T = stepped State.Ok (done (closing (names_in T.tokenize_state)) T)
+
+abbrev pub entering : Tokenizer → Stepped
+entering T = stepped (Retry DestinationEnclosed) (done (text_opening (names_in T.tokenize_state)) T)
+
+abbrev pub enclosed_before_at : Option ℕ → Tokenizer → Stepped
+enclosed_before_at None T = entering T
+enclosed_before_at (Some c) T = if c == 62 then closed T else entering T
+
+abbrev pub enclosed_before_step : Tokenizer → Stepped
+enclosed_before_step T = enclosed_before_at (current_of T) T
+
+abbrev pub enclosed_at : Option ℕ → Tokenizer → Stepped
+enclosed_at None T = stepped Nok T
+enclosed_at (Some c) T =
+    if c == 62 then stepped State.Ok (done (ending (names_in T.tokenize_state)) T)
+    else (if c == 60 || c == 10 then stepped Nok T
+    else (if c == 92 then stepped (Next DestinationEnclosedEscape) (done (Consume ∷ []) T)
+    else stepped (Next DestinationEnclosed) (done (Consume ∷ []) T)))
+
+abbrev pub enclosed_step : Tokenizer → Stepped
+enclosed_step T = enclosed_at (current_of T) T
+
+-- these may be escaped between the brackets
+abbrev pub escapes_enclosed : ℕ → Bool
+escapes_enclosed v = v == 60 || (v == 62 || (v == 92 || false))
+
+abbrev pub enclosed_escape_at : Option ℕ → Tokenizer → Stepped
+enclosed_escape_at None T = stepped (Retry DestinationEnclosed) T
+enclosed_escape_at (Some c) T =
+    if escapes_enclosed c then stepped (Next DestinationEnclosed) (done (Consume ∷ []) T) else stepped (Retry DestinationEnclosed) T
+
+abbrev pub enclosed_escape_step : Tokenizer → Stepped
+enclosed_escape_step T = enclosed_escape_at (current_of T) T
+
+abbrev pub refused : Tokenizer → Stepped
+refused T = stepped Nok (scratched (with_size 0 T.tokenize_state) T)
+
+abbrev pub finished : Tokenizer → Stepped
+finished T = stepped State.Ok (scratched (with_size 0 T.tokenize_state) (done (raw_ending (names_in T.tokenize_state)) T))
+
+-- past a code, with so many parentheses open
+abbrev pub nested : ℕ → Tokenizer → Stepped
+nested n T = stepped (Next DestinationRaw) (scratched (with_size n T.tokenize_state) (done (Consume ∷ []) T))
+
+-- at an opening parenthesis
+abbrev pub raw_opens : Tokenizer → Stepped
+raw_opens T = if nat_lt T.tokenize_state.size T.tokenize_state.size_b then nested (T.tokenize_state.size + 1) T else refused T
+
+-- at a code that is no parenthesis
+abbrev pub raw_plain : ℕ → Tokenizer → Stepped
+raw_plain c T =
+    if control_value c || c == 32 then refused T
+    else (if c == 92 then stepped (Next DestinationRawEscape) (done (Consume ∷ []) T)
+    else stepped (Next DestinationRaw) (done (Consume ∷ []) T))
+
+-- where the destination does not end
+abbrev pub raw_on : ℕ → Tokenizer → Stepped
+raw_on c T = if c == 40 then raw_opens T else (if c == 41 then nested (T.tokenize_state.size - 1) T else raw_plain c T)
+
+abbrev pub raw_at : Option ℕ → Tokenizer → Stepped
+raw_at None T = if T.tokenize_state.size == 0 then finished T else refused T
+raw_at (Some c) T = if T.tokenize_state.size == 0 && stops_value c then finished T else raw_on c T
+
+abbrev pub raw_step : Tokenizer → Stepped
+raw_step T = raw_at (current_of T) T
+
+-- these may be escaped elsewhere
+abbrev pub escapes_raw : ℕ → Bool
+escapes_raw v = v == 40 || (v == 41 || (v == 92 || false))
+
+abbrev pub raw_escape_at : Option ℕ → Tokenizer → Stepped
+raw_escape_at None T = stepped (Retry DestinationRaw) T
+raw_escape_at (Some c) T =
+    if escapes_raw c then stepped (Next DestinationRaw) (done (Consume ∷ []) T) else stepped (Retry DestinationRaw) T
+
+abbrev pub raw_escape_step : Tokenizer → Stepped
+raw_escape_step T = raw_escape_at (current_of T) T
+
+-- When they may be called.
+
+-- no parenthesis is open
+abbrev pub StartReady : Tokenizer → Type 0
+StartReady T = T.tokenize_state.size ≡ 0
+
+abbrev pub BeforeReady : Tokenizer → Type 0
+BeforeReady T = AreOpen T.tokenize_state.token_2 T.tokenize_state.token_1 T
+
+-- these four are the innermost open events
+abbrev pub FourOpen : Name → Name → Name → Name → Tokenizer → Type 0
+FourOpen n m k l T = T.stack ≡ n ∷ m ∷ k ∷ l ∷ drop 4 T.stack
+
+abbrev pub EnclosedReady : Tokenizer → Type 0
+EnclosedReady T = FourOpen N.Data T.tokenize_state.token_5 T.tokenize_state.token_2 T.tokenize_state.token_1 T
+
+abbrev pub RawReady : Tokenizer → Type 0
+RawReady T = FourOpen N.Data T.tokenize_state.token_5 T.tokenize_state.token_4 T.tokenize_state.token_1 T
+
+-- How runs end.
+
+abbrev pub start_ends : Tokenizer → Bool → Tokenizer → Type 0
+start_ends T ok U = EndsAs (destination T.tokenize_state.size_b (names_in T.tokenize_state)) None T.tokenize_state T ok U
+
+-- some codes, and then these operations
+abbrev pub text_then : List Op → Option (List Code × List Code) → Option (List Op)
+text_then os None = None
+text_then os (Some r) = Some (consumes r.0 ++ os)
+
+-- between the brackets
+abbrev pub bracketed : Bool → List Code → Option (List Code × List Code)
+bracketed slash cs = escaped_from (is_value 62) (is_among (codes "<>\\")) (λ c. is_value 60 c || is_line_ending c) slash cs
+
+abbrev pub enclosed_program : DestinationNames → Bool → Program
+enclosed_program names slash cs = text_then (ending names) (bracketed slash cs)
+
+-- after the opening bracket
+abbrev pub before_program : DestinationNames → Program
+before_program names cs = if next_is (is_value 62) cs then Some (closing names) else preceded (text_opening names) (enclosed_program names false cs)
+
+abbrev pub raw_program : DestinationNames → ℕ → Bool → ℕ → Program
+raw_program names max slash depth cs = text_then (raw_ending names) (raw_from max slash depth cs)
+
+abbrev pub enclosed_before_ends : Tokenizer → Bool → Tokenizer → Type 0
+enclosed_before_ends T ok U = KeepsAs 2 (before_program (names_in T.tokenize_state)) T ok U
+
+abbrev pub enclosed_ends : Tokenizer → Bool → Tokenizer → Type 0
+enclosed_ends T ok U = KeepsAs 4 (enclosed_program (names_in T.tokenize_state) false) T ok U
+
+abbrev pub enclosed_escape_ends : Tokenizer → Bool → Tokenizer → Type 0
+enclosed_escape_ends T ok U = KeepsAs 4 (enclosed_program (names_in T.tokenize_state) true) T ok U
+
+abbrev pub raw_ends : Tokenizer → Bool → Tokenizer → Type 0
+raw_ends T ok U =
+    let s : TokenizeState = T.tokenize_state in
+    DoesAs 4 (raw_program (names_in s) s.size_b false s.size) (with_size 0 s) T ok U
+
+abbrev pub raw_escape_ends : Tokenizer → Bool → Tokenizer → Type 0
+raw_escape_ends T ok U =
+    let s : TokenizeState = T.tokenize_state in
+    DoesAs 4 (raw_program (names_in s) s.size_b true s.size) (with_size 0 s) T ok U

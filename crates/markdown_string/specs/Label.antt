@@ -1,0 +1,176 @@
+-- What the states of a label do, and how runs from them end.
+use Rattle.std.specs.Prelude.{◌≡◌, ℕ, ◌+◌, ◌≤◌, Bool, true, false, ◌&&◌, ◌||◌, not, nat_le, ◌==◌, if◌then◌else◌, codes, Option, Some, None, List, [], ◌∷◌, drop}
+use Rattle.std.specs.List.{list_any}
+use Rattle.markdown_engine.specs.Codes.{Code}
+use Rattle.markdown_engine.specs.Ops.{Op, Enter, Exit, Consume, LinkedBefore, attempted, done, current_of, scratched}
+use Rattle.markdown_engine.specs.Past.{EndsAs}
+use Rattle.markdown_engine.specs.Runs.{Stepped, stepped}
+use Rattle.markdown_engine.specs.declared.event.Name.TheVariants as N
+use Rattle.markdown_engine.specs.declared.state.State.{State}
+use Rattle.markdown_engine.specs.declared.state.State.TheVariants.{Next, Retry, Ok, Nok}
+use Rattle.markdown_engine.specs.declared.state.StateName.TheVariants.{SpaceOrTabEolStart, LabelAtBreak, LabelEolAfter, LabelInside, LabelEscape, LabelNok}
+use Rattle.markdown_engine.specs.declared.tokenizer.TokenizeState.{TokenizeState}
+use Rattle.markdown_engine.specs.declared.tokenizer.Tokenizer.{Tokenizer}
+use Rattle.markdown_model.specs.CodeTests.{is_value, is_among, is_whitespace_code}
+use Rattle.markdown_model.specs.Grammar.{escaped_from}
+use Rattle.markdown_model.specs.Resource.{StringNames, counted, label}
+use Rattle.markdown_leaf.specs.Program.{Program, DoesAs}
+use Rattle.markdown_leaf.specs.RawText.{AreOpen, with_size}
+use Rattle.markdown_string.specs.Text.{names_in, joined, text_entered, ending, eol_asked_for, ends_open, TextReady, break_ops, inside_ops, ends_filled, answer}
+
+-- The scratch fields.
+
+-- at rest
+abbrev pub rested : TokenizeState → TokenizeState
+rested s = record s { size = 0; seen = false; connect = false }
+
+-- past a code of this value
+abbrev pub sized : ℕ → TokenizeState → TokenizeState
+sized c s = record s { size = s.size + 1; seen = s.seen || not (c == 32 || c == 9) }
+
+-- What the states do.
+
+abbrev pub opening : StringNames → List Op
+opening names = Enter names.whole ∷ Enter names.marker ∷ Consume ∷ Exit names.marker ∷ Enter names.text ∷ []
+
+abbrev pub start_at : Option ℕ → Tokenizer → Stepped
+start_at None T = stepped Nok T
+start_at (Some c) T = if c == 91 then stepped (Next LabelAtBreak) (done (opening (names_in T.tokenize_state)) T) else stepped Nok T
+
+abbrev pub start_step : Tokenizer → Stepped
+start_step T = start_at (current_of T) T
+
+abbrev pub closed : Tokenizer → Stepped
+closed T = stepped Ok (scratched (rested T.tokenize_state) (done (ending (names_in T.tokenize_state)) T))
+
+abbrev pub refused : Tokenizer → Stepped
+refused T = stepped (Retry LabelNok) T
+
+-- after this code
+abbrev pub next_state : ℕ → State
+next_state c = if c == 92 then Next LabelEscape else Next LabelInside
+
+abbrev pub passing : ℕ → Tokenizer → Stepped
+passing c T = stepped (next_state c) (scratched (sized c T.tokenize_state) (done (Consume ∷ []) T))
+
+-- the label has no more codes than it may have
+abbrev pub is_short : Tokenizer → Bool
+is_short T = nat_le T.tokenize_state.size 999
+
+abbrev pub at_break_at : Option ℕ → Tokenizer → Stepped
+at_break_at None T = refused T
+at_break_at (Some c) T =
+    if not (c == 91) && is_short T
+    then (if c == 93 then (if T.tokenize_state.seen then closed T else refused T)
+    else (if c == 10 then stepped (Retry SpaceOrTabEolStart) (attempted false (Next LabelEolAfter) (Next LabelNok) (scratched (eol_asked_for T.tokenize_state) T))
+    else passing c (text_entered T)))
+    else refused T
+
+abbrev pub at_break_step : Tokenizer → Stepped
+at_break_step T = at_break_at (current_of T) T
+
+abbrev pub eol_after_step : Tokenizer → Stepped
+eol_after_step T = stepped (Retry LabelAtBreak) (scratched (joined T.tokenize_state) T)
+
+abbrev pub nok_step : Tokenizer → Stepped
+nok_step T = stepped Nok (scratched (rested T.tokenize_state) T)
+
+abbrev pub leaving : Tokenizer → Stepped
+leaving T = stepped (Retry LabelAtBreak) (done (Exit N.Data ∷ []) T)
+
+abbrev pub inside_at : Option ℕ → Tokenizer → Stepped
+inside_at None T = leaving T
+inside_at (Some c) T = if not (c == 10 || (c == 91 || c == 93)) && is_short T then passing c T else leaving T
+
+abbrev pub inside_step : Tokenizer → Stepped
+inside_step T = inside_at (current_of T) T
+
+-- these may be escaped
+abbrev pub escapes : ℕ → Bool
+escapes v = v == 91 || (v == 92 || (v == 93 || false))
+
+abbrev pub escape_at : Option ℕ → Tokenizer → Stepped
+escape_at None T = stepped (Retry LabelInside) T
+escape_at (Some c) T =
+    if escapes c
+    then stepped (Next LabelInside) (scratched (with_size (T.tokenize_state.size + 1) T.tokenize_state) (done (Consume ∷ []) T))
+    else stepped (Retry LabelInside) T
+
+abbrev pub escape_step : Tokenizer → Stepped
+escape_step T = escape_at (current_of T) T
+
+-- When they may be called.
+
+pub record StartReady (T : Tokenizer) : Type 0 where
+  pub text : TextReady T
+  pub rest : rested T.tokenize_state ≡ T.tokenize_state
+
+pub record BreakReady (T : Tokenizer) : Type 0 where
+  pub text : TextReady T
+  pub stand_open : AreOpen T.tokenize_state.token_3 T.tokenize_state.token_1 T
+  pub small : T.tokenize_state.size ≤ 1001
+  pub linked : T.tokenize_state.connect ≡ true → LinkedBefore T
+
+pub record EolAfterReady (T : Tokenizer) : Type 0 where
+  pub text : TextReady T
+  pub stand_open : AreOpen T.tokenize_state.token_3 T.tokenize_state.token_1 T
+  pub small : T.tokenize_state.size ≤ 1001
+  pub linked : LinkedBefore T
+
+pub record InsideReady (T : Tokenizer) : Type 0 where
+  pub text : TextReady T
+  pub stand_open : T.stack ≡ N.Data ∷ T.tokenize_state.token_3 ∷ T.tokenize_state.token_1 ∷ drop 3 T.stack
+  pub small : T.tokenize_state.size ≤ 1001
+  pub connect : T.tokenize_state.connect ≡ true
+  pub linked : ends_open T.events ≡ true
+
+-- a backslash is passed, which is no whitespace
+pub record EscapeReady (T : Tokenizer) : Type 0 where
+  pub inside : InsideReady T
+  pub fits : T.tokenize_state.size ≤ 1000
+  pub seen : T.tokenize_state.seen ≡ true
+
+-- How runs end.
+
+abbrev pub start_ends : Tokenizer → Bool → Tokenizer → Type 0
+start_ends T ok U = EndsAs (label (names_in T.tokenize_state)) None T.tokenize_state T ok U
+
+-- the text from here on
+abbrev pub text_from : Bool → List Code → Option (List Code × List Code)
+text_from slash cs = escaped_from (is_value 93) (is_among (codes "[\\]")) (is_value 91) slash cs
+
+-- the rest of a label that has so many codes before, of which one is no whitespace, if `seen` says so
+abbrev pub fits : ℕ → Bool → List Code → Bool
+fits size seen text =
+    (seen || list_any (λ c. not (is_whitespace_code c)) text) && (nat_le (size + counted false text) 999 && ends_filled true text)
+
+-- in a stretch; `slash` says that a backslash stands before
+abbrev pub inside_program : StringNames → ℕ → Bool → Bool → Program
+inside_program names size seen slash cs = answer (fits size seen) inside_ops (ending names) (text_from slash cs)
+
+-- between two stretches
+abbrev pub break_program : StringNames → ℕ → Bool → Bool → Program
+break_program names size seen connect cs = answer (fits size seen) (break_ops connect) (ending names) (text_from false cs)
+
+abbrev pub at_break_ends : Tokenizer → Bool → Tokenizer → Type 0
+at_break_ends T ok U =
+    let s : TokenizeState = T.tokenize_state in
+    DoesAs 2 (break_program (names_in s) s.size s.seen s.connect) (rested s) T ok U
+
+abbrev pub eol_after_ends : Tokenizer → Bool → Tokenizer → Type 0
+eol_after_ends T ok U =
+    let s : TokenizeState = T.tokenize_state in
+    DoesAs 2 (break_program (names_in s) s.size s.seen true) (rested s) T ok U
+
+abbrev pub nok_ends : Tokenizer → Bool → Tokenizer → Type 0
+nok_ends T ok U = (ok ≡ false) × (U ≡ scratched (rested T.tokenize_state) T)
+
+abbrev pub inside_ends : Tokenizer → Bool → Tokenizer → Type 0
+inside_ends T ok U =
+    let s : TokenizeState = T.tokenize_state in
+    DoesAs 3 (inside_program (names_in s) s.size s.seen false) (rested s) T ok U
+
+abbrev pub escape_ends : Tokenizer → Bool → Tokenizer → Type 0
+escape_ends T ok U =
+    let s : TokenizeState = T.tokenize_state in
+    DoesAs 3 (inside_program (names_in s) s.size s.seen true) (rested s) T ok U

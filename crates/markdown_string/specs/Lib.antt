@@ -1,0 +1,5 @@
+pub mod LinkedOps
+pub mod Destination
+pub mod Text
+pub mod Title
+pub mod Label

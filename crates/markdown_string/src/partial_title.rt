@@ -1,0 +1,178 @@
+// Titles of resources and definitions.
+//
+// CommonMark 6.3: between two `"`, two `'`, or `(` and `)`, over several lines, none of which is blank. The names come from the scratch
+// fields.
+#![tactic(auto, using(markdown_engine::proofs::OpRules::law_rules), unfolding(markdown_engine::specs::Ops::scratched, markdown_engine::specs::Ops::attempted, markdown_engine::specs::Ops::frame_of))]
+
+ghost use Rattle.std.specs.Prelude.{◌≡◌, IfOk, OnErr, IsTrue, true};
+ghost use Rattle.markdown_engine.specs.Ops.{HasCode, IsOpen, LinkedBefore, current_of};
+ghost use Rattle.markdown_string.specs.Title.{opened, start_step, closed, begin_step, at_break_step, after_eol_step, nok_step, passing, inside_step, escape_step, BreakReady, InsideReady};
+
+use crate::linked_text::{ask_for_ending, enter_text};
+use markdown_engine::event::Name;
+use markdown_engine::state::{State, StateName};
+use markdown_engine::tokenizer::Tokenizer;
+use std::alloc::AllocError;
+
+// Passes the opening marker of a title that this code ends.
+fn open(tokenizer: &mut Tokenizer, closer: u8) -> Result<State, AllocError>
+    requires { HasCode tokenizer.old }
+    ensures ok { IfOk result (λ s. opened closer tokenizer.old ≡ record { state = s; left = tokenizer.new }) }
+    ensures err { OnErr result (IsTrue tokenizer.new.failed) }
+{
+    tokenizer.enter(tokenizer.tokenize_state.token_1)?;
+    tokenizer.enter(tokenizer.tokenize_state.token_2)?;
+    tokenizer.consume();
+    tokenizer.exit(tokenizer.tokenize_state.token_2)?;
+    tokenizer.tokenize_state.marker = closer;
+    Ok(State::Next(StateName::TitleBegin))
+}
+
+/// At the start of a title: its opening marker.
+///
+/// The error comes where a growth is refused; then `failed` is true.
+pub fn start(tokenizer: &mut Tokenizer) -> Result<State, AllocError>
+    ensures ok { IfOk result (λ s. start_step tokenizer.old ≡ record { state = s; left = tokenizer.new }) }
+    ensures err { OnErr result (IsTrue tokenizer.new.failed) }
+{
+    match tokenizer.current() {
+        Some(b'"') => open(tokenizer, b'"'),
+        Some(b'\'') => open(tokenizer, b'\''),
+        Some(b'(') => open(tokenizer, b')'),
+        _ => Ok(State::Nok),
+    }
+}
+
+// Passes the closing marker, and the title holds.
+fn close(tokenizer: &mut Tokenizer) -> Result<State, AllocError>
+    requires open { IsOpen tokenizer.old.tokenize_state.token_1 tokenizer.old }
+    requires code { HasCode tokenizer.old }
+    ensures ok { IfOk result (λ s. closed tokenizer.old ≡ record { state = s; left = tokenizer.new }) }
+    ensures err { OnErr result (IsTrue tokenizer.new.failed) }
+{
+    tokenizer.enter(tokenizer.tokenize_state.token_2)?;
+    tokenizer.consume();
+    tokenizer.exit(tokenizer.tokenize_state.token_2)?;
+    tokenizer.exit(tokenizer.tokenize_state.token_1)?;
+    tokenizer.tokenize_state.marker = 0;
+    tokenizer.tokenize_state.connect = false;
+    Ok(State::Ok)
+}
+
+/// After the opening marker: the text, or the closing marker.
+///
+/// The error comes where a growth is refused; then `failed` is true.
+pub fn begin(tokenizer: &mut Tokenizer) -> Result<State, AllocError>
+    requires { IsOpen tokenizer.old.tokenize_state.token_1 tokenizer.old }
+    ensures ok { IfOk result (λ s. begin_step tokenizer.old ≡ record { state = s; left = tokenizer.new }) }
+    ensures err { OnErr result (IsTrue tokenizer.new.failed) }
+{
+    match tokenizer.current() {
+        Some(code) if code == tokenizer.tokenize_state.marker => close(tokenizer),
+        _ => {
+            tokenizer.enter(tokenizer.tokenize_state.token_3)?;
+            Ok(State::Retry(StateName::TitleAtBreak))
+        }
+    }
+}
+
+// Passes a code of the text.
+fn pass(tokenizer: &mut Tokenizer, code: u8) -> State
+    requires { HasCode tokenizer.old }
+    ensures { passing code tokenizer.old ≡ record { state = result; left = tokenizer.new } }
+{
+    tokenizer.consume();
+    State::Next(if code == b'\\' {
+        StateName::TitleEscape
+    } else {
+        StateName::TitleInside
+    })
+}
+
+/// Between two stretches of the text: at the closing marker, a line ending or the end, or where data starts.
+///
+/// The error comes where a growth is refused; then `failed` is true.
+pub fn at_break(tokenizer: &mut Tokenizer) -> Result<State, AllocError>
+    requires { BreakReady tokenizer.old }
+    ensures ok { IfOk result (λ s. at_break_step tokenizer.old ≡ record { state = s; left = tokenizer.new }) }
+    ensures err { OnErr result (IsTrue tokenizer.new.failed) }
+{
+    match tokenizer.current() {
+        None => Ok(State::Retry(StateName::TitleNok)),
+        Some(code) if code == tokenizer.tokenize_state.marker => {
+            tokenizer.exit(tokenizer.tokenize_state.token_3)?;
+            close(tokenizer)
+        }
+        Some(b'\n') => {
+            let ending = ask_for_ending(tokenizer);
+            tokenizer.attempt(
+                State::Next(StateName::TitleAfterEol),
+                State::Next(StateName::TitleNok),
+            )?;
+            Ok(State::Retry(ending))
+        }
+        Some(code) => {
+            enter_text(tokenizer)?;
+            Ok(pass(tokenizer, code))
+        }
+    }
+}
+
+/// After a line ending and the blank codes behind it: the text goes on, with the same chain.
+///
+/// The error comes where a growth is refused; then `failed` is true.
+pub fn after_eol(tokenizer: &mut Tokenizer) -> Result<State, AllocError>
+    ensures ok { IfOk result (λ s. after_eol_step tokenizer.old ≡ record { state = s; left = tokenizer.new }) }
+    ensures err { OnErr result (IsTrue tokenizer.new.failed) }
+{
+    tokenizer.tokenize_state.connect = true;
+    Ok(State::Retry(StateName::TitleAtBreak))
+}
+
+/// The title does not hold: at the end, or at a blank line.
+///
+/// The error comes where a growth is refused; then `failed` is true.
+pub fn nok(tokenizer: &mut Tokenizer) -> Result<State, AllocError>
+    ensures ok { IfOk result (λ s. nok_step tokenizer.old ≡ record { state = s; left = tokenizer.new }) }
+    ensures err { OnErr result (IsTrue tokenizer.new.failed) }
+{
+    tokenizer.tokenize_state.marker = 0;
+    tokenizer.tokenize_state.connect = false;
+    Ok(State::Nok)
+}
+
+/// In a stretch of the text, which ends before the closing marker, a line ending or the end.
+///
+/// The error comes where a growth is refused; then `failed` is true.
+pub fn inside(tokenizer: &mut Tokenizer) -> Result<State, AllocError>
+    requires { InsideReady tokenizer.old }
+    ensures ok { IfOk result (λ s. inside_step tokenizer.old ≡ record { state = s; left = tokenizer.new }) }
+    ensures err { OnErr result (IsTrue tokenizer.new.failed) }
+{
+    match tokenizer.current() {
+        Some(code) if code != b'\n' && code != tokenizer.tokenize_state.marker => {
+            Ok(pass(tokenizer, code))
+        }
+        _ => {
+            tokenizer.exit(Name::Data)?;
+            Ok(State::Retry(StateName::TitleAtBreak))
+        }
+    }
+}
+
+/// After a backslash in the text: it may escape the code at hand.
+///
+/// The error comes where a growth is refused; then `failed` is true.
+pub fn escape(tokenizer: &mut Tokenizer) -> Result<State, AllocError>
+    requires { InsideReady tokenizer.old }
+    ensures ok { IfOk result (λ s. escape_step tokenizer.old ≡ record { state = s; left = tokenizer.new }) }
+    ensures err { OnErr result (IsTrue tokenizer.new.failed) }
+{
+    match tokenizer.current() {
+        Some(code) if code == b'\\' || code == tokenizer.tokenize_state.marker => {
+            tokenizer.consume();
+            Ok(State::Next(StateName::TitleInside))
+        }
+        _ => Ok(State::Retry(StateName::TitleInside)),
+    }
+}
