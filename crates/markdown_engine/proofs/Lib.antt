@@ -22,6 +22,8 @@ pub mod EditLemmas
 pub mod NestingLemmas
 pub mod ConnectLemmas
 pub mod RunLemmas
+pub mod RunIndexLemmas
+pub mod RunIndexFacts
 pub mod ReachLemmas
 pub mod OpRules
 pub mod Laws

@@ -11,6 +11,7 @@ pub mod Lists
 pub mod Chain
 pub mod Edits
 pub mod Nesting
+pub mod RunIndex
 pub mod Rest
 pub mod Begun
 pub mod Ops

@@ -1,9 +1,10 @@
 -- The scratch fields at rest.
 use Rattle.std.specs.Prelude.{false, [], None}
+use Rattle.markdown_engine.specs.RunIndex.{no_runs}
 use Rattle.markdown_engine.specs.declared.event.Name.TheVariants as N
 use Rattle.markdown_engine.specs.declared.tokenizer.TokenizeState.{TokenizeState}
 
--- all at rest, with no labels, no markers and no probes
+-- all at rest, with no labels, no markers, no probes and no known runs
 abbrev pub at_rest : TokenizeState
 at_rest = record {
   marker = 0;
@@ -33,5 +34,6 @@ at_rest = record {
   label_starts_loose = [];
   labels = [];
   probes = 0;
+  runs = no_runs;
   document_at_first_paragraph_of_list_item = false;
 }

@@ -85,6 +85,20 @@ impl<'a> Cursor<'a> {
         }
     }
 
+    /// Answers a second cursor at the content's start.
+    pub fn restart(&self) -> Cursor<'a>
+        ensures { result ≡ record self.now { at = 0 } }
+    {
+        Cursor::new(self.bytes, self.pieces)
+    }
+
+    /// Answers how many codes are passed.
+    pub fn passed(&self) -> usize
+        ensures { result ≡ self.now.at }
+    {
+        self.passed
+    }
+
     /// Answers the code at the place, `None` where the content ends.
     pub fn current(&self) -> Option<u8>
         ensures { result ≡ code_at self.now }

@@ -10,6 +10,7 @@ pub mod layer;
 pub mod parser;
 pub mod resolve;
 pub mod run;
+pub mod run_index;
 pub mod seq;
 pub mod state;
 pub mod subtokenize;

@@ -13,6 +13,7 @@ use crate::event::{Content, Event, Kind, Link, Name, Point};
 use crate::events::Events;
 use crate::parser::{ParseState, Piece};
 use crate::resolve::ResolveName;
+use crate::run_index::RunIndex;
 use crate::seq::{Seq, Stack};
 use crate::state::State;
 use crate::util::edit_map::EditMap;
@@ -86,7 +87,7 @@ impl Markers {
 }
 
 /// The scratch fields of the states: what one state leaves for another. Each is at rest between two constructs, but for the lists of
-/// labels, `markers`, `probes` and `document_at_first_paragraph_of_list_item`.
+/// labels, `markers`, `probes`, `runs` and `document_at_first_paragraph_of_list_item`.
 #[derive(Drop)]
 pub struct TokenizeState {
     /// The byte that a construct began with; 0 at rest.
@@ -143,12 +144,14 @@ pub struct TokenizeState {
     pub labels: Seq<Label>,
     /// The number of opener probes of attention.
     pub probes: u128,
+    /// Where the last runs of some bytes begin in the content; nothing is known at rest.
+    pub runs: RunIndex,
     /// Whether the content is the first paragraph of a list item.
     pub document_at_first_paragraph_of_list_item: bool,
 }
 
 impl TokenizeState {
-    /// All at rest: no labels, no markers, no probes.
+    /// All at rest: no labels, no markers, no probes, no known runs.
     pub fn new(alloc: Global) -> TokenizeState
         ensures { result ≡ at_rest }
     {
@@ -180,6 +183,7 @@ impl TokenizeState {
             label_starts_loose: Seq::new(alloc),
             labels: Seq::new(alloc),
             probes: 0,
+            runs: RunIndex::new(alloc),
             document_at_first_paragraph_of_list_item: false,
         }
     }

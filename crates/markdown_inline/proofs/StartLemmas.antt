@@ -1,15 +1,19 @@
 -- At the start of a content every construct may be read.
 use Rattle.std.proofs.Common.{◌≡◌, ℕ, ◌≤◌, true, false, Option, Some, None, is_some, List, refl, ap, sym, ◌∙◌, arith}
+use Rattle.markdown_engine.specs.Codes.{Code}
 use Rattle.markdown_engine.specs.Content.{IsContent}
 use Rattle.markdown_engine.specs.Ops.{Consume, applied, current_of, scratched}
 use Rattle.markdown_engine.specs.Place.{start_of_content}
 use Rattle.markdown_engine.specs.Rest.{at_rest}
+use Rattle.markdown_engine.specs.RunIndex.{LastRuns, last_runs, no_runs}
 use Rattle.markdown_engine.specs.Weights.{left_at, codes_left}
 use Rattle.markdown_engine.specs.declared.parser.Piece.{Piece}
 use Rattle.markdown_engine.specs.declared.event.Name.TheVariants as N
+use Rattle.markdown_engine.specs.declared.tokenizer.TokenizeState.{TokenizeState}
 use Rattle.markdown_engine.specs.declared.tokenizer.Tokenizer.{Tokenizer}
 use Rattle.markdown_engine.proofs.OpRules.{left-consumed}
 use Rattle.markdown_engine.proofs.Bounds.{codes-fit}
+use Rattle.markdown_engine.proofs.RunIndexFacts.{none-known}
 use Rattle.markdown_leaf.specs.RawText as X
 use Rattle.markdown_partial.proofs.AskedLaws.{asked-ready, eol-asked-ready}
 use Rattle.markdown_partial.specs.EolSteps as L
@@ -19,8 +23,12 @@ use Rattle.markdown_partial.specs.SpaceSteps.{most}
 pub start-fits : (bytes : List ℕ) (pieces : List Piece) (T : Tokenizer) → IsContent bytes pieces → T.cursor ≡ start_of_content bytes pieces → codes_left T ≤ most
 start-fits bytes pieces T k e = omega (arith, codes-fit bytes pieces k, ap left_at e)
 
+-- nothing is known of the runs
+pub unknown-runs : (s : TokenizeState) (cs : List Code) → s.runs ≡ no_runs → s.runs ≡ last_runs s.runs.asked cs
+unknown-runs s cs e = e ∙ none-known cs ∙ ap (λ (x : LastRuns). last_runs x.asked cs) (sym e)
+
 pub start-spans : (T : Tokenizer) → T.tokenize_state ≡ at_rest → codes_left T ≤ most → X.StartReady T
-start-spans T e fits = record { rest = e ∙ ap X.rested (sym e); fits = omega (arith, fits) }
+start-spans T e fits = record { rest = e ∙ ap X.rested (sym e); fits = omega (arith, fits); indexed = unknown-runs T.tokenize_state T.cursor.codes (ap (λ (s : TokenizeState). s.runs) e) }
 
 -- Whitespace that is asked for, where nothing is.
 

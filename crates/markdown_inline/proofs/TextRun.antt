@@ -24,11 +24,11 @@ use Rattle.markdown_inline.specs.Built.{IsBuilt, as_built}
 use Rattle.markdown_inline.specs.Elements.{Finishes}
 use Rattle.markdown_inline.specs.Resolve.{may_resolve_of, resolves_of}
 use Rattle.markdown_inline.specs.Settings.{text_setting_of}
-use Rattle.markdown_inline.specs.TextSteps.{StartReady, text_markers, text_marked, text_passed, text_choice_of, start_ends}
+use Rattle.markdown_inline.specs.TextSteps.{StartReady, marked_fields, text_marked, text_passed, text_choice_of, start_ends}
 use Rattle.markdown_inline.specs.Laws.TextTries.{built-off}
 use Rattle.markdown_inline.proofs.PassesRun.{breaks_on, text-trims}
 use Rattle.markdown_inline.proofs.RunEnds.{Starts, start-with, finished-may, finished-events, finished-fields, finished-elements}
-use Rattle.markdown_inline.proofs.StartLemmas.{start-fits}
+use Rattle.markdown_inline.proofs.StartLemmas.{start-fits, unknown-runs}
 use Rattle.markdown_inline.proofs.TextTree.{text-finished}
 
 -- The constructs that are not built.
@@ -68,16 +68,16 @@ pub text-ready : (p : ParseState) (pieces : List Piece) (first : Bool) (T : Toke
 text-ready p pieces first T content k =
     let fits : codes_left T ≤ most = start-fits p.bytes.now pieces T content k.place in
     record {
-      spans = record { rest = k.fields ∙ sym (ap X.rested k.fields); fits = omega (arith, fits) };
+      spans = record { rest = k.fields ∙ sym (ap X.rested k.fields); fits = omega (arith, fits); indexed = unknown-runs T.tokenize_state T.cursor.codes (ap (λ (s : TokenizeState). s.runs) k.fields) };
       look = record { resting = ap W.rested k.fields ∙ sym k.fields; short = fits };
     }
 
--- where data stops at the markers of a text
-marked-start : (p : ParseState) (pieces : List Piece) (first : Bool) (T : Tokenizer) → text_start p pieces first T → Starts p pieces (record (text_fields first) { markers = text_markers }) (text_marked T)
+-- where data stops at the markers of a text, and where the runs of its spans stand
+marked-start : (p : ParseState) (pieces : List Piece) (first : Bool) (T : Tokenizer) → text_start p pieces first T → Starts p pieces (marked_fields T.cursor.codes (text_fields first)) (text_marked T)
 unfolding scratched
 marked-start p pieces first T k =
-    let m : Starts p pieces (record T.tokenize_state { markers = text_markers }) (text_marked T) = start-with p pieces (text_fields first) (record T.tokenize_state { markers = text_markers }) T k in
-    subst (λ (s : TokenizeState). Starts p pieces (record s { markers = text_markers }) (text_marked T)) k.fields m
+    let m : Starts p pieces (marked_fields T.cursor.codes T.tokenize_state) (text_marked T) = start-with p pieces (text_fields first) (marked_fields T.cursor.codes T.tokenize_state) T k in
+    subst (λ (s : TokenizeState). Starts p pieces (marked_fields T.cursor.codes s) (text_marked T)) k.fields m
 
 module _ (p : ParseState) (pieces : List Piece) (first : Bool) (content : IsContent p.bytes.now pieces) (T U : Tokenizer) (start : text_start p pieces first T) where
   abbrev M : Tokenizer
@@ -105,7 +105,7 @@ module _ (p : ParseState) (pieces : List Piece) (first : Bool) (content : IsCont
   pub text-run : (ok : Bool) (V : Tokenizer) → start_ends T ok U → Resolves resolves_of U.resolvers (unregistered U) V → chained V.events ≡ text_events (as_built (text_setting_of p first)) pieces
   text-run ok V k r =
       let e : Finishes (text_choice_of M) (Unit {0}) text_passed M U = ended ok k in
-      let m : Starts p pieces (record (text_fields first) { markers = text_markers }) M = marked-start p pieces first T start in
+      let m : Starts p pieces (marked_fields T.cursor.codes (text_fields first)) M = marked-start p pieces first T start in
       let found = finished-elements R.Text breaks_on true text-trims (text_choice_of M) (Unit {0}) p pieces content _ M U m e tt in
       let are : AreElements (as_built (text_setting_of p first)) (content_of p.bytes.now pieces) found.0 = subst (λ c. AreElementsFrom c [] None (content_of p.bytes.now pieces) found.0) choice-is found.1.0 in
       finished-events R.Text breaks_on true text-trims (text_choice_of M) (Unit {0}) p pieces content _ M U m e V r

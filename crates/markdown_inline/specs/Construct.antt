@@ -24,9 +24,9 @@ use Rattle.markdown_string.specs.Text as SX
 use Rattle.markdown_util.specs.Reference.{html_5_rows}
 
 -- The states that start a construct, each with what it asks for: the scratch fields that it counts in are at rest. A span, and whitespace
--- with a line ending, ask that fewer codes are left than a `usize` counts, which holds over every content. Whitespace has the fields of what
--- it reads as its setter leaves them: where it is to go on with a chain, a linked event stands just before, and where whitespace with a line
--- ending is linked, no blank code is at hand.
+-- with a line ending, ask that fewer codes are left than a `usize` counts, which holds over every content; a span also that what is known of
+-- the runs is right. Whitespace has the fields of what it reads as its setter leaves them: where it is to go on with a chain, a linked event
+-- stands just before, and where whitespace with a line ending is linked, no blank code is at hand.
 abbrev pub IsConstruct : StateName → Tokenizer → Type 0
 IsConstruct CharacterEscapeStart T = Unit {0}
 IsConstruct CharacterReferenceStart T = R.IsAtRest T

@@ -2,11 +2,13 @@
 use Rattle.std.specs.Prelude.{◌≡◌, ◌≢◌, ℕ, Bool, true, false, ◌==◌, ◌||◌, if◌then◌else◌, List, [], ◌∷◌, Option, Some, None}
 use Rattle.markdown_engine.specs.Codes.{Code}
 use Rattle.markdown_engine.specs.Ops.{attempted, scratched, registered, current_of, ahead}
+use Rattle.markdown_engine.specs.RunIndex.{last_runs}
 use Rattle.markdown_engine.specs.Runs.{Stepped, stepped}
 use Rattle.markdown_engine.specs.declared.resolve.ResolveName.TheVariants as R
 use Rattle.markdown_engine.specs.declared.state.State.TheVariants.{Next, Retry, Ok, Nok}
 use Rattle.markdown_engine.specs.declared.state.StateName.{StateName}
 use Rattle.markdown_engine.specs.declared.state.StateName.TheVariants.{AttentionStart, AutolinkStart, CharacterEscapeStart, CharacterReferenceStart, DataStart, GfmAutolinkLiteralProtocolStart, GfmAutolinkLiteralWwwStart, GfmLabelStartFootnoteStart, GfmTaskListItemCheckStart, HardBreakEscapeStart, HtmlTextStart, LabelEndStart, LabelStartImageStart, LabelStartLinkStart, RawTextStart, TextBefore, TextBeforeData, TextBeforeHardBreakEscape, TextBeforeHtml, TextBeforeLabelStartLink}
+use Rattle.markdown_engine.specs.declared.tokenizer.TokenizeState.{TokenizeState}
 use Rattle.markdown_engine.specs.declared.tokenizer.Tokenizer.{Tokenizer}
 use Rattle.markdown_gfm.specs.GfmTaskListItemCheck as C
 use Rattle.markdown_leaf.specs.Autolink.{link_here}
@@ -24,8 +26,16 @@ use Rattle.markdown_inline.specs.Settings.{text_setting_of}
 abbrev pub text_markers : List ℕ
 text_markers = 33 ∷ 36 ∷ 96 ∷ 38 ∷ 42 ∷ 95 ∷ 126 ∷ 60 ∷ 72 ∷ 104 ∷ 87 ∷ 119 ∷ 91 ∷ 92 ∷ 93 ∷ []
 
+-- the codes whose runs close spans
+abbrev pub span_markers : List ℕ
+span_markers = 96 ∷ 36 ∷ []
+
+-- the scratch fields of a text of these codes: where data stops, and where the last runs begin at which spans may close
+abbrev pub marked_fields : List Code → TokenizeState → TokenizeState
+marked_fields cs s = record s { markers = text_markers; runs = last_runs span_markers cs }
+
 abbrev pub text_marked : Tokenizer → Tokenizer
-text_marked T = scratched (record T.tokenize_state { markers = text_markers }) T
+text_marked T = scratched (marked_fields T.cursor.codes T.tokenize_state) T
 
 -- a construct is tried, from this state, and where it does not hold the run goes on with another
 abbrev pub trying : StateName → StateName → Tokenizer → Stepped
@@ -91,7 +101,8 @@ pub record StartReady (T : Tokenizer) : Type 0 where
   pub spans : X.StartReady T
   pub look : C.MayLook T
 
--- data stops at the markers of a text, and the fields in which spans, references and autolinks count are at rest, and those of whitespace
+-- data stops at the markers of a text, the fields in which spans, references and autolinks count are at rest, and those of whitespace, and
+-- what is known of the runs is right
 pub record IsMarked (T : Tokenizer) : Type 0 where
   pub markers : T.tokenize_state.markers ≡ text_markers
   pub spans : X.StartReady T

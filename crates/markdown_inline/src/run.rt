@@ -122,7 +122,8 @@ fn put_back<'a>(
 ///
 /// The scratch fields that a construct counts in are at rest before, as they are in a new tokenizer. Where a construct counts codes, or reads
 /// whitespace, it asks that fewer are left than a `usize` counts, which holds over every content: it has at most four codes for each byte.
-/// Whitespace that is to be connected asks for a linked event just before, and with a line ending for a content too; and where whitespace with
+/// `RawTextStart` also asks that the scratch field `runs` is right for the content; in a new tokenizer nothing is known there. Whitespace that
+/// is to be connected asks for a linked event just before, and with a line ending for a content too; and where whitespace with
 /// a line ending has a content, no blank code is at hand.
 pub fn construct(name: StateName, tokenizer: &mut Tokenizer) -> Result<bool, AllocError>
     requires construct { IsConstruct name tokenizer.old }

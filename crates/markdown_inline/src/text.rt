@@ -1,11 +1,14 @@
 //! Text content: what stands in paragraphs and headings.
 #![tactic(auto, using(markdown_engine::proofs::OpRules::op_rules))]
 
-ghost use Rattle.std.specs.Prelude.{◌≡◌, IfOk, OnErr, IsTrue, None, true};
+ghost use Rattle.std.specs.Prelude.{◌≡◌, IfOk, OnOk, OnErr, IsTrue, None, true};
+ghost use Rattle.markdown_engine.specs.Ops.{scratched};
+ghost use Rattle.markdown_engine.specs.RunIndex.{last_runs};
 ghost use Rattle.markdown_inline.specs.Resolve.{MayTrim, TrimsData};
-ghost use Rattle.markdown_inline.specs.TextSteps.{first_try, trying, start_step, before_step, before_html_step, before_hard_break_escape_step, before_label_start_link_step, before_data_step};
+ghost use Rattle.markdown_inline.specs.TextSteps.{span_markers, first_try, trying, start_step, before_step, before_html_step, before_hard_break_escape_step, before_label_start_link_step, before_data_step};
 
 use markdown_engine::resolve::ResolveName;
+use markdown_engine::run_index::RunIndex;
 use markdown_engine::state::{State, StateName};
 use markdown_engine::subtokenize::Subresult;
 use markdown_engine::tokenizer::{Markers, Tokenizer};
@@ -16,6 +19,9 @@ use std::alloc::AllocError;
 const MARKERS: [u8; 15] = [
     b'!', b'$', b'`', b'&', b'*', b'_', b'~', b'<', b'H', b'h', b'W', b'w', b'[', b'\\', b']',
 ];
+
+// The bytes whose runs close spans.
+const SPAN_MARKERS: [u8; 2] = [b'`', b'$'];
 
 // Answers the start of what is tried first at this byte, and the state to go on with where that does not hold.
 fn first_try(byte: u8) -> Option<(StateName, StateName)>
@@ -64,7 +70,27 @@ fn attempt(
     Ok(State::Retry(construct))
 }
 
+// Makes known where the last runs begin at which spans may close.
+#[tactic(auto, unfolding(markdown_engine::specs::Ops::scratched))]
+fn index_runs(tokenizer: &mut Tokenizer) -> Result<(), AllocError>
+    ensures ok { OnOk result (tokenizer.new ≡ scratched (record tokenizer.old.tokenize_state { runs = last_runs span_markers tokenizer.old.cursor.codes }) tokenizer.old) }
+    ensures err { OnErr result (IsTrue tokenizer.new.failed) }
+{
+    match RunIndex::over(tokenizer.alloc, &tokenizer.cursor, &SPAN_MARKERS) {
+        Ok(runs) => {
+            tokenizer.tokenize_state.runs = runs;
+            Ok(())
+        }
+        Err(refused) => {
+            tokenizer.fail();
+            Err(refused)
+        }
+    }
+}
+
 /// At the start of a text, where the check of a task may stand.
+///
+/// One walk over the content finds the runs at which spans may close, so that none is looked for in vain.
 ///
 /// The error comes where a growth is refused; then `failed` is true.
 #[tactic(auto, using(markdown_engine::proofs::OpRules::op_rules), unfolding(markdown_engine::specs::Ops::scratched))]
@@ -73,6 +99,7 @@ pub fn start(tokenizer: &mut Tokenizer) -> Result<State, AllocError>
     ensures err { OnErr result (IsTrue tokenizer.new.failed) }
 {
     tokenizer.tokenize_state.markers = Markers::new(&MARKERS);
+    index_runs(tokenizer)?;
     attempt(
         tokenizer,
         StateName::GfmTaskListItemCheckStart,

@@ -11,6 +11,7 @@ pub mod RenamingLemmas
 pub mod NamingLemmas
 pub mod RawTextReadings
 pub mod RawTextWhole
+pub mod ClosingLemmas
 pub mod RawTextReady
 pub mod RawTextLaws
 pub mod AutolinkReadings

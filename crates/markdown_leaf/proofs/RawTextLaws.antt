@@ -1,5 +1,5 @@
 -- The laws of the states of code spans and math spans.
-use Rattle.std.proofs.Common.{◌≡◌, ℕ, ◌+◌, ◌≤◌, ◌==◌, ◌&&◌, ◌||◌, not, Bool, true, false, Option, Some, None, List, [], ◌∷◌, length, drop, refl, sym, ap, subst, ◌∙◌, arith}
+use Rattle.std.proofs.Common.{◌≡◌, ℕ, ◌+◌, ◌≤◌, ◌==◌, ◌&&◌, ◌||◌, not, if◌then◌else◌, Bool, true, false, Option, Some, None, List, [], ◌∷◌, length, drop, refl, sym, ap, subst, ◌∙◌, arith}
 use Rattle.markdown_engine.specs.Codes.{Code}
 use Rattle.markdown_engine.specs.Lists.{rest_of}
 use Rattle.markdown_engine.specs.Ops.{Op, Enter, Exit, Consume, current_of, ahead, applied, done, scratched}
@@ -18,14 +18,15 @@ use Rattle.markdown_engine.proofs.OpRules.{ahead-none, ahead-some, Begins, some-
 use Rattle.markdown_model.specs.CodeTests.{is_value, is_some_code, next_is}
 use Rattle.markdown_model.specs.Leaf.{SpanNames, code_names, math_names}
 use Rattle.markdown_leaf.specs.Program.{Program, preceded, program_of, KeepsAs}
-use Rattle.markdown_leaf.specs.RawText.{names_in, begun, rested, with_size, with_size_b, is_same, is_barred, follows_escape, code_just_before, code_is_on, math_is_on, single_dollar, opened, start_at, start_step, after_opening, sequence_open_at, sequence_open_step, between_at, between_step, after_data, data_at, data_step, after_run, sequence_close_at, sequence_close_step, StartReady, SequenceOpenReady, BetweenReady, DataReady, SequenceCloseReady, span_at, inside_program, is_data, data_program, run_naming, opening_program, start_ends, sequence_open_ends, between_ends, data_ends, sequence_close_ends}
+use Rattle.markdown_leaf.specs.RawText.{names_in, begun, rested, with_size, with_size_b, is_same, is_barred, follows_escape, code_just_before, code_is_on, math_is_on, single_dollar, opened, start_at, start_step, after_opening, sequence_open_at, sequence_open_step, between_at, between_step, after_data, data_at, data_step, after_run, sequence_close_at, sequence_close_step, StartReady, SequenceOpenReady, BetweenReady, DataReady, SequenceCloseReady, span_at, is_hopeless, closed_ops, inside_program, is_data, data_program, run_naming, opening_program, start_ends, sequence_open_ends, between_ends, data_ends, sequence_close_ends}
 use Rattle.markdown_leaf.specs.Renaming.{Naming, renamed}
+use Rattle.markdown_leaf.proofs.ClosingLemmas.{hopeless-none}
 use Rattle.markdown_leaf.proofs.NamingLemmas.{Goes-entered, Goes-inside, Goes-settled, Goes-named}
 use Rattle.markdown_leaf.proofs.ProgramLemmas.{GoesOn-map, Goes-on, Goes-kept, Goes-nok, Goes-no, EndsAs-program}
 use Rattle.markdown_leaf.proofs.RawTextReadings.{inside-none, inside-ending, inside-data, inside-run, data-more, data-end, run-more, run-closed, run-other, open-more, open-end, code-opens, math-opens-here, no-span}
 use Rattle.markdown_leaf.proofs.RawTextReady.{start-opened, opened-more, opened-between, between-ending, between-data, between-run, data-next, data-between, run-next, run-between, opening-says}
 use Rattle.markdown_leaf.proofs.RawTextWhole.{whole-here}
-use Rattle.markdown_model.proofs.ReadingSteps.{and-left, and-right, if-true, if-false}
+use Rattle.markdown_model.proofs.ReadingSteps.{and-left, and-right, if-true}
 use Rattle.markdown_leaf.proofs.WholeReadings.{Gives, Covers, Gives-either}
 
 -- what the layer says of these states
@@ -49,6 +50,10 @@ or-false : (a b : Bool) → a ≡ false → b ≡ false → not (a || b) ≡ tru
 or-false false false e f = refl
 or-false true b e f = cc
 or-false false true e f = cc
+
+or-left : (a b : Bool) → (a || b) ≡ false → a ≡ false
+or-left false b e = refl
+or-left true b e = cc
 
 free-is : (e : Bool) (m : ℕ) (o : Option Code) → not (is_same m (value_of o) && not e) ≡ (e || not (is_some_code (is_value m) o))
 free-is true m None = refl
@@ -169,6 +174,11 @@ module _ (ready : StateName → Tokenizer → Type 0) (ends : StateName → Toke
 
   -- The opening run.
 
+  -- nothing closes where the run is too short or hopeless
+  none-opened : (T : Tokenizer) → SequenceOpenReady T → next_is (is_value T.tokenize_state.marker) (ahead T) ≡ false → (short : Bool) → (short || is_hopeless T) ≡ true → (if not short then preceded (Exit T.tokenize_state.token_2 ∷ []) (inside_program T.tokenize_state.marker (names_in T.tokenize_state) T.tokenize_state.size (ahead T)) else None) ≡ None
+  none-opened T k h true e = refl
+  none-opened T k h false e = ap (λ o. preceded (Exit T.tokenize_state.token_2 ∷ []) (closed_ops (names_in T.tokenize_state) o)) (hopeless-none T k.marker k.indexed e h)
+
   run-opened : (T : Tokenizer) → T.attempts ≡ [] → SequenceOpenReady T → next_is (is_value T.tokenize_state.marker) (ahead T) ≡ false → GoesOn ready ends weight (weight_at 3 T) (sequence_open_ends T) (after_opening T)
   unfolding scratched applied
   run-opened T alone k h =
@@ -177,10 +187,11 @@ module _ (ready : StateName → Tokenizer → Type 0) (ends : StateName → Toke
       let p : Program = opening_program (single_dollar T) m (names_in s) s.size in
       let P : Stepped → Type 0 = GoesOn ready ends weight (weight_at 3 T) (sequence_open_ends T) in
       let end = open-end (single_dollar T) m (names_in s) s.size (ahead T) h in
-      if-step P (m == 36 && (s.size == 1 && not (single_dollar T))) _ _
-      (λ g. Goes-nok ready ends weight 3 2 p (rested s) T alone (end ∙ if-false _ _ _ (ap not g)))
+      let short : Bool = m == 36 && (s.size == 1 && not (single_dollar T)) in
+      if-step P (short || is_hopeless T) _ _
+      (λ g. Goes-nok ready ends weight 3 2 p (rested s) T alone (end ∙ none-opened T k h short g))
       (λ g. Goes-kept ready ends weight 3 2 2 p (inside_program m (names_in s) s.size) (Exit s.token_2 ∷ []) (rested s) T (Retry RawTextBetween) alone refl (omega arith) (omega arith)
-      (end ∙ if-true _ _ _ (ap not g))
+      (end ∙ if-true _ _ _ (ap not (or-left short (is_hopeless T) g)))
       (within.between_ready _ (opened-between T k))
       (within.between_weight _)
       (λ ok U x. within.between_end _ ok U x))

@@ -45,7 +45,7 @@ not-left : (a b : Bool) → not (a || b) ≡ true → a ≡ false
 not-left true b e = cc
 not-left false b e = refl
 
-not-right : (a b : Bool) → not (a || b) ≡ true → b ≡ false
+pub not-right : (a b : Bool) → not (a || b) ≡ true → b ≡ false
 not-right true b e = cc
 not-right false true e = cc
 not-right false false e = refl
@@ -58,7 +58,7 @@ and-second false b e = cc
 pub other-value : (v m n : ℕ) → (m == n) ≡ false → (v == m) ≡ true → (v == n) ≡ false
 other-value v m n e h = ap (λ k. k == n) (eqb-true v m h) ∙ e
 
-flipped : (a b : ℕ) → (a == b) ≡ false → (b == a) ≡ false
+pub flipped : (a b : ℕ) → (a == b) ≡ false → (b == a) ≡ false
 flipped a b e = grind (arith, common_steps)
 
 pub one-more : (cs : List Code) (c : Code) → length (c ∷ cs) ≡ 1 + length cs
@@ -107,10 +107,10 @@ module _ (m : ℕ) (names : SpanNames) (size : ℕ) where
   not-newline : (m == 10) ≡ false → (c : Code) → is_value m c ≡ true → is_line_ending c ≡ false
   not-newline e c h = other-value c.value m 10 e h
 
-  agree-marker : (m == 10) ≡ false → (c d : Code) → is_value m c ≡ true → joins (is_value m) c d ≡ is_value m d
+  pub agree-marker : (m == 10) ≡ false → (c d : Code) → is_value m c ≡ true → joins (is_value m) c d ≡ is_value m d
   agree-marker e c d h = joined-value (is_line_ending c) (is_line_ending d) (is_value m c) (is_value m d) h (not-newline e c h) (λ k. not-newline e d k)
 
-  agree-data : (c d : Code) → is_data m names size c ≡ true → joins (is_value m) c d ≡ is_data m names size d
+  pub agree-data : (c d : Code) → is_data m names size c ≡ true → joins (is_value m) c d ≡ is_data m names size d
   agree-data c d h = joined-data (is_line_ending c) (is_line_ending d) (is_value m c) (is_value m d) h
 
   text-leaf : (c : Code) (front : List Code) → is_line_ending c ≡ false → line_leaf names.text None (c ∷ front) ≡ leaf_then names.text None (c ∷ front) empty
@@ -119,7 +119,7 @@ module _ (m : ℕ) (names : SpanNames) (size : ℕ) where
   ending-leaf : (c : Code) (front : List Code) → is_line_ending c ≡ true → line_leaf names.text None (c ∷ front) ≡ leaf_then N.LineEnding None (c ∷ front) empty
   ending-leaf c front e = rw (e, line_leaf) refl
 
-  ending-alone : (c : Code) (cs : List Code) → is_line_ending c ≡ true → next_is (joins (is_value m) c) cs ≡ false
+  pub ending-alone : (c : Code) (cs : List Code) → is_line_ending c ≡ true → next_is (joins (is_value m) c) cs ≡ false
   ending-alone c [] e = refl
   ending-alone c (d ∷ ds) e = joined-ending (is_line_ending c) (is_line_ending d) (is_value m c) (is_value m d) e
 

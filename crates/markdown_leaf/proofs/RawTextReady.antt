@@ -2,7 +2,9 @@
 use Rattle.std.proofs.Common.{◌≡◌, ℕ, ◌+◌, ◌<◌, ◌≤◌, ◌==◌, Bool, false, List, [], ◌∷◌, length, drop, refl, sym, ap, subst, ◌∙◌, arith}
 use Rattle.std.proofs.lemmas.Grind.{common_steps}
 use Rattle.markdown_engine.specs.Lists.{rest_of}
-use Rattle.markdown_engine.specs.Ops.{Op, Enter, Exit, Consume, ahead, applied, done, scratched, moves}
+use Rattle.markdown_engine.specs.Ops.{Op, Enter, Exit, EnterLink, EnterConnected, Consume, ahead, applied, done, scratched, moves}
+use Rattle.markdown_engine.specs.Place.{moved}
+use Rattle.markdown_engine.specs.RunIndex.{LastRuns, last_runs}
 use Rattle.markdown_engine.specs.Weights.{codes_left}
 use Rattle.markdown_engine.specs.declared.event.Name.{Name}
 use Rattle.markdown_engine.specs.declared.event.Name.TheVariants as N
@@ -13,7 +15,7 @@ use Rattle.markdown_engine.proofs.OpsLemmas.{left-done}
 use Rattle.markdown_model.specs.Leaf.{SpanNames}
 use Rattle.markdown_leaf.proofs.NamingLemmas.{renamed-entered, renamed-consumed, renamed-scratched}
 use Rattle.markdown_leaf.specs.Program.{DoesAs}
-use Rattle.markdown_leaf.specs.RawText.{begun, rested, with_size, with_size_b, Fits, StartReady, SequenceOpenReady, BetweenReady, DataReady, SequenceCloseReady, single_dollar, opening_program, sequence_open_ends}
+use Rattle.markdown_leaf.specs.RawText.{begun, rested, with_size, with_size_b, Fits, IsIndexed, StartReady, SequenceOpenReady, BetweenReady, DataReady, SequenceCloseReady, single_dollar, opening_program, sequence_open_ends}
 use Rattle.markdown_leaf.specs.Renaming.{renamed}
 
 second-open : (xs : List Name) (a b : Name) → xs ≡ a ∷ b ∷ drop 2 xs → rest_of xs ≡ b ∷ rest_of (rest_of xs)
@@ -29,15 +31,34 @@ pub some-event : (T : Tokenizer) (m : Name) → 0 < length (applied (Enter m) T)
 unfolding applied
 some-event T m = grind (arith, common_steps)
 
+-- the codes stay the same
+codes-applied : (o : Op) (T : Tokenizer) → (applied o T).cursor.codes ≡ T.cursor.codes
+unfolding applied moved
+codes-applied (Enter n) T = refl
+codes-applied (Exit n) T = refl
+codes-applied (EnterLink n c) T = refl
+codes-applied (EnterConnected n c) T = refl
+codes-applied Consume T = refl
+
+codes-done : (os : List Op) (T : Tokenizer) → (done os T).cursor.codes ≡ T.cursor.codes
+codes-done [] T = refl
+codes-done (o ∷ os) T = codes-done os (applied o T) ∙ codes-applied o T
+
+-- what was right stays right
+indexed-after : (os : List Op) (r : TokenizeState) (T : Tokenizer) → r.runs ≡ T.tokenize_state.runs → IsIndexed T → IsIndexed (scratched r (done os T))
+unfolding scratched
+indexed-after os r T same k =
+    same ∙ k ∙ ap (λ (x : LastRuns). last_runs x.asked T.cursor.codes) (sym same) ∙ ap (λ cs. last_runs r.runs.asked cs) (sym (codes-done os T))
+
 pub start-opened : (m : ℕ) (names : SpanNames) (T : Tokenizer) → (m == 10) ≡ false → 1 ≤ length (ahead T) → StartReady T → SequenceOpenReady (scratched (begun m names T.tokenize_state) (done (Enter names.whole ∷ Enter names.sequence ∷ Consume ∷ []) T))
 unfolding scratched applied
 start-opened m names T h within k =
-    record { marker = h; stand_open = refl; fits = fits-after 1 0 (Enter names.whole ∷ Enter names.sequence ∷ Consume ∷ []) (begun m names T.tokenize_state) T T refl within (omega arith) k.fits }
+    record { marker = h; stand_open = refl; fits = fits-after 1 0 (Enter names.whole ∷ Enter names.sequence ∷ Consume ∷ []) (begun m names T.tokenize_state) T T refl within (omega arith) k.fits; indexed = indexed-after (Enter names.whole ∷ Enter names.sequence ∷ Consume ∷ []) (begun m names T.tokenize_state) T refl k.indexed }
 
 pub opened-more : (T : Tokenizer) → 1 ≤ length (ahead T) → SequenceOpenReady T → SequenceOpenReady (scratched (with_size (T.tokenize_state.size + 1) T.tokenize_state) (done (Consume ∷ []) T))
 unfolding scratched applied
 opened-more T within k =
-    record { marker = k.marker; stand_open = k.stand_open; fits = fits-after (T.tokenize_state.size + 1) T.tokenize_state.size (Consume ∷ []) (with_size (T.tokenize_state.size + 1) T.tokenize_state) T T refl within (omega arith) k.fits }
+    record { marker = k.marker; stand_open = k.stand_open; fits = fits-after (T.tokenize_state.size + 1) T.tokenize_state.size (Consume ∷ []) (with_size (T.tokenize_state.size + 1) T.tokenize_state) T T refl within (omega arith) k.fits; indexed = indexed-after (Consume ∷ []) (with_size (T.tokenize_state.size + 1) T.tokenize_state) T refl k.indexed }
 
 pub opened-between : (T : Tokenizer) → SequenceOpenReady T → BetweenReady (done (Exit T.tokenize_state.token_2 ∷ []) T)
 unfolding applied

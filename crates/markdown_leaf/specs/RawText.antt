@@ -4,6 +4,7 @@ use Rattle.markdown_engine.specs.Codes.{Code, is_line_ending}
 use Rattle.markdown_engine.specs.Ops.{Op, Enter, Exit, Consume, IsOpen, done, current_of, previous_of, scratched}
 use Rattle.markdown_engine.specs.Past.{EndsAs, TreeReading}
 use Rattle.markdown_engine.specs.Place.{last_of}
+use Rattle.markdown_engine.specs.RunIndex.{last_runs, rules_out}
 use Rattle.markdown_engine.specs.Runs.{Stepped, stepped}
 use Rattle.markdown_engine.specs.Tree.{◌⊕◌, leaf}
 use Rattle.markdown_engine.specs.TreeOps.{consumes, ops_of}
@@ -99,9 +100,13 @@ start_step T = start_at (current_of T) T
 abbrev pub is_too_short : Bool → TokenizeState → Bool
 is_too_short single s = s.marker == 36 && (s.size == 1 && not single)
 
+-- past the opening run: it is known that no run of its size follows
+abbrev pub is_hopeless : Tokenizer → Bool
+is_hopeless T = rules_out T.tokenize_state.runs T.tokenize_state.marker T.tokenize_state.size T.cursor.at
+
 abbrev pub after_opening : Tokenizer → Stepped
 after_opening T =
-    if is_too_short (single_dollar T) T.tokenize_state then stepped Nok (scratched (rested T.tokenize_state) T)
+    if is_too_short (single_dollar T) T.tokenize_state || is_hopeless T then stepped Nok (scratched (rested T.tokenize_state) T)
     else stepped (Retry RawTextBetween) (done (Exit T.tokenize_state.token_2 ∷ []) T)
 
 abbrev pub sequence_open_at : Option ℕ → Tokenizer → Stepped
@@ -163,9 +168,14 @@ Fits n T = n + codes_left T < 2 ^ 64
 abbrev pub AreOpen : Name → Name → Tokenizer → Type 0
 AreOpen n m T = T.stack ≡ n ∷ m ∷ drop 2 T.stack
 
+-- what is known of the runs is right; nothing is known where no byte was asked for
+abbrev pub IsIndexed : Tokenizer → Type 0
+IsIndexed T = T.tokenize_state.runs ≡ last_runs T.tokenize_state.runs.asked T.cursor.codes
+
 pub record StartReady (T : Tokenizer) : Type 0 where
   pub rest : T.tokenize_state ≡ rested T.tokenize_state
   pub fits : Fits 0 T
+  pub indexed : IsIndexed T
 
 -- the marker is no line ending
 abbrev pub HasMarker : Tokenizer → Type 0
@@ -175,6 +185,7 @@ pub record SequenceOpenReady (T : Tokenizer) : Type 0 where
   pub marker : HasMarker T
   pub stand_open : AreOpen T.tokenize_state.token_2 T.tokenize_state.token_1 T
   pub fits : Fits T.tokenize_state.size T
+  pub indexed : IsIndexed T
 
 pub record BetweenReady (T : Tokenizer) : Type 0 where
   pub marker : HasMarker T

@@ -6,7 +6,7 @@
 
 ghost use Rattle.std.specs.Prelude.{◌≡◌, IfOk, OnErr, IsTrue};
 ghost use Rattle.markdown_engine.specs.Ops.{HasCode, scratched};
-ghost use Rattle.markdown_leaf.specs.RawText.{start_step, sequence_open_step, between_step, data_step, sequence_close_step, after_opening, after_run, opened, is_barred, ends_escape, follows_escape, rested, names_in, SequenceOpenReady, BetweenReady, DataReady, SequenceCloseReady};
+ghost use Rattle.markdown_leaf.specs.RawText.{start_step, sequence_open_step, between_step, data_step, sequence_close_step, after_opening, after_run, opened, is_barred, is_hopeless, ends_escape, follows_escape, rested, names_in, SequenceOpenReady, BetweenReady, DataReady, SequenceCloseReady};
 
 use crate::renaming::rename_entered;
 use markdown_engine::event::{Event, Kind, Name};
@@ -102,15 +102,26 @@ pub fn start(tokenizer: &mut Tokenizer) -> Result<State, AllocError>
     }
 }
 
-// After the opening run: it has to be long enough.
+// Whether it is known that no run as long as the opening one follows.
+fn is_hopeless(tokenizer: &Tokenizer) -> bool
+    ensures { result ≡ is_hopeless tokenizer.now }
+{
+    let fields = &tokenizer.tokenize_state;
+    fields
+        .runs
+        .rules_out(fields.marker, fields.size, tokenizer.cursor.passed())
+}
+
+// After the opening run: it has to be long enough, and a run as long may have to follow.
 fn after_opening(tokenizer: &mut Tokenizer) -> Result<State, AllocError>
     requires { SequenceOpenReady tokenizer.old }
     ensures ok { IfOk result (λ s. after_opening tokenizer.old ≡ record { state = s; left = tokenizer.new }) }
     ensures err { OnErr result (IsTrue tokenizer.new.failed) }
 {
-    if tokenizer.tokenize_state.marker == b'$'
+    if (tokenizer.tokenize_state.marker == b'$'
         && tokenizer.tokenize_state.size == 1
-        && !tokenizer.parse_state.options.math_text_single_dollar
+        && !tokenizer.parse_state.options.math_text_single_dollar)
+        || is_hopeless(tokenizer)
     {
         rest(tokenizer);
         Ok(State::Nok)

@@ -8,6 +8,7 @@ use Rattle.markdown_engine.specs.Codes.{Code}
 use Rattle.markdown_engine.specs.Ops.{ahead, current_of, registered, scratched, previous_of}
 use Rattle.markdown_engine.specs.Past.{past, moved_by, EndsAs, Reads, Refuses, TreeReading}
 use Rattle.markdown_engine.specs.Place.{Place, moved, code_before, value_of}
+use Rattle.markdown_engine.specs.RunIndex.{LastRuns, last_runs}
 use Rattle.markdown_engine.specs.Grown.{Fails}
 use Rattle.markdown_engine.specs.Runs.{Stepped, stepped, GoesOn}
 use Rattle.markdown_engine.specs.Tree.{Forest, leaf_codes}
@@ -35,7 +36,7 @@ use Rattle.markdown_util.specs.Reference.{html_5_rows}
 use Rattle.markdown_inline.specs.Elements.{Advances, Finishes}
 use Rattle.markdown_inline.specs.Layer.{ready_of, ends_of, weight_of}
 use Rattle.markdown_inline.specs.StringSteps.{is_on}
-use Rattle.markdown_inline.specs.TextSteps.{text_markers, text_marked, text_passed, trying, start_step, first_try, tries_at, before_at, before_step, before_html_step, before_hard_break_escape_step, before_label_start_link_step, before_data_step, text_setting, text_choice_of, StartReady, IsMarked, BeforeReady, BeforeHtmlReady, BeforeDataReady, BeforeBreakReady, StandsAlone, before_ends, start_ends}
+use Rattle.markdown_inline.specs.TextSteps.{text_markers, marked_fields, text_marked, text_passed, trying, start_step, first_try, tries_at, before_at, before_step, before_html_step, before_hard_break_escape_step, before_label_start_link_step, before_data_step, text_setting, text_choice_of, StartReady, IsMarked, BeforeReady, BeforeHtmlReady, BeforeDataReady, BeforeBreakReady, StandsAlone, before_ends, start_ends}
 use Rattle.markdown_inline.specs.Unbuilt.{never, never_step, never_ends}
 use Rattle.markdown_inline.specs.Laws.NodeLemmas.{check-node, html-node, escape-node, reference-node, break-node, autolink-node, span-node}
 use Rattle.markdown_inline.specs.Laws.TextElements.{off_markers}
@@ -54,15 +55,25 @@ choice-past : (t : Forest) (T U : Tokenizer) → U ≡ past None t T → text_ch
 unfolding past
 choice-past t T U e = ap text_choice_of e ∙ ap (λ cs. text_choice (text_setting T) cs) (same-codes (leaf_codes t) T.cursor)
 
+codes-past : (t : Forest) (T U : Tokenizer) → U ≡ past None t T → U.cursor.codes ≡ T.cursor.codes
+unfolding past
+codes-past t T U e = ap (λ (x : Tokenizer). x.cursor.codes) e ∙ same-codes (leaf_codes t) T.cursor
+
 fields-past : (t : Forest) (T U : Tokenizer) → U ≡ past None t T → U.tokenize_state ≡ T.tokenize_state
 unfolding past
 fields-past t T U e = ap (λ (x : Tokenizer). x.tokenize_state) e
 
-marked-past : (T U : Tokenizer) → U.tokenize_state ≡ T.tokenize_state → codes_left U ≤ codes_left T → IsMarked T → IsMarked U
-marked-past T U e l r =
+-- what is known of the runs stays right
+indexed-past : (T U : Tokenizer) → U.tokenize_state ≡ T.tokenize_state → U.cursor.codes ≡ T.cursor.codes → X.IsIndexed T → X.IsIndexed U
+indexed-past T U e same k =
+    let runs : U.tokenize_state.runs ≡ T.tokenize_state.runs = ap (λ (s : TokenizeState). s.runs) e in
+    runs ∙ k ∙ ap (λ (x : LastRuns). last_runs x.asked T.cursor.codes) (sym runs) ∙ ap (λ cs. last_runs U.tokenize_state.runs.asked cs) (sym same)
+
+marked-past : (T U : Tokenizer) → U.tokenize_state ≡ T.tokenize_state → U.cursor.codes ≡ T.cursor.codes → codes_left U ≤ codes_left T → IsMarked T → IsMarked U
+marked-past T U e same l r =
     record {
       markers = ap (λ (s : TokenizeState). s.markers) e ∙ r.markers;
-      spans = record { rest = e ∙ r.spans.rest ∙ ap X.rested (sym e); fits = omega (arith, l, r.spans.fits) };
+      spans = record { rest = e ∙ r.spans.rest ∙ ap X.rested (sym e); fits = omega (arith, l, r.spans.fits); indexed = indexed-past T U e same r.spans.indexed };
       look = record { resting = ap W.rested e ∙ r.look.resting ∙ sym e; short = omega (arith, l, r.look.short) };
     }
 
@@ -97,7 +108,7 @@ advances-ends T U a false V k = k
 on-before : (n : ℕ) (T U : Tokenizer) → codes_left T * 256 < n → IsMarked T → Advances (text_choice_of T) (Unit {0}) T U → Follows ready_of ends_of weight_of n (before_ends T) (Next TextBefore) U
 on-before n T U room r a =
     record {
-      goes_on = record { marked = marked-past T U (fields-past a.tree T U a.left) (omega (arith, a.less)) r; unchecked = no-check-past T U a };
+      goes_on = record { marked = marked-past T U (fields-past a.tree T U a.left) (codes-past a.tree T U a.left) (omega (arith, a.less)) r; unchecked = no-check-past T U a };
       falls = omega (arith, a.less);
       closed = λ ok V h. advances-ends T U a ok V h;
     }
@@ -163,7 +174,7 @@ unmarked v a b c d f g i j k l =
 -- The laws.
 
 weight-marked : (T : Tokenizer) → weight_at 8 (text_marked T) ≡ weight_at 8 T
-weight-marked T = ap (λ n. 256 * n + 8 + 1) (left-scratched (record T.tokenize_state { markers = text_markers }) T)
+weight-marked T = ap (λ n. 256 * n + 8 + 1) (left-scratched (marked_fields T.cursor.codes T.tokenize_state) T)
 
 at-rest-reference : (T : Tokenizer) → IsMarked T → IsAtRest T
 at-rest-reference T r = record { marker = ap (λ (s : TokenizeState). s.marker) r.spans.rest; size = ap (λ (s : TokenizeState). s.size) r.spans.rest }
@@ -290,11 +301,11 @@ before_data-law T alone r =
 
 spans-marked : (T : Tokenizer) → X.StartReady T → X.StartReady (text_marked T)
 unfolding scratched
-spans-marked T r = record { rest = ap {A = TokenizeState} (λ s. record s { markers = text_markers }) r.rest; fits = r.fits }
+spans-marked T r = record { rest = ap {A = TokenizeState} (λ s. marked_fields T.cursor.codes s) r.rest; fits = r.fits; indexed = refl }
 
 look-marked : (T : Tokenizer) → C.MayLook T → C.MayLook (text_marked T)
 unfolding scratched
-look-marked T r = record { resting = ap {A = TokenizeState} (λ s. record s { markers = text_markers }) r.resting; short = r.short }
+look-marked T r = record { resting = ap {A = TokenizeState} (λ s. marked_fields T.cursor.codes s) r.resting; short = r.short }
 
 marked-start : (T : Tokenizer) → StartReady T → IsMarked (text_marked T)
 unfolding scratched
@@ -307,7 +318,7 @@ check-elements T (Some v) e = check-reads T v e
 pub start-law : (T : Tokenizer) → T.attempts ≡ [] → StartReady T → GoesOn ready_of ends_of weight_of (weight_at 8 T) (start_ends T) (start_step T)
 start-law T alone r =
     let M : Tokenizer = text_marked T in
-    let s : TokenizeState = record T.tokenize_state { markers = text_markers } in
+    let s : TokenizeState = marked_fields T.cursor.codes T.tokenize_state in
     let marked : IsMarked M = marked-start T r in
     subst (λ n. GoesOn ready_of ends_of weight_of n (before_ends M) (start_step T)) (weight-marked T)
     (try-law 8 M GfmTaskListItemCheckStart TextBefore (C.check_here M) (attempts-scratched s T ∙ alone) marked.look (omega arith) marked (λ ok U g. g)

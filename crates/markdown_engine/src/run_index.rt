@@ -1,0 +1,139 @@
+// Where the last run of each length begins.
+ghost use Rattle.std.specs.Prelude.{◌≡◌, IfOk};
+ghost use Rattle.markdown_engine.specs.RunIndex.{last_runs, no_runs, rules_out, past_run};
+
+use crate::cursor::Cursor;
+use std::alloc::{AllocError, Global};
+use std::collections::BTreeMap;
+use std::marker::Model;
+
+/// For some bytes, where the last run of each length begins in a content: what ends at a run of one length need not be looked for where there
+/// is none.
+///
+/// A run is as long as it can be: the byte stands neither before it nor after it. Contracts see the bytes, and where the last run of a byte
+/// and a length begins, as the number of codes before it.
+///
+/// It holds one entry for each length of a run, and answers in logarithmic time.
+#[derive(Drop)]
+pub struct RunIndex {
+    asked: &'static [u8],
+    // By byte and length.
+    last: BTreeMap<(u8, usize), usize>,
+}
+
+impl Model for RunIndex {
+    ghost use Rattle.markdown_engine.specs.RunIndex.{LastRuns};
+
+    ghost Value = { LastRuns };
+
+    ghost view = { λ r. record { asked = r.asked.now; entries = r.last.entries } };
+}
+
+impl RunIndex {
+    /// Knows of no run, and takes no memory.
+    pub fn new(alloc: Global) -> RunIndex
+        ensures { result ≡ no_runs }
+    {
+        RunIndex {
+            asked: &[],
+            last: BTreeMap::new(alloc),
+        }
+    }
+
+    /// The runs of these bytes in the whole content of a cursor, by one walk.
+    ///
+    /// `Err` only if memory is refused.
+    pub fn over(
+        alloc: Global,
+        cursor: &Cursor,
+        asked: &'static [u8],
+    ) -> Result<RunIndex, AllocError>
+        ensures { IfOk result (λ r. r ≡ last_runs asked.entry.now cursor.now.codes) }
+    {
+        let mut last = BTreeMap::new(alloc);
+        let mut place = cursor.restart();
+        while let Some(code) = place.current() {
+            let begins = place.passed();
+            pass_run(&mut place, code);
+            if asked.contains(&code) {
+                let added = last.insert((code, place.passed() - begins), begins);
+                if added.is_err() {
+                    return Err(AllocError);
+                }
+            }
+        }
+        Ok(RunIndex { asked, last })
+    }
+
+    /// Whether no run of exactly so many of this byte begins at this many codes or after: only where the byte was asked for.
+    pub fn rules_out(&self, byte: u8, size: usize, at: usize) -> bool
+        ensures { result ≡ rules_out self.now byte size at }
+    {
+        if !self.asked.contains(&byte) {
+            return false;
+        }
+        match self.last.get(&(byte, size)) {
+            Some(begins) => *begins < at,
+            None => true,
+        }
+    }
+}
+
+// Moves past all codes of this value that come next.
+fn pass_run(cursor: &mut Cursor, value: u8)
+    ensures { cursor.new ≡ past_run value cursor.old }
+{
+    while cursor.current() == Some(value) {
+        cursor.consume();
+    }
+}
+
+#[cfg(test)]
+mod tests {
+    use super::*;
+    use crate::content::is_content;
+    use crate::parser::Piece;
+    use std::test::Fail;
+
+    #[test]
+    fn knows_the_last_run_of_each_size(rt: HostRuntime) -> Result<(), Fail> {
+        let bytes = b"`a``b`$$c```";
+        let pieces = [Piece {
+            start: (0, 0),
+            end: (12, 0),
+        }];
+        assert!(rt; is_content(bytes, &pieces));
+        let cursor = Cursor::new(bytes, &pieces);
+        let runs = RunIndex::over(rt.alloc(), &cursor, b"`$")?;
+        for (byte, size, at, ruled_out) in [
+            (b'`', 1, 5, false),
+            (b'`', 1, 6, true),
+            (b'`', 2, 2, false),
+            (b'`', 2, 3, true),
+            (b'`', 3, 9, false),
+            (b'`', 4, 0, true),
+            (b'$', 1, 0, true),
+            (b'$', 2, 6, false),
+            (b'a', 1, 2, false),
+        ] {
+            assert_eq!(rt; runs.rules_out(byte, size, at), ruled_out);
+        }
+        assert!(rt; !RunIndex::new(rt.alloc()).rules_out(b'`', 1, 12));
+        Ok(())
+    }
+
+    #[test]
+    fn starts_over(rt: HostRuntime) {
+        let bytes = b"``";
+        let pieces = [Piece {
+            start: (0, 0),
+            end: (2, 0),
+        }];
+        assert!(rt; is_content(bytes, &pieces));
+        let mut cursor = Cursor::new(bytes, &pieces);
+        pass_run(&mut cursor, b'`');
+        assert_eq!(rt; cursor.passed(), 2);
+        assert_eq!(rt; cursor.restart().passed(), 0);
+        assert_eq!(rt; cursor.restart().current(), Some(b'`'));
+    }
+}
