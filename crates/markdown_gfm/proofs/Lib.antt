@@ -1,2 +1,11 @@
 pub mod LookLemmas
 pub mod GfmTaskListItemCheckLaws
+pub mod LiteralReadings
+pub mod LiteralLooks
+pub mod LiteralTrailLaws
+pub mod LiteralAddressLaws
+pub mod LiteralWhole
+pub mod LiteralAttempts
+pub mod LiteralProtocolLaws
+pub mod LiteralWwwLaws
+pub mod LiteralTexts

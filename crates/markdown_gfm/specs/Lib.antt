@@ -1,1 +1,2 @@
 pub mod GfmTaskListItemCheck
+pub mod GfmAutolinkLiteral

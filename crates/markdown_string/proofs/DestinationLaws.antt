@@ -1,6 +1,5 @@
 -- The laws of the states of a destination.
 use Rattle.std.proofs.Common.{◌≡◌, ℕ, ◌+◌, ◌-◌, ◌≤◌, ◌==◌, ◌&&◌, ◌||◌, nat_lt, Bool, true, false, Option, Some, None, List, [], ◌∷◌, length, drop, add-one, refl, sym, ap, subst, ◌∙◌, arith, if◌then◌else◌, suc}
-use Rattle.std.proofs.lemmas.Bool.{eqb-true}
 use Rattle.markdown_engine.specs.Codes.{Code}
 use Rattle.markdown_engine.specs.Lists.{rest_of}
 use Rattle.markdown_engine.specs.Ops.{Op, Consume, current_of, ahead, applied, done, scratched}
@@ -25,6 +24,7 @@ use Rattle.markdown_string.specs.Destination.{refused, raw_on, raw_plain, raw_op
 use Rattle.markdown_string.specs.LinkedOps.{program_of}
 use Rattle.markdown_string.proofs.DestinationReadings.{enclosed-none, enclosed-close, enclosed-refused, enclosed-next, enclosed-taken, enclosed-bare, text-first, destination-bracket, raw-end, raw-open-end, raw-taken, raw-bare, stops, raw-stop, raw-space, raw-control, raw-open, raw-deep, raw-close, raw-next, destination-raw, destination-end, destination-stops, destination-control, destination-covers}
 use Rattle.markdown_string.proofs.LinkedLemmas.{EndsAs-linked}
+use Rattle.markdown_string.proofs.BoolLemmas.{same-value, or-left, or-right, or-first}
 use Rattle.markdown_model.proofs.ReadingSteps.{if-true, if-false}
 
 -- what the layer says of these states
@@ -81,14 +81,6 @@ or-false : (a b : Bool) → a ≡ false → b ≡ false → a || b ≡ false
 or-false false b e f = f
 or-false true b e f = cc
 
-left-of : (a b : Bool) → a || b ≡ false → a ≡ false
-left-of false b e = refl
-left-of true b e = cc
-
-right-of : (a b : Bool) → a || b ≡ false → b ≡ false
-right-of false b e = e
-right-of true b e = cc
-
 stops-from : (a b c d z : Bool) → z && (a || (b || (c || d))) ≡ true → ((c || a) || b) || (d && z) ≡ true
 stops-from a b c d false e = cc
 stops-from true b true d true e = refl
@@ -104,9 +96,6 @@ both-of true b e = refl
 both-of false b e = cc
 
 -- a test that holds of a value holds of another one with it
-same-value : (v n : ℕ) → (v == n) ≡ true → (f : ℕ → Bool) → f v ≡ f n
-same-value v n e f = ap f (eqb-true v n e)
-
 white_value : ℕ → Bool
 white_value v = (v == 32 || v == 9) || v == 10
 
@@ -130,14 +119,6 @@ or-none true b c f g e = let no : true ≡ false = sym (f refl) ∙ e in cc
 or-none false true c f g e = let no : true ≡ false = sym (g refl) ∙ e in cc
 or-none false false c f g e = refl
 
-first-or : (a b : Bool) → a ≡ true → a || b ≡ true
-first-or true b e = refl
-first-or false b e = cc
-
-second-or : (a b : Bool) → b ≡ true → a || b ≡ true
-second-or true b e = refl
-second-or false b e = e
-
 -- a code that is neither a space nor a control is no whitespace
 plain-value : (v : ℕ) → control_value v || v == 32 ≡ false → white_value v ≡ false
 unfolding white_value
@@ -155,10 +136,10 @@ refused-by : (w : Bool) (max depth : ℕ) (c : Code) (cs : List Code) → white_
 unfolding white_value
 refused-by true max depth c cs e h k g =
     let closed : (depth == 0) ≡ false = not-both (depth == 0) (stops_value c.value) h (white-stops (c.value == 9) (c.value == 10) (c.value == 32) (c.value == 41) e) in
-    raw-space max depth c cs (first-or _ _ e) closed
+    raw-space max depth c cs (or-first _ _ e) closed
 refused-by false max depth c cs e h k g =
     let goes : stops max depth c ≡ false = or-false _ _ e (ap (λ b. b && depth == 0) k) in
-    raw-control max depth c cs goes (or-first (control_value c.value) (c.value == 32) g (left-of _ _ (left-of _ _ e))) where
+    raw-control max depth c cs goes (or-first (control_value c.value) (c.value == 32) g (or-left _ _ (or-left _ _ e))) where
       or-first : (a b : Bool) → a || b ≡ true → b ≡ false → a ≡ true
       or-first true b h e = refl
       or-first false true h e = cc
@@ -276,7 +257,7 @@ module _ (ready : StateName → Tokenizer → Type 0) (ends : StateName → Toke
       let plain : control_value b.code.value || b.code.value == 32 ≡ false = tested (λ v. control_value v || v == 32) ∙ j in
       let goes : stops max depth b.code ≡ false = or-false (white_value b.code.value) (is_value 41 b.code && depth == 0) (plain-value b.code.value plain) (ap (λ x. x && depth == 0) closer) in
       let next : raw_from max false depth (b.code ∷ cs) ≡ with_first b.code (raw_from max (b.code.value == 92) depth cs) =
-      raw-next max depth b.code cs goes (left-of (control_value b.code.value) (b.code.value == 32) plain) (tested (λ v. v == 40) ∙ g) closer in
+      raw-next max depth b.code cs goes (or-left (control_value b.code.value) (b.code.value == 32) plain) (tested (λ v. v == 40) ∙ g) closer in
       let reads : (x : Bool) → (c == 92) ≡ x → p (ahead T) ≡ preceded (Consume ∷ []) (raw_program names max x depth cs) =
       λ x i. ap p b.whole ∙ ap at next ∙ text-first (raw_ending names) b.code (raw_from max (b.code.value == 92) depth cs) ∙ ap (λ y. preceded (Consume ∷ []) (raw_program names max y depth cs)) (tested (λ v. v == 92) ∙ i) in
       if-step P (c == 92) (stepped (Next DestinationRawEscape) (done (Consume ∷ []) T)) (stepped (Next DestinationRaw) (done (Consume ∷ []) T))
@@ -432,10 +413,10 @@ module _ (ready : StateName → Tokenizer → Type 0) (ends : StateName → Toke
       (λ g.
       let bars : bars_value b.code.value ≡ false = ap bars_value b.value ∙ g in
       let v : ℕ = b.code.value in
-      let plain : control_value v ≡ false = left-of (control_value v) (v == 32 || v == 41) bars in
-      let others : (v == 32 || v == 41) ≡ false = right-of (control_value v) (v == 32 || v == 41) bars in
-      let closer : is_value 41 b.code ≡ false = right-of (v == 32) (v == 41) others in
-      let white : white_value v ≡ false = plain-value v (or-false (control_value v) (v == 32) plain (left-of (v == 32) (v == 41) others)) in
+      let plain : control_value v ≡ false = or-left (control_value v) (v == 32 || v == 41) bars in
+      let others : (v == 32 || v == 41) ≡ false = or-right (control_value v) (v == 32 || v == 41) bars in
+      let closer : is_value 41 b.code ≡ false = or-right (v == 32) (v == 41) others in
+      let white : white_value v ≡ false = plain-value v (or-false (control_value v) (v == 32) plain (or-left (v == 32) (v == 41) others)) in
       Goes-kept ready ends weight 4 1 0 p (raw_program names max false 0) (raw_opening names) s T (Retry DestinationRaw) alone refl (no-codes T) (omega arith)
       (ap p b.whole ∙ destination-raw max names b.code cs (ap (λ v. v == 60) b.value ∙ h) (or-false (white_value v) (is_value 41 b.code && true) white (ap (λ x. x && true) closer)) plain closer ∙ ap (λ xs. preceded (raw_opening names) (raw_program names max false 0 xs)) (sym b.whole))
       (within.raw_ready _ (opened-raw T))

@@ -30,6 +30,7 @@ use Rattle.markdown_string.proofs.LabelReadings.{label-plain, fits-data, fits-en
 use Rattle.markdown_string.proofs.TextEnding.{EolWithin, Passed, DoesAs-ending, ending-law}
 use Rattle.markdown_string.proofs.TextReadings.{answer-none, breaks-end, breaks-stop, breaks-unfit, breaks-refused, breaks-data, breaks-ending, breaks-blank, insides-end, insides-next, insides-taken, insides-bare, leave-end, leave-stop, leave-refused, leave-ending}
 use Rattle.markdown_string.proofs.TextRuns.{open-append, open-closed, open-rest, text-after, text-same, text-kept, rest-joined, DoesAs-fails, state-by, stays-data, moves-data, depth-data, none-before}
+use Rattle.markdown_string.proofs.BoolLemmas.{or-left, or-right, or-by, or-true, not-true, not-false}
 use Rattle.markdown_model.proofs.ReadingSteps.{and-left, and-right}
 
 -- what the layer says of these states
@@ -100,10 +101,6 @@ taken-ready T more k =
     let after : TextReady (scratched (with_size (s.size + 1) s) (done (Consume ∷ []) T)) = text-after (Consume ∷ []) (with_size (s.size + 1) s) T more k.inside.text (rest-size (s.size + 1) s k.inside.text.resting) in
     record { text = record { short = after.short; resting = after.resting }; stand_open = k.inside.stand_open; small = omega (arith, k.fits); connect = k.inside.connect; linked = k.inside.linked }
 
-or-true : (a : Bool) → a || true ≡ true
-or-true true = refl
-or-true false = refl
-
 -- a backslash is no whitespace
 slash-seen : (c : ℕ) (seen : Bool) → (c == 92) ≡ true → (seen || not (c == 32 || c == 9)) ≡ true
 slash-seen c seen h = ap (λ v. seen || not (v == 32 || v == 9)) (eqb-true c 92 h) ∙ or-true seen
@@ -141,26 +138,6 @@ unfolding scratched
 joined-ready T k = record { text = record { short = k.text.short; resting = rest-joined T.tokenize_state k.text.resting }; stand_open = k.stand_open; small = k.small; linked = λ h. k.linked }
 
 -- Tests.
-
-or-left : (a b : Bool) → a || b ≡ false → a ≡ false
-or-left false b e = refl
-or-left true b e = cc
-
-or-right : (a b : Bool) → a || b ≡ false → b ≡ false
-or-right false b e = e
-or-right true b e = cc
-
-or-by : {Q : Type 0} (a b : Bool) → a || b ≡ true → (a ≡ true → Q) → (b ≡ true → Q) → Q
-or-by true b h f g = f refl
-or-by false b h f g = g h
-
-not-true : (b : Bool) → not b ≡ true → b ≡ false
-not-true false e = refl
-not-true true e = cc
-
-not-false : (b : Bool) → not b ≡ false → b ≡ true
-not-false true e = refl
-not-false false e = cc
 
 -- one of two tests fails
 and-by : {Q : Type 0} (a b : Bool) → a && b ≡ false → (a ≡ false → Q) → (b ≡ false → Q) → Q

@@ -1,3 +1,4 @@
+pub mod BoolLemmas
 pub mod LinkedLemmas
 pub mod EscapeReadings
 pub mod DestinationReadings

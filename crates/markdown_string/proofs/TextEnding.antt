@@ -1,6 +1,5 @@
 -- The attempt of a line ending in a text, and what it leaves.
 use Rattle.std.proofs.Common.{◌≡◌, ℕ, suc, ◌+◌, ◌≤◌, ◌<◌, ◌==◌, ◌||◌, Bool, true, false, if◌then◌else◌, Option, Some, None, List, [], ◌∷◌, ◌++◌, length, drop, refl, sym, ap, subst, ◌∙◌, arith, append_assoc, length-append}
-use Rattle.std.proofs.lemmas.Bool.{eqb-true}
 use Rattle.markdown_engine.specs.Chain.{has_link}
 use Rattle.markdown_engine.specs.Codes.{Code, is_line_ending, is_blank}
 use Rattle.markdown_engine.specs.Grown.{Fails}
@@ -40,6 +39,7 @@ use Rattle.markdown_string.specs.LinkedOps.{linked_ops}
 use Rattle.markdown_string.specs.Text.{string, eol_asked_for, TextReady}
 use Rattle.markdown_string.proofs.LinkedLemmas.{linked-past}
 use Rattle.markdown_string.proofs.TextLines.{ending_leaves, Row-ending}
+use Rattle.markdown_string.proofs.BoolLemmas.{same-value}
 use Rattle.markdown_model.proofs.Leaves.{span-append}
 
 -- what the layer says of the start of whitespace with a line ending
@@ -49,9 +49,6 @@ pub record EolWithin (ready : StateName → Tokenizer → Type 0) (ends : StateN
   pub eol_weight : (T : Tokenizer) → weight SpaceOrTabEolStart T ≡ weight_at 8 T
 
 -- What is read there.
-
-same-value : (v n : ℕ) → (v == n) ≡ true → (f : ℕ → Bool) → f v ≡ f n
-same-value v n e f = ap f (eqb-true v n e)
 
 not-blank : (c : Code) → is_line_ending c ≡ true → is_blank c ≡ false
 not-blank c e = same-value c.value 10 e (λ v. v == 32 || v == 9)

@@ -1,6 +1,5 @@
 -- Texts that are read as strings: the operations that they ask for, by the next code.
 use Rattle.std.proofs.Common.{◌≡◌, ◌==◌, ◌||◌, not, Bool, true, false, if◌then◌else◌, Option, Some, None, List, [], ◌∷◌, ◌++◌, refl, sym, ap, subst, ◌∙◌, append_assoc}
-use Rattle.std.proofs.lemmas.Bool.{eqb-true}
 use Rattle.markdown_engine.specs.Codes.{Code, is_line_ending, is_blank}
 use Rattle.markdown_engine.specs.Ops.{Op, Exit, Consume}
 use Rattle.markdown_engine.specs.declared.event.Name.TheVariants as N
@@ -12,6 +11,7 @@ use Rattle.markdown_string.specs.LinkedOps.{linked_ops}
 use Rattle.markdown_string.specs.Text.{enter_text, break_ops, inside_ops, ends_filled, answer}
 use Rattle.markdown_string.proofs.EscapeReadings.{Behind, first-some, text-end, text-taken, text-stops, text-refused, text-next, text-bare, text}
 use Rattle.markdown_string.proofs.TextLines.{Begins, AreBlank, Ended, break-data, ending_leaves, break-ending, inside-more, inside-end}
+use Rattle.markdown_string.proofs.BoolLemmas.{same-value, not-true, not-false, or-first, or-second}
 use Rattle.markdown_model.proofs.Leaves.{span-append}
 use Rattle.markdown_model.proofs.ReadingSteps.{span-takes, span-none}
 
@@ -52,9 +52,6 @@ answer-none check ops ending ws (Some r) h = ap (answer check ops ending) (all-s
 
 -- Blank codes.
 
-same-value : (v n : _) → (v == n) ≡ true → (f : _ → Bool) → f v ≡ f n
-same-value v n e f = ap f (eqb-true v n e)
-
 value-or : (a b c : Bool) → a || b ≡ true → (a ≡ true → c ≡ false) → (b ≡ true → c ≡ false) → c ≡ false
 value-or true b c h f g = f refl
 value-or false b c h f g = g h
@@ -78,18 +75,10 @@ blank-behind : (cs : List Code) → next_is is_blank (span is_blank cs).1 ≡ fa
 blank-behind [] = refl
 blank-behind (c ∷ cs) = behind-by (is_blank c) c cs refl (blank-behind cs)
 
-not-false : (b : Bool) → not b ≡ true → b ≡ false
-not-false false e = refl
-not-false true e = cc
-
-not-true : (b : Bool) → not b ≡ false → b ≡ true
-not-true true e = refl
-not-true false e = cc
-
 -- the front of codes of which a line with another code begins
 front-begins : (xs ys cs : List Code) → cs ≡ xs ++ ys → begins_filled_line cs ≡ true → next_is is_blank cs ≡ false → Begins xs
 front-begins [] ys cs e h k = tt
-front-begins (x ∷ xs) ys cs e h k = (not-false (is_line_ending x) (sym (ap begins_filled_line e) ∙ h), sym (ap (next_is is_blank) e) ∙ k)
+front-begins (x ∷ xs) ys cs e h k = (not-true (is_line_ending x) (sym (ap begins_filled_line e) ∙ h), sym (ap (next_is is_blank) e) ∙ k)
 
 -- What holds of the test for blank lines.
 
@@ -192,14 +181,6 @@ module _ (stop takes refuses : Code → Bool) (plain : (c : Code) → is_whitesp
 
   -- a line ending
 
-  or-true : (a b : Bool) → b ≡ true → a || b ≡ true
-  or-true true b e = refl
-  or-true false b e = e
-
-  or-first : (a b : Bool) → a ≡ true → a || b ≡ true
-  or-first true b e = refl
-  or-first false b e = cc
-
   reads-white : (c : Code) (cs : List Code) → is_whitespace_code c ≡ true → reads false (c ∷ cs) ≡ with_first c (reads false cs)
   reads-white c cs h =
       let k = plain c h in
@@ -213,7 +194,7 @@ module _ (stop takes refuses : Code → Bool) (plain : (c : Code) → is_whitesp
   reads-ending c cs h =
       let s : List Code × List Code = span is_blank cs in
       ap (λ xs. reads false (c ∷ xs)) (sym (span-append is_blank cs))
-      ∙ reads-white c (s.0 ++ s.1) (or-true (is_blank c) (is_line_ending c) h)
+      ∙ reads-white c (s.0 ++ s.1) (or-second (is_blank c) (is_line_ending c) h)
       ∙ ap (with_first c) (reads-blank s.0 s.1 (blank-front cs))
 
   pub breaks-ending : (check : List Code → Bool) (connect : Bool) (c : Code) (cs : List Code) → is_line_ending c ≡ true → begins_filled_line (span is_blank cs).1 ≡ true → ((ws text : List Code) → AreBlank ws → Begins text → check (c ∷ ws ++ text) ≡ check text) → breaks check connect (c ∷ cs) ≡ preceded (linked_ops connect (ending_leaves c (span is_blank cs).0)) (breaks check true (span is_blank cs).1)
@@ -228,8 +209,8 @@ module _ (stop takes refuses : Code → Bool) (plain : (c : Code) → is_whitesp
   blank-check : (check : List Code → Bool) (c : Code) (ws rest : List Code) → begins_filled_line rest ≡ false → ((d : Code) (text : List Code) → is_line_ending d ≡ true → check (c ∷ ws ++ d ∷ text) ≡ false) → (r : List Code × List Code) → reads false rest ≡ Some r → check (c ∷ ws ++ r.0) ≡ false
   blank-check check c ws [] unfilled f r x = let no : None ≡ Some r = sym (text-end stop takes refuses false) ∙ x in cc
   blank-check check c ws (d ∷ rest) unfilled f r x =
-      let h : is_line_ending d ≡ true = not-true (is_line_ending d) unfilled in
-      let b : Behind d (reads false rest) r = first-some d (reads false rest) r (sym (reads-white d rest (or-true (is_blank d) (is_line_ending d) h)) ∙ x) in
+      let h : is_line_ending d ≡ true = not-false (is_line_ending d) unfilled in
+      let b : Behind d (reads false rest) r = first-some d (reads false rest) r (sym (reads-white d rest (or-second (is_blank d) (is_line_ending d) h)) ∙ x) in
       ap (λ (y : List Code × List Code). check (c ∷ ws ++ y.0)) b.is ∙ f d b.others.0 h
 
   pub breaks-blank : (check : List Code → Bool) (connect : Bool) (c : Code) (cs : List Code) → is_line_ending c ≡ true → begins_filled_line (span is_blank cs).1 ≡ false → ((ws : List Code) (d : Code) (text : List Code) → AreBlank ws → is_line_ending d ≡ true → check (c ∷ ws ++ d ∷ text) ≡ false) → breaks check connect (c ∷ cs) ≡ None

@@ -81,7 +81,7 @@ depth-data false P h = h
 
 -- Runs that fail.
 
-pub fails-same : (d : ℕ) (s : TokenizeState) (T U : Tokenizer) → U ≡ scratched s T → Grown d T U
+fails-same : (d : ℕ) (s : TokenizeState) (T U : Tokenizer) → U ≡ scratched s T → Grown d T U
 fails-same d s T U e = subst (λ (x : Tokenizer). Grown d T x) (sym e) (Grown-scratched d s T (scratched s T) (Grown-refl d (scratched s T)))
 
 scratch-same : (s : TokenizeState) (T U : Tokenizer) → U ≡ scratched s T → U.tokenize_state ≡ s
@@ -91,10 +91,6 @@ scratch-same s T U e = ap (λ (x : Tokenizer). x.tokenize_state) e
 pub DoesAs-fails : (d : ℕ) (p : Program) (s : TokenizeState) (T : Tokenizer) → p (ahead T) ≡ None → (ok : Bool) (U : Tokenizer) → (ok ≡ false) × (U ≡ scratched s T) → DoesAs d p s T ok U
 DoesAs-fails d p s T e true U k = let no : true ≡ false = k.0 in cc
 DoesAs-fails d p s T e false U k = record { none = e; grown = fails-same d s T U k.1; scratch = scratch-same s T U k.1 }
-
--- the scratch fields that a run is claimed to leave, under another name
-pub DoesAs-as : (d : ℕ) (p : Program) (s r : TokenizeState) (T : Tokenizer) (ok : Bool) (U : Tokenizer) → s ≡ r → DoesAs d p s T ok U → DoesAs d p r T ok U
-DoesAs-as d p s r T ok U e k = subst (λ q. DoesAs d p q T ok U) e k
 
 -- by a test
 pub state-by : (Q : State → Type 0) (b : Bool) (x y : State) → (b ≡ true → Q x) → (b ≡ false → Q y) → Q (if b then x else y)

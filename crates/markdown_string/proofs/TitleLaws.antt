@@ -27,6 +27,7 @@ use Rattle.markdown_string.proofs.TextEnding.{EolWithin, Passed, DoesAs-ending, 
 use Rattle.markdown_string.proofs.TextReadings.{filled-data, filled-ending, filled-none, breaks-end, breaks-stop, breaks-data, breaks-ending, breaks-blank, insides-end, insides-next, insides-taken, insides-bare, leave-end, leave-stop, leave-ending}
 use Rattle.markdown_string.proofs.TextRuns.{open-append, open-closed, open-rest, text-after, text-same, text-kept, rest-joined, DoesAs-fails, state-by, stays-data, moves-data, depth-data, none-before}
 use Rattle.markdown_string.proofs.TitleReadings.{title-plain, closer-line, title-none, title-double, title-single, title-paren, title-covers}
+use Rattle.markdown_string.proofs.BoolLemmas.{or-left, or-right, or-by}
 use Rattle.markdown_model.proofs.ReadingSteps.{if-true, if-false}
 
 -- what the layer says of these states
@@ -113,18 +114,6 @@ unfolding scratched
 joined-ready T k = record { text = record { short = k.text.short; resting = rest-joined T.tokenize_state k.text.resting }; closer = k.closer; stand_open = k.stand_open; linked = λ h. k.linked }
 
 -- Tests.
-
-or-left : (a b : Bool) → a || b ≡ false → a ≡ false
-or-left false b e = refl
-or-left true b e = cc
-
-or-right : (a b : Bool) → a || b ≡ false → b ≡ false
-or-right false b e = e
-or-right true b e = cc
-
-or-by : {Q : Type 0} (a b : Bool) → a || b ≡ true → (a ≡ true → Q) → (b ≡ true → Q) → Q
-or-by true b h f g = f refl
-or-by false b h f g = g h
 
 module _ (ready : StateName → Tokenizer → Type 0) (ends : StateName → Tokenizer → Bool → Tokenizer → Type 0) (weight : StateName → Tokenizer → ℕ) (within : Within ready ends weight) where
   pub nok-law : (T : Tokenizer) → T.attempts ≡ [] → GoesOn ready ends weight (weight_at 1 T) (nok_ends T) (nok_step T)

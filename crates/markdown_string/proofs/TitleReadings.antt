@@ -18,6 +18,7 @@ use Rattle.markdown_string.specs.Title.{opening, is_closer, text_from, begin_pro
 use Rattle.markdown_string.proofs.EscapeReadings.{Text, text-stops, text, Gives-text}
 use Rattle.markdown_string.proofs.LinkedLemmas.{CoversRow, Row-leaf, Row-last, Row-string, Row-whole}
 use Rattle.markdown_string.proofs.TextLines.{text-group, Row-lines}
+use Rattle.markdown_string.proofs.BoolLemmas.{same-value, or-true}
 use Rattle.markdown_model.proofs.ReadingSteps.{bind-some, bind-none, after-some, after-none, one-here, one-not, provided-true, provided-false, either-first, either-second}
 
 -- The closing markers.
@@ -49,21 +50,14 @@ title-plain m k c h =
     let Q : ℕ → ℕ → Type 0 = λ n v. (v == n) ≡ false in
     (of-closer m P k (of-white c (Q 34) h refl refl refl) (of-white c (Q 39) h refl refl refl) (of-white c (Q 41) h refl refl refl), (refl, of-white c (Q 92) h refl refl refl))
 
-value-same : (v m : ℕ) → (v == m) ≡ true → (f : ℕ → Bool) → f v ≡ f m
-value-same v m e f = ap f (eqb-true v m e)
-
 -- a closing marker is no line ending, and not blank
 pub closer-line : (m : ℕ) → is_closer m ≡ true → (c : Code) → is_value m c ≡ true → is_line_ending c ≡ false
-closer-line m k c h = value-same c.value m h (λ v. v == 10) ∙ of-closer m (λ n. (n == 10) ≡ false) k refl refl refl
+closer-line m k c h = same-value c.value m h (λ v. v == 10) ∙ of-closer m (λ n. (n == 10) ≡ false) k refl refl refl
 
 pub closer-blank : (m : ℕ) → is_closer m ≡ true → (c : Code) → is_value m c ≡ true → is_blank c ≡ false
-closer-blank m k c h = value-same c.value m h (λ v. v == 32 || v == 9) ∙ of-closer m (λ n. (n == 32 || n == 9) ≡ false) k refl refl refl
+closer-blank m k c h = same-value c.value m h (λ v. v == 32 || v == 9) ∙ of-closer m (λ n. (n == 32 || n == 9) ≡ false) k refl refl refl
 
 -- The test for blank lines.
-
-or-true : (a : Bool) → a || true ≡ true
-or-true true = refl
-or-true false = refl
 
 filled-by : (b filled : Bool) (c : Code) (text : List Code) (d : Code) → is_line_ending c ≡ b → ((f : Bool) → has_no_blank_line f (text ++ d ∷ []) ≡ ends_filled f text) → has_no_blank_line filled (c ∷ text ++ d ∷ []) ≡ ends_filled filled (c ∷ text)
 filled-by true filled c text d e k = ap (λ b. elim b as (λ _. Bool) [ true ↦ filled && has_no_blank_line false (text ++ d ∷ []) | false ↦ has_no_blank_line (filled || not (is_blank c)) (text ++ d ∷ []) ]) e ∙ ap (λ x. filled && x) (k false) ∙ ap (λ b. elim b as (λ _. Bool) [ true ↦ filled && ends_filled false text | false ↦ ends_filled (filled || not (is_blank c)) text ]) (sym e)
@@ -152,21 +146,21 @@ title-none names cs e h k =
 pub title-double : (names : StringNames) (c : Code) (cs : List Code) → is_value 34 c ≡ true → program_of (title names) (c ∷ cs) ≡ preceded (opening names) (begin_program 34 names cs)
 unfolding title
 title-double names c cs h =
-    ap tree_ops (either-first _ _ (c ∷ cs) (either-second _ _ (c ∷ cs) (between-none 39 39 names (c ∷ cs) (value-same c.value 34 h (λ v. v == 39))) ∙ between-none 40 41 names (c ∷ cs) (value-same c.value 34 h (λ v. v == 40))))
+    ap tree_ops (either-first _ _ (c ∷ cs) (either-second _ _ (c ∷ cs) (between-none 39 39 names (c ∷ cs) (same-value c.value 34 h (λ v. v == 39))) ∙ between-none 40 41 names (c ∷ cs) (same-value c.value 34 h (λ v. v == 40))))
     ∙ between-here 34 names refl 34 c cs h
 
 pub title-single : (names : StringNames) (c : Code) (cs : List Code) → is_value 39 c ≡ true → program_of (title names) (c ∷ cs) ≡ preceded (opening names) (begin_program 39 names cs)
 unfolding title
 title-single names c cs h =
-    ap tree_ops (either-second _ _ (c ∷ cs) (between-none 34 34 names (c ∷ cs) (value-same c.value 39 h (λ v. v == 34)))
-    ∙ either-first _ _ (c ∷ cs) (between-none 40 41 names (c ∷ cs) (value-same c.value 39 h (λ v. v == 40))))
+    ap tree_ops (either-second _ _ (c ∷ cs) (between-none 34 34 names (c ∷ cs) (same-value c.value 39 h (λ v. v == 34)))
+    ∙ either-first _ _ (c ∷ cs) (between-none 40 41 names (c ∷ cs) (same-value c.value 39 h (λ v. v == 40))))
     ∙ between-here 39 names refl 39 c cs h
 
 pub title-paren : (names : StringNames) (c : Code) (cs : List Code) → is_value 40 c ≡ true → program_of (title names) (c ∷ cs) ≡ preceded (opening names) (begin_program 41 names cs)
 unfolding title
 title-paren names c cs h =
-    ap tree_ops (either-second _ _ (c ∷ cs) (between-none 34 34 names (c ∷ cs) (value-same c.value 40 h (λ v. v == 34)))
-    ∙ either-second _ _ (c ∷ cs) (between-none 39 39 names (c ∷ cs) (value-same c.value 40 h (λ v. v == 39))))
+    ap tree_ops (either-second _ _ (c ∷ cs) (between-none 34 34 names (c ∷ cs) (same-value c.value 40 h (λ v. v == 34)))
+    ∙ either-second _ _ (c ∷ cs) (between-none 39 39 names (c ∷ cs) (same-value c.value 40 h (λ v. v == 39))))
     ∙ between-here 41 names refl 40 c cs h
 
 pub title-covers : (names : StringNames) → Gives CoversRow (title names)

@@ -5,3 +5,5 @@ mod linked_text;
 pub mod partial_destination;
 pub mod partial_label;
 pub mod partial_title;
+#[cfg(test)]
+mod tests;

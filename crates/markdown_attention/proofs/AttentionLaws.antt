@@ -1,0 +1,261 @@
+-- The laws of the states of a run of markers.
+use Rattle.std.proofs.Common.{◌≡◌, ℕ, ◌+◌, ◌==◌, Bool, true, false, Option, Some, None, List, [], ◌∷◌, ◌++◌, length, ◌≤◌, refl, sym, ap, subst, ◌∙◌, arith, append-nil}
+use Rattle.std.proofs.lemmas.Bool.{eq-eqb}
+use Rattle.markdown_engine.specs.Codes.{Code}
+use Rattle.markdown_engine.specs.Lists.{rest_of}
+use Rattle.markdown_engine.specs.Ops.{Enter, Exit, Consume, ahead, applied, current_of, done, entered, exited, registered, scratched}
+use Rattle.markdown_engine.specs.Past.{past, passed}
+use Rattle.markdown_engine.specs.Runs.{GoesOn, Stepped}
+use Rattle.markdown_engine.specs.Tree.{Forest, leaf, leaf_codes}
+use Rattle.markdown_engine.specs.Weights.{codes_left, weight_at}
+use Rattle.markdown_model.specs.CodeTests.{is_empty, is_value}
+use Rattle.markdown_model.specs.Element.{attention_run, switched}
+use Rattle.markdown_model.specs.Grammar.{◌>>◌, ◌>>=◌, provided, gives, some, span}
+use Rattle.markdown_model.specs.LabelEnd.{Element, plain}
+use Rattle.markdown_attention.specs.Attention.{begins_run, switches_of, with_marker, start_at, start_step, left_run, leaving, inside_at, inside_step, StartReady, InsideReady, run_at_code, plain_tree, run_tree, ReadsRun, start_ends, markers_ahead, inside_ends}
+use Rattle.markdown_engine.specs.declared.event.Name.TheVariants as N
+use Rattle.markdown_engine.specs.declared.resolve.ResolveName.TheVariants as R
+use Rattle.markdown_engine.specs.declared.state.State.TheVariants.{Next, Retry, Nok}
+use Rattle.markdown_engine.specs.declared.state.State.TheVariants as State
+use Rattle.markdown_engine.specs.declared.state.StateName.{StateName}
+use Rattle.markdown_engine.specs.declared.state.StateName.TheVariants.{AttentionInside}
+use Rattle.markdown_engine.specs.declared.tokenizer.TokenizeState.{TokenizeState}
+use Rattle.markdown_engine.specs.declared.tokenizer.Tokenizer.{Tokenizer}
+use Rattle.markdown_engine.proofs.EndsLemmas.{Refuses-done}
+use Rattle.markdown_engine.proofs.Laws.{Goes-plain, if-step, code-step}
+use Rattle.markdown_engine.proofs.OpRules.{Begins, ahead-none, ahead-some, attempts-applied, attempts-scratched, attempts-registered}
+use Rattle.markdown_engine.proofs.OpsLemmas.{Goes-ops, ahead-done, left-done}
+use Rattle.markdown_engine.proofs.TreeLemmas.{leaf-past, ahead-past}
+
+-- what the layer says of these states
+pub record Within (ready : StateName → Tokenizer → Type 0) (ends : StateName → Tokenizer → Bool → Tokenizer → Type 0) (weight : StateName → Tokenizer → ℕ) : Type 0 where
+  pub inside_ready : (T : Tokenizer) → InsideReady T → ready AttentionInside T
+  pub inside_end : (T : Tokenizer) (ok : Bool) (U : Tokenizer) → ends AttentionInside T ok U → inside_ends T ok U
+  pub inside_weight : (T : Tokenizer) → weight AttentionInside T ≡ weight_at 1 T
+
+-- The reading.
+
+span-parts : (p : Code → Bool) (cs : List Code) → (span p cs).0 ++ (span p cs).1 ≡ cs
+span-parts p [] = refl
+span-parts p (c ∷ cs) = parts (p c) c cs (span p cs) (span-parts p cs)
+  where
+    parts : (b : Bool) (c : Code) (cs : List Code) (s : List Code × List Code) → s.0 ++ s.1 ≡ cs
+        → (let r : List Code × List Code = elim b [ true ↦ (c ∷ s.0, s.1) | false ↦ ([], c ∷ cs) ] in r.0 ++ r.1) ≡ c ∷ cs
+    parts true c cs s e = ap (λ xs. c ∷ xs) e
+    parts false c cs s e = refl
+
+span-takes : (p : Code → Bool) (c : Code) (cs : List Code) → p c ≡ true → span p (c ∷ cs) ≡ (c ∷ (span p cs).0, (span p cs).1)
+span-takes p c cs e = ap (λ (b : Bool). let r : List Code × List Code = elim b [ true ↦ (c ∷ (span p cs).0, (span p cs).1) | false ↦ ([], c ∷ cs) ] in r) e
+
+span-stops : (p : Code → Bool) (c : Code) (cs : List Code) → p c ≡ false → span p (c ∷ cs) ≡ ([], c ∷ cs)
+span-stops p c cs e = ap (λ (b : Bool). let r : List Code × List Code = elim b [ true ↦ (c ∷ (span p cs).0, (span p cs).1) | false ↦ ([], c ∷ cs) ] in r) e
+
+-- a run of this marker, and the codes after it
+abbrev run_of_parts : List Code × List Code → Option (Element × List Code)
+run_of_parts s = elim (is_empty s.0) [ true ↦ None | false ↦ Some (plain (leaf N.AttentionSequence s.0), s.1) ]
+
+run-parts : (m : ℕ) (cs : List Code) → switched true (attention_run m) cs ≡ run_of_parts (span (is_value m) cs)
+unfolding switched attention_run some gives provided ◌>>◌ ◌>>=◌
+run-parts m cs = by_empty (is_empty (span (is_value m) cs).0) (span (is_value m) cs)
+  where
+    by_empty : (b : Bool) (s : List Code × List Code)
+        → (let r : Option (Element × List Code) = elim (elim b as (λ b. Option (List Code × List Code)) [ true ↦ None | false ↦ Some s ]) [ None ↦ None | Some r ↦ gives (plain (leaf N.AttentionSequence r.0)) r.1 ] in r)
+        ≡ elim b [ true ↦ None | false ↦ Some (plain (leaf N.AttentionSequence s.0), s.1) ]
+    by_empty true s = refl
+    by_empty false s = refl
+
+run-off : (m : ℕ) (cs : List Code) → switched false (attention_run m) cs ≡ None
+unfolding switched provided ◌>>◌
+run-off m cs = refl
+
+run-reads : (m : ℕ) (on : Bool) (c : Code) (cs : List Code) → on ≡ true → (c.value == m) ≡ true
+    → switched on (attention_run m) (c ∷ cs) ≡ Some (plain (leaf N.AttentionSequence (c ∷ (span (is_value m) cs).0)), (span (is_value m) cs).1)
+run-reads m on c cs e h = ap (λ b. switched b (attention_run m) (c ∷ cs)) e ∙ run-parts m (c ∷ cs) ∙ ap run_of_parts (span-takes (is_value m) c cs h)
+
+-- what is read is a whole construct
+module _ (tree : Forest) (rest : List Code) where
+  part-some : (b : Bool) (s : List Code × List Code)
+      → plain_tree (elim b [ true ↦ None | false ↦ Some (plain (leaf N.AttentionSequence s.0), s.1) ]) ≡ Some (tree, rest)
+      → ◌≡◌ {A = Option (Element × List Code)} (elim b [ true ↦ None | false ↦ Some (plain (leaf N.AttentionSequence s.0), s.1) ]) (Some (plain tree, rest))
+  part-some true s e = cc
+  part-some false s e =
+      let f : Option (Forest × List Code) → Option (Element × List Code) = λ o. elim o [ None ↦ None | Some r ↦ Some (plain r.0, r.1) ] in
+      ap f e
+
+  -- a run that is read is read as such an element
+  pub run-some : (m : ℕ) (on : Bool) (cs : List Code) → plain_tree (switched on (attention_run m) cs) ≡ Some (tree, rest)
+      → switched on (attention_run m) cs ≡ Some (plain tree, rest)
+  run-some m true cs e =
+      run-parts m cs ∙ part-some (is_empty (span (is_value m) cs).0) (span (is_value m) cs) (ap plain_tree (sym (run-parts m cs)) ∙ e)
+  run-some m false cs e = let none = ap plain_tree (sym (run-off m cs)) ∙ e in cc
+
+part-none : (b : Bool) (s : List Code × List Code)
+    → plain_tree (elim b [ true ↦ None | false ↦ Some (plain (leaf N.AttentionSequence s.0), s.1) ]) ≡ None
+    → ◌≡◌ {A = Option (Element × List Code)} (elim b [ true ↦ None | false ↦ Some (plain (leaf N.AttentionSequence s.0), s.1) ]) None
+part-none true s e = refl
+part-none false s e = cc
+
+-- and one that is not read as a tree is not read
+pub run-none : (m : ℕ) (on : Bool) (cs : List Code) → plain_tree (switched on (attention_run m) cs) ≡ None → switched on (attention_run m) cs ≡ None
+run-none m true cs e =
+    run-parts m cs ∙ part-none (is_empty (span (is_value m) cs).0) (span (is_value m) cs) (ap plain_tree (sym (run-parts m cs)) ∙ e)
+run-none m false cs e = run-off m cs
+
+-- What the operations leave.
+
+one-ahead : (T : Tokenizer) (v : ℕ) → current_of T ≡ Some v → 1 ≤ length (ahead T)
+one-ahead T v e = omega (arith, ap length (ahead-some T v e).whole)
+
+past-none : (T : Tokenizer) → passed [] T ≡ T
+unfolding passed
+past-none T = refl
+
+past-one : (c : Code) (cs : List Code) (T : Tokenizer) → passed (c ∷ cs) T ≡ passed cs (done (Consume ∷ []) T)
+unfolding passed applied
+past-one c cs T = refl
+
+scratch-consumed : (T : Tokenizer) → (done (Consume ∷ []) T).tokenize_state ≡ T.tokenize_state
+unfolding applied
+scratch-consumed T = refl
+
+stack-consumed : (T : Tokenizer) → InsideReady T → InsideReady (done (Consume ∷ []) T)
+unfolding applied
+stack-consumed T h = h
+
+-- entered, with its marker in the scratch fields
+abbrev begun : ℕ → Tokenizer → Tokenizer
+begun c T = scratched (with_marker c T.tokenize_state) (done (Enter N.AttentionSequence ∷ []) T)
+
+begun-ready : (c : ℕ) (T : Tokenizer) → InsideReady (begun c T)
+unfolding applied scratched
+begun-ready c T = refl
+
+begun-attempts : (c : ℕ) (T : Tokenizer) → (begun c T).attempts ≡ T.attempts
+unfolding applied scratched
+begun-attempts c T = refl
+
+begun-left : (c : ℕ) (T : Tokenizer) → codes_left (begun c T) ≡ codes_left T
+unfolding applied scratched
+begun-left c T = refl
+
+begun-markers : (c : ℕ) (T : Tokenizer) → markers_ahead (begun c T) ≡ (span (is_value c) (ahead T)).0
+unfolding applied scratched
+begun-markers c T = refl
+
+-- the run from its first marker to its end
+begun-past : (c : ℕ) (ms : List Code) (T : Tokenizer) → StartReady T → scratched (with_marker 0 (passed ms (begun c T)).tokenize_state) (exited N.AttentionSequence (passed ms (begun c T)))
+    ≡ scratched T.tokenize_state (exited N.AttentionSequence (passed ms (entered N.AttentionSequence T)))
+unfolding applied scratched passed
+begun-past c ms T rest = ap (λ (q : TokenizeState). scratched q (exited N.AttentionSequence (passed ms (entered N.AttentionSequence T)))) (sym rest)
+
+scratched-past : (tree : Forest) (s : TokenizeState) (T : Tokenizer) → scratched s (past None tree T) ≡ past None tree (scratched s T)
+unfolding scratched past
+scratched-past tree s T = refl
+
+ahead-scratched : (s : TokenizeState) (T : Tokenizer) → ahead (scratched s T) ≡ ahead T
+unfolding scratched
+ahead-scratched s T = refl
+
+-- The states.
+
+-- a run begins here: what is read, and where the run from it ends
+run-begins : (T : Tokenizer) (c : ℕ) → current_of T ≡ Some c → begins_run (switches_of T) c ≡ true → StartReady T
+    → (U : Tokenizer) → inside_ends (begun c T) true U → ReadsRun T U
+run-begins T c e on rest U k =
+    let b : Begins c (ahead T) = ahead-some T c e in
+    let cs : List Code = rest_of (ahead T) in
+    let s : List Code × List Code = span (is_value c) cs in
+    let ms : List Code = b.code ∷ s.0 in
+    let tree : Forest = leaf N.AttentionSequence ms in
+    let V : Tokenizer = past None tree (scratched T.tokenize_state T) in
+    let marks : (b.code.value == c) ≡ true = ap (λ v. v == c) b.value ∙ same c in
+    let taken : span (is_value c) (ahead T) ≡ (ms, s.1) = ap (span (is_value c)) b.whole ∙ span-takes (is_value c) b.code cs marks in
+    let codes : ahead T ≡ ms ++ s.1 = b.whole ∙ ap (λ xs. b.code ∷ xs) (sym (span-parts (is_value c) cs)) in
+    let whole : ahead T ≡ leaf_codes tree ++ s.1 = codes ∙ ap (λ xs. xs ++ s.1) (sym (append-nil ms)) in
+    let markers : markers_ahead (begun c T) ≡ ms = begun-markers c T ∙ ap (λ (x : List Code × List Code). x.0) taken in
+    let over : exited N.AttentionSequence (passed ms (entered N.AttentionSequence T)) ≡ past None tree T = leaf-past N.AttentionSequence None false b.code s.0 s.1 T codes in
+    let left : left_run (passed (markers_ahead (begun c T)) (begun c T)) ≡ registered R.Attention V =
+    ap (λ xs. left_run (passed xs (begun c T))) markers
+    ∙ ap (registered R.Attention) (begun-past c ms T rest ∙ ap (scratched T.tokenize_state) over ∙ scratched-past tree T.tokenize_state T) in
+    let reads : run_tree T (ahead T) ≡ Some (tree, s.1) =
+    ap (λ o. plain_tree (run_at_code (switches_of T) o (ahead T))) e
+    ∙ ap (λ xs. plain_tree (switched (begins_run (switches_of T) c) (attention_run c) xs)) b.whole
+    ∙ ap plain_tree (run-reads c (begins_run (switches_of T) c) b.code cs on marks) in
+    let ahead' : ahead (scratched T.tokenize_state T) ≡ leaf_codes tree ++ s.1 = ahead-scratched T.tokenize_state T ∙ whole in
+    record {
+      there = V;
+      reads = record { tree = tree; rest = s.1; holds = reads; left = refl; whole = whole; after = ahead-past None tree (scratched T.tokenize_state T) s.1 ahead' };
+      left = k ∙ left;
+    }
+  where
+    same : (n : ℕ) → (n == n) ≡ true
+    same n = eq-eqb n n refl
+
+run-begun : (T : Tokenizer) (c : ℕ) → current_of T ≡ Some c → begins_run (switches_of T) c ≡ true → StartReady T
+    → (ok : Bool) (U : Tokenizer) → inside_ends (begun c T) ok U → start_ends T ok U
+run-begun T c e on rest true U k = run-begins T c e on rest U k
+run-begun T c e on rest false U k = absurd k
+
+no-run : (T : Tokenizer) → run_tree T (ahead T) ≡ None → (ok : Bool) (U : Tokenizer) → (ok ≡ false) × (U ≡ T) → start_ends T ok U
+no-run T none ok U x = subst (λ b. start_ends T b U) (sym x.0) (Refuses-done (run_tree T) [] T U refl none x.1)
+
+pub start-law : (ready : StateName → Tokenizer → Type 0) (ends : StateName → Tokenizer → Bool → Tokenizer → Type 0) (weight : StateName → Tokenizer → ℕ) → Within ready ends weight → (T : Tokenizer) → T.attempts ≡ [] → StartReady T → GoesOn ready ends weight (weight_at 2 T) (start_ends T) (start_step T)
+start-law ready ends weight within T alone rest =
+    let n : ℕ = weight_at 2 T in
+    let P : Stepped → Type 0 = GoesOn ready ends weight n (start_ends T) in
+    code-step P (current_of T) (λ o. start_at o T)
+    (λ e. Goes-plain ready ends weight n (start_ends T) Nok T alone tt (omega arith)
+    (no-run T (ap (λ o. plain_tree (run_at_code (switches_of T) o (ahead T))) e)))
+    (λ c e. if-step P (begins_run (switches_of T) c) _ _
+    (λ on. let X : Tokenizer = begun c T in
+    Goes-plain ready ends weight n (start_ends T) (Retry AttentionInside) X (begun-attempts c T ∙ alone) (within.inside_ready X (begun-ready c T))
+    (rw within.inside_weight (omega (arith, begun-left c T)))
+    (λ ok U k. run-begun T c e on rest ok U (within.inside_end X ok U k)))
+    (λ off. Goes-plain ready ends weight n (start_ends T) Nok T alone tt (omega arith)
+    (no-run T (ap (λ o. plain_tree (run_at_code (switches_of T) o (ahead T))) e ∙ ap (λ b. plain_tree (switched b (attention_run c) (ahead T))) off ∙ ap plain_tree (run-off c (ahead T))))))
+
+-- In a run.
+
+run-goes : (T : Tokenizer) (v : ℕ) → current_of T ≡ Some v → (v == T.tokenize_state.marker) ≡ true → (ok : Bool) (U : Tokenizer) → inside_ends (done (Consume ∷ []) T) ok U → inside_ends T ok U
+run-goes T v e h false U k = absurd k
+run-goes T v e h true U k =
+    let b : Begins v (ahead T) = ahead-some T v e in
+    let m : ℕ = T.tokenize_state.marker in
+    let X : Tokenizer = done (Consume ∷ []) T in
+    let next : markers_ahead X ≡ (span (is_value m) (rest_of (ahead T))).0 =
+    ap (λ (q : TokenizeState). (span (is_value q.marker) (ahead X)).0) (scratch-consumed T) ∙ ap (λ cs. (span (is_value m) cs).0) (ahead-done (Consume ∷ []) T) in
+    let here : markers_ahead T ≡ b.code ∷ markers_ahead X =
+    ap (λ cs. (span (is_value m) cs).0) b.whole
+    ∙ ap (λ (s : List Code × List Code). s.0) (span-takes (is_value m) b.code (rest_of (ahead T)) (ap (λ x. x == m) b.value ∙ h))
+    ∙ ap (λ cs. b.code ∷ cs) (sym next) in
+    k ∙ ap left_run (sym (past-one b.code (markers_ahead X) T) ∙ ap (λ cs. passed cs T) (sym here))
+
+run-stops : (T : Tokenizer) (v : ℕ) → current_of T ≡ Some v → (v == T.tokenize_state.marker) ≡ false → markers_ahead T ≡ []
+run-stops T v e h =
+    let b : Begins v (ahead T) = ahead-some T v e in
+    let m : ℕ = T.tokenize_state.marker in
+    ap (λ cs. (span (is_value m) cs).0) b.whole ∙ ap (λ (s : List Code × List Code). s.0) (span-stops (is_value m) b.code (rest_of (ahead T)) (ap (λ x. x == m) b.value ∙ h))
+
+run-left : (T : Tokenizer) → markers_ahead T ≡ [] → (ok : Bool) (U : Tokenizer) → (ok ≡ true) × (U ≡ left_run T) → inside_ends T ok U
+run-left T e ok U x =
+    subst (λ b. inside_ends T b U) (sym x.0) (x.1 ∙ ap left_run (sym (past-none T) ∙ ap (λ cs. passed cs T) (sym e)))
+
+left-attempts : (T : Tokenizer) → (left_run T).attempts ≡ T.attempts
+left-attempts T =
+    attempts-registered R.Attention (scratched (with_marker 0 T.tokenize_state) (exited N.AttentionSequence T))
+    ∙ attempts-scratched (with_marker 0 T.tokenize_state) (exited N.AttentionSequence T) ∙ attempts-applied (Exit N.AttentionSequence) T
+
+pub inside-law : (ready : StateName → Tokenizer → Type 0) (ends : StateName → Tokenizer → Bool → Tokenizer → Type 0) (weight : StateName → Tokenizer → ℕ) → Within ready ends weight → (T : Tokenizer) → T.attempts ≡ [] → InsideReady T → GoesOn ready ends weight (weight_at 1 T) (inside_ends T) (inside_step T)
+inside-law ready ends weight within T alone opened =
+    let n : ℕ = weight_at 1 T in
+    let P : Stepped → Type 0 = GoesOn ready ends weight n (inside_ends T) in
+    let leave : markers_ahead T ≡ [] → P (leaving T) = λ h.
+    Goes-plain ready ends weight n (inside_ends T) State.Ok (left_run T) (left-attempts T ∙ alone) tt (omega arith) (run-left T h) in
+    code-step P (current_of T) (λ o. inside_at o T)
+    (λ e. leave (ap (λ cs. (span (is_value T.tokenize_state.marker) cs).0) (ahead-none T e)))
+    (λ v e. if-step P (v == T.tokenize_state.marker) _ _
+    (λ h. let Y : Tokenizer = done (Consume ∷ []) T in
+    let less : codes_left Y + 1 ≡ codes_left T = left-done (Consume ∷ []) T (one-ahead T v e) in
+    Goes-ops ready ends weight n (inside_ends T) (Next AttentionInside) (Consume ∷ []) T alone (within.inside_ready Y (stack-consumed T opened)) (rw within.inside_weight (omega (arith, less)))
+    (λ ok U k. run-goes T v e h ok U (within.inside_end Y ok U k)))
+    (λ h. leave (run-stops T v e h)))

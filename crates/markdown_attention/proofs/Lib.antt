@@ -1,0 +1,14 @@
+pub mod Scan
+pub mod Standing
+pub mod Potential
+pub mod Classes
+pub mod OpenLists
+pub mod Walking
+pub mod ListScan
+pub mod Looks
+pub mod Turns
+pub mod Places
+pub mod ModelPairs
+pub mod AttentionLaws
+pub mod ReadingLemmas
+pub mod RowLemmas

@@ -1,0 +1,168 @@
+-- The runs of a list of events, event by event.
+use Rattle.std.proofs.Common.{cond, ◌≡◌, ℕ, zero, suc, ◌+◌, ◌<◌, ◌≤◌, Bool, true, false, List, [], ◌∷◌, ◌++◌, length, drop, get_or, Option, Some, refl, sym, ap, subst, ◌∙◌, arith, add-one, append_assoc, append-nil, length-append, inl, inr}
+use Rattle.std.proofs.lemmas.Bool.{cases_Bool, cases_lt}
+use Rattle.std.proofs.lemmas.List.{drop_more, get_or_append_left, get_or_push}
+use Rattle.std.proofs.lemmas.List.{length-drop}
+use Rattle.std.proofs.lemmas.List.Elements.{All-append, All-cons, All-head, All-nil, All-tail}
+use Rattle.std.specs.Prelude.{All}
+use Rattle.markdown_engine.specs.Lists.{rest_of}
+use Rattle.markdown_attention.specs.Open.{IsMarker}
+use Rattle.markdown_engine.specs.declared.event.Event.{Event}
+use Rattle.markdown_attention.specs.Pairs.{row_of, run_at, no_run}
+use Rattle.markdown_attention.specs.Reading.{is_text, is_enter, left_to, opens_run, sequence_at, where_after, outermost, first_run, runs_from, IsRunPlace, EndsRun, FirstHasPlaces, HaveRunPlaces}
+use Rattle.markdown_attention.specs.Walk.{Numbered}
+use Rattle.markdown_attention.specs.declared.attention.reading.Where.{Where}
+use Rattle.markdown_attention.specs.declared.attention.runs.Sequence.{Sequence}
+
+-- the first of the events from i on, and those behind it
+pub first-event : (events : List Event) (i : ℕ) (e : Event) → i < length events → e ≡ get_or events i e → drop i events ≡ e ∷ drop (i + 1) events
+first-event events i e l h = drop_more events i e l ∙ ap (λ x. x ∷ drop (i + 1) events) (sym h)
+
+-- behind the Enter of a run stands another event
+some-behind : (bytes : List ℕ) (e : Event) (es : List Event) → EndsRun bytes e es → 1 ≤ length es
+some-behind bytes e [] h = absurd h
+some-behind bytes e (x ∷ es) h = omega arith
+
+module _ (bytes : List ℕ) (events : List Event) (i : ℕ) (e : Event) (l : i < length events) (h : e ≡ get_or events i e)
+    (places : FirstHasPlaces bytes (drop i events)) (opens : opens_run e ≡ true) where
+  behind : EndsRun bytes e (drop (i + 1) events)
+  behind = let p : FirstHasPlaces bytes (e ∷ drop (i + 1) events) = subst (FirstHasPlaces bytes) (first-event events i e l h) places in p opens
+
+  pub exit-within : i + 1 < length events
+  exit-within = let some = some-behind bytes e (drop (i + 1) events) behind in let n = length-drop (i + 1) events in omega arith
+
+  module _ (x : Event) (k : x ≡ get_or events (i + 1) x) where
+    pub exit-place : IsRunPlace bytes e.point x.point
+    exit-place = subst (EndsRun bytes e) (first-event events (i + 1) x exit-within k) behind
+
+    pub run-found : (tildes : Bool) (n : ℕ) (c : Option ℕ) → first_run tildes bytes n i c (drop i events) ≡ sequence_at tildes bytes n i c e.point x.point ∷ []
+    run-found tildes n c =
+        ap (first_run tildes bytes n i c) (first-event events i e l h ∙ ap (λ es. e ∷ es) (first-event events (i + 1) x exit-within k))
+        ∙ rw opens refl
+
+none-first : (tildes : Bool) (bytes : List ℕ) (n i : ℕ) (c : Option ℕ) (e : Event) (es : List Event) → opens_run e ≡ false → first_run tildes bytes n i c (e ∷ es) ≡ []
+none-first tildes bytes n i c e [] h = refl
+none-first tildes bytes n i c e (x ∷ es) h = rw h refl
+
+pub run-none : (tildes : Bool) (bytes : List ℕ) (n i : ℕ) (c : Option ℕ) (events : List Event) (e : Event) → i < length events → e ≡ get_or events i e → opens_run e ≡ false
+    → first_run tildes bytes n i c (drop i events) ≡ []
+run-none tildes bytes n i c events e l h off = ap (first_run tildes bytes n i c) (first-event events i e l h) ∙ none-first tildes bytes n i c e (drop (i + 1) events) off
+
+-- the runs so far, and those that are still to come
+pub record Reading (tildes : Bool) (bytes : List ℕ) (events : List Event) (i : ℕ) (list : List Sequence) (w : Where) : Type 0 where
+  pub all : list ++ runs_from tildes bytes (length list) i w (drop i events) ≡ runs_from tildes bytes 0 0 outermost events
+  pub numbered : Numbered list
+  pub places : HaveRunPlaces bytes (drop i events)
+
+pub reading-start : (tildes : Bool) (bytes : List ℕ) (events : List Event) → HaveRunPlaces bytes events → Reading tildes bytes events 0 [] outermost
+reading-start tildes bytes events h = record { all = refl; numbered = λ i l. absurd (omega arith); places = h }
+
+numbered-one : (list : List Sequence) (r : Sequence) → Numbered list → r.number ≡ length list → Numbered (list ++ r ∷ [])
+numbered-one list r h e i l =
+    elim (cases_lt i (length list)) [
+      | inl below ↦ ap (λ (x : Sequence). x.number) (get_or_append_left list (r ∷ []) no_run i below) ∙ h i below
+      | inr above ↦
+          let n = length-append list (r ∷ []) in
+          let at : i ≡ length list = omega arith in
+          ap (λ j. (run_at (list ++ r ∷ []) j).number) at ∙ ap (λ (x : Sequence). x.number) (get_or_push list r no_run (length list) refl) ∙ e ∙ sym at
+    ]
+
+numbered-more : (tildes : Bool) (bytes : List ℕ) (i : ℕ) (c : Option ℕ) (list : List Sequence) (es : List Event) → Numbered list
+    → Numbered (list ++ first_run tildes bytes (length list) i c es)
+numbered-more tildes bytes i c list [] h = subst Numbered (sym (append-nil list)) h
+numbered-more tildes bytes i c list (e ∷ []) h = subst Numbered (sym (append-nil list)) h
+numbered-more tildes bytes i c list (e ∷ x ∷ es) h =
+    elim (cases_Bool (opens_run e)) [
+      | inl on ↦ rw on (numbered-one list (sequence_at tildes bytes (length list) i c e.point x.point) h refl)
+      | inr off ↦ rw off (subst Numbered (sym (append-nil list)) h)
+    ]
+
+pub reading-more : (tildes : Bool) (bytes : List ℕ) (events : List Event) (i : ℕ) (list list' : List Sequence) (w w' : Where) (e : Event)
+    → i < length events → e ≡ get_or events i e → list' ≡ list ++ first_run tildes bytes (length list) i w.container (drop i events) → w' ≡ where_after i e w
+    → Reading tildes bytes events i list w → Reading tildes bytes events (i + 1) list' w'
+reading-more tildes bytes events i list list' w w' e l h lists wheres r =
+    let first : List Sequence = first_run tildes bytes (length list) i w.container (drop i events) in
+    let es : List Event = drop (i + 1) events in
+    let split : drop i events ≡ e ∷ es = first-event events i e l h in
+    let head : first ≡ first_run tildes bytes (length list) i w.container (e ∷ es) = ap (first_run tildes bytes (length list) i w.container) split in
+    let size : length list' ≡ length list + length first = ap length lists ∙ length-append list first in
+    let rest : runs_from tildes bytes (length list) i w (drop i events) ≡ first ++ runs_from tildes bytes (length list') (i + 1) w' es =
+    ap (runs_from tildes bytes (length list) i w) split
+    ∙ ap (λ (f : List Sequence). f ++ runs_from tildes bytes (length list + length f) (suc i) (where_after i e w) es) (sym head)
+    ∙ (λ z. first ++ runs_from tildes bytes (sym size z) (sym (add-one i) z) (sym wheres z) es) in
+    record {
+      all = ap (λ xs. xs ++ runs_from tildes bytes (length list') (i + 1) w' es) lists ∙ append_assoc list first _ ∙ ap (λ xs. list ++ xs) (sym rest) ∙ r.all;
+      numbered = subst Numbered (sym lists) (numbered-more tildes bytes i w.container list (drop i events) r.numbered);
+      places = (let p : HaveRunPlaces bytes (e ∷ es) = subst (HaveRunPlaces bytes) split r.places in p.1);
+    }
+
+pub reading-first : (bytes : List ℕ) (es : List Event) → HaveRunPlaces bytes es → FirstHasPlaces bytes es
+reading-first bytes [] h = tt
+reading-first bytes (e ∷ es) h = h.0
+
+nothing-left : (events : List Event) (i : ℕ) → length events ≤ i → drop i events ≡ []
+nothing-left [] zero l = refl
+nothing-left [] (suc i) l = refl
+nothing-left (e ∷ es) zero l = absurd (omega arith)
+nothing-left (e ∷ es) (suc i) l = nothing-left es i (omega arith)
+
+pub reading-end : (tildes : Bool) (bytes : List ℕ) (events : List Event) (i : ℕ) (list : List Sequence) (w : Where) → length events ≤ i
+    → Reading tildes bytes events i list w → list ≡ runs_from tildes bytes 0 0 outermost events
+reading-end tildes bytes events i list w l r =
+    sym (append-nil list) ∙ ap (λ es. list ++ runs_from tildes bytes (length list) i w es) (sym (nothing-left events i l)) ∙ r.all
+
+-- What is so of each run that is read.
+
+pub record IsRead (high : ℕ) (r : Sequence) : Type 0 where
+  pub whole : r.remaining ≡ r.size
+  pub marker : IsMarker r.marker
+  pub row : row_of r.container ≤ high
+
+-- containers that are no later
+pub record AreBefore (high : ℕ) (w : Where) : Type 0 where
+  pub container : row_of w.container ≤ high
+  pub outer : All (λ k. row_of k ≤ high) w.outer
+
+left-before : (high : ℕ) (ks : List (Option ℕ)) → All (λ k. row_of k ≤ high) ks → row_of (left_to ks) ≤ high
+left-before high [] h = omega arith
+left-before high (k ∷ ks) h = All-head (λ k. row_of k ≤ high) k ks h
+
+rest-before : (high : ℕ) (ks : List (Option ℕ)) → All (λ k. row_of k ≤ high) ks → All (λ k. row_of k ≤ high) (rest_of ks)
+rest-before high [] h = h
+rest-before high (k ∷ ks) h = All-tail (λ k. row_of k ≤ high) k ks h
+
+before-after : (high i : ℕ) (e : Event) (w : Where) → i + 1 ≤ high → AreBefore high w → AreBefore high (where_after i e w)
+before-after high i e w l h = by_test (is_text e.name) (is_enter e.kind)
+  where
+    by_test : (t b : Bool) → AreBefore high (cond t (cond b (record { container = Some i; outer = w.container ∷ w.outer }) (record { container = left_to w.outer; outer = rest_of w.outer })) w)
+    by_test true true = record { container = l; outer = All-cons (λ k. row_of k ≤ high) w.container w.outer h.container h.outer }
+    by_test true false = record { container = left-before high w.outer h.outer; outer = rest-before high w.outer h.outer }
+    by_test false b = h
+
+first-read : (tildes : Bool) (bytes : List ℕ) (high n i : ℕ) (k : Option ℕ) (es : List Event) → FirstHasPlaces bytes es → row_of k ≤ high
+    → All (IsRead high) (first_run tildes bytes n i k es)
+first-read tildes bytes high n i k [] h l = All-nil (IsRead high)
+first-read tildes bytes high n i k (e ∷ []) h l = All-nil (IsRead high)
+first-read tildes bytes high n i k (e ∷ x ∷ es) h l = by_test (opens_run e) h
+  where
+    by_test : (b : Bool) → (b ≡ true → IsRunPlace bytes e.point x.point) → All (IsRead high) (cond b (sequence_at tildes bytes n i k e.point x.point ∷ []) [])
+    by_test true p = All-cons (IsRead high) (sequence_at tildes bytes n i k e.point x.point) [] (record { whole = refl; marker = (p refl).marker; row = l }) (All-nil (IsRead high))
+    by_test false p = All-nil (IsRead high)
+
+pub are-read : (tildes : Bool) (bytes : List ℕ) (high : ℕ) (es : List Event) (n i : ℕ) (w : Where) → HaveRunPlaces bytes es → i + length es ≤ high → AreBefore high w
+    → All (IsRead high) (runs_from tildes bytes n i w es)
+are-read tildes bytes high [] n i w h l b = All-nil (IsRead high)
+are-read tildes bytes high (e ∷ es) n i w h l b =
+    let first : List Sequence = first_run tildes bytes n i w.container (e ∷ es) in
+    All-append (IsRead high) first (runs_from tildes bytes (n + length first) (suc i) (where_after i e w) es)
+    (first-read tildes bytes high n i w.container (e ∷ es) h.0 b.container)
+    (are-read tildes bytes high es (n + length first) (suc i) (where_after i e w) h.1 (omega arith) (before-after high i e w (omega arith) b))
+
+-- of all runs
+pub all-read : (tildes : Bool) (bytes : List ℕ) (es : List Event) (list : List Sequence) → HaveRunPlaces bytes es → list ≡ runs_from tildes bytes 0 0 outermost es
+    → (i : ℕ) → i < length list → IsRead (length es) (run_at list i)
+all-read tildes bytes es list h e i l =
+    let read : All (IsRead (length es)) list =
+    subst (All (IsRead (length es))) (sym e)
+    (are-read tildes bytes (length es) es 0 0 outermost h (omega arith) (record { container = omega arith; outer = All-nil (λ k. row_of k ≤ length es) })) in
+    read i no_run l

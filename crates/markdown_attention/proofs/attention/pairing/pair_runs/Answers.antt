@@ -1,0 +1,226 @@
+use Rattle.std.proofs.Common.{◌≡◌, ℕ, ◌+◌, ◌-◌, ◌*◌, ◌<◌, ◌≤◌, ◌⊎◌, ◌&&◌, cond, true, false, eqb, ltb, set, length, get_or, refl, sym, ◌∙◌, ap, subst, arith, List, inl, inr}
+use Rattle.std.proofs.lemmas.Bool.{cases_lt}
+use Rattle.std.proofs.lemmas.List.{get_or_read, length-replicate}
+use Rattle.markdown_attention.specs.Pairs.{row_of, run_at, markers_left, after_taking}
+use Rattle.markdown_attention.specs.Open.{class_of, list_of, mark_of, WalkFound, WalkEnded, IsCut, IsClosing}
+use Rattle.markdown_attention.proofs.OpenLists.{by-marker}
+use Rattle.markdown_attention.proofs.Standing.{markers_taking, length_taking}
+use Rattle.markdown_attention.proofs.ListScan.{inv_start}
+use Rattle.markdown_attention.proofs.Turns.{scanned-all, paid-all, looks-all, end_turn, pair_turn, fits, key_is, small_runs, some_key, zeros, length_if, less}
+use Rattle.markdown_attention.proofs.attention.pairing.pair_runs.Goals as goal
+use Rattle.markdown_attention.proofs.attention.pairing.pair_runs.Goals.{After-walk, After-pair_size-size, After-row_known-in-Some-1}
+
+pub loop-closer-init : goal.loop-closer-init
+loop-closer-init c =
+    let hs = c.in_ok-heads.ensures in
+    let ms = c.in_ok-marks.ensures in
+    rw (hs, ms, c.new-older.ensures.items, c.new-pairs.ensures.items, c.requires.start, c.requires.unread)
+    (record {
+      inv = inv_start c.args.options c.args.runs.now.list _ _ c.requires.whole (zeros (c.args.rows * 3)) (zeros (c.args.rows * 18));
+      heads_length = length-replicate (c.args.rows * 3) 0;
+      marks_length = length-replicate (c.args.rows * 18) 0;
+    })
+
+here : (c : After-row_known-in-Some-1) → c.loop-closer.runs.turn < length c.args.runs.now.list
+here c =
+    let e = c.loop-closer.invariant.inv.stands.same_length in
+    let w = c.in-Some.ensures.within.0 refl in
+    omega (arith, e, w)
+
+keys : (c : After-row_known-in-Some-1) → (r : ℕ) → r < length c.args.runs.now.list → list_of c.args.runs.now.list r < length c.loop-closer.heads.items
+keys c = some_key c.args.runs.now.list c.args.rows c.loop-closer.heads.items c.loop-closer.invariant.heads_length c.requires.rows
+
+marks_six : (c : After-row_known-in-Some-1) → length c.loop-closer.marks.items ≡ length c.loop-closer.heads.items * 6
+marks_six c = let a = c.loop-closer.invariant.heads_length in let b = c.loop-closer.invariant.marks_length in omega arith
+
+list_is : (c : After-row_known-in-Some-1) → c.list_of-list.result ≡ list_of c.args.runs.now.list c.loop-closer.runs.turn
+list_is c =
+    c.list_of-list.ensures
+    ∙ key_is c.args.options c.args.runs.now.list c.loop-closer.runs.list c.loop-closer.runs.turn c.loop-closer.pairs.items c.loop-closer.runs.probes
+    c.loop-closer.heads.items c.loop-closer.older.items c.loop-closer.marks.items c.loop-closer.invariant.inv (here c) (by-marker c.args.runs.now.list c.requires.markers) (keys c) (marks_six c)
+    c.in-Some.closer c.in-Some.ensures.run
+
+class_is : (c : After-row_known-in-Some-1) → c.class_number-class.result
+    ≡ class_of c.args.options (run_at c.loop-closer.runs.list c.loop-closer.runs.turn) (run_at c.loop-closer.runs.list c.loop-closer.runs.turn).remaining
+class_is c = c.class_number-class.ensures.is ∙ ap (λ r. class_of c.args.options r r.remaining) c.in-Some.ensures.run
+
+head_is : (c : After-row_known-in-Some-1) → c.index-head.result.now ≡ get_or c.loop-closer.heads.items (list_of c.args.runs.now.list c.loop-closer.runs.turn) 0
+head_is c =
+    let inside : c.list_of-list.result < length c.loop-closer.heads.items = rw (list_is c) (keys c c.loop-closer.runs.turn (here c)) in
+    get_or_read c.loop-closer.heads.items c.list_of-list.result c.index-head.result.now inside c.index-head.ensures 0
+    ∙ ap (λ x. get_or c.loop-closer.heads.items x 0) (list_is c)
+
+mark_is : (c : After-row_known-in-Some-1) → c.index.result.now
+    ≡ mark_of c.loop-closer.marks.items (list_of c.args.runs.now.list c.loop-closer.runs.turn)
+    (class_of c.args.options (run_at c.loop-closer.runs.list c.loop-closer.runs.turn) (run_at c.loop-closer.runs.list c.loop-closer.runs.turn).remaining)
+mark_is c =
+    let inside : c.list_of-list.result < length c.loop-closer.heads.items = rw (list_is c) (keys c c.loop-closer.runs.turn (here c)) in
+    let six = marks_six c in
+    let small = c.class_number-class.ensures.small in
+    let in_marks : c.list_of-list.result * 6 + c.class_number-class.result < length c.loop-closer.marks.items = omega arith in
+    get_or_read c.loop-closer.marks.items (c.list_of-list.result * 6 + c.class_number-class.result) c.index.result.now in_marks c.index.ensures 0
+    ∙ ap (λ x. get_or c.loop-closer.marks.items (x * 6 + c.class_number-class.result) 0) (list_is c)
+    ∙ ap (λ x. get_or c.loop-closer.marks.items (list_of c.args.runs.now.list c.loop-closer.runs.turn * 6 + x) 0) (class_is c)
+
+pub walk-requires-clause-head : goal.walk-requires-clause-head
+walk-requires-clause-head c =
+    rw (head_is c) (c.loop-closer.invariant.inv.lists.heads_le (list_of c.args.runs.now.list c.loop-closer.runs.turn) (keys c c.loop-closer.runs.turn (here c)))
+
+pub walk-requires-clause-small : goal.walk-requires-clause-small
+walk-requires-clause-small c =
+    small_runs c.args.options c.args.runs.now.list c.loop-closer.runs.list c.loop-closer.runs.turn c.loop-closer.pairs.items c.loop-closer.runs.probes
+    c.loop-closer.heads.items c.loop-closer.older.items c.loop-closer.marks.items c.loop-closer.invariant.inv c.requires.whole c.requires.small
+
+pub loop-closer-preserved-in-None : goal.loop-closer-preserved-in-None
+loop-closer-preserved-in-None c =
+    let b = (goal.at.loop-closer-preserved-in-None c).After-row_known-in-Some-1 in
+    let k : ℕ = list_of c.args.runs.now.list c.loop-closer.runs.turn in
+    let class : ℕ = class_of c.args.options (run_at c.loop-closer.runs.list c.loop-closer.runs.turn) (run_at c.loop-closer.runs.list c.loop-closer.runs.turn).remaining in
+    let heads' : c.list_end.new.heads.items
+    ≡ cond (c.in-Some.closer.may_open && ltb 0 c.in-Some.closer.remaining) (set c.loop-closer.heads.items k (c.loop-closer.runs.turn + 1)) c.loop-closer.heads.items =
+    subst (λ n. c.list_end.new.heads.items
+    ≡ cond (c.in-Some.closer.may_open && ltb 0 c.in-Some.closer.remaining) (set c.loop-closer.heads.items k (n + 1)) c.loop-closer.heads.items) c.in-Some.ensures.number
+    (subst (λ n. c.list_end.new.heads.items
+    ≡ cond (c.in-Some.closer.may_open && ltb 0 c.in-Some.closer.remaining) (set c.loop-closer.heads.items n (c.in-Some.closer.number + 1)) c.loop-closer.heads.items) (list_is b)
+    c.list_end.ensures) in
+    let marks' : c.mark_end.new.marks.items
+    ≡ cond (c.in-Some.closer.may_close && ltb 0 c.in-Some.closer.remaining) (set c.loop-closer.marks.items (k * 6 + class) c.loop-closer.runs.turn) c.loop-closer.marks.items =
+    subst (λ n. c.mark_end.new.marks.items
+    ≡ cond (c.in-Some.closer.may_close && ltb 0 c.in-Some.closer.remaining) (set c.loop-closer.marks.items (k * 6 + class) n) c.loop-closer.marks.items) c.in-Some.ensures.number
+    (subst (λ n. c.mark_end.new.marks.items
+    ≡ cond (c.in-Some.closer.may_close && ltb 0 c.in-Some.closer.remaining) (set c.loop-closer.marks.items (k * 6 + n) c.in-Some.closer.number) c.loop-closer.marks.items) (class_is b)
+    (subst (λ n. c.mark_end.new.marks.items
+    ≡ cond (c.in-Some.closer.may_close && ltb 0 c.in-Some.closer.remaining) (set c.loop-closer.marks.items (n * 6 + c.class_number-class.result) c.in-Some.closer.number) c.loop-closer.marks.items) (list_is b)
+    c.mark_end.ensures)) in
+    let walked : IsClosing c.in-Some.closer → WalkEnded c.args.options c.loop-closer.runs.list c.loop-closer.older.items (mark_of c.loop-closer.marks.items k class)
+    c.loop-closer.runs.turn c.index-head.result.now (c.walk.new.runs.probes - c.loop-closer.runs.probes) =
+    λ x. subst (λ m. WalkEnded c.args.options c.loop-closer.runs.list c.loop-closer.older.items m
+    c.loop-closer.runs.turn c.index-head.result.now (c.walk.new.runs.probes - c.loop-closer.runs.probes)) (mark_is b)
+    (subst (λ o. WalkEnded c.args.options c.loop-closer.runs.list o c.index.result.now
+    c.loop-closer.runs.turn c.index-head.result.now (c.walk.new.runs.probes - c.loop-closer.runs.probes)) c.deref.ensures.value (c.in-None.ensures.none x)) in
+    let inv' = end_turn c.args.options c.args.runs.now.list c.loop-closer.runs.list c.loop-closer.runs.turn c.loop-closer.pairs.items c.loop-closer.runs.probes
+    c.loop-closer.heads.items c.loop-closer.older.items c.loop-closer.marks.items c.loop-closer.invariant.inv (here b) (by-marker c.args.runs.now.list c.requires.markers) (keys b) (marks_six b)
+    c.in-Some.closer c.in-Some.ensures.run c.walk.new.runs.probes c.index-head.result.now c.list_end.new.heads.items c.mark_end.new.marks.items
+    (head_is b) heads' marks' c.in-None.ensures.idle walked c.in-None.ensures.at_least c.in-None.ensures.at_most in
+    record {
+      inv = rw (c.advance.ensures, c.in-None.ensures.list, c.in-None.ensures.turn, c.in_ok-push-in-None.ensures.items) inv';
+      heads_length = ap length heads' ∙ length_if _ c.loop-closer.heads.items k (c.loop-closer.runs.turn + 1) ∙ c.loop-closer.invariant.heads_length;
+      marks_length = ap length marks' ∙ length_if _ c.loop-closer.marks.items (k * 6 + class) c.loop-closer.runs.turn ∙ c.loop-closer.invariant.marks_length;
+    }
+
+pub take-requires-clause-opener_has : goal.take-requires-clause-opener_has
+take-requires-clause-opener_has c =
+    let b = (goal.at.take-requires-clause-opener_has c).After-row_known-in-Some-1 in
+    let k : ℕ = list_of c.args.runs.now.list c.loop-closer.runs.turn in
+    let class : ℕ = class_of c.args.options (run_at c.loop-closer.runs.list c.loop-closer.runs.turn) (run_at c.loop-closer.runs.list c.loop-closer.runs.turn).remaining in
+    let o : ℕ = c.in-Some-walk.opener.number in
+    let walk : WalkFound c.args.options c.loop-closer.runs.list c.loop-closer.older.items (mark_of c.loop-closer.marks.items k class)
+    c.loop-closer.runs.turn c.index-head.result.now o (c.walk.new.runs.probes - c.loop-closer.runs.probes) =
+    subst (λ m. WalkFound c.args.options c.loop-closer.runs.list c.loop-closer.older.items m
+    c.loop-closer.runs.turn c.index-head.result.now o (c.walk.new.runs.probes - c.loop-closer.runs.probes)) (mark_is b)
+    (subst (λ l. WalkFound c.args.options c.loop-closer.runs.list l c.index.result.now
+    c.loop-closer.runs.turn c.index-head.result.now o (c.walk.new.runs.probes - c.loop-closer.runs.probes)) c.deref.ensures.value c.in-Some-walk.ensures.found) in
+    let f = fits c.args.options c.args.runs.now.list c.loop-closer.runs.list c.loop-closer.runs.turn c.loop-closer.pairs.items c.loop-closer.runs.probes
+    c.loop-closer.heads.items c.loop-closer.older.items c.loop-closer.marks.items c.loop-closer.invariant.inv (here b) (by-marker c.args.runs.now.list c.requires.markers) (keys b) (marks_six b)
+    c.in-Some.closer c.in-Some.ensures.run o c.pair_size-size.result c.walk.new.runs.probes c.index-head.result.now c.in-Some-walk.opener
+    c.in-Some-walk.ensures.run (head_is b) c.in-Some-walk.ensures.closes walk c.pair_size-size.ensures in
+    rw c.walk.ensures.list f.1
+
+pub loop-closer-smaller : goal.loop-closer-smaller
+loop-closer-smaller c =
+    let b = (goal.at.loop-closer-smaller c).After-row_known-in-Some-1 in
+    let k : ℕ = list_of c.args.runs.now.list c.loop-closer.runs.turn in
+    let class : ℕ = class_of c.args.options (run_at c.loop-closer.runs.list c.loop-closer.runs.turn) (run_at c.loop-closer.runs.list c.loop-closer.runs.turn).remaining in
+    let o : ℕ = c.in-Some-walk.opener.number in
+    let walk : WalkFound c.args.options c.loop-closer.runs.list c.loop-closer.older.items (mark_of c.loop-closer.marks.items k class)
+    c.loop-closer.runs.turn c.index-head.result.now o (c.walk.new.runs.probes - c.loop-closer.runs.probes) =
+    subst (λ m. WalkFound c.args.options c.loop-closer.runs.list c.loop-closer.older.items m
+    c.loop-closer.runs.turn c.index-head.result.now o (c.walk.new.runs.probes - c.loop-closer.runs.probes)) (mark_is b)
+    (subst (λ l. WalkFound c.args.options c.loop-closer.runs.list l c.index.result.now
+    c.loop-closer.runs.turn c.index-head.result.now o (c.walk.new.runs.probes - c.loop-closer.runs.probes)) c.deref.ensures.value c.in-Some-walk.ensures.found) in
+    let f = fits c.args.options c.args.runs.now.list c.loop-closer.runs.list c.loop-closer.runs.turn c.loop-closer.pairs.items c.loop-closer.runs.probes
+    c.loop-closer.heads.items c.loop-closer.older.items c.loop-closer.marks.items c.loop-closer.invariant.inv (here b) (by-marker c.args.runs.now.list c.requires.markers) (keys b) (marks_six b)
+    c.in-Some.closer c.in-Some.ensures.run o c.pair_size-size.result c.walk.new.runs.probes c.index-head.result.now c.in-Some-walk.opener
+    c.in-Some-walk.ensures.run (head_is b) c.in-Some-walk.ensures.closes walk c.pair_size-size.ensures in
+    let inside : c.loop-closer.runs.turn < length c.loop-closer.runs.list = c.in-Some.ensures.within.0 refl in
+    let below : o < c.loop-closer.runs.turn = c.in-Some-walk.ensures.before in
+    let m = markers_taking c.loop-closer.runs.list o c.loop-closer.runs.turn c.pair_size-size.result below inside f.1 f.2 in
+    let n = length_taking c.loop-closer.runs.list o c.loop-closer.runs.turn c.pair_size-size.result below inside in
+    let list' : c.take.new.self.list ≡ after_taking c.loop-closer.runs.list o c.loop-closer.runs.turn c.pair_size-size.result =
+    rw (c.take.ensures, c.walk.ensures.list, c.walk.ensures.turn) refl in
+    let turn' : c.take.new.self.turn ≡ c.loop-closer.runs.turn = rw (c.take.ensures, c.walk.ensures.turn) refl in
+    let goal' : (length c.take.new.self.list - c.take.new.self.turn) + markers_left c.take.new.self.list
+    < (length c.loop-closer.runs.list - c.loop-closer.runs.turn) + markers_left c.loop-closer.runs.list =
+    rw (list', turn', n) (less _ _ _ _ m f.0) in
+    goal'
+
+pub loop-closer-preserved : goal.loop-closer-preserved
+loop-closer-preserved c =
+    let b = (goal.at.loop-closer-preserved c).After-row_known-in-Some-1 in
+    let k : ℕ = list_of c.args.runs.now.list c.loop-closer.runs.turn in
+    let class : ℕ = class_of c.args.options (run_at c.loop-closer.runs.list c.loop-closer.runs.turn) (run_at c.loop-closer.runs.list c.loop-closer.runs.turn).remaining in
+    let o : ℕ = c.in-Some-walk.opener.number in
+    let walk : WalkFound c.args.options c.loop-closer.runs.list c.loop-closer.older.items (mark_of c.loop-closer.marks.items k class)
+    c.loop-closer.runs.turn c.index-head.result.now o (c.walk.new.runs.probes - c.loop-closer.runs.probes) =
+    subst (λ m. WalkFound c.args.options c.loop-closer.runs.list c.loop-closer.older.items m
+    c.loop-closer.runs.turn c.index-head.result.now o (c.walk.new.runs.probes - c.loop-closer.runs.probes)) (mark_is b)
+    (subst (λ l. WalkFound c.args.options c.loop-closer.runs.list l c.index.result.now
+    c.loop-closer.runs.turn c.index-head.result.now o (c.walk.new.runs.probes - c.loop-closer.runs.probes)) c.deref.ensures.value c.in-Some-walk.ensures.found) in
+    let hs : List ℕ = c.loop-closer.heads.items in
+    let hs' : List ℕ = c.cut_for_pair.new.heads.items in
+    let ms : List ℕ = c.loop-closer.marks.items in
+    let ms' : List ℕ = c.lower_marks.new.marks.items in
+    let row : ℕ = row_of c.in-Some.closer.container in
+    let old : List ℕ = c.loop-closer.older.items in
+    let cut : (i : ℕ) → row * 3 ≤ i → i < row * 3 + 3 → (i ≡ k → ⊥) → IsCut old o (get_or hs i 0) (get_or hs' i 0) =
+    subst (λ f. (i : ℕ) → f * 3 ≤ i → i < f * 3 + 3 → (i ≡ k → ⊥) → IsCut old o (get_or hs i 0) (get_or hs' i 0)) c.row_number-row.ensures
+    (λ i low high ne. subst (λ x. IsCut x o (get_or hs i 0) (get_or hs' i 0)) c.deref-in-Some-walk.ensures.value
+    (c.cut_for_pair.ensures.cut i low high (λ e. ne (e ∙ list_is b)))) in
+    let own : eqb c.in-Some-walk.opener.remaining c.pair_size-size.result ≡ false → row * 3 ≤ k → k < row * 3 + 3 → IsCut old o (get_or hs k 0) (get_or hs' k 0) =
+    subst (λ f. eqb c.in-Some-walk.opener.remaining c.pair_size-size.result ≡ false → f * 3 ≤ k → k < f * 3 + 3 → IsCut old o (get_or hs k 0) (get_or hs' k 0)) c.row_number-row.ensures
+    (λ e low high. subst (λ x. IsCut x o (get_or hs k 0) (get_or hs' k 0)) c.deref-in-Some-walk.ensures.value
+    (subst (λ x. c.row_number-row.result * 3 ≤ x → x < c.row_number-row.result * 3 + 3 → IsCut c.deref-in-Some-walk.result.now o (get_or hs x 0) (get_or hs' x 0)) (list_is b)
+    (c.cut_for_pair.ensures.own e) low high)) in
+    let used : eqb c.in-Some-walk.opener.remaining c.pair_size-size.result ≡ true → get_or hs' k 0 ≡ get_or old o 0 =
+    λ e. ap (λ x. get_or hs' x 0) (sym (list_is b)) ∙ c.cut_for_pair.ensures.used e ∙ ap (λ x. get_or x o 0) c.deref-in-Some-walk.ensures.value in
+    let others : (i : ℕ) → (i < row * 3) ⊎ (row * 3 + 3 ≤ i) → (i ≡ k → ⊥) → get_or hs' i 0 ≡ get_or hs i 0 =
+    subst (λ f. (i : ℕ) → (i < f * 3) ⊎ (f * 3 + 3 ≤ i) → (i ≡ k → ⊥) → get_or hs' i 0 ≡ get_or hs i 0) c.row_number-row.ensures
+    (λ i far ne. c.cut_for_pair.ensures.others i far (λ e. ne (e ∙ list_is b))) in
+    let low : (i : ℕ) → k * 6 ≤ i → i < k * 6 + 6 → get_or ms i 0 ≤ o → get_or ms' i 0 ≡ get_or ms i 0 =
+    subst (λ x. (i : ℕ) → x * 6 ≤ i → i < x * 6 + 6 → get_or ms i 0 ≤ o → get_or ms' i 0 ≡ get_or ms i 0) (list_is b) c.lower_marks.ensures.low in
+    let high : (i : ℕ) → k * 6 ≤ i → i < k * 6 + 6 → o < get_or ms i 0 → get_or ms' i 0 ≡ o =
+    subst (λ x. (i : ℕ) → x * 6 ≤ i → i < x * 6 + 6 → o < get_or ms i 0 → get_or ms' i 0 ≡ o) (list_is b) c.lower_marks.ensures.high in
+    let rest : (i : ℕ) → (i < k * 6) ⊎ (k * 6 + 6 ≤ i) → get_or ms' i 0 ≡ get_or ms i 0 =
+    subst (λ x. (i : ℕ) → (i < x * 6) ⊎ (x * 6 + 6 ≤ i) → get_or ms' i 0 ≡ get_or ms i 0) (list_is b) c.lower_marks.ensures.others in
+    let inv' = pair_turn c.args.options c.args.runs.now.list c.loop-closer.runs.list c.loop-closer.runs.turn c.loop-closer.pairs.items c.loop-closer.runs.probes
+    c.loop-closer.heads.items c.loop-closer.older.items c.loop-closer.marks.items c.loop-closer.invariant.inv (here b) (by-marker c.args.runs.now.list c.requires.markers) (keys b) (marks_six b)
+    c.in-Some.closer c.in-Some.ensures.run o c.pair_size-size.result c.walk.new.runs.probes c.index-head.result.now c.in-Some-walk.opener
+    c.in-Some-walk.ensures.run (head_is b) c.in-Some-walk.ensures.closes walk c.pair_size-size.ensures
+    hs' ms' c.walk.ensures.at_least c.walk.ensures.at_most c.cut_for_pair.ensures.same cut own used others low high rest in
+    record {
+      inv = rw (c.take.ensures, c.walk.ensures.list, c.walk.ensures.turn, c.in_ok-push-in-Some-walk.ensures.items, c.in-Some.ensures.number) inv';
+      heads_length = c.cut_for_pair.ensures.same ∙ c.loop-closer.invariant.heads_length;
+      marks_length = c.lower_marks.ensures.same ∙ c.loop-closer.invariant.marks_length;
+    }
+
+never : {A : Type 0} → false ≡ true → A
+never e = absurd (let x : ⊥ = cc in x)
+
+pub returns : goal.returns
+returns c =
+    let last : length c.loop-closer.runs.list ≤ c.loop-closer.runs.turn = elim (cases_lt c.loop-closer.runs.turn (length c.loop-closer.runs.list)) [
+      | inl more ↦ never (c.in_default.ensures.within.1 more)
+      | inr none ↦ none
+    ] in
+    let inv = c.loop-closer.invariant.inv in
+    record {
+      lists = scanned-all c.args.options c.args.runs.now.list c.loop-closer.runs.list c.loop-closer.runs.turn c.loop-closer.pairs.items c.loop-closer.runs.probes
+          c.loop-closer.heads.items c.loop-closer.older.items c.loop-closer.marks.items inv last;
+      left = inv.stands;
+      at_most = paid-all c.args.options c.args.runs.now.list c.loop-closer.runs.list c.loop-closer.runs.turn c.loop-closer.pairs.items c.loop-closer.runs.probes
+          c.loop-closer.heads.items c.loop-closer.older.items c.loop-closer.marks.items inv last;
+      at_least = inv.least;
+      scan = looks-all c.args.options c.args.runs.now.list c.loop-closer.runs.list c.loop-closer.runs.turn c.loop-closer.pairs.items c.loop-closer.runs.probes
+          c.loop-closer.heads.items c.loop-closer.older.items c.loop-closer.marks.items inv last;
+      half = omega (arith, inv.half);
+    }

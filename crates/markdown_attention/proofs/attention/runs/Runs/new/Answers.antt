@@ -1,0 +1,29 @@
+use Rattle.std.proofs.Common.{ap, sym, subst}
+use Rattle.markdown_attention.specs.Rows.{HasRows}
+use Rattle.markdown_attention.proofs.RowLemmas.{rows-of-events}
+use Rattle.markdown_attention.proofs.ReadingLemmas.{all-read}
+use Rattle.std.proofs.Common.{arith}
+use Rattle.markdown_attention.proofs.attention.runs.Runs.new.Goals as goal
+
+pub returns-in-Ok-clause-whole : goal.returns-in-Ok-clause-whole
+returns-in-Ok-clause-whole c = λ i l.
+    (all-read c.args.tokenizer.now.parse_state.now.options.now.constructs.gfm_strikethrough c.args.tokenizer.now.parse_state.now.bytes.now c.args.tokenizer.now.events
+    c.in-Ok.list.items c.requires.places c.in-Ok.ensures.is i l).whole
+
+pub returns-in-Ok-clause-markers : goal.returns-in-Ok-clause-markers
+returns-in-Ok-clause-markers c = λ i l.
+    (all-read c.args.tokenizer.now.parse_state.now.options.now.constructs.gfm_strikethrough c.args.tokenizer.now.parse_state.now.bytes.now c.args.tokenizer.now.events
+    c.in-Ok.list.items c.requires.places c.in-Ok.ensures.is i l).marker
+
+pub returns-in-Ok-clause-containers : goal.returns-in-Ok-clause-containers
+returns-in-Ok-clause-containers c = λ i l.
+    let read = all-read c.args.tokenizer.now.parse_state.now.options.now.constructs.gfm_strikethrough c.args.tokenizer.now.parse_state.now.bytes.now c.args.tokenizer.now.events
+    c.in-Ok.list.items c.requires.places c.in-Ok.ensures.is i l in
+    let row = read.row in
+    omega (arith, row)
+
+pub returns-in-Ok-clause-rows : goal.returns-in-Ok-clause-rows
+returns-in-Ok-clause-rows c = λ s t given has is.
+    subst (λ list. HasRows s t list) (sym c.in-Ok.ensures.is)
+    (rows-of-events s c.args.tokenizer.now.parse_state.now.options.now.constructs.gfm_strikethrough c.args.tokenizer.now.parse_state.now.bytes.now
+    given.bytes (ap (λ o. o.constructs.gfm_strikethrough) given.options) t has c.args.tokenizer.now.events is)

@@ -1,0 +1,108 @@
+-- What the states of a run of markers do, and how runs from them end.
+use Rattle.std.specs.Prelude.{◌≡◌, ℕ, Bool, true, false, ◌||◌, ◌==◌, if◌then◌else◌, Option, Some, None, List, [], ◌∷◌}
+use Rattle.markdown_engine.specs.Codes.{Code}
+use Rattle.markdown_engine.specs.Ops.{Enter, Consume, IsOpen, ahead, current_of, done, exited, registered, scratched}
+use Rattle.markdown_engine.specs.Past.{Reads, Refuses, TreeReading, passed}
+use Rattle.markdown_engine.specs.Runs.{Stepped, stepped}
+use Rattle.markdown_engine.specs.Tree.{Forest}
+use Rattle.markdown_model.specs.CodeTests.{is_value}
+use Rattle.markdown_model.specs.Element.{attention_run, switched}
+use Rattle.markdown_model.specs.Grammar.{Reading, span}
+use Rattle.markdown_model.specs.LabelEnd.{Element, plain, starts, ends}
+use Rattle.markdown_engine.specs.declared.configuration.Constructs.{Constructs}
+use Rattle.markdown_engine.specs.declared.event.Name.TheVariants as N
+use Rattle.markdown_engine.specs.declared.resolve.ResolveName.TheVariants as R
+use Rattle.markdown_engine.specs.declared.state.State.TheVariants.{Next, Retry, Nok}
+use Rattle.markdown_engine.specs.declared.state.State.TheVariants as State
+use Rattle.markdown_engine.specs.declared.state.StateName.TheVariants.{AttentionInside}
+use Rattle.markdown_engine.specs.declared.tokenizer.TokenizeState.{TokenizeState}
+use Rattle.markdown_engine.specs.declared.tokenizer.Tokenizer.{Tokenizer}
+
+-- the switch of a marker
+abbrev pub begins_run : Constructs → ℕ → Bool
+begins_run on c = if c == 42 || c == 95 then on.attention else (if c == 126 then on.gfm_strikethrough else false)
+
+abbrev pub switches_of : Tokenizer → Constructs
+switches_of T = T.parse_state.now.options.now.constructs
+
+-- with this marker in the scratch fields; 0 at rest
+abbrev pub with_marker : ℕ → TokenizeState → TokenizeState
+with_marker marker s = record s { marker = marker }
+
+-- What the states do.
+
+-- by the current code
+abbrev pub start_at : Option ℕ → Tokenizer → Stepped
+start_at None T = stepped Nok T
+start_at (Some c) T =
+    if begins_run (switches_of T) c
+    then stepped (Retry AttentionInside) (scratched (with_marker c T.tokenize_state) (done (Enter N.AttentionSequence ∷ []) T))
+    else stepped Nok T
+
+abbrev pub start_step : Tokenizer → Stepped
+start_step T = start_at (current_of T) T
+
+-- the run is exited, and the pass registered
+abbrev pub left_run : Tokenizer → Tokenizer
+left_run T = registered R.Attention (scratched (with_marker 0 T.tokenize_state) (exited N.AttentionSequence T))
+
+abbrev pub leaving : Tokenizer → Stepped
+leaving T = stepped State.Ok (left_run T)
+
+abbrev pub inside_at : Option ℕ → Tokenizer → Stepped
+inside_at None T = leaving T
+inside_at (Some c) T = if c == T.tokenize_state.marker then stepped (Next AttentionInside) (done (Consume ∷ []) T) else leaving T
+
+abbrev pub inside_step : Tokenizer → Stepped
+inside_step T = inside_at (current_of T) T
+
+-- When they may be called.
+
+abbrev pub StartReady : Tokenizer → Type 0
+StartReady T = T.tokenize_state ≡ with_marker 0 T.tokenize_state
+
+abbrev pub InsideReady : Tokenizer → Type 0
+InsideReady T = IsOpen N.AttentionSequence T
+
+-- How runs end.
+
+-- the reading of a run that begins with this code, where its switch is on
+abbrev pub run_at_code : Constructs → Option ℕ → Reading Element
+run_at_code on None cs = None
+run_at_code on (Some c) cs = switched (begins_run on c) (attention_run c) cs
+
+-- the codes at hand read as a run
+abbrev pub run_here : Tokenizer → Reading Element
+run_here T = run_at_code (switches_of T) (current_of T)
+
+-- the tree of an element that is a whole construct
+abbrev pub plain_tree : Option (Element × List Code) → Option (Forest × List Code)
+plain_tree None = None
+plain_tree (Some r) =
+    elim r.0 [
+      | plain tree ↦ Some (tree, r.1)
+      | starts kind codes ↦ None
+      | ends codes result ↦ None
+    ]
+
+abbrev pub run_tree : Tokenizer → TreeReading
+run_tree T cs = plain_tree (run_here T cs)
+
+-- the codes at hand read as a run: U is past its tree, with the pass registered
+pub record ReadsRun (T U : Tokenizer) : Type 0 where
+  pub there : Tokenizer
+  pub reads : Reads (run_tree T) None T.tokenize_state T there
+  pub left : U ≡ registered R.Attention there
+
+abbrev pub start_ends : Tokenizer → Bool → Tokenizer → Type 0
+start_ends T true U = ReadsRun T U
+start_ends T false U = Refuses (run_tree T) T.tokenize_state T U
+
+-- the markers from T on
+abbrev pub markers_ahead : Tokenizer → List Code
+markers_ahead T = (span (is_value T.tokenize_state.marker) (ahead T)).0
+
+-- past the rest of the run, which always holds
+abbrev pub inside_ends : Tokenizer → Bool → Tokenizer → Type 0
+inside_ends T true U = U ≡ left_run (passed (markers_ahead T) T)
+inside_ends T false U = ⊥

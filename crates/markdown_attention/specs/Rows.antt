@@ -1,0 +1,64 @@
+-- The runs of a tree: those of the whole, and those of each label's text.
+use Rattle.std.specs.Prelude.{◌≡◌, ℕ, suc, ◌+◌, Bool, true, false, ◌||◌, if◌then◌else◌, List, [], ◌∷◌, ◌++◌, length, map, slice_index_or, Option, Some, All}
+use Rattle.markdown_engine.specs.Codes.{Code, stop_of, document_start}
+use Rattle.markdown_engine.specs.Tree.{Forest, empty, leaf_then, group_then, event_count, start_of}
+use Rattle.markdown_engine.specs.declared.event.Name.{Name}
+use Rattle.markdown_engine.specs.declared.event.Point.{Point}
+use Rattle.markdown_engine.specs.declared.tokenizer.Tokenizer.{Tokenizer}
+use Rattle.markdown_model.specs.Laws.{shape_of}
+use Rattle.markdown_model.specs.Runs.{runs_of}
+use Rattle.markdown_model.specs.Setting.{Setting}
+use Rattle.markdown_attention.specs.Containers.{whole_shape, runs_in}
+use Rattle.markdown_attention.specs.Reading.{is_run, is_text, sequence_at}
+use Rattle.markdown_attention.specs.declared.attention.runs.Sequence.{Sequence}
+
+-- the run of a leaf from one place to another
+abbrev pub leaf_run : Bool → List ℕ → ℕ → ℕ → Option ℕ → Name → Point → Point → List Sequence
+leaf_run tildes bytes n i k name from to = if is_run name then sequence_at tildes bytes n i k from to ∷ [] else []
+
+abbrev pub inner : ℕ → Option ℕ → Name → Option ℕ
+inner i k name = if is_text name then Some i else k
+
+-- the runs of a row that stands in this container, where n runs and i events come before
+abbrev pub tree_runs : Bool → List ℕ → ℕ → ℕ → Option ℕ → Forest → List Sequence
+tree_runs tildes bytes n i k empty = []
+tree_runs tildes bytes n i k (leaf_then name link cs rest) =
+    let here = leaf_run tildes bytes n i k name (start_of cs) (stop_of document_start cs) in
+    here ++ tree_runs tildes bytes (n + length here) (i + 2) k rest
+tree_runs tildes bytes n i k (group_then name enter exit inside rest) =
+    let front = tree_runs tildes bytes n (i + 1) (inner i k name) inside in
+    front ++ tree_runs tildes bytes (n + length front) (i + 2 + event_count inside) k rest
+
+-- the text of each label, with the number of its Enter, where i events come before
+abbrev pub texts_of : ℕ → Forest → List (ℕ × Forest)
+texts_of i empty = []
+texts_of i (leaf_then name link cs rest) = texts_of (i + 2) rest
+texts_of i (group_then name enter exit inside rest) =
+    (if is_text name then (i, inside) ∷ [] else []) ++ (texts_of (i + 1) inside ++ texts_of (i + 2 + event_count inside) rest)
+
+-- the codes of a run: as many bytes of the document, the first of which is its marker
+abbrev pub IsRun : List ℕ → List Code → Type 0
+IsRun bytes [] = ⊥
+IsRun bytes (c ∷ cs) = (slice_index_or bytes c.start.index 0 ≡ c.value) × ((stop_of c.stop cs).index ≡ c.start.index + suc (length cs))
+
+abbrev pub has_run : Forest → Bool
+has_run empty = false
+has_run (leaf_then name link cs rest) = is_run name || has_run rest
+has_run (group_then name enter exit inside rest) = has_run rest
+
+-- A tree of labels: runs are leaves, and stand at the top or in the text of a label.
+abbrev pub HasRuns : List ℕ → Forest → Type 0
+HasRuns bytes empty = Unit {0}
+HasRuns bytes (leaf_then name link cs rest) = ((is_text name ≡ false) × (is_run name ≡ true → IsRun bytes cs)) × HasRuns bytes rest
+HasRuns bytes (group_then name enter exit inside rest) =
+    ((is_run name ≡ false) × (is_text name ≡ false → has_run inside ≡ false)) × (HasRuns bytes inside × HasRuns bytes rest)
+
+-- what the tokenizer is given is this
+pub record IsOf (s : Setting) (T : Tokenizer) : Type 0 where
+  pub bytes : s.bytes ≡ T.parse_state.now.bytes.now
+  pub options : s.options ≡ T.parse_state.now.options.now
+
+-- the runs of each container are those that the definition has, in order
+pub record HasRows (s : Setting) (tree : Forest) (list : List Sequence) : Type 0 where
+  pub whole : map shape_of (runs_of s tree) ≡ map whole_shape (runs_in 0 list)
+  pub texts : All (λ (text : ℕ × Forest). map shape_of (runs_of s text.1) ≡ map whole_shape (runs_in (text.0 + 1) list)) (texts_of 0 tree)

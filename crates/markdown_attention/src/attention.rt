@@ -1,0 +1,79 @@
+//! Emphasis, strong emphasis and strikethrough (CommonMark 6.2, GFM 6.5).
+//!
+//! The states read a run of markers, as long as it is, as an event `AttentionSequence`. Which runs pair shows once all are read: `runs`
+//! has them as they stand, and `pairing` finds the pairs.
+#![tactic(auto, using(markdown_engine::proofs::OpRules::law_rules), unfolding(markdown_engine::specs::Ops::scratched))]
+
+pub mod pairing;
+mod reading;
+pub mod runs;
+
+ghost use Rattle.std.specs.Prelude.{◌≡◌, IfOk, OnErr, IsTrue};
+ghost use Rattle.markdown_attention.specs.Attention.{start_step, inside_step, leaving, with_marker, begins_run};
+ghost use Rattle.markdown_engine.specs.Ops.{IsOpen, scratched};
+ghost use Rattle.markdown_engine.specs.declared.event.Name.TheVariants.{AttentionSequence};
+
+use markdown_engine::configuration::Constructs;
+use markdown_engine::event::Name;
+use markdown_engine::resolve::ResolveName;
+use markdown_engine::state::{State, StateName};
+use markdown_engine::tokenizer::Tokenizer;
+use std::alloc::AllocError;
+
+// Whether a run may begin with this byte.
+fn begins_run(constructs: Constructs, byte: u8) -> bool
+    ensures { result ≡ begins_run constructs byte }
+{
+    match byte {
+        b'*' | b'_' => constructs.attention,
+        b'~' => constructs.gfm_strikethrough,
+        _ => false,
+    }
+}
+
+/// At the start of a run: its first marker.
+///
+/// The error comes where a growth is refused; then `failed` is true.
+pub fn start(tokenizer: &mut Tokenizer) -> Result<State, AllocError>
+    ensures ok { IfOk result (λ s. start_step tokenizer.old ≡ record { state = s; left = tokenizer.new }) }
+    ensures err { OnErr result (IsTrue tokenizer.new.failed) }
+{
+    let constructs = tokenizer.parse_state.options.constructs;
+    match tokenizer.current() {
+        Some(marker) if begins_run(constructs, marker) => {
+            tokenizer.enter(Name::AttentionSequence)?;
+            tokenizer.tokenize_state.marker = marker;
+            Ok(State::Retry(StateName::AttentionInside))
+        }
+        _ => Ok(State::Nok),
+    }
+}
+
+// After the run: the pass that pairs runs is asked for.
+fn leave(tokenizer: &mut Tokenizer) -> Result<State, AllocError>
+    requires { IsOpen AttentionSequence tokenizer.old }
+    ensures ok { IfOk result (λ s. leaving tokenizer.old ≡ record { state = s; left = tokenizer.new }) }
+    ensures err { OnErr result (IsTrue tokenizer.new.failed) }
+{
+    tokenizer.exit(Name::AttentionSequence)?;
+    tokenizer.tokenize_state.marker = 0;
+    tokenizer.register_resolver(ResolveName::Attention)?;
+    Ok(State::Ok)
+}
+
+/// In a run of the marker that it began with.
+///
+/// The error comes where a growth is refused; then `failed` is true.
+pub fn inside(tokenizer: &mut Tokenizer) -> Result<State, AllocError>
+    requires { IsOpen AttentionSequence tokenizer.old }
+    ensures ok { IfOk result (λ s. inside_step tokenizer.old ≡ record { state = s; left = tokenizer.new }) }
+    ensures err { OnErr result (IsTrue tokenizer.new.failed) }
+{
+    match tokenizer.current() {
+        Some(byte) if byte == tokenizer.tokenize_state.marker => {
+            tokenizer.consume();
+            Ok(State::Next(StateName::AttentionInside))
+        }
+        _ => leave(tokenizer),
+    }
+}

@@ -1,0 +1,324 @@
+//! Which runs pair: one scan over all runs, by lists of open runs.
+//!
+//! Each container has, for each marker, a list of its open runs, the newest first. A closer walks the list of its marker to the nearest run
+//! that fits it. A mark for each list and each class of closers says how far all open runs refuse the class, so that a walk stops there.
+
+ghost use Rattle.std.specs.Prelude.{◌≡◌, ℕ, ◌+◌, ◌-◌, ◌*◌, ◌^◌, ◌<◌, ◌≤◌, ◌⊎◌, ◌&&◌, length, slice_index, slice_set, nat_lt, if◌then◌else◌, IfSome, IfNone, IfOk, IsTrue, IsFalse, count_by, replicate};
+ghost use Rattle.markdown_attention.specs.Pairs.{run_at, markers_left, sizes_fit, read_size, three_refuses, tilde_allows, size_of_pair, row_of};
+ghost use Rattle.markdown_attention.specs.Walk.{Stands, Whole, AreSmall};
+ghost use Rattle.markdown_attention.specs.Open.{key_of, kind_of, class_of, WalkFound, WalkEnded, IsCut, HaveMarkers, IsClosing};
+ghost use Rattle.markdown_attention.specs.Containers.{ArePairLists};
+
+use crate::attention::runs::{Runs, Sequence};
+use markdown_engine::configuration::ParseOptions;
+use std::alloc::{AllocError, Global};
+
+/// An opener and a closer by their numbers, and how many markers the pair takes of each.
+#[derive(Clone, Copy, Debug, PartialEq, Eq)]
+pub struct Pair {
+    /// The number of the opener.
+    pub opener: usize,
+    /// The number of the closer.
+    pub closer: usize,
+    /// How many markers it takes of each.
+    pub size: usize,
+}
+
+// The number of markers that a pair takes.
+fn pair_size(opener: usize, closer: usize) -> usize
+    ensures { result ≡ size_of_pair opener closer }
+{
+    if opener > 1 && closer > 1 { 2 } else { 1 }
+}
+
+// The size that the rule of three reads.
+fn size_read(options: ParseOptions, whole: usize, remaining: usize) -> usize
+    ensures { result ≡ read_size options whole remaining }
+{
+    if options.attention_first_lengths {
+        whole
+    } else {
+        remaining
+    }
+}
+
+// Whether the rule of three refuses two sizes.
+fn is_refused(both: bool, x: usize, y: usize) -> bool
+    requires { x + y < 2 ^ 64 }
+    ensures { result ≡ three_refuses both x y }
+{
+    both && y % 3 != 0 && (x + y) % 3 == 0
+}
+
+// Whether two sizes of tildes may pair.
+fn is_tilde_pair(options: ParseOptions, x: usize, y: usize) -> bool
+    ensures { result ≡ tilde_allows options x y }
+{
+    x == y && (y == 2 || y == 1 && options.gfm_strikethrough_single_tilde)
+}
+
+// Whether the sizes let two runs pair.
+#[tactic(auto, unfolding(crate::specs::Pairs::sizes_fit))]
+fn do_sizes_fit(options: ParseOptions, a: Sequence, b: Sequence) -> bool
+    requires whole { a.size + b.size < 2 ^ 64 }
+    requires rest { a.remaining + b.remaining < 2 ^ 64 }
+    ensures { result ≡ sizes_fit options a b a.remaining b.remaining }
+{
+    let x = size_read(options, a.size, a.remaining);
+    let y = size_read(options, b.size, b.remaining);
+    if b.marker == b'~' {
+        is_tilde_pair(options, a.remaining, b.remaining)
+    } else {
+        !is_refused(a.may_close || b.may_open, x, y)
+    }
+}
+
+// The row of the tables that a container has.
+fn row_number(container: Option<usize>) -> usize
+    requires { row_of container < 2 ^ 64 }
+    ensures { result ≡ row_of container }
+{
+    match container {
+        None => 0,
+        Some(event) => event + 1,
+    }
+}
+
+// Which list of its container a marker has.
+fn kind_number(marker: u8) -> usize
+    ensures is { result ≡ kind_of marker }
+    ensures small { result < 3 }
+{
+    match marker {
+        b'*' => 0,
+        b'_' => 1,
+        _ => 2,
+    }
+}
+
+// The list of a run.
+fn list_of(run: Sequence) -> usize
+    requires { key_of run < 2 ^ 64 }
+    ensures { result ≡ key_of run }
+{
+    row_number(run.container) * 3 + kind_number(run.marker)
+}
+
+// What of a closer decides who refuses it.
+#[tactic(auto, unfolding(crate::specs::Open::class_of))]
+fn class_number(options: ParseOptions, closer: Sequence) -> usize
+    ensures is { result ≡ class_of options closer closer.remaining }
+    ensures small { result < 6 }
+{
+    if closer.marker == b'~' {
+        if closer.remaining == 1 {
+            1
+        } else if closer.remaining == 2 {
+            2
+        } else {
+            0
+        }
+    } else {
+        let read = size_read(options, closer.size, closer.remaining);
+        let more = if closer.may_open { 3 } else { 0 };
+        read % 3 + more
+    }
+}
+
+// Walks a list of open runs to the newest that fits, or to a mark.
+fn walk(
+    options: ParseOptions,
+    runs: &mut Runs,
+    head: usize,
+    older: &[usize],
+    mark: usize,
+    closer: Sequence,
+) -> Option<Sequence>
+    requires run { closer ≡ run_at runs.old.list runs.old.turn }
+    requires in_turn { runs.old.turn < length runs.old.list }
+    requires older { length older.now ≡ runs.old.turn }
+    requires down { (r : ℕ) → r < runs.old.turn → slice_index older.now r ≤ r }
+    requires head { head ≤ runs.old.turn }
+    requires small { AreSmall runs.old.list }
+    requires room { runs.old.probes + runs.old.turn < 2 ^ 128 }
+    ensures list { runs.new.list ≡ runs.old.list }
+    ensures turn { runs.new.turn ≡ runs.old.turn }
+    ensures run { IfSome result (λ o. o ≡ run_at runs.old.list o.number) }
+    ensures before { IfSome result (λ o. o.number < runs.old.turn) }
+    ensures closes { IfSome result (λ o. IsClosing closer) }
+    ensures idle { (IsClosing closer → ⊥) → runs.new.probes ≡ runs.old.probes }
+    ensures found { IfSome result (λ o. WalkFound options runs.old.list older.now mark runs.old.turn head o.number (runs.new.probes - runs.old.probes)) }
+    ensures none { IsClosing closer → IfNone result (WalkEnded options runs.old.list older.now mark runs.old.turn head (runs.new.probes - runs.old.probes)) }
+    ensures at_least { runs.old.probes ≤ runs.new.probes }
+    ensures at_most { runs.new.probes ≤ runs.old.probes + runs.old.turn }
+{
+    if !closer.may_close || closer.remaining == 0 {
+        return None;
+    }
+    let mut at = head;
+    while at > mark {
+        let opener = runs.look(at - 1);
+        if do_sizes_fit(options, opener, closer) {
+            return Some(opener);
+        }
+        at = older[at - 1];
+    }
+    None
+}
+
+// The newest of a list that is not past the opener.
+fn cut(head: usize, older: &[usize], opener: usize) -> usize
+    requires down { (r : ℕ) → r < length older.now → slice_index older.now r ≤ r }
+    requires head { head ≤ length older.now }
+    ensures cut { IsCut older.now opener head result }
+    ensures down { result ≤ head }
+{
+    let mut at = head;
+    while at > 0 && at - 1 > opener {
+        at = older[at - 1];
+    }
+    at
+}
+
+// Cuts the three lists of a container behind the opener.
+fn cut_lists(heads: &mut Vec<usize>, older: &[usize], first: usize, opener: usize)
+    requires lists { first + 3 ≤ length heads.old.items }
+    requires down { (r : ℕ) → r < length older.now → slice_index older.now r ≤ r }
+    requires heads { (i : ℕ) → i < length heads.old.items → slice_index heads.old.items i ≤ length older.now }
+    ensures same { length heads.new.items ≡ length heads.old.items }
+    ensures cut { (i : ℕ) → first ≤ i → i < first + 3 → IsCut older.now opener (slice_index heads.old.items i) (slice_index heads.new.items i) }
+    ensures others { (i : ℕ) → (i < first) ⊎ (first + 3 ≤ i) → slice_index heads.new.items i ≡ slice_index heads.old.items i }
+{
+    for i in first..first + 3 {
+        let head = cut(heads[i], older, opener);
+        heads[i] = head;
+    }
+}
+
+// Lowers six marks that reach the opener.
+fn lower_marks(marks: &mut Vec<usize>, first: usize, opener: usize)
+    requires { first + 6 ≤ length marks.old.items }
+    ensures same { length marks.new.items ≡ length marks.old.items }
+    ensures low { (i : ℕ) → first ≤ i → i < first + 6 → slice_index marks.old.items i ≤ opener → slice_index marks.new.items i ≡ slice_index marks.old.items i }
+    ensures high { (i : ℕ) → first ≤ i → i < first + 6 → opener < slice_index marks.old.items i → slice_index marks.new.items i ≡ opener }
+    ensures others { (i : ℕ) → (i < first) ⊎ (first + 6 ≤ i) → slice_index marks.new.items i ≡ slice_index marks.old.items i }
+{
+    for i in first..first + 6 {
+        if marks[i] > opener {
+            marks[i] = opener;
+        }
+    }
+}
+
+// Cuts the three lists of a container, and takes a used-up opener out of its own.
+fn cut_for_pair(
+    heads: &mut Vec<usize>,
+    older: &[usize],
+    first: usize,
+    list: usize,
+    opener: usize,
+    used: bool,
+)
+    requires lists { first + 3 ≤ length heads.old.items }
+    requires list { list < length heads.old.items }
+    requires opener { opener < length older.now }
+    requires down { (r : ℕ) → r < length older.now → slice_index older.now r ≤ r }
+    requires heads { (i : ℕ) → i < length heads.old.items → slice_index heads.old.items i ≤ length older.now }
+    ensures same { length heads.new.items ≡ length heads.old.items }
+    ensures cut { (i : ℕ) → first ≤ i → i < first + 3 → (i ≡ list → ⊥) → IsCut older.now opener (slice_index heads.old.items i) (slice_index heads.new.items i) }
+    ensures own { IsFalse used → first ≤ list → list < first + 3 → IsCut older.now opener (slice_index heads.old.items list) (slice_index heads.new.items list) }
+    ensures used { IsTrue used → slice_index heads.new.items list ≡ slice_index older.now opener }
+    ensures others { (i : ℕ) → (i < first) ⊎ (first + 3 ≤ i) → (i ≡ list → ⊥) → slice_index heads.new.items i ≡ slice_index heads.old.items i }
+{
+    cut_lists(heads, older, first, opener);
+    if used {
+        heads[list] = older[opener];
+    }
+}
+
+// Marks all runs before a closer that found no opener.
+fn mark_end(marks: &mut Vec<usize>, at: usize, closer: Sequence)
+    requires { at < length marks.old.items }
+    ensures { marks.new.items ≡ (if closer.may_close && nat_lt 0 closer.remaining then slice_set marks.old.items at closer.number else marks.old.items) }
+{
+    if closer.may_close && closer.remaining > 0 {
+        marks[at] = closer.number;
+    }
+}
+
+// Puts a run on top of its list, if it may open.
+fn list_end(heads: &mut Vec<usize>, list: usize, closer: Sequence)
+    requires list { list < length heads.old.items }
+    requires number { closer.number + 1 < 2 ^ 64 }
+    ensures { heads.new.items ≡ (if closer.may_open && nat_lt 0 closer.remaining then slice_set heads.old.items list (closer.number + 1) else heads.old.items) }
+{
+    if closer.may_open && closer.remaining > 0 {
+        heads[list] = closer.number + 1;
+    }
+}
+
+// A table of zeros, so many for each row.
+fn zeros(alloc: Global, rows: usize, each: usize) -> Result<Vec<usize>, AllocError>
+    ensures { IfOk result (λ table. table.items ≡ replicate (rows * each) 0) }
+{
+    let size = rows.checked_mul(each).ok_or(AllocError)?;
+    vec![in alloc; 0usize; size]
+}
+
+/// Pairs the runs of all containers in one scan.
+///
+/// Rows are the whole content and, one for each event, the texts of labels.
+pub fn pair_runs(
+    alloc: Global,
+    options: ParseOptions,
+    runs: &mut Runs,
+    rows: usize,
+) -> Result<Vec<Pair>, AllocError>
+    requires start { runs.old.turn ≡ 0 }
+    requires unread { runs.old.probes ≡ 0 }
+    requires whole { Whole runs.old.list }
+    requires markers { HaveMarkers runs.old.list }
+    requires small { markers_left runs.old.list < 2 ^ 63 }
+    requires count { length runs.old.list < 2 ^ 63 }
+    requires rows { (r : ℕ) → r < length runs.old.list → row_of (run_at runs.old.list r).container < rows }
+    ensures lists { IfOk result (λ pairs. ArePairLists options runs.old.list pairs.items) }
+    ensures left { IfOk result (λ pairs. Stands runs.old.list runs.new.list pairs.items) }
+    ensures at_most { IfOk result (λ pairs. runs.new.probes ≤ 6 * count_by (λ r. r.may_open) runs.old.list + count_by (λ r. r.may_close) runs.old.list + 7 * length pairs.items) }
+    ensures at_least { IfOk result (λ pairs. length pairs.items ≤ runs.new.probes) }
+    ensures scan { IfOk result (λ pairs. runs.new.probes ≤ (length runs.old.list + length pairs.items) * length runs.old.list) }
+    ensures half { IfOk result (λ pairs. 2 * length pairs.items ≤ markers_left runs.old.list) }
+{
+    let mut pairs = Vec::new(alloc);
+    let mut heads = zeros(alloc, rows, 3)?;
+    let mut marks = zeros(alloc, rows, 18)?;
+    let mut older = Vec::new(alloc);
+    while let Some(closer) = runs.closer() {
+        let row = row_number(closer.container);
+        let list = list_of(closer);
+        let class = class_number(options, closer);
+        let at = list * 6 + class;
+        let head = heads[list];
+        match walk(options, runs, head, &older, marks[at], closer) {
+            None => {
+                older.push(head)?;
+                mark_end(&mut marks, at, closer);
+                list_end(&mut heads, list, closer);
+                runs.advance();
+            }
+            Some(opener) => {
+                let size = pair_size(opener.remaining, closer.remaining);
+                let pair = Pair {
+                    opener: opener.number,
+                    closer: closer.number,
+                    size,
+                };
+                runs.take(opener.number, size);
+                let used = opener.remaining == size;
+                cut_for_pair(&mut heads, &older, row * 3, list, opener.number, used);
+                lower_marks(&mut marks, list * 6, opener.number);
+                pairs.push(pair)?;
+            }
+        }
+    }
+    Ok(pairs)
+}

@@ -1,0 +1,172 @@
+//! Reading the runs of markers off the events.
+
+ghost use Rattle.std.specs.Prelude.{◌≡◌, ℕ, ◌+◌, ◌<◌, ◌^◌, ◌++◌, length, drop, IfOk, OnOk, IsUtf8, None, []};
+ghost use Rattle.std.specs.Str.{IsCharBoundary};
+ghost use Rattle.markdown_attention.specs.Reading.{is_run, is_text, opens_run, is_beside_marker, is_flanking, may_act, sequence_at, where_after, outermost, first_run, runs_from, IsRunPlace, FirstHasPlaces, HaveRunPlaces};
+ghost use Rattle.markdown_attention.specs.Walk.{Numbered};
+ghost use Rattle.markdown_model.specs.Literal.{is_other};
+ghost use Rattle.markdown_util.specs.Neighbours.{class_of};
+
+use crate::attention::runs::Sequence;
+use markdown_engine::event::{Event, Kind, Name, Point};
+use markdown_engine::events::Events;
+use markdown_engine::seq::Stack;
+use markdown_util::util::char::{self, Kind as CharacterKind};
+use std::alloc::{AllocError, Global};
+
+// Whether a character is of class other.
+fn is_other(beside: Option<char>) -> bool
+    ensures { result ≡ is_other (class_of beside) }
+{
+    matches!(char::classify_opt(beside), CharacterKind::Other)
+}
+
+// Whether another marker stands beside a run of `*` or `_`.
+fn is_beside_marker(tildes: bool, marker: u8, beside: Option<char>) -> bool
+    ensures { result ≡ is_beside_marker tildes marker beside }
+{
+    match beside {
+        Some('*' | '_') => marker != b'~',
+        Some('~') => marker != b'~' && tildes,
+        _ => false,
+    }
+}
+
+// Whether a run is left-flanking, by the characters before and after it; with these exchanged, right-flanking.
+fn is_flanking(tildes: bool, marker: u8, before: Option<char>, after: Option<char>) -> bool
+    ensures { result ≡ is_flanking tildes marker before after }
+{
+    let flanks = match char::classify_opt(after) {
+        CharacterKind::Other => true,
+        CharacterKind::Punctuation => !is_other(before),
+        CharacterKind::Whitespace => false,
+    };
+    flanks || is_beside_marker(tildes, marker, after)
+}
+
+// Whether a run may open or close: a run of `_` that is flanking on both sides needs a character beside it that is not of class other.
+fn may_act(marker: u8, beside: Option<char>, here: bool, there: bool) -> bool
+    ensures { result ≡ may_act marker beside here there }
+{
+    here && (marker != b'_' || !is_other(beside) || !there)
+}
+
+// The run from one place to another.
+fn sequence_at(
+    tildes: bool,
+    bytes: &[u8],
+    number: usize,
+    event: usize,
+    container: Option<usize>,
+    from: Point,
+    to: Point,
+) -> Sequence
+    requires utf8 { IsUtf8 bytes.now }
+    requires place { IsRunPlace bytes.now from to }
+    ensures { result ≡ sequence_at tildes bytes.now number event container from to }
+{
+    let marker = bytes[from.index];
+    let before = char::before_index(bytes, from.index);
+    let after = char::after_index(bytes, to.index);
+    let left = is_flanking(tildes, marker, before, after);
+    let right = is_flanking(tildes, marker, after, before);
+    let size = to.index - from.index;
+    Sequence {
+        number,
+        event,
+        container,
+        marker,
+        size,
+        remaining: size,
+        may_open: may_act(marker, before, left, right),
+        may_close: may_act(marker, after, right, left),
+    }
+}
+
+// In which container the next event stands, and in which the containers around it stand, the innermost on top.
+#[derive(Drop)]
+struct Where {
+    container: Option<usize>,
+    outer: Stack<Option<usize>>,
+}
+
+impl Where {
+    // Passes an event.
+    fn pass(&mut self, index: usize, event: Event) -> Result<(), AllocError>
+        ensures { OnOk result (self.new ≡ where_after index event self.old) }
+    {
+        match (event.name, event.kind) {
+            (Name::LabelText, Kind::Enter) => {
+                self.outer.push(self.container)?;
+                self.container = Some(index);
+            }
+            (Name::LabelText, Kind::Exit) => self.container = self.outer.pop().flatten(),
+            _ => {}
+        }
+        Ok(())
+    }
+}
+
+// Whether the event is the Enter of a run.
+fn opens_run(event: Event) -> bool
+    ensures { result ≡ opens_run event }
+{
+    matches!(event.kind, Kind::Enter) && matches!(event.name, Name::AttentionSequence)
+}
+
+// Adds the run that an event begins.
+fn read_event(
+    bytes: &[u8],
+    tildes: bool,
+    events: &Events,
+    index: usize,
+    container: Option<usize>,
+    list: &mut Vec<Sequence>,
+) -> Result<(), AllocError>
+    requires utf8 { IsUtf8 bytes.now }
+    requires within { index < length events.now }
+    requires counted { length events.now < 2 ^ 64 }
+    requires places { FirstHasPlaces bytes.now (drop index events.now) }
+    ensures { OnOk result (list.new.items ≡ list.old.items ++ first_run tildes bytes.now (length list.old.items) index container (drop index events.now)) }
+{
+    let enter = events.bare_at(index);
+    if opens_run(enter) {
+        let exit = events.bare_at(index + 1);
+        let number = list.len();
+        let run = sequence_at(
+            tildes,
+            bytes,
+            number,
+            index,
+            container,
+            enter.point,
+            exit.point,
+        );
+        list.push(run)?;
+    }
+    Ok(())
+}
+
+/// Answers the runs of the events, in order.
+pub(crate) fn read(
+    alloc: Global,
+    bytes: &[u8],
+    tildes: bool,
+    events: &Events,
+) -> Result<Vec<Sequence>, AllocError>
+    requires utf8 { IsUtf8 bytes.now }
+    requires places { HaveRunPlaces bytes.now events.now }
+    ensures is { IfOk result (λ list. list.items ≡ runs_from tildes bytes.now 0 0 outermost events.now) }
+    ensures numbered { IfOk result (λ list. Numbered list.items) }
+{
+    let mut list = Vec::new(alloc);
+    let mut place = Where {
+        container: None,
+        outer: Stack::new(alloc),
+    };
+    for index in 0..events.len() {
+        read_event(bytes, tildes, events, index, place.container, &mut list)?;
+        place.pass(index, events.bare_at(index))?;
+    }
+    Ok(list)
+}

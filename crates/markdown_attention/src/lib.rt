@@ -1,0 +1,4 @@
+//! Emphasis, strong emphasis and strikethrough.
+#![tactic(auto)]
+
+pub mod attention;

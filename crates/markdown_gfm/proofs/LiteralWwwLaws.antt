@@ -1,0 +1,230 @@
+-- The laws of the states of a literal from `www.` on.
+use Rattle.std.proofs.Common.{◌≡◌, ℕ, ◌+◌, ◌≤◌, ◌==◌, ◌&&◌, ◌||◌, not, Bool, true, false, if◌then◌else◌, Option, Some, None, List, [], ◌∷◌, ◌++◌, refl, sym, ap, subst, ◌∙◌, arith}
+use Rattle.std.proofs.lemmas.Bool.{eqb-true}
+use Rattle.std.proofs.lemmas.Bool.Decides.{nat_tests}
+use Rattle.markdown_engine.specs.Codes.{Code}
+use Rattle.markdown_engine.specs.Grown.{Grown}
+use Rattle.markdown_engine.specs.Lists.{rest_of}
+use Rattle.markdown_engine.specs.Ops.{Op, Exit, Consume, IsOpen, ahead, applied, current_of, previous_of, done, frame_of, scratched}
+use Rattle.markdown_engine.specs.Place.{code_before, last_of, value_of}
+use Rattle.markdown_engine.specs.Runs.{Stepped, GoesOn, restored}
+use Rattle.markdown_engine.specs.TreeOps.{consumes}
+use Rattle.markdown_engine.specs.Weights.{weight_at}
+use Rattle.markdown_engine.specs.declared.event.Name.TheVariants as N
+use Rattle.markdown_engine.specs.declared.state.State.{State}
+use Rattle.markdown_engine.specs.declared.state.State.TheVariants.{Next, Retry, Nok}
+use Rattle.markdown_engine.specs.declared.state.StateName.{StateName}
+use Rattle.markdown_engine.specs.declared.state.StateName.TheVariants.{GfmAutolinkLiteralDomainInside, GfmAutolinkLiteralWwwAfter, GfmAutolinkLiteralWwwPrefixAfter, GfmAutolinkLiteralWwwPrefixInside}
+use Rattle.markdown_engine.specs.declared.tokenizer.TokenizeState.{TokenizeState}
+use Rattle.markdown_engine.specs.declared.tokenizer.Tokenizer.{Tokenizer}
+use Rattle.markdown_engine.proofs.EndsLemmas.{scratched-same}
+use Rattle.markdown_engine.proofs.Laws.{if-step, code-step, Goes-plain, Goes-check, Grown-refl, restored-grown}
+use Rattle.markdown_engine.proofs.OpRules.{ahead-none, ahead-some, ahead-consumed, attempts-applied, attempts-scratched, left-consumed, left-scratched, scratch-scratched}
+use Rattle.markdown_engine.proofs.OpsLemmas.{Grown-applied, Grown-scratched}
+use Rattle.markdown_model.specs.CodeTests.{is_empty}
+use Rattle.markdown_model.specs.Literal.{domain_from, path_from, may_precede_www, begins_with_www, www_from_here}
+use Rattle.markdown_leaf.specs.Program.{Program, program_of, DoesAs}
+use Rattle.markdown_leaf.proofs.ProgramLemmas.{GoesOn-map, Goes-no, EndsAs-program}
+use Rattle.markdown_gfm.specs.GfmAutolinkLiteral.{bytes_of, end_of, before_of, is_on, rested, sized, refused, precedes_www, www_letter, may_begin_www, www_start_at, www_start_step, www_prefix_at, www_prefix_step, www_prefix_after_step, www_after_step, entered_literal, StartReady, LiteralReady, WwwReady, Tries, is_well, fields_after, domain_program, address, pass_ops, domain_ends, www_test, www_prefix_ends, www_prefix_after_ends, www_after_ends, www_here, www_start_ends}
+use Rattle.markdown_gfm.proofs.LiteralReadings.{address-is, www-more, www-other, www-left}
+use Rattle.markdown_gfm.proofs.LiteralWhole.{from-here-is, whole-www, www-is, www-none}
+use Rattle.markdown_gfm.proofs.LiteralAttempts.{Begins, literal-law}
+use Rattle.markdown_gfm.proofs.LiteralAddressLaws as A
+use Rattle.markdown_gfm.proofs.LiteralAddressLaws.{does-same, follows}
+use Rattle.markdown_model.proofs.ReadingSteps.{if-false, and-left}
+
+-- what the layer says of these states
+pub record Within (ready : StateName → Tokenizer → Type 0) (ends : StateName → Tokenizer → Bool → Tokenizer → Type 0) (weight : StateName → Tokenizer → ℕ) : Type 0 where
+  pub address : A.Within ready ends weight
+  pub www_prefix_ready : (T : Tokenizer) → WwwReady T → ready GfmAutolinkLiteralWwwPrefixInside T
+  pub www_prefix_end : (T : Tokenizer) (ok : Bool) (U : Tokenizer) → ends GfmAutolinkLiteralWwwPrefixInside T ok U → www_prefix_ends T ok U
+  pub www_prefix_weight : (T : Tokenizer) → weight GfmAutolinkLiteralWwwPrefixInside T ≡ weight_at 1 T
+  pub www_prefix_after_ready : (T : Tokenizer) → StartReady T → ready GfmAutolinkLiteralWwwPrefixAfter T
+  pub www_prefix_after_end : (T : Tokenizer) (ok : Bool) (U : Tokenizer) → ends GfmAutolinkLiteralWwwPrefixAfter T ok U → www_prefix_after_ends T ok U
+  pub www_prefix_after_weight : (T : Tokenizer) → weight GfmAutolinkLiteralWwwPrefixAfter T ≡ weight_at 6 T
+  pub www_after_ready : (T : Tokenizer) → IsOpen N.GfmAutolinkLiteralWww T → ready GfmAutolinkLiteralWwwAfter T
+  pub www_after_end : (T : Tokenizer) (ok : Bool) (U : Tokenizer) → ends GfmAutolinkLiteralWwwAfter T ok U → www_after_ends T ok U
+  pub www_after_weight : (T : Tokenizer) → weight GfmAutolinkLiteralWwwAfter T ≡ weight_at 1 T
+
+-- In the word.
+
+tries-here : (test : Bool) (T : Tokenizer) (ok : Bool) (U : Tokenizer) → ok ≡ test → U ≡ scratched (rested T.tokenize_state) T → Tries test T ok U
+tries-here test T ok U e h =
+    let s : TokenizeState = rested T.tokenize_state in
+    record {
+      answer = e;
+      grown = subst (λ (x : Tokenizer). Grown 0 T x) (sym h) (Grown-scratched 0 s T (scratched s T) (Grown-refl 0 (scratched s T)));
+      scratch = ap (λ (x : Tokenizer). x.tokenize_state) h ∙ scratch-scratched s T;
+    }
+
+tries-past : (n : ℕ) (test then1 : Bool) (T : Tokenizer) (ok : Bool) (U : Tokenizer) → then1 ≡ test → Tries then1 (scratched (sized n T.tokenize_state) (done (Consume ∷ []) T)) ok U → Tries test T ok U
+tries-past n test then1 T ok U e k =
+    record {
+      answer = k.answer ∙ e;
+      grown = Grown-applied 0 Consume T U refl (Grown-scratched 0 (sized n T.tokenize_state) (done (Consume ∷ []) T) U k.grown);
+      scratch = k.scratch ∙ ap (λ (x : TokenizeState). rested x) (scratch-scratched (sized n T.tokenize_state) (done (Consume ∷ []) T));
+    }
+
+www-then : (n : ℕ) (T : Tokenizer) (ok : Bool) (U : Tokenizer) → www_prefix_ends (scratched (sized n T.tokenize_state) (done (Consume ∷ []) T)) ok U → Tries (www_test n (rest_of (ahead T))) (scratched (sized n T.tokenize_state) (done (Consume ∷ []) T)) ok U
+unfolding scratched
+www-then n T ok U k = subst (λ cs. Tries (www_test n cs) (scratched (sized n T.tokenize_state) (done (Consume ∷ []) T)) ok U) (ahead-consumed T) k
+
+few-letters : (n v : ℕ) → www_letter n v ≡ true → n ≤ 3
+few-letters n v e = grind (arith, nat_tests)
+
+not-four : (n : ℕ) → n ≤ 4 → (n == 4) ≡ false → n ≤ 3
+not-four n h e = grind (arith, nat_tests)
+
+www-ready : (n : ℕ) (T : Tokenizer) → n ≤ 4 → WwwReady (scratched (sized n T.tokenize_state) (done (Consume ∷ []) T))
+unfolding scratched
+www-ready n T h = record { few = h }
+
+-- the word does not end with the content
+www-end : (n : ℕ) (b : Bool) → n ≤ 4 → (n == 4) ≡ b → www_test n [] ≡ false
+www-end n true h e = ap (λ k. www_test k []) (eqb-true n 4 e) ∙ www-left []
+www-end n false h e = www-other n [] (not-four n h e) refl
+
+module _ (ready : StateName → Tokenizer → Type 0) (ends : StateName → Tokenizer → Bool → Tokenizer → Type 0) (weight : StateName → Tokenizer → ℕ) (within : Within ready ends weight) where
+  tries-ended : (T : Tokenizer) (test : Bool) → T.attempts ≡ [] → test ≡ false → GoesOn ready ends weight (weight_at 1 T) (Tries test T) (refused T)
+  tries-ended T test alone e =
+      Goes-plain ready ends weight (weight_at 1 T) (Tries test T) Nok (scratched (rested T.tokenize_state) T) (attempts-scratched (rested T.tokenize_state) T ∙ alone) tt (omega arith) (λ ok U x. tries-here test T ok U (x.0 ∙ sym e) x.1)
+
+  pub www_prefix-law : (T : Tokenizer) → T.attempts ≡ [] → WwwReady T → GoesOn ready ends weight (weight_at 1 T) (www_prefix_ends T) (www_prefix_step T)
+  www_prefix-law T alone on =
+      let P : Stepped → Type 0 = GoesOn ready ends weight (weight_at 1 T) (www_prefix_ends T) in
+      let s : TokenizeState = T.tokenize_state in
+      let n : ℕ = s.size in
+      let test : Bool = www_test n (ahead T) in
+      code-step P (current_of T) (λ o. www_prefix_at o T)
+      (λ e. tries-ended T test alone (ap (www_test n) (ahead-none T e) ∙ www-end n (n == 4) on.few refl))
+      (λ c e. let b = ahead-some T c e in
+      let more : List Code = rest_of (ahead T) in
+      if-step P (www_letter n c) _ _
+      (λ h. let V : Tokenizer = scratched (sized (n + 1) s) (done (Consume ∷ []) T) in
+      Goes-plain ready ends weight (weight_at 1 T) (www_prefix_ends T) (Next GfmAutolinkLiteralWwwPrefixInside) V (attempts-scratched (sized (n + 1) s) (done (Consume ∷ []) T) ∙ attempts-applied Consume T ∙ alone)
+      (within.www_prefix_ready V (www-ready (n + 1) T (omega (arith, few-letters n c h))))
+      (rw within.www_prefix_weight (omega (arith, left-scratched (sized (n + 1) s) (done (Consume ∷ []) T), left-consumed T c e)))
+      (λ ok U x. tries-past (n + 1) test _ T ok U (sym (ap (www_test n) b.whole ∙ www-more n b.code more (ap (www_letter n) b.value ∙ h))) (www-then (n + 1) T ok U (within.www_prefix_end V ok U x))))
+      (λ h. if-step P (n == 4) _ _
+      (λ f. Goes-plain ready ends weight (weight_at 1 T) (www_prefix_ends T) State.Ok (scratched (rested s) T) (attempts-scratched (rested s) T ∙ alone) tt (omega arith)
+      (λ ok U x. tries-here test T ok U (x.0 ∙ sym (ap (λ k. www_test k (ahead T)) (eqb-true n 4 f) ∙ www-left (ahead T) ∙ ap (λ cs. not (is_empty cs)) b.whole)) x.1))
+      (λ f. tries-ended T test alone (ap (www_test n) b.whole ∙ www-other n (b.code ∷ more) (not-four n on.few f) (ap (www_letter n) b.value ∙ h)))))
+
+  -- The address.
+
+  begins-by : (s : TokenizeState) (d : List Code) (os : List Op) → s.seen ≡ false → Begins (if is_well (fields_after d s) then Some (consumes d ++ os) else None)
+  begins-by s [] os e xs k = let no : None ≡ Some xs = sym (if-false (is_well s) (Some os) None (ap (λ b. b && (not (s.marker == 95) && not (s.marker_b == 95))) e)) ∙ k in cc
+  begins-by s (c ∷ cs) os e xs k = by_test (is_well (fields_after (c ∷ cs) s)) xs k
+    where
+      by_test : (b : Bool) (xs : List Op) → (if b then Some (Consume ∷ consumes cs ++ os) else None) ≡ Some xs → (more : List Op) × (xs ≡ Consume ∷ more)
+      by_test true xs k = (consumes cs ++ os, cc)
+      by_test false xs k = cc
+
+  begins-address : (bytes : List ℕ) (end : ℕ) (s : TokenizeState) (cs : List Code) → rested s ≡ s → Begins (pass_ops (address bytes end cs))
+  begins-address bytes end s cs e =
+      subst Begins (sym (address-is bytes end s cs e)) (begins-by s (domain_from bytes end cs).0 (consumes (path_from bytes end s.size s.size_b (domain_from bytes end cs).1).0) (ap (λ (x : TokenizeState). x.seen) (sym e)))
+
+  address-ready : (T : Tokenizer) → StartReady T → LiteralReady (entered_literal N.GfmAutolinkLiteralWww T)
+  unfolding applied
+  address-ready T k =
+      let opened : T.tokenize_state.size ≡ 0 = ap (λ (x : TokenizeState). x.size) (sym k.resting) in
+      let closed : T.tokenize_state.size_b ≡ 0 = ap (λ (x : TokenizeState). x.size_b) (sym k.resting) in
+      record { text = k.text; opened = omega (arith, opened, k.short); closed = omega (arith, closed, k.short) }
+
+  address-entered : (T : Tokenizer) → rested T.tokenize_state ≡ T.tokenize_state → (ok : Bool) (U : Tokenizer) → domain_ends (entered_literal N.GfmAutolinkLiteralWww T) ok U → DoesAs 0 (λ cs. pass_ops (address (bytes_of T) (end_of T) cs)) (rested T.tokenize_state) (entered_literal N.GfmAutolinkLiteralWww T) ok U
+  unfolding applied
+  address-entered T e ok U k =
+      let A : Tokenizer = entered_literal N.GfmAutolinkLiteralWww T in
+      does-same (λ cs. pass_ops (address (bytes_of T) (end_of T) cs)) (domain_program (bytes_of T) (end_of T) T.tokenize_state) (rested T.tokenize_state) A ok U (address-is (bytes_of T) (end_of T) T.tokenize_state (ahead A) e) k
+
+  pub www_prefix_after-law : (T : Tokenizer) → T.attempts ≡ [] → StartReady T → GoesOn ready ends weight (weight_at 6 T) (www_prefix_after_ends T) (www_prefix_after_step T)
+  www_prefix_after-law T alone on =
+      literal-law ready ends weight N.GfmAutolinkLiteralWww GfmAutolinkLiteralDomainInside GfmAutolinkLiteralWwwAfter (address (bytes_of T) (end_of T)) (program_of (www_from_here (bytes_of T) (end_of T))) T on.resting
+      (from-here-is (bytes_of T) (end_of T) (ahead T))
+      6 5 alone (omega arith) (omega arith)
+      (begins-address (bytes_of T) (end_of T) T.tokenize_state (ahead T) on.resting)
+      (within.address.domain_ready _ (address-ready T on)) (within.address.domain_weight _)
+      (λ ok U k. address-entered T on.resting ok U (within.address.domain_end _ ok U k))
+      within.www_after_ready within.www_after_weight within.www_after_end
+
+  -- The start.
+
+  before-www : (T : Tokenizer) → precedes_www (previous_of T) ≡ may_precede_www (before_of T)
+  unfolding code_before
+  before-www T = by_code (last_of T.cursor.codes T.cursor.at)
+    where
+      by_code : (o : Option Code) → precedes_www (value_of o) ≡ may_precede_www o
+      by_code None = refl
+      by_code (Some c) = refl
+
+  -- the word is looked at, and all is as before
+  back-here : (T U : Tokenizer) (test ok : Bool) → rested T.tokenize_state ≡ T.tokenize_state → Tries test T ok U → restored (frame_of true (Next GfmAutolinkLiteralWwwPrefixAfter) Nok T) U ≡ T
+  back-here T U test ok e k =
+      restored-grown true (Next GfmAutolinkLiteralWwwPrefixAfter) Nok T U k.grown ∙ ap (λ (x : TokenizeState). scratched x T) (k.scratch ∙ e) ∙ scratched-same T
+
+  no-fall : (T : Tokenizer) (p : Program) → p (ahead T) ≡ None → (ok : Bool) (V : Tokenizer) → (ok ≡ false) × (V ≡ T) → DoesAs 0 p T.tokenize_state T ok V
+  no-fall T p e ok V x =
+      subst (λ b. DoesAs 0 p T.tokenize_state T b V) (sym x.0)
+      (record { none = e; grown = subst (λ (y : Tokenizer). Grown 0 T y) (sym x.1) (Grown-refl 0 T); scratch = ap (λ (y : Tokenizer). y.tokenize_state) x.1 })
+
+  and-three : (a m w : Bool) → a && (m && w) ≡ (a && m) && w
+  and-three true m w = refl
+  and-three false m w = refl
+
+  -- a literal stands here where it may begin and the word is seen
+  stands-by : (T : Tokenizer) (cs : List Code) → is_on T && (may_precede_www (before_of T) && begins_with_www cs) ≡ may_begin_www T && www_test 0 cs
+  stands-by T cs = and-three (is_on T) (may_precede_www (before_of T)) (begins_with_www cs) ∙ ap (λ m. (is_on T && m) && begins_with_www cs) (sym (before-www T))
+
+  www-stands : (T : Tokenizer) (cs : List Code) → may_begin_www T && www_test 0 cs ≡ true → program_of (www_here T) cs ≡ program_of (www_from_here (bytes_of T) (end_of T)) cs
+  www-stands T cs e = www-is (bytes_of T) (end_of T) (is_on T) (before_of T) cs (stands-by T cs ∙ e)
+
+  www-fails : (T : Tokenizer) (cs : List Code) → may_begin_www T && www_test 0 cs ≡ false → program_of (www_here T) cs ≡ None
+  www-fails T cs e = www-none (bytes_of T) (end_of T) (is_on T) (before_of T) cs (stands-by T cs ∙ e)
+
+  both-true : (a b : Bool) → a ≡ true → b ≡ true → a && b ≡ true
+  both-true true b e h = h
+  both-true false b e h = cc
+
+  second-false : (a b : Bool) → b ≡ false → a && b ≡ false
+  second-false true b e = e
+  second-false false b e = refl
+
+  no-word : (a b w : Bool) → a && b ≡ false → (b ≡ false → w ≡ false) → a && w ≡ false
+  no-word true b w e h = h e
+  no-word false b w e h = refl
+
+  pub www_start-law : (T : Tokenizer) → T.attempts ≡ [] → StartReady T → GoesOn ready ends weight (weight_at 7 T) (www_start_ends T) (www_start_step T)
+  www_start-law T alone on =
+      let s : TokenizeState = T.tokenize_state in
+      let p : Program = program_of (www_here T) in
+      let q : Program = program_of (www_from_here (bytes_of T) (end_of T)) in
+      let n : ℕ = weight_at 7 T in
+      let F : Bool → Tokenizer → Type 0 = DoesAs 0 p s T in
+      let P : Stepped → Type 0 = GoesOn ready ends weight n F in
+      let size : s.size ≡ 0 = ap (λ (x : TokenizeState). x.size) (sym on.resting) in
+      GoesOn-map ready ends weight n F (www_start_ends T) (www_start_step T) (λ ok U k. EndsAs-program (www_here T) (whole-www (bytes_of T) (end_of T) (is_on T) (before_of T)) s T ok U k)
+      (code-step P (current_of T) (λ o. www_start_at (may_begin_www T) o T)
+      (λ e. Goes-no ready ends weight 7 0 p T alone (ap p (ahead-none T e) ∙ www-fails T [] (second-false (may_begin_www T) (www_test 0 []) (www-other 0 [] (omega arith) refl))))
+      (λ c e. let b = ahead-some T c e in
+      let more : List Code = rest_of (ahead T) in
+      if-step P (may_begin_www T && (c == 119 || c == 87)) _ _
+      (λ h. let may : may_begin_www T ≡ true = and-left (may_begin_www T) (c == 119 || c == 87) h in
+      Goes-check ready ends weight n F (Retry GfmAutolinkLiteralWwwPrefixInside) (Next GfmAutolinkLiteralWwwPrefixAfter) Nok T alone (within.www_prefix_ready T (record { few = omega (arith, size) }))
+      (rw within.www_prefix_weight (omega arith))
+      (λ U now x. let k = within.www_prefix_end T true U x in
+      let seen : www_test 0 (ahead T) ≡ true = ap (λ m. www_test m (ahead T)) (sym size) ∙ sym k.answer in
+      follows ready ends weight 7 6 p q s T _ GfmAutolinkLiteralWwwPrefixAfter (back-here T U _ true on.resting k) (omega arith) (www-stands T (ahead T) (both-true (may_begin_www T) (www_test 0 (ahead T)) may seen))
+      (within.www_prefix_after_ready T on) (within.www_prefix_after_weight T) (within.www_prefix_after_end T))
+      (λ U now x. let k = within.www_prefix_end T false U x in
+      let seen : www_test 0 (ahead T) ≡ false = ap (λ m. www_test m (ahead T)) (sym size) ∙ sym k.answer in
+      record {
+        goes_on = tt;
+        falls = omega arith;
+        closed = λ ok V z. no-fall T p (www-fails T (ahead T) (second-false (may_begin_www T) (www_test 0 (ahead T)) seen)) ok V (z.0, z.1 ∙ back-here T U _ false on.resting k);
+      }))
+      (λ h. Goes-no ready ends weight 7 0 p T alone
+      (ap p b.whole ∙ www-fails T (b.code ∷ more) (no-word (may_begin_www T) (c == 119 || c == 87) (www_test 0 (b.code ∷ more)) h (λ f. www-other 0 (b.code ∷ more) (omega arith) (ap (λ v. v == 119 || v == 87) b.value ∙ f)))))))
+
+pub www_after-law : (ready : StateName → Tokenizer → Type 0) (ends : StateName → Tokenizer → Bool → Tokenizer → Type 0) (weight : StateName → Tokenizer → ℕ) (T : Tokenizer) → T.attempts ≡ [] → GoesOn ready ends weight (weight_at 1 T) (www_after_ends T) (www_after_step T)
+www_after-law ready ends weight T alone =
+    Goes-plain ready ends weight (weight_at 1 T) (www_after_ends T) State.Ok (done (Exit N.GfmAutolinkLiteralWww ∷ []) T) (attempts-applied (Exit N.GfmAutolinkLiteralWww) T ∙ alone) tt (omega arith) (λ ok U k. k)

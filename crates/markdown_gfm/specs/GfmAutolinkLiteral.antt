@@ -1,0 +1,501 @@
+-- What the states of autolink literals do, and how runs from them end.
+use Rattle.std.specs.Prelude.{◌≡◌, ◌<◌, ◌≤◌, ◌+◌, ℕ, suc, Bool, true, false, ◌&&◌, ◌||◌, not, ◌==◌, nat_le, nat_lt, if◌then◌else◌, Option, Some, None, List, [], ◌∷◌, ◌++◌, drop, codes, slice_get, IsUtf8}
+use Rattle.std.specs.Str.{IsCharBoundary}
+use Rattle.markdown_engine.specs.Codes.{Code}
+use Rattle.markdown_engine.specs.Grown.{Grown}
+use Rattle.markdown_engine.specs.Ops.{Op, Enter, Exit, Consume, HasCode, ahead, attempted, done, current_of, previous_of, scratched}
+use Rattle.markdown_engine.specs.Past.{EndsAs, TreeReading}
+use Rattle.markdown_engine.specs.Place.{Place, point_of, last_of}
+use Rattle.markdown_engine.specs.Runs.{Stepped, stepped}
+use Rattle.markdown_engine.specs.TreeOps.{consumes}
+use Rattle.markdown_engine.specs.Weights.{codes_left}
+use Rattle.markdown_model.specs.CodeTests.{is_between, is_later_byte, is_empty, next_is, is_whitespace_code, is_among}
+use Rattle.markdown_model.specs.Grammar.{Reading, ◌>>◌, ◌then_◌, either, provided}
+use Rattle.markdown_model.specs.Literal.{letters, is_other, is_space, trails_in, domain, domain_from, path, path_from, protocol_literal, www_from_here, www_literal}
+use Rattle.markdown_util.specs.Neighbours.{class_of, after_index}
+use Rattle.markdown_util.specs.declared.util.char.Kind.{Kind}
+use Rattle.markdown_leaf.specs.Autolink.{letter_value, among_values}
+use Rattle.markdown_leaf.specs.Program.{Program, preceded, program_of, DoesAs, KeepsAs}
+use Rattle.markdown_partial.specs.SpaceSteps.{most}
+use Rattle.markdown_engine.specs.declared.event.Name.{Name}
+use Rattle.markdown_engine.specs.declared.event.Name.TheVariants as N
+use Rattle.markdown_engine.specs.declared.state.State.TheVariants.{Next, Retry, Nok}
+use Rattle.markdown_engine.specs.declared.state.State.TheVariants as State
+use Rattle.markdown_engine.specs.declared.state.StateName.{StateName}
+use Rattle.markdown_engine.specs.declared.state.StateName.TheVariants.{GfmAutolinkLiteralDomainAfter, GfmAutolinkLiteralDomainAtPunctuation, GfmAutolinkLiteralDomainInside, GfmAutolinkLiteralPathAfter, GfmAutolinkLiteralPathAtPunctuation, GfmAutolinkLiteralPathInside, GfmAutolinkLiteralProtocolAfter, GfmAutolinkLiteralProtocolPrefixInside, GfmAutolinkLiteralProtocolSlashesInside, GfmAutolinkLiteralTrail, GfmAutolinkLiteralTrailBracketAfter, GfmAutolinkLiteralTrailCharRefInside, GfmAutolinkLiteralTrailCharRefStart, GfmAutolinkLiteralWwwAfter, GfmAutolinkLiteralWwwPrefixAfter, GfmAutolinkLiteralWwwPrefixInside}
+use Rattle.markdown_engine.specs.declared.tokenizer.TokenizeState.{TokenizeState}
+use Rattle.markdown_engine.specs.declared.tokenizer.Tokenizer.{Tokenizer}
+
+-- What is looked at.
+
+abbrev pub bytes_of : Tokenizer → List ℕ
+bytes_of T = T.parse_state.now.bytes.now
+
+-- the index where the content ends
+abbrev pub end_of : Tokenizer → ℕ
+end_of T = T.cursor.end.index
+
+-- the class of the document's character at the place
+abbrev pub kind_here : Tokenizer → Kind
+kind_here T = class_of (after_index (bytes_of T) (point_of T.cursor).index)
+
+abbrev pub later_value : ℕ → Bool
+later_value v = is_between 128 191 v
+
+-- a later byte of a character is at hand
+abbrev pub at_later : Option ℕ → Bool
+at_later None = false
+at_later (Some v) = later_value v
+
+-- the letter of this number of `https` in either case
+abbrev pub scheme_letter : ℕ → ℕ → Bool
+scheme_letter n v =
+    if n == 0 then v == 104 || v == 72
+    else (if n == 1 then v == 116 || v == 84
+    else (if n == 2 then v == 116 || v == 84
+    else (if n == 3 then v == 112 || v == 80
+    else (n == 4 && (v == 115 || v == 83)))))
+
+-- trailing punctuation that is one code
+abbrev pub trail_value : ℕ → Bool
+trail_value v = among_values (codes "!\"'),*.:;?_~") v
+
+-- a code at which a path may end
+abbrev pub mark_value : ℕ → Bool
+mark_value v = among_values (codes "!\"&'),*.:;<?]_~") v
+
+-- The scratch fields: the codes of a word passed, or the parentheses opened and closed; the last part of a domain and the one
+-- before hold `_`; a character of class other was seen.
+
+abbrev pub rested : TokenizeState → TokenizeState
+rested s = record s { marker = 0; marker_b = 0; size = 0; size_b = 0; seen = false }
+
+abbrev pub sized : ℕ → TokenizeState → TokenizeState
+sized n s = record s { size = n }
+
+abbrev pub closed : ℕ → TokenizeState → TokenizeState
+closed n s = record s { size_b = n }
+
+abbrev pub saw : TokenizeState → TokenizeState
+saw s = record s { seen = true }
+
+abbrev pub underscored : TokenizeState → TokenizeState
+underscored s = record s { marker = 95 }
+
+abbrev pub dotted : TokenizeState → TokenizeState
+dotted s = record s { marker = 0; marker_b = s.marker }
+
+abbrev pub domain_rested : TokenizeState → TokenizeState
+domain_rested s = record s { marker = 0; marker_b = 0; seen = false }
+
+-- The states.
+
+abbrev pub is_on : Tokenizer → Bool
+is_on T = T.parse_state.now.options.now.constructs.gfm_autolink_literal
+
+abbrev pub refused : Tokenizer → Stepped
+refused T = stepped Nok (scratched (rested T.tokenize_state) T)
+
+abbrev pub is_letter_before : Option ℕ → Bool
+is_letter_before None = false
+is_letter_before (Some v) = letter_value v
+
+abbrev pub may_begin : Tokenizer → Bool
+may_begin T = is_on T && not (is_letter_before (previous_of T))
+
+abbrev pub entered_literal : Name → Tokenizer → Tokenizer
+entered_literal name T = done (Enter name ∷ []) T
+
+abbrev pub protocol_start_at : Bool → Option ℕ → Tokenizer → Stepped
+protocol_start_at may None T = stepped Nok T
+protocol_start_at may (Some c) T =
+    if may && (c == 104 || c == 72)
+    then stepped (Retry GfmAutolinkLiteralProtocolPrefixInside) (attempted false (Next GfmAutolinkLiteralProtocolAfter) Nok (entered_literal N.GfmAutolinkLiteralProtocol T))
+    else stepped Nok T
+
+abbrev pub protocol_start_step : Tokenizer → Stepped
+protocol_start_step T = protocol_start_at (may_begin T) (current_of T) T
+
+abbrev pub protocol_after_step : Tokenizer → Stepped
+protocol_after_step T = stepped State.Ok (done (Exit N.GfmAutolinkLiteralProtocol ∷ []) T)
+
+abbrev pub prefix_at : Option ℕ → Tokenizer → Stepped
+prefix_at None T = refused T
+prefix_at (Some c) T =
+    let s = T.tokenize_state in
+    if scheme_letter s.size c
+    then stepped (Next GfmAutolinkLiteralProtocolPrefixInside) (scratched (sized (s.size + 1) s) (done (Consume ∷ []) T))
+    else (if nat_le 4 s.size && (c == 58)
+    then stepped (Next GfmAutolinkLiteralProtocolSlashesInside) (scratched (sized 0 s) (done (Consume ∷ []) T))
+    else refused T)
+
+abbrev pub prefix_step : Tokenizer → Stepped
+prefix_step T = prefix_at (current_of T) T
+
+abbrev pub slashes_at : Option ℕ → Tokenizer → Stepped
+slashes_at None T = refused T
+slashes_at (Some c) T =
+    let s = T.tokenize_state in
+    if c == 47
+    then (if s.size == 0
+    then stepped (Next GfmAutolinkLiteralProtocolSlashesInside) (scratched (sized 1 s) (done (Consume ∷ []) T))
+    else stepped (Next GfmAutolinkLiteralDomainInside) (scratched (sized 0 s) (done (Consume ∷ []) T)))
+    else refused T
+
+abbrev pub slashes_step : Tokenizer → Stepped
+slashes_step T = slashes_at (current_of T) T
+
+-- the trail is looked at
+abbrev pub looked : StateName → StateName → Tokenizer → Stepped
+looked held failed T = stepped (Retry GfmAutolinkLiteralTrail) (attempted true (Next held) (Next failed) T)
+
+abbrev pub domain_at : Option ℕ → Tokenizer → Stepped
+domain_at None T = stepped (Retry GfmAutolinkLiteralDomainAfter) T
+domain_at (Some c) T =
+    if among_values (codes "._") c then looked GfmAutolinkLiteralDomainAfter GfmAutolinkLiteralDomainAtPunctuation T
+    else (if c == 45 then stepped (Next GfmAutolinkLiteralDomainInside) (done (Consume ∷ []) T)
+    else (if later_value c || is_other (kind_here T)
+    then stepped (Next GfmAutolinkLiteralDomainInside) (scratched (saw T.tokenize_state) (done (Consume ∷ []) T))
+    else stepped (Retry GfmAutolinkLiteralDomainAfter) T))
+
+abbrev pub domain_step : Tokenizer → Stepped
+domain_step T = domain_at (current_of T) T
+
+abbrev pub domain_punctuation_at : Option ℕ → Tokenizer → Stepped
+domain_punctuation_at None T = stepped (Next GfmAutolinkLiteralDomainInside) (scratched (dotted T.tokenize_state) (done (Consume ∷ []) T))
+domain_punctuation_at (Some c) T =
+    if c == 95
+    then stepped (Next GfmAutolinkLiteralDomainInside) (scratched (underscored T.tokenize_state) (done (Consume ∷ []) T))
+    else stepped (Next GfmAutolinkLiteralDomainInside) (scratched (dotted T.tokenize_state) (done (Consume ∷ []) T))
+
+abbrev pub domain_punctuation_step : Tokenizer → Stepped
+domain_punctuation_step T = domain_punctuation_at (current_of T) T
+
+-- a domain with these fields is one
+abbrev pub is_well : TokenizeState → Bool
+is_well s = s.seen && (not (s.marker == 95) && not (s.marker_b == 95))
+
+abbrev pub domain_after_step : Tokenizer → Stepped
+domain_after_step T =
+    if is_well T.tokenize_state then stepped (Retry GfmAutolinkLiteralPathInside) (scratched (domain_rested T.tokenize_state) T) else refused T
+
+abbrev pub path_at : Option ℕ → Tokenizer → Stepped
+path_at None T = stepped (Retry GfmAutolinkLiteralPathAfter) T
+path_at (Some c) T =
+    let s = T.tokenize_state in
+    if later_value c then stepped (Next GfmAutolinkLiteralPathInside) (done (Consume ∷ []) T)
+    else (if is_space (kind_here T) then stepped (Retry GfmAutolinkLiteralPathAfter) T
+    else (if c == 40 then stepped (Next GfmAutolinkLiteralPathInside) (scratched (sized (s.size + 1) s) (done (Consume ∷ []) T))
+    else (if (c == 41) && nat_lt s.size_b s.size then stepped (Retry GfmAutolinkLiteralPathAtPunctuation) T
+    else (if mark_value c then looked GfmAutolinkLiteralPathAfter GfmAutolinkLiteralPathAtPunctuation T
+    else stepped (Next GfmAutolinkLiteralPathInside) (done (Consume ∷ []) T)))))
+
+abbrev pub path_step : Tokenizer → Stepped
+path_step T = path_at (current_of T) T
+
+abbrev pub path_punctuation_at : Option ℕ → Tokenizer → Stepped
+path_punctuation_at None T = stepped (Next GfmAutolinkLiteralPathInside) (done (Consume ∷ []) T)
+path_punctuation_at (Some c) T =
+    let s = T.tokenize_state in
+    if c == 41
+    then stepped (Next GfmAutolinkLiteralPathInside) (scratched (closed (s.size_b + 1) s) (done (Consume ∷ []) T))
+    else stepped (Next GfmAutolinkLiteralPathInside) (done (Consume ∷ []) T)
+
+abbrev pub path_punctuation_step : Tokenizer → Stepped
+path_punctuation_step T = path_punctuation_at (current_of T) T
+
+abbrev pub path_after_step : Tokenizer → Stepped
+path_after_step T = stepped State.Ok (scratched (rested T.tokenize_state) T)
+
+abbrev pub ended : Bool → Tokenizer → Stepped
+ended b T = if b then stepped State.Ok T else stepped Nok T
+
+abbrev pub trail_at : Option ℕ → Tokenizer → Stepped
+trail_at None T = ended (is_space (kind_here T)) T
+trail_at (Some c) T =
+    if trail_value c then stepped (Next GfmAutolinkLiteralTrail) (done (Consume ∷ []) T)
+    else (if c == 38 then stepped (Next GfmAutolinkLiteralTrailCharRefStart) (done (Consume ∷ []) T)
+    else (if c == 60 then stepped State.Ok T
+    else (if c == 93 then stepped (Next GfmAutolinkLiteralTrailBracketAfter) (done (Consume ∷ []) T)
+    else ended (is_space (kind_here T)) T)))
+
+abbrev pub trail_step : Tokenizer → Stepped
+trail_step T = trail_at (current_of T) T
+
+-- after a closing bracket whitespace, the end, or what begins a resource or a reference
+abbrev pub ends_bracket : Option ℕ → Bool
+ends_bracket None = true
+ends_bracket (Some c) = ((c == 32 || c == 9) || c == 10) || among_values (codes "([") c
+
+abbrev pub bracket_after_step : Tokenizer → Stepped
+bracket_after_step T = if ends_bracket (current_of T) then stepped State.Ok T else stepped (Retry GfmAutolinkLiteralTrail) T
+
+abbrev pub reference_start_at : Option ℕ → Tokenizer → Stepped
+reference_start_at None T = stepped Nok T
+reference_start_at (Some c) T = if letter_value c then stepped (Retry GfmAutolinkLiteralTrailCharRefInside) T else stepped Nok T
+
+abbrev pub reference_start_step : Tokenizer → Stepped
+reference_start_step T = reference_start_at (current_of T) T
+
+abbrev pub reference_at : Option ℕ → Tokenizer → Stepped
+reference_at None T = stepped Nok T
+reference_at (Some c) T =
+    if letter_value c then stepped (Next GfmAutolinkLiteralTrailCharRefInside) (done (Consume ∷ []) T)
+    else (if c == 59 then stepped (Next GfmAutolinkLiteralTrail) (done (Consume ∷ []) T) else stepped Nok T)
+
+abbrev pub reference_step : Tokenizer → Stepped
+reference_step T = reference_at (current_of T) T
+
+-- whitespace and some punctuation may stand before `www.`
+abbrev pub precedes_www : Option ℕ → Bool
+precedes_www None = true
+precedes_www (Some v) = ((v == 32 || v == 9) || v == 10) || among_values (codes "(*_[]~") v
+
+-- the code of this number of `www.`, the letters in either case
+abbrev pub www_letter : ℕ → ℕ → Bool
+www_letter n v = if nat_lt n 3 then v == 119 || v == 87 else ((n == 3) && (v == 46))
+
+abbrev pub may_begin_www : Tokenizer → Bool
+may_begin_www T = is_on T && precedes_www (previous_of T)
+
+abbrev pub www_start_at : Bool → Option ℕ → Tokenizer → Stepped
+www_start_at may None T = stepped Nok T
+www_start_at may (Some c) T =
+    if may && (c == 119 || c == 87)
+    then stepped (Retry GfmAutolinkLiteralWwwPrefixInside) (attempted true (Next GfmAutolinkLiteralWwwPrefixAfter) Nok T)
+    else stepped Nok T
+
+abbrev pub www_start_step : Tokenizer → Stepped
+www_start_step T = www_start_at (may_begin_www T) (current_of T) T
+
+abbrev pub www_prefix_at : Option ℕ → Tokenizer → Stepped
+www_prefix_at None T = refused T
+www_prefix_at (Some c) T =
+    let s = T.tokenize_state in
+    if www_letter s.size c
+    then stepped (Next GfmAutolinkLiteralWwwPrefixInside) (scratched (sized (s.size + 1) s) (done (Consume ∷ []) T))
+    else (if s.size == 4 then stepped State.Ok (scratched (rested s) T) else refused T)
+
+abbrev pub www_prefix_step : Tokenizer → Stepped
+www_prefix_step T = www_prefix_at (current_of T) T
+
+abbrev pub www_prefix_after_step : Tokenizer → Stepped
+www_prefix_after_step T =
+    stepped (Retry GfmAutolinkLiteralDomainInside) (attempted false (Next GfmAutolinkLiteralWwwAfter) Nok (entered_literal N.GfmAutolinkLiteralWww T))
+
+abbrev pub www_after_step : Tokenizer → Stepped
+www_after_step T = stepped State.Ok (done (Exit N.GfmAutolinkLiteralWww ∷ []) T)
+
+-- When they may be called.
+
+-- the class of the character at hand may be asked for, unless a later byte is at hand
+pub record MayClass (T : Tokenizer) : Type 0 where
+  pub text : IsUtf8 (bytes_of T)
+  pub begins : at_later (current_of T) ≡ false → IsCharBoundary (bytes_of T) (point_of T.cursor).index
+
+pub record TrailReady (T : Tokenizer) : Type 0 where
+  pub class : MayClass T
+  pub begins : at_later (current_of T) ≡ false
+
+-- a parenthesis at hand may be counted
+pub record MayCount (T : Tokenizer) : Type 0 where
+  pub opened : HasCode T → T.tokenize_state.size < most
+  pub closed : HasCode T → T.tokenize_state.size_b < most
+
+-- The document is a text, and the codes of the content are those of its bytes: each but a later byte of a character begins where
+-- one does, no later byte follows an ASCII code, and the content ends between characters.
+pub record IsText (bytes : List ℕ) (p : Place) : Type 0 where
+  pub text : IsUtf8 bytes
+  pub end : IsCharBoundary bytes p.end.index
+  pub first : (n : ℕ) (c : Code) → slice_get p.codes n ≡ Some c → is_later_byte c ≡ false → IsCharBoundary bytes c.start.index
+  pub next : (n : ℕ) (c d : Code) → slice_get p.codes n ≡ Some c → slice_get p.codes (suc n) ≡ Some d → nat_lt c.value 128 ≡ true → is_later_byte d ≡ false
+
+abbrev pub ReadsText : Tokenizer → Type 0
+ReadsText T = IsText (bytes_of T) T.cursor
+
+-- in the word that a literal begins with
+pub record WordReady (T : Tokenizer) : Type 0 where
+  pub text : ReadsText T
+  pub fresh : sized 0 T.tokenize_state ≡ rested T.tokenize_state
+  pub short : codes_left T ≤ most
+
+-- in a domain or a path: the parentheses that are left may be counted
+pub record LiteralReady (T : Tokenizer) : Type 0 where
+  pub text : ReadsText T
+  pub opened : T.tokenize_state.size + codes_left T ≤ most
+  pub closed : T.tokenize_state.size_b + codes_left T ≤ most
+
+-- at a code of it
+pub record CodeReady (T : Tokenizer) : Type 0 where
+  pub goes_on : LiteralReady T
+  pub code : HasCode T
+
+-- in a trail, at no later byte of a character
+pub record LookReady (T : Tokenizer) : Type 0 where
+  pub text : ReadsText T
+  pub begins : at_later (current_of T) ≡ false
+
+-- at the start of a literal
+pub record StartReady (T : Tokenizer) : Type 0 where
+  pub text : ReadsText T
+  pub resting : rested T.tokenize_state ≡ T.tokenize_state
+  pub short : codes_left T ≤ most
+
+-- How runs end.
+
+-- a run that only looks: it answers this, and has grown nothing that stays
+pub record Looks (test : Bool) (T : Tokenizer) (ok : Bool) (U : Tokenizer) : Type 0 where
+  pub answer : ok ≡ test
+  pub grown : Grown 0 T U
+  pub scratch : U.tokenize_state ≡ T.tokenize_state
+
+abbrev pub trail_ends : Tokenizer → Bool → Tokenizer → Type 0
+trail_ends T ok U = Looks (trails_in (bytes_of T) (end_of T) None (ahead T)) T ok U
+
+-- a trail, after a closing bracket of it
+abbrev pub trails_on : List ℕ → ℕ → List Code → Bool
+trails_on bytes end cs =
+    (is_empty cs || next_is (λ d. is_whitespace_code d || is_among (codes "([") d) cs) || trails_in bytes end None cs
+
+abbrev pub bracket_after_ends : Tokenizer → Bool → Tokenizer → Type 0
+bracket_after_ends T ok U = Looks (trails_on (bytes_of T) (end_of T) (ahead T)) T ok U
+
+abbrev pub reference_start_ends : Tokenizer → Bool → Tokenizer → Type 0
+reference_start_ends T ok U = Looks (trails_in (bytes_of T) (end_of T) (Some false) (ahead T)) T ok U
+
+abbrev pub reference_ends : Tokenizer → Bool → Tokenizer → Type 0
+reference_ends T ok U = Looks (trails_in (bytes_of T) (end_of T) (Some true) (ahead T)) T ok U
+
+-- the codes of a reading are passed
+abbrev pub pass_ops : Option (List Code × List Code) → Option (List Op)
+pass_ops None = None
+pass_ops (Some r) = Some (consumes r.0)
+
+-- the fields after a code of a domain
+abbrev pub passed_code : Code → TokenizeState → TokenizeState
+passed_code c s = if c.value == 46 then dotted s else (if c.value == 95 then underscored s else (if c.value == 45 then s else saw s))
+
+abbrev pub fields_after : List Code → TokenizeState → TokenizeState
+fields_after [] s = s
+fields_after (c ∷ cs) s = fields_after cs (passed_code c s)
+
+-- the name of a protocol, of which so many letters are passed
+abbrev pub schemes : ℕ → Reading (List Code)
+schemes n = either (letters (drop n (codes "https"))) (letters (drop n (codes "http")))
+
+module _ (bytes : List ℕ) (end : ℕ) where
+  -- the rest of a path, with so many parentheses
+  abbrev pub path_program : ℕ → ℕ → Program
+  path_program opened closed cs = Some (consumes (path_from bytes end opened closed cs).0)
+
+  -- at punctuation of a path
+  abbrev pub path_punctuation_program : ℕ → ℕ → Program
+  path_punctuation_program opened closed [] = None
+  path_punctuation_program opened closed (c ∷ cs) =
+      preceded (Consume ∷ []) (path_program opened (if c.value == 41 then closed + 1 else closed) cs)
+
+  -- after a domain
+  abbrev pub domain_after_program : TokenizeState → Program
+  domain_after_program s cs = if is_well s then path_program s.size s.size_b cs else None
+
+  -- the rest of a domain, and a path
+  abbrev pub domain_program : TokenizeState → Program
+  domain_program s cs =
+      let d = domain_from bytes end cs in
+      if is_well (fields_after d.0 s) then Some (consumes d.0 ++ consumes (path_from bytes end s.size s.size_b d.1).0) else None
+
+  -- at punctuation of a domain
+  abbrev pub domain_punctuation_program : TokenizeState → Program
+  domain_punctuation_program s [] = None
+  domain_punctuation_program s (c ∷ cs) = preceded (Consume ∷ []) (domain_program (if c.value == 95 then underscored s else dotted s) cs)
+
+  abbrev pub address : Reading (List Code)
+  address = domain bytes end then_ path bytes end
+
+  -- the slashes of which so many are passed, and the address
+  abbrev pub slashes_reading : ℕ → Reading (List Code)
+  slashes_reading n = letters (if n == 0 then codes "//" else codes "/") then_ address
+
+  -- the rest of the name, and what follows
+  abbrev pub prefix_reading : ℕ → Reading (List Code)
+  prefix_reading n = schemes n then_ (letters (codes "://") then_ address)
+
+  abbrev pub slashes_program : ℕ → Program
+  slashes_program n cs = pass_ops (slashes_reading n cs)
+
+  abbrev pub prefix_program : ℕ → Program
+  prefix_program n cs = pass_ops (prefix_reading n cs)
+
+-- the code before the place
+abbrev pub before_of : Tokenizer → Option Code
+before_of T = last_of T.cursor.codes T.cursor.at
+
+-- the codes at hand read as a literal with a protocol, where literals are on
+abbrev pub protocol_here : Tokenizer → TreeReading
+protocol_here T = provided (is_on T) >> protocol_literal (bytes_of T) (end_of T) (before_of T)
+
+abbrev pub protocol_start_ends : Tokenizer → Bool → Tokenizer → Type 0
+protocol_start_ends T ok U = EndsAs (protocol_here T) None T.tokenize_state T ok U
+
+abbrev pub protocol_after_ends : Tokenizer → Bool → Tokenizer → Type 0
+protocol_after_ends T ok U = (ok ≡ true) × (U ≡ done (Exit N.GfmAutolinkLiteralProtocol ∷ []) T)
+
+abbrev pub prefix_ends : Tokenizer → Bool → Tokenizer → Type 0
+prefix_ends T ok U = DoesAs 0 (prefix_program (bytes_of T) (end_of T) T.tokenize_state.size) (rested T.tokenize_state) T ok U
+
+abbrev pub slashes_ends : Tokenizer → Bool → Tokenizer → Type 0
+slashes_ends T ok U = DoesAs 0 (slashes_program (bytes_of T) (end_of T) T.tokenize_state.size) (rested T.tokenize_state) T ok U
+
+abbrev pub domain_ends : Tokenizer → Bool → Tokenizer → Type 0
+domain_ends T ok U = DoesAs 0 (domain_program (bytes_of T) (end_of T) T.tokenize_state) (rested T.tokenize_state) T ok U
+
+abbrev pub domain_punctuation_ends : Tokenizer → Bool → Tokenizer → Type 0
+domain_punctuation_ends T ok U = DoesAs 0 (domain_punctuation_program (bytes_of T) (end_of T) T.tokenize_state) (rested T.tokenize_state) T ok U
+
+abbrev pub domain_after_ends : Tokenizer → Bool → Tokenizer → Type 0
+domain_after_ends T ok U = DoesAs 0 (domain_after_program (bytes_of T) (end_of T) T.tokenize_state) (rested T.tokenize_state) T ok U
+
+abbrev pub path_ends : Tokenizer → Bool → Tokenizer → Type 0
+path_ends T ok U = DoesAs 0 (path_program (bytes_of T) (end_of T) T.tokenize_state.size T.tokenize_state.size_b) (rested T.tokenize_state) T ok U
+
+abbrev pub path_punctuation_ends : Tokenizer → Bool → Tokenizer → Type 0
+path_punctuation_ends T ok U =
+    DoesAs 0 (path_punctuation_program (bytes_of T) (end_of T) T.tokenize_state.size T.tokenize_state.size_b) (rested T.tokenize_state) T ok U
+
+-- it ends here
+abbrev pub nothing_more : Program
+nothing_more cs = Some []
+
+abbrev pub path_after_ends : Tokenizer → Bool → Tokenizer → Type 0
+path_after_ends T ok U = DoesAs 0 nothing_more (rested T.tokenize_state) T ok U
+
+-- the codes of `www.` that are left stand here, and a code after them
+abbrev pub www_test : ℕ → List Code → Bool
+www_test n cs = elim (letters (drop n (codes "www.")) cs) [ None ↦ false | Some r ↦ not (is_empty r.1) ]
+
+-- a run that only looks, and puts the fields to rest
+pub record Tries (test : Bool) (T : Tokenizer) (ok : Bool) (U : Tokenizer) : Type 0 where
+  pub answer : ok ≡ test
+  pub grown : Grown 0 T U
+  pub scratch : U.tokenize_state ≡ rested T.tokenize_state
+
+-- in `www.`
+pub record WwwReady (T : Tokenizer) : Type 0 where
+  pub few : T.tokenize_state.size ≤ 4
+
+abbrev pub www_prefix_ends : Tokenizer → Bool → Tokenizer → Type 0
+www_prefix_ends T ok U = Tries (www_test T.tokenize_state.size (ahead T)) T ok U
+
+-- a domain and a path
+abbrev pub www_prefix_after_ends : Tokenizer → Bool → Tokenizer → Type 0
+www_prefix_after_ends T ok U = KeepsAs 0 (program_of (www_from_here (bytes_of T) (end_of T))) T ok U
+
+abbrev pub www_after_ends : Tokenizer → Bool → Tokenizer → Type 0
+www_after_ends T ok U = (ok ≡ true) × (U ≡ done (Exit N.GfmAutolinkLiteralWww ∷ []) T)
+
+-- the codes at hand read as a literal from `www.` on, where literals are on
+abbrev pub www_here : Tokenizer → TreeReading
+www_here T = provided (is_on T) >> www_literal (bytes_of T) (end_of T) (before_of T)
+
+abbrev pub www_start_ends : Tokenizer → Bool → Tokenizer → Type 0
+www_start_ends T ok U = EndsAs (www_here T) None T.tokenize_state T ok U

@@ -1,0 +1,495 @@
+// Autolink literals with a protocol or from `www.` on.
+//
+// GFM 6.9: `http` or `https` with `://`, or `www.`, then a domain, and a path that ends before whitespace or trailing punctuation.
+// Domains and paths look at characters of the document; both end with the content at the latest.
+#![tactic(auto, using(markdown_engine::proofs::OpRules::law_rules), unfolding(markdown_engine::specs::Ops::scratched))]
+
+ghost use Rattle.std.specs.Prelude.{◌≡◌, false, IfOk, OnErr, IsTrue};
+ghost use Rattle.markdown_engine.specs.Ops.{HasCode, IsOpen, current_of, scratched};
+ghost use Rattle.markdown_engine.specs.declared.event.Name.TheVariants.{GfmAutolinkLiteralProtocol, GfmAutolinkLiteralWww};
+ghost use Rattle.markdown_leaf.specs.Autolink.{letter_value};
+ghost use Rattle.markdown_gfm.specs.GfmAutolinkLiteral.{at_later, kind_here, scheme_letter, trail_value, mark_value, rested, refused, protocol_start_step, protocol_after_step, prefix_step, slashes_step, precedes_www, www_letter, www_start_step, www_prefix_step, www_prefix_after_step, www_after_step, domain_step, domain_punctuation_step, domain_after_step, path_step, path_punctuation_step, path_after_step, trail_step, bracket_after_step, reference_start_step, reference_step, MayClass, TrailReady, MayCount};
+
+use markdown_engine::event::Name;
+use markdown_engine::state::{State, StateName};
+use markdown_engine::tokenizer::Tokenizer;
+use markdown_util::util::char::{Kind, kind_after_index};
+use std::alloc::AllocError;
+
+// Puts the scratch fields of literals to rest.
+fn rest(tokenizer: &mut Tokenizer)
+    ensures { tokenizer.new ≡ scratched (rested tokenizer.old.tokenize_state) tokenizer.old }
+{
+    tokenizer.tokenize_state.marker = 0;
+    tokenizer.tokenize_state.marker_b = 0;
+    tokenizer.tokenize_state.size = 0;
+    tokenizer.tokenize_state.size_b = 0;
+    tokenizer.tokenize_state.seen = false;
+}
+
+// The literal does not hold.
+fn refuse(tokenizer: &mut Tokenizer) -> State
+    ensures { refused tokenizer.old ≡ record { state = result; left = tokenizer.new } }
+{
+    rest(tokenizer);
+    State::Nok
+}
+
+// The class of the document's character at the place.
+fn class_here(tokenizer: &Tokenizer) -> Kind
+    requires class { MayClass tokenizer.now }
+    requires begins { at_later (current_of tokenizer.now) ≡ false }
+    ensures { result ≡ kind_here tokenizer.now }
+{
+    kind_after_index(tokenizer.parse_state.bytes, tokenizer.point().index)
+}
+
+// Whether this is an ASCII letter.
+fn is_letter(code: u8) -> bool
+    ensures { result ≡ letter_value code }
+{
+    matches!(code, b'A'..=b'Z' | b'a'..=b'z')
+}
+
+// Whether this is the letter of this number of `https`, in either case.
+fn is_scheme_letter(number: usize, code: u8) -> bool
+    ensures { result ≡ scheme_letter number code }
+{
+    match number {
+        0 => matches!(code, b'h' | b'H'),
+        1 | 2 => matches!(code, b't' | b'T'),
+        3 => matches!(code, b'p' | b'P'),
+        4 => matches!(code, b's' | b'S'),
+        _ => false,
+    }
+}
+
+// Whether this is the code of this number of `www.`, the letters in either case.
+fn is_www_letter(number: usize, code: u8) -> bool
+    ensures { result ≡ www_letter number code }
+{
+    match number {
+        0 | 1 | 2 => matches!(code, b'w' | b'W'),
+        3 => code == b'.',
+        _ => false,
+    }
+}
+
+// Whether `www.` may stand after this code.
+fn may_precede_www(previous: Option<u8>) -> bool
+    ensures { result ≡ precedes_www previous }
+{
+    matches!(
+        previous,
+        None | Some(b' ' | b'\t' | b'\n' | b'(' | b'*' | b'_' | b'[' | b']' | b'~')
+    )
+}
+
+// Whether this is trailing punctuation by itself.
+fn is_trail(code: u8) -> bool
+    ensures { result ≡ trail_value code }
+{
+    matches!(
+        code,
+        b'!' | b'"' | b'\'' | b')' | b',' | b'*' | b'.' | b':' | b';' | b'?' | b'_' | b'~'
+    )
+}
+
+// Whether a path may end at this code.
+fn is_mark(code: u8) -> bool
+    ensures { result ≡ mark_value code }
+{
+    matches!(
+        code,
+        b'!' | b'"'
+            | b'&'
+            | b'\''
+            | b')'
+            | b','
+            | b'*'
+            | b'.'
+            | b':'
+            | b';'
+            | b'<'
+            | b'?'
+            | b']'
+            | b'_'
+            | b'~'
+    )
+}
+
+/// At the start of a literal with a protocol: its first letter, with no letter before it.
+///
+/// The error comes where a growth is refused; then `failed` is true.
+pub fn protocol_start(tokenizer: &mut Tokenizer) -> Result<State, AllocError>
+    ensures ok { IfOk result (λ s. protocol_start_step tokenizer.old ≡ record { state = s; left = tokenizer.new }) }
+    ensures err { OnErr result (IsTrue tokenizer.new.failed) }
+{
+    let letter_before = match tokenizer.previous() {
+        Some(code) => is_letter(code),
+        None => false,
+    };
+    if tokenizer
+        .parse_state
+        .options
+        .constructs
+        .gfm_autolink_literal
+        && !letter_before
+        && matches!(tokenizer.current(), Some(b'h' | b'H'))
+    {
+        tokenizer.enter(Name::GfmAutolinkLiteralProtocol)?;
+        tokenizer.attempt(
+            State::Next(StateName::GfmAutolinkLiteralProtocolAfter),
+            State::Nok,
+        )?;
+        Ok(State::Retry(StateName::GfmAutolinkLiteralProtocolPrefixInside))
+    } else {
+        Ok(State::Nok)
+    }
+}
+
+/// After a literal with a protocol.
+///
+/// The error comes where a growth is refused; then `failed` is true.
+pub fn protocol_after(tokenizer: &mut Tokenizer) -> Result<State, AllocError>
+    requires { IsOpen GfmAutolinkLiteralProtocol tokenizer.old }
+    ensures ok { IfOk result (λ s. protocol_after_step tokenizer.old ≡ record { state = s; left = tokenizer.new }) }
+    ensures err { OnErr result (IsTrue tokenizer.new.failed) }
+{
+    tokenizer.exit(Name::GfmAutolinkLiteralProtocol)?;
+    Ok(State::Ok)
+}
+
+/// In the name of a protocol, of which `size` letters are passed, or at its colon.
+///
+/// The error comes where a growth is refused; then `failed` is true.
+pub fn protocol_prefix_inside(tokenizer: &mut Tokenizer) -> Result<State, AllocError>
+    ensures ok { IfOk result (λ s. prefix_step tokenizer.old ≡ record { state = s; left = tokenizer.new }) }
+    ensures err { OnErr result (IsTrue tokenizer.new.failed) }
+{
+    let size = tokenizer.tokenize_state.size;
+    match tokenizer.current() {
+        Some(code) if is_scheme_letter(size, code) => {
+            tokenizer.consume();
+            tokenizer.tokenize_state.size = size + 1;
+            Ok(State::Next(StateName::GfmAutolinkLiteralProtocolPrefixInside))
+        }
+        Some(b':') if size >= 4 => {
+            tokenizer.consume();
+            tokenizer.tokenize_state.size = 0;
+            Ok(State::Next(StateName::GfmAutolinkLiteralProtocolSlashesInside))
+        }
+        _ => Ok(refuse(tokenizer)),
+    }
+}
+
+/// At the slashes after a protocol, of which `size` are passed.
+///
+/// The error comes where a growth is refused; then `failed` is true.
+pub fn protocol_slashes_inside(tokenizer: &mut Tokenizer) -> Result<State, AllocError>
+    ensures ok { IfOk result (λ s. slashes_step tokenizer.old ≡ record { state = s; left = tokenizer.new }) }
+    ensures err { OnErr result (IsTrue tokenizer.new.failed) }
+{
+    match tokenizer.current() {
+        Some(b'/') => {
+            tokenizer.consume();
+            if tokenizer.tokenize_state.size == 0 {
+                tokenizer.tokenize_state.size = 1;
+                Ok(State::Next(StateName::GfmAutolinkLiteralProtocolSlashesInside))
+            } else {
+                tokenizer.tokenize_state.size = 0;
+                Ok(State::Next(StateName::GfmAutolinkLiteralDomainInside))
+            }
+        }
+        _ => Ok(refuse(tokenizer)),
+    }
+}
+
+/// At the start of a literal from `www.` on: its first letter. The word is only looked at: it belongs to the domain.
+///
+/// The error comes where a growth is refused; then `failed` is true.
+pub fn www_start(tokenizer: &mut Tokenizer) -> Result<State, AllocError>
+    ensures ok { IfOk result (λ s. www_start_step tokenizer.old ≡ record { state = s; left = tokenizer.new }) }
+    ensures err { OnErr result (IsTrue tokenizer.new.failed) }
+{
+    if tokenizer
+        .parse_state
+        .options
+        .constructs
+        .gfm_autolink_literal
+        && may_precede_www(tokenizer.previous())
+        && matches!(tokenizer.current(), Some(b'w' | b'W'))
+    {
+        tokenizer.check(
+            State::Next(StateName::GfmAutolinkLiteralWwwPrefixAfter),
+            State::Nok,
+        )?;
+        Ok(State::Retry(StateName::GfmAutolinkLiteralWwwPrefixInside))
+    } else {
+        Ok(State::Nok)
+    }
+}
+
+/// In `www.`, of which `size` codes are passed, or at the code that has to follow it.
+///
+/// The error comes where a growth is refused; then `failed` is true.
+pub fn www_prefix_inside(tokenizer: &mut Tokenizer) -> Result<State, AllocError>
+    ensures ok { IfOk result (λ s. www_prefix_step tokenizer.old ≡ record { state = s; left = tokenizer.new }) }
+    ensures err { OnErr result (IsTrue tokenizer.new.failed) }
+{
+    let size = tokenizer.tokenize_state.size;
+    match tokenizer.current() {
+        Some(code) if is_www_letter(size, code) => {
+            tokenizer.consume();
+            tokenizer.tokenize_state.size = size + 1;
+            Ok(State::Next(StateName::GfmAutolinkLiteralWwwPrefixInside))
+        }
+        Some(_) if size == 4 => {
+            rest(tokenizer);
+            Ok(State::Ok)
+        }
+        _ => Ok(refuse(tokenizer)),
+    }
+}
+
+/// At the start of a literal, where `www.` was seen.
+///
+/// The error comes where a growth is refused; then `failed` is true.
+pub fn www_prefix_after(tokenizer: &mut Tokenizer) -> Result<State, AllocError>
+    ensures ok { IfOk result (λ s. www_prefix_after_step tokenizer.old ≡ record { state = s; left = tokenizer.new }) }
+    ensures err { OnErr result (IsTrue tokenizer.new.failed) }
+{
+    tokenizer.enter(Name::GfmAutolinkLiteralWww)?;
+    tokenizer.attempt(
+        State::Next(StateName::GfmAutolinkLiteralWwwAfter),
+        State::Nok,
+    )?;
+    Ok(State::Retry(StateName::GfmAutolinkLiteralDomainInside))
+}
+
+/// After a literal from `www.` on.
+///
+/// The error comes where a growth is refused; then `failed` is true.
+pub fn www_after(tokenizer: &mut Tokenizer) -> Result<State, AllocError>
+    requires { IsOpen GfmAutolinkLiteralWww tokenizer.old }
+    ensures ok { IfOk result (λ s. www_after_step tokenizer.old ≡ record { state = s; left = tokenizer.new }) }
+    ensures err { OnErr result (IsTrue tokenizer.new.failed) }
+{
+    tokenizer.exit(Name::GfmAutolinkLiteralWww)?;
+    Ok(State::Ok)
+}
+
+/// In a domain: `.` and `_` belong to it where no trail begins with them.
+///
+/// The error comes where a growth is refused; then `failed` is true.
+pub fn domain_inside(tokenizer: &mut Tokenizer) -> Result<State, AllocError>
+    requires { MayClass tokenizer.old }
+    ensures ok { IfOk result (λ s. domain_step tokenizer.old ≡ record { state = s; left = tokenizer.new }) }
+    ensures err { OnErr result (IsTrue tokenizer.new.failed) }
+{
+    match tokenizer.current() {
+        Some(b'.' | b'_') => {
+            tokenizer.check(
+                State::Next(StateName::GfmAutolinkLiteralDomainAfter),
+                State::Next(StateName::GfmAutolinkLiteralDomainAtPunctuation),
+            )?;
+            Ok(State::Retry(StateName::GfmAutolinkLiteralTrail))
+        }
+        Some(b'-') => {
+            tokenizer.consume();
+            Ok(State::Next(StateName::GfmAutolinkLiteralDomainInside))
+        }
+        Some(code) if matches!(code, 0x80..=0xBF) || class_here(tokenizer) == Kind::Other => {
+            tokenizer.consume();
+            tokenizer.tokenize_state.seen = true;
+            Ok(State::Next(StateName::GfmAutolinkLiteralDomainInside))
+        }
+        _ => Ok(State::Retry(StateName::GfmAutolinkLiteralDomainAfter)),
+    }
+}
+
+/// In a domain, at a `.` or a `_` that belongs to it.
+///
+/// The error comes where a growth is refused; then `failed` is true.
+pub fn domain_at_punctuation(tokenizer: &mut Tokenizer) -> Result<State, AllocError>
+    requires { HasCode tokenizer.old }
+    ensures ok { IfOk result (λ s. domain_punctuation_step tokenizer.old ≡ record { state = s; left = tokenizer.new }) }
+    ensures err { OnErr result (IsTrue tokenizer.new.failed) }
+{
+    let marker = tokenizer.tokenize_state.marker;
+    if tokenizer.current() == Some(b'_') {
+        tokenizer.consume();
+        tokenizer.tokenize_state.marker = b'_';
+        Ok(State::Next(StateName::GfmAutolinkLiteralDomainInside))
+    } else {
+        tokenizer.consume();
+        tokenizer.tokenize_state.marker = 0;
+        tokenizer.tokenize_state.marker_b = marker;
+        Ok(State::Next(StateName::GfmAutolinkLiteralDomainInside))
+    }
+}
+
+/// After a domain: it holds a character of class other, and no `_` in its last two parts.
+///
+/// The error comes where a growth is refused; then `failed` is true.
+pub fn domain_after(tokenizer: &mut Tokenizer) -> Result<State, AllocError>
+    ensures ok { IfOk result (λ s. domain_after_step tokenizer.old ≡ record { state = s; left = tokenizer.new }) }
+    ensures err { OnErr result (IsTrue tokenizer.new.failed) }
+{
+    let scratch = &mut tokenizer.tokenize_state;
+    if scratch.seen && scratch.marker != b'_' && scratch.marker_b != b'_' {
+        scratch.marker = 0;
+        scratch.marker_b = 0;
+        scratch.seen = false;
+        Ok(State::Retry(StateName::GfmAutolinkLiteralPathInside))
+    } else {
+        Ok(refuse(tokenizer))
+    }
+}
+
+/// In a path: `size` parentheses of it opened, and `size_b` closed.
+///
+/// The error comes where a growth is refused; then `failed` is true.
+pub fn path_inside(tokenizer: &mut Tokenizer) -> Result<State, AllocError>
+    requires class { MayClass tokenizer.old }
+    requires count { MayCount tokenizer.old }
+    ensures ok { IfOk result (λ s. path_step tokenizer.old ≡ record { state = s; left = tokenizer.new }) }
+    ensures err { OnErr result (IsTrue tokenizer.new.failed) }
+{
+    let Some(code) = tokenizer.current() else {
+        return Ok(State::Retry(StateName::GfmAutolinkLiteralPathAfter));
+    };
+    if matches!(code, 0x80..=0xBF) {
+        tokenizer.consume();
+        return Ok(State::Next(StateName::GfmAutolinkLiteralPathInside));
+    }
+    if class_here(tokenizer) == Kind::Whitespace {
+        return Ok(State::Retry(StateName::GfmAutolinkLiteralPathAfter));
+    }
+    let opened = tokenizer.tokenize_state.size;
+    if code == b'(' {
+        tokenizer.consume();
+        tokenizer.tokenize_state.size = opened + 1;
+        Ok(State::Next(StateName::GfmAutolinkLiteralPathInside))
+    } else if code == b')' && tokenizer.tokenize_state.size_b < opened {
+        Ok(State::Retry(StateName::GfmAutolinkLiteralPathAtPunctuation))
+    } else if is_mark(code) {
+        tokenizer.check(
+            State::Next(StateName::GfmAutolinkLiteralPathAfter),
+            State::Next(StateName::GfmAutolinkLiteralPathAtPunctuation),
+        )?;
+        Ok(State::Retry(StateName::GfmAutolinkLiteralTrail))
+    } else {
+        tokenizer.consume();
+        Ok(State::Next(StateName::GfmAutolinkLiteralPathInside))
+    }
+}
+
+/// In a path, at punctuation that belongs to it.
+///
+/// The error comes where a growth is refused; then `failed` is true.
+pub fn path_at_punctuation(tokenizer: &mut Tokenizer) -> Result<State, AllocError>
+    requires code { HasCode tokenizer.old }
+    requires count { MayCount tokenizer.old }
+    ensures ok { IfOk result (λ s. path_punctuation_step tokenizer.old ≡ record { state = s; left = tokenizer.new }) }
+    ensures err { OnErr result (IsTrue tokenizer.new.failed) }
+{
+    let closed = tokenizer.tokenize_state.size_b;
+    if tokenizer.current() == Some(b')') {
+        tokenizer.consume();
+        tokenizer.tokenize_state.size_b = closed + 1;
+        Ok(State::Next(StateName::GfmAutolinkLiteralPathInside))
+    } else {
+        tokenizer.consume();
+        Ok(State::Next(StateName::GfmAutolinkLiteralPathInside))
+    }
+}
+
+/// After a path.
+///
+/// The error comes where a growth is refused; then `failed` is true.
+pub fn path_after(tokenizer: &mut Tokenizer) -> Result<State, AllocError>
+    ensures ok { IfOk result (λ s. path_after_step tokenizer.old ≡ record { state = s; left = tokenizer.new }) }
+    ensures err { OnErr result (IsTrue tokenizer.new.failed) }
+{
+    rest(tokenizer);
+    Ok(State::Ok)
+}
+
+/// In what may be trailing punctuation.
+///
+/// The error comes where a growth is refused; then `failed` is true.
+pub fn trail(tokenizer: &mut Tokenizer) -> Result<State, AllocError>
+    requires { TrailReady tokenizer.old }
+    ensures ok { IfOk result (λ s. trail_step tokenizer.old ≡ record { state = s; left = tokenizer.new }) }
+    ensures err { OnErr result (IsTrue tokenizer.new.failed) }
+{
+    match tokenizer.current() {
+        Some(code) if is_trail(code) => {
+            tokenizer.consume();
+            Ok(State::Next(StateName::GfmAutolinkLiteralTrail))
+        }
+        Some(b'&') => {
+            tokenizer.consume();
+            Ok(State::Next(StateName::GfmAutolinkLiteralTrailCharRefStart))
+        }
+        Some(b'<') => Ok(State::Ok),
+        Some(b']') => {
+            tokenizer.consume();
+            Ok(State::Next(StateName::GfmAutolinkLiteralTrailBracketAfter))
+        }
+        _ => Ok(if class_here(tokenizer) == Kind::Whitespace {
+            State::Ok
+        } else {
+            State::Nok
+        }),
+    }
+}
+
+/// In what may be trailing punctuation, after a closing bracket.
+///
+/// The error comes where a growth is refused; then `failed` is true.
+pub fn trail_bracket_after(tokenizer: &mut Tokenizer) -> Result<State, AllocError>
+    ensures ok { IfOk result (λ s. bracket_after_step tokenizer.old ≡ record { state = s; left = tokenizer.new }) }
+    ensures err { OnErr result (IsTrue tokenizer.new.failed) }
+{
+    Ok(match tokenizer.current() {
+        None | Some(b' ' | b'\t' | b'\n' | b'(' | b'[') => State::Ok,
+        _ => State::Retry(StateName::GfmAutolinkLiteralTrail),
+    })
+}
+
+/// In what may be trailing punctuation, after a `&`: a letter.
+///
+/// The error comes where a growth is refused; then `failed` is true.
+pub fn trail_char_ref_start(tokenizer: &mut Tokenizer) -> Result<State, AllocError>
+    ensures ok { IfOk result (λ s. reference_start_step tokenizer.old ≡ record { state = s; left = tokenizer.new }) }
+    ensures err { OnErr result (IsTrue tokenizer.new.failed) }
+{
+    Ok(match tokenizer.current() {
+        Some(code) if is_letter(code) => {
+            State::Retry(StateName::GfmAutolinkLiteralTrailCharRefInside)
+        }
+        _ => State::Nok,
+    })
+}
+
+/// In what may be trailing punctuation, in what looks like a character reference.
+///
+/// The error comes where a growth is refused; then `failed` is true.
+pub fn trail_char_ref_inside(tokenizer: &mut Tokenizer) -> Result<State, AllocError>
+    ensures ok { IfOk result (λ s. reference_step tokenizer.old ≡ record { state = s; left = tokenizer.new }) }
+    ensures err { OnErr result (IsTrue tokenizer.new.failed) }
+{
+    match tokenizer.current() {
+        Some(code) if is_letter(code) => {
+            tokenizer.consume();
+            Ok(State::Next(StateName::GfmAutolinkLiteralTrailCharRefInside))
+        }
+        Some(b';') => {
+            tokenizer.consume();
+            Ok(State::Next(StateName::GfmAutolinkLiteralTrail))
+        }
+        _ => Ok(State::Nok),
+    }
+}
