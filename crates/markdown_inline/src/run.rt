@@ -149,6 +149,8 @@ pub fn construct(name: StateName, tokenizer: &mut Tokenizer) -> Result<bool, All
 #[cfg(test)]
 mod fixtures;
 #[cfg(test)]
+mod string_part_tests;
+#[cfg(test)]
 mod string_tests;
 #[cfg(test)]
 mod tests;
