@@ -34,3 +34,7 @@ pub mod EndsLemmas
 pub mod ChainTree
 pub mod SolidLemmas
 pub mod Bounds
+pub mod PlainRuns
+pub mod Stretches
+pub mod ReverseSet
+pub mod ScriptLaws

@@ -22,3 +22,7 @@ pub mod Reach
 pub mod Resolves
 pub mod Past
 pub mod TreeOps
+pub mod Stretch
+pub mod Plain
+pub mod Script
+pub mod StateWords

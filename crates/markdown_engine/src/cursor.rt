@@ -1,13 +1,16 @@
 // A place in a content, which hides the pieces, the tabs and what is left out of the lines.
-ghost use Rattle.std.specs.Prelude.{◌≡◌, ℕ, List, drop, length, ◌<◌, IsSome, IsTrue};
+ghost use Rattle.std.specs.Prelude.{◌≡◌, ℕ, List, drop, length, ◌<◌, ◌≤◌, IsSome, IsTrue};
 ghost use Rattle.markdown_engine.specs.Codes.{line_feed, place_of};
 ghost use Rattle.markdown_engine.specs.Content.{IsContent};
 ghost use Rattle.markdown_engine.specs.Place.{start_of_content, code_at, code_before, point_of, exit_point, moved};
 ghost use Rattle.markdown_engine.specs.Standing.{is_open, first_point, followed};
+ghost use Rattle.markdown_engine.specs.Plain.{ArePlain};
+ghost use Rattle.markdown_engine.specs.Stretch.{is_free, past_stretch};
 ghost use Rattle.markdown_engine.specs.Walk.{IsPoint};
 
 use crate::event::Point;
 use crate::parser::Piece;
+use crate::tokenizer::Markers;
 use crate::walk::{DOCUMENT_START, code_from, past_code, walk_to};
 use std::marker::Model;
 
@@ -138,6 +141,81 @@ impl<'a> Cursor<'a> {
         requires { IsSome (code_at self.old) }
         ensures { self.new ≡ moved self.old }
     {
+        let index = self.point.index;
+        let byte = self.bytes[index];
+        if byte > b'\r' && index + 1 < self.pieces[self.piece].end.0 {
+            let point = Point {
+                line: self.point.line,
+                column: self.point.column + 1,
+                index: index + 1,
+                vs: 0,
+            };
+            self.point = point;
+            self.exit = point;
+            self.previous = Some(byte);
+            self.passed += 1;
+        } else {
+            self.consume_any();
+        }
+    }
+
+    // Moves past ordinary bytes of the piece, all but its last, and before the next marker.
+    fn pass_plain(&mut self, markers: &Markers)
+        ensures past { past_stretch markers.now self.new ≡ past_stretch markers.now self.old }
+        ensures codes { self.new.codes ≡ self.old.codes }
+        ensures forward { self.old.at ≤ self.new.at }
+    {
+        if self.piece >= self.pieces.len() {
+            return;
+        }
+        let start = self.point.index;
+        let end = self.pieces[self.piece].end.0.min(self.bytes.len());
+        if end <= start {
+            return;
+        }
+        let count = plain_end(self.bytes, start, end - 1, markers) - start;
+        if count == 0 {
+            return;
+        }
+        let point = Point {
+            line: self.point.line,
+            column: self.point.column + count,
+            index: start + count,
+            vs: 0,
+        };
+        self.point = point;
+        self.exit = point;
+        self.previous = Some(self.bytes[start + count - 1]);
+        self.passed += count;
+    }
+
+    // Whether a code is at the place that is neither a line ending nor a marker.
+    fn is_free(&self, markers: &Markers) -> bool
+        ensures { result ≡ is_free markers.now (code_at self.now) }
+    {
+        match self.current() {
+            None => false,
+            Some(byte) => !(byte == b'\n' || markers.contains(byte)),
+        }
+    }
+
+    /// Moves past the codes at the place up to a line ending, a marker or the end.
+    pub fn consume_stretch(&mut self, markers: &Markers)
+        ensures { self.new ≡ past_stretch markers.now self.old }
+    {
+        self.pass_plain(markers);
+        while self.is_free(markers) {
+            self.consume();
+            self.pass_plain(markers);
+        }
+    }
+
+    // Moves past the code at the place, whatever it is, and wherever in its piece.
+    #[inline(never)]
+    fn consume_any(&mut self)
+        requires { IsSome (code_at self.old) }
+        ensures { self.new ≡ moved self.old }
+    {
         let previous = code_from(self.bytes, self.point);
         let exit = past_code(self.bytes, self.point);
         let (piece, point) = follow(self.bytes, self.pieces, self.piece, exit);
@@ -147,6 +225,21 @@ impl<'a> Cursor<'a> {
         self.previous = Some(previous);
         self.passed += 1;
     }
+}
+
+// Where the bytes end, from this index on and not past `to`, over which data goes on at once.
+fn plain_end(bytes: &[u8], from: usize, to: usize, markers: &Markers) -> usize
+    requires order { from ≤ to }
+    requires within { to ≤ length bytes.now }
+    ensures from { from ≤ result }
+    ensures to { result ≤ to }
+    ensures plain { ArePlain markers.now bytes.now from result }
+{
+    let mut index = from;
+    while index < to && markers.is_plain(bytes[index]) {
+        index += 1;
+    }
+    index
 }
 
 // Where the first code of some pieces begins.

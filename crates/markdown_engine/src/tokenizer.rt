@@ -1,5 +1,8 @@
 // The tokenizer: what a state function is given.
-ghost use Rattle.std.specs.Prelude.{◌≡◌, ◌++◌, ◌∷◌, [], OnOk, OnErr, IsTrue, true, false, Some, None};
+ghost use Rattle.std.specs.List.{list_any};
+ghost use Rattle.markdown_engine.specs.Plain.{IsPlainByte, IsPlainTable};
+ghost use Rattle.markdown_engine.specs.Stretch.{past_stretch};
+ghost use Rattle.std.specs.Prelude.{◌≡◌, ◌==◌, ◌++◌, ◌∷◌, [], OnOk, OnErr, IsTrue, true, false, Some, None};
 ghost use Rattle.markdown_engine.specs.Ops.{applied, Enter, Exit, EnterLink, EnterConnected, Consume, attempted, registered, registered_before, is_registered, refused, current_of, previous_of, IsOpen, HasCode, link_back, enter_event, LinkedBefore};
 ghost use Rattle.markdown_engine.specs.Content.{IsContent};
 ghost use Rattle.markdown_engine.specs.Place.{point_of};
@@ -60,14 +63,39 @@ pub struct Label {
 #[derive(Drop)]
 pub struct Markers {
     bytes: &'static [u8],
+    // For each byte, whether data goes on over it at once.
+    plain: [bool; 256],
 }
 
 impl Model for Markers {
     ghost use Rattle.std.specs.Prelude.{List, ℕ};
+    ghost use Rattle.markdown_engine.specs.Plain.{IsPlainTable};
 
     ghost Value = { List ℕ };
 
     ghost view = { λ m. m.bytes.now };
+
+    ghost invariant = { λ m. IsPlainTable m.bytes.now m.plain };
+}
+
+// Whether the byte is one of these.
+fn is_one_of(bytes: &[u8], byte: u8) -> bool
+    ensures { result ≡ list_any (λ n. byte == n) bytes.now }
+{
+    bytes.iter().any(|other| byte == *other)
+}
+
+// For each byte, whether data goes on over it at once: no control code, and none of the markers.
+fn plain_bytes(markers: &[u8]) -> [bool; 256]
+    ensures { IsPlainTable markers.now result }
+{
+    let mut plain = [false; 256];
+    let mut byte = 14usize;
+    while byte < 256 {
+        plain[byte] = !is_one_of(markers, byte as u8);
+        byte += 1;
+    }
+    plain
 }
 
 impl Markers {
@@ -75,7 +103,8 @@ impl Markers {
     pub fn new(bytes: &'static [u8]) -> Markers
         ensures { result ≡ bytes.entry.now }
     {
-        Markers { bytes }
+        let plain = plain_bytes(bytes);
+        Markers { bytes, plain }
     }
 
     /// The bytes.
@@ -83,6 +112,20 @@ impl Markers {
         ensures { result.now ≡ self.now }
     {
         self.bytes
+    }
+
+    /// Whether the byte is one of these.
+    pub fn contains(&self, byte: u8) -> bool
+        ensures { result ≡ list_any (λ n. byte == n) self.now }
+    {
+        is_one_of(self.bytes, byte)
+    }
+
+    // Whether data goes on over this byte at once.
+    pub(crate) fn is_plain(&self, byte: u8) -> bool
+        ensures { IsTrue result → IsPlainByte self.now byte }
+    {
+        self.plain[byte as usize]
     }
 }
 
@@ -403,6 +446,13 @@ impl<'a> Tokenizer<'a> {
         self.cursor.consume();
     }
 
+    /// Moves past the codes at the place up to a line ending, one of the bytes at which data stops, or the end.
+    pub fn consume_stretch(&mut self)
+        ensures { self.new ≡ record self.old { cursor = past_stretch self.old.tokenize_state.markers self.old.cursor } }
+    {
+        self.cursor.consume_stretch(&self.tokenize_state.markers);
+    }
+
     // Opens an attempt; a refused growth is kept in mind.
     #[tactic(auto, unfolding(crate::specs::Ops::attempted, crate::specs::Ops::frame_of))]
     fn try_with(&mut self, restores: bool, ok: State, nok: State) -> Result<(), AllocError>
@@ -452,6 +502,16 @@ impl<'a> Tokenizer<'a> {
         ensures taken { result ≡ self.old.attempts }
     {
         mem::replace(&mut self.attempts, Stack::new(self.alloc))
+    }
+
+    // Takes back what handed over attempts were kept in, so that the next one takes no memory.
+    #[tactic(auto, using(crate::proofs::RunLemmas::attempts_same))]
+    pub(crate) fn give_back(&mut self, attempts: Stack<Attempt<'a>>)
+        requires alone { self.old.attempts ≡ [] }
+        requires none { attempts ≡ [] }
+        ensures { self.new ≡ self.old }
+    {
+        let _ = mem::replace(&mut self.attempts, attempts);
     }
 
     // Whether the pass is registered.

@@ -3,6 +3,7 @@ use Rattle.std.specs.Prelude.{◌≡◌, ℕ, Bool}
 use Rattle.markdown_engine.specs.Ops.{IsOpen}
 use Rattle.markdown_engine.specs.Runs.{Stepped, stepped}
 use Rattle.markdown_engine.specs.Weights.{weight_at}
+use Rattle.markdown_engine.specs.StateWords.{StateWords}
 use Rattle.markdown_engine.specs.declared.event.Name.TheVariants as N
 use Rattle.markdown_engine.specs.declared.state.State.TheVariants.{Nok}
 use Rattle.markdown_engine.specs.declared.state.StateName.{StateName}
@@ -26,419 +27,123 @@ use Rattle.markdown_inline.specs.StringSteps as S
 use Rattle.markdown_inline.specs.TextSteps as M
 use Rattle.markdown_inline.specs.Unbuilt.{never_step, never_ends}
 
+-- a part of what is said of a state: the part is taken in each row, so that a name that is not known yet leaves a row to choose, not a field
+abbrev pub said_of {ℓ} : {A : Type ℓ} → StateName → (StateWords → A) → A
+said_of CharacterEscapeStart part = part (record { ready = λ T. Unit {0}; step = E.start_step; ends = E.start_ends; rank = 2 })
+said_of CharacterEscapeInside part = part (record { ready = IsOpen N.CharacterEscape; step = E.inside_step; ends = E.inside_ends; rank = 1 })
+said_of CharacterReferenceStart part = part (record { ready = R.IsAtRest; step = R.start_step; ends = R.start_ends; rank = 4 })
+said_of CharacterReferenceOpen part = part (record { ready = R.IsOpened; step = R.open_step; ends = R.open_ends; rank = 3 })
+said_of CharacterReferenceNumeric part = part (record { ready = R.IsOpened; step = R.numeric_step; ends = R.numeric_ends; rank = 2 })
+said_of CharacterReferenceValue part = part (record { ready = R.IsValue; step = R.value_step; ends = R.value_ends; rank = 1 })
+said_of HardBreakEscapeStart part = part (record { ready = λ T. Unit {0}; step = B.start_step; ends = B.start_ends; rank = 2 })
+said_of HardBreakEscapeAfter part = part (record { ready = IsOpen N.HardBreakEscape; step = B.after_step; ends = B.after_ends; rank = 1 })
+said_of AutolinkStart part = part (record { ready = λ T. T.tokenize_state.size ≡ 0; step = A.start_step; ends = A.start_ends; rank = 3 })
+said_of AutolinkOpen part = part (record { ready = A.InsideReady; step = A.open_step; ends = A.open_ends; rank = 2 })
+said_of AutolinkSchemeOrEmailAtext part = part (record { ready = A.InsideReady; step = A.scheme_or_step; ends = A.scheme_or_ends; rank = 2 })
+said_of AutolinkSchemeInsideOrEmailAtext part = part (record { ready = A.SchemeReady; step = A.scheme_inside_step; ends = A.scheme_inside_ends; rank = 2 })
+said_of AutolinkUrlInside part = part (record { ready = A.InsideReady; step = A.url_inside_step; ends = A.url_inside_ends; rank = 1 })
+said_of AutolinkEmailAtext part = part (record { ready = A.InsideReady; step = A.email_atext_step; ends = A.email_atext_ends; rank = 1 })
+said_of AutolinkEmailAtSignOrDot part = part (record { ready = A.InsideReady; step = A.email_at_sign_or_dot_step; ends = A.email_at_sign_or_dot_ends; rank = 1 })
+said_of AutolinkEmailLabel part = part (record { ready = A.LabelReady; step = A.email_label_step; ends = A.email_label_ends; rank = 1 })
+said_of AutolinkEmailValue part = part (record { ready = A.LabelReady; step = A.email_value_step; ends = A.email_value_ends; rank = 1 })
+said_of RawTextStart part = part (record { ready = X.StartReady; step = X.start_step; ends = X.start_ends; rank = 4 })
+said_of RawTextSequenceOpen part = part (record { ready = X.SequenceOpenReady; step = X.sequence_open_step; ends = X.sequence_open_ends; rank = 3 })
+said_of RawTextBetween part = part (record { ready = X.BetweenReady; step = X.between_step; ends = X.between_ends; rank = 2 })
+said_of RawTextData part = part (record { ready = X.DataReady; step = X.data_step; ends = X.data_ends; rank = 3 })
+said_of RawTextSequenceClose part = part (record { ready = X.SequenceCloseReady; step = X.sequence_close_step; ends = X.sequence_close_ends; rank = 3 })
+said_of SpaceOrTabStart part = part (record { ready = W.StartReady; step = W.start_step; ends = W.start_ends; rank = 3 })
+said_of SpaceOrTabInside part = part (record { ready = λ T. IsOpen T.tokenize_state.space_or_tab_token T; step = W.inside_step; ends = W.inside_ends; rank = 2 })
+said_of SpaceOrTabAfter part = part (record { ready = λ T. Unit {0}; step = W.after_step; ends = W.after_ends; rank = 1 })
+said_of SpaceOrTabEolStart part = part (record { ready = L.StartReady; step = L.start_step; ends = L.start_ends; rank = 8 })
+said_of SpaceOrTabEolAfterFirst part = part (record { ready = L.AfterFirstReady; step = L.after_first_step; ends = L.after_first_ends; rank = 7 })
+said_of SpaceOrTabEolAtEol part = part (record { ready = L.EolReady; step = L.at_eol_step; ends = L.at_eol_ends; rank = 6 })
+said_of SpaceOrTabEolAfterEol part = part (record { ready = L.EolReady; step = L.after_eol_step; ends = L.after_eol_ends; rank = 5 })
+said_of SpaceOrTabEolAfterMore part = part (record { ready = λ T. Unit {0}; step = L.after_more_step; ends = L.after_more_ends; rank = 4 })
+said_of DataStart part = part (record { ready = λ T. Unit {0}; step = D.start_step; ends = D.start_ends; rank = 1 })
+said_of DataAtBreak part = part (record { ready = λ T. Unit {0}; step = D.at_break_step; ends = D.at_break_ends; rank = 1 })
+said_of DataInside part = part (record { ready = IsOpen N.Data; step = D.inside_step; ends = D.inside_ends; rank = 2 })
+said_of StringStart part = part (record { ready = R.IsAtRest; step = S.start_step; ends = S.start_ends; rank = 7 })
+said_of StringBefore part = part (record { ready = S.BeforeReady; step = S.before_step; ends = S.before_ends; rank = 6 })
+said_of StringBeforeData part = part (record { ready = S.BeforeDataReady; step = S.before_data_step; ends = S.before_ends; rank = 5 })
+said_of GfmTaskListItemCheckStart part = part (record { ready = C.MayLook; step = C.start_step; ends = C.start_ends; rank = 2 })
+said_of GfmTaskListItemCheckInside part = part (record { ready = C.IsOpened; step = C.inside_step; ends = C.inside_ends; rank = 1 })
+said_of GfmTaskListItemCheckClose part = part (record { ready = C.IsOpened; step = C.close_step; ends = C.close_ends; rank = 1 })
+said_of GfmTaskListItemCheckAfter part = part (record { ready = C.MayLook; step = C.after_step; ends = C.after_ends; rank = 4 })
+said_of GfmTaskListItemCheckAfterSpaceOrTab part = part (record { ready = λ T. Unit {0}; step = C.after_space_or_tab_step; ends = C.after_space_or_tab_ends; rank = 1 })
+said_of HtmlTextStart part = part (record { ready = H.StartReady; step = H.start_step; ends = H.start_ends; rank = 3 })
+said_of HtmlTextOpen part = part (record { ready = H.PartReady; step = H.open_step; ends = H.part_ends Q.Open; rank = 2 })
+said_of HtmlTextDeclarationOpen part = part (record { ready = H.PartReady; step = H.declaration_open_step; ends = H.part_ends Q.DeclarationOpen; rank = 2 })
+said_of HtmlTextCommentOpenInside part = part (record { ready = H.PartReady; step = H.comment_open_inside_step; ends = H.part_ends Q.CommentOpenInside; rank = 2 })
+said_of HtmlTextComment part = part (record { ready = H.PartReady; step = H.comment_step; ends = H.part_ends Q.Comment; rank = 2 })
+said_of HtmlTextCommentClose part = part (record { ready = H.PartReady; step = H.comment_close_step; ends = H.part_ends Q.CommentClose; rank = 3 })
+said_of HtmlTextCommentEnd part = part (record { ready = H.PartReady; step = H.comment_end_step; ends = H.part_ends Q.CommentEnd; rank = 4 })
+said_of HtmlTextCdata part = part (record { ready = H.PartReady; step = H.cdata_step; ends = H.part_ends Q.Cdata; rank = 2 })
+said_of HtmlTextCdataClose part = part (record { ready = H.PartReady; step = H.cdata_close_step; ends = H.part_ends Q.CdataClose; rank = 3 })
+said_of HtmlTextCdataEnd part = part (record { ready = H.PartReady; step = H.cdata_end_step; ends = H.part_ends Q.CdataEnd; rank = 4 })
+said_of HtmlTextDeclaration part = part (record { ready = H.PartReady; step = H.declaration_step; ends = H.part_ends Q.Declaration; rank = 2 })
+said_of HtmlTextInstruction part = part (record { ready = H.PartReady; step = H.instruction_step; ends = H.part_ends Q.Instruction; rank = 2 })
+said_of HtmlTextInstructionClose part = part (record { ready = H.PartReady; step = H.instruction_close_step; ends = H.part_ends Q.InstructionClose; rank = 3 })
+said_of HtmlTextTagCloseStart part = part (record { ready = H.PartReady; step = H.tag_close_start_step; ends = H.part_ends Q.TagCloseStart; rank = 2 })
+said_of HtmlTextTagClose part = part (record { ready = H.PartReady; step = H.tag_close_step; ends = H.part_ends Q.TagClose; rank = 3 })
+said_of HtmlTextTagCloseBetween part = part (record { ready = H.PartReady; step = H.tag_close_between_step; ends = H.part_ends Q.TagCloseBetween; rank = 2 })
+said_of HtmlTextTagOpen part = part (record { ready = H.PartReady; step = H.tag_open_step; ends = H.part_ends Q.TagOpen; rank = 3 })
+said_of HtmlTextTagOpenBetween part = part (record { ready = H.PartReady; step = H.tag_open_between_step; ends = H.part_ends Q.TagOpenBetween; rank = 2 })
+said_of HtmlTextTagOpenAttributeName part = part (record { ready = H.PartReady; step = H.tag_open_attribute_name_step; ends = H.part_ends Q.AttributeName; rank = 4 })
+said_of HtmlTextTagOpenAttributeNameAfter part = part (record { ready = H.PartReady; step = H.tag_open_attribute_name_after_step; ends = H.part_ends Q.AttributeNameAfter; rank = 3 })
+said_of HtmlTextTagOpenAttributeValueBefore part = part (record { ready = H.PartReady; step = H.tag_open_attribute_value_before_step; ends = H.part_ends Q.ValueBefore; rank = 2 })
+said_of HtmlTextTagOpenAttributeValueQuotedAfter part = part (record { ready = H.PartReady; step = H.tag_open_attribute_value_quoted_after_step; ends = H.part_ends Q.ValueQuotedAfter; rank = 3 })
+said_of HtmlTextTagOpenAttributeValueUnquoted part = part (record { ready = H.PartReady; step = H.tag_open_attribute_value_unquoted_step; ends = H.part_ends Q.ValueUnquoted; rank = 3 })
+said_of HtmlTextEnd part = part (record { ready = H.PartReady; step = H.end_step; ends = H.part_ends Q.End; rank = 1 })
+said_of HtmlTextCdataOpenInside part = part (record { ready = H.CdataReady; step = H.cdata_open_inside_step; ends = H.cdata_open_inside_ends; rank = 2 })
+said_of HtmlTextTagOpenAttributeValueQuoted part = part (record { ready = H.QuotedReady; step = H.tag_open_attribute_value_quoted_step; ends = H.quoted_ends; rank = 2 })
+said_of HtmlTextLineEndingBefore part = part (record { ready = H.BeforeReady; step = H.line_ending_before_step; ends = H.line_ending_before_ends; rank = 1 })
+said_of HtmlTextLineEndingAfter part = part (record { ready = H.AfterReady; step = H.line_ending_after_step; ends = H.line_ending_after_ends; rank = 4 })
+said_of HtmlTextLineEndingAfterPrefix part = part (record { ready = H.AfterReady; step = H.line_ending_after_prefix_step; ends = H.line_ending_after_prefix_ends; rank = 1 })
+said_of DestinationStart part = part (record { ready = SD.StartReady; step = SD.start_step; ends = SD.start_ends; rank = 4 })
+said_of DestinationEnclosedBefore part = part (record { ready = SD.BeforeReady; step = SD.enclosed_before_step; ends = SD.enclosed_before_ends; rank = 3 })
+said_of DestinationEnclosed part = part (record { ready = SD.EnclosedReady; step = SD.enclosed_step; ends = SD.enclosed_ends; rank = 1 })
+said_of DestinationEnclosedEscape part = part (record { ready = SD.EnclosedReady; step = SD.enclosed_escape_step; ends = SD.enclosed_escape_ends; rank = 2 })
+said_of DestinationRaw part = part (record { ready = SD.RawReady; step = SD.raw_step; ends = SD.raw_ends; rank = 1 })
+said_of DestinationRawEscape part = part (record { ready = SD.RawReady; step = SD.raw_escape_step; ends = SD.raw_escape_ends; rank = 2 })
+said_of TitleStart part = part (record { ready = ST.StartReady; step = ST.start_step; ends = ST.start_ends; rank = 11 })
+said_of TitleBegin part = part (record { ready = ST.BeginReady; step = ST.begin_step; ends = ST.begin_ends; rank = 10 })
+said_of TitleAtBreak part = part (record { ready = ST.BreakReady; step = ST.at_break_step; ends = ST.at_break_ends; rank = 9 })
+said_of TitleAfterEol part = part (record { ready = ST.AfterEolReady; step = ST.after_eol_step; ends = ST.after_eol_ends; rank = 10 })
+said_of TitleInside part = part (record { ready = ST.InsideReady; step = ST.inside_step; ends = ST.inside_ends; rank = 10 })
+said_of TitleEscape part = part (record { ready = ST.InsideReady; step = ST.escape_step; ends = ST.escape_ends; rank = 11 })
+said_of TitleNok part = part (record { ready = λ T. Unit {0}; step = ST.nok_step; ends = ST.nok_ends; rank = 1 })
+said_of LabelStart part = part (record { ready = SL.StartReady; step = SL.start_step; ends = SL.start_ends; rank = 11 })
+said_of LabelAtBreak part = part (record { ready = SL.BreakReady; step = SL.at_break_step; ends = SL.at_break_ends; rank = 9 })
+said_of LabelEolAfter part = part (record { ready = SL.EolAfterReady; step = SL.eol_after_step; ends = SL.eol_after_ends; rank = 10 })
+said_of LabelInside part = part (record { ready = SL.InsideReady; step = SL.inside_step; ends = SL.inside_ends; rank = 10 })
+said_of LabelEscape part = part (record { ready = SL.EscapeReady; step = SL.escape_step; ends = SL.escape_ends; rank = 11 })
+said_of LabelNok part = part (record { ready = λ T. Unit {0}; step = SL.nok_step; ends = SL.nok_ends; rank = 1 })
+said_of TextStart part = part (record { ready = M.StartReady; step = M.start_step; ends = M.start_ends; rank = 8 })
+said_of TextBefore part = part (record { ready = M.BeforeReady; step = M.before_step; ends = M.before_ends; rank = 7 })
+said_of TextBeforeHtml part = part (record { ready = M.BeforeHtmlReady; step = M.before_html_step; ends = M.before_ends; rank = 6 })
+said_of TextBeforeHardBreakEscape part = part (record { ready = M.BeforeBreakReady; step = M.before_hard_break_escape_step; ends = M.before_ends; rank = 6 })
+said_of TextBeforeLabelStartLink part = part (record { ready = M.BeforeDataReady; step = M.before_label_start_link_step; ends = M.before_ends; rank = 6 })
+said_of TextBeforeData part = part (record { ready = M.BeforeDataReady; step = M.before_data_step; ends = M.before_ends; rank = 5 })
+said_of AttentionStart part = part (record { ready = λ T. Unit {0}; step = never_step; ends = never_ends; rank = 0 })
+said_of GfmAutolinkLiteralProtocolStart part = part (record { ready = λ T. Unit {0}; step = never_step; ends = never_ends; rank = 0 })
+said_of GfmAutolinkLiteralWwwStart part = part (record { ready = λ T. Unit {0}; step = never_step; ends = never_ends; rank = 0 })
+said_of GfmLabelStartFootnoteStart part = part (record { ready = λ T. Unit {0}; step = never_step; ends = never_ends; rank = 0 })
+said_of LabelEndStart part = part (record { ready = λ T. Unit {0}; step = never_step; ends = never_ends; rank = 0 })
+said_of LabelStartImageStart part = part (record { ready = λ T. Unit {0}; step = never_step; ends = never_ends; rank = 0 })
+said_of LabelStartLinkStart part = part (record { ready = λ T. Unit {0}; step = never_step; ends = never_ends; rank = 0 })
+said_of _ part = part (record { ready = λ T. ⊥; step = stepped Nok; ends = λ T ok U. Unit {0}; rank = 0 })
+
+abbrev pub words_of : StateName → StateWords
+words_of s = said_of s (λ (w : StateWords). w)
+
 abbrev pub ready_of : StateName → Tokenizer → Type 0
-ready_of CharacterEscapeStart T = Unit {0}
-ready_of CharacterEscapeInside T = IsOpen N.CharacterEscape T
-ready_of CharacterReferenceStart T = R.IsAtRest T
-ready_of CharacterReferenceOpen T = R.IsOpened T
-ready_of CharacterReferenceNumeric T = R.IsOpened T
-ready_of CharacterReferenceValue T = R.IsValue T
-ready_of HardBreakEscapeStart T = Unit {0}
-ready_of HardBreakEscapeAfter T = IsOpen N.HardBreakEscape T
-ready_of AutolinkStart T = T.tokenize_state.size ≡ 0
-ready_of AutolinkOpen T = A.InsideReady T
-ready_of AutolinkSchemeOrEmailAtext T = A.InsideReady T
-ready_of AutolinkSchemeInsideOrEmailAtext T = A.SchemeReady T
-ready_of AutolinkUrlInside T = A.InsideReady T
-ready_of AutolinkEmailAtext T = A.InsideReady T
-ready_of AutolinkEmailAtSignOrDot T = A.InsideReady T
-ready_of AutolinkEmailLabel T = A.LabelReady T
-ready_of AutolinkEmailValue T = A.LabelReady T
-ready_of RawTextStart T = X.StartReady T
-ready_of RawTextSequenceOpen T = X.SequenceOpenReady T
-ready_of RawTextBetween T = X.BetweenReady T
-ready_of RawTextData T = X.DataReady T
-ready_of RawTextSequenceClose T = X.SequenceCloseReady T
-ready_of SpaceOrTabStart T = W.StartReady T
-ready_of SpaceOrTabInside T = IsOpen T.tokenize_state.space_or_tab_token T
-ready_of SpaceOrTabAfter T = Unit {0}
-ready_of SpaceOrTabEolStart T = L.StartReady T
-ready_of SpaceOrTabEolAfterFirst T = L.AfterFirstReady T
-ready_of SpaceOrTabEolAtEol T = L.EolReady T
-ready_of SpaceOrTabEolAfterEol T = L.EolReady T
-ready_of SpaceOrTabEolAfterMore T = Unit {0}
-ready_of DataStart T = Unit {0}
-ready_of DataAtBreak T = Unit {0}
-ready_of DataInside T = IsOpen N.Data T
-ready_of StringStart T = R.IsAtRest T
-ready_of StringBefore T = S.BeforeReady T
-ready_of StringBeforeData T = S.BeforeDataReady T
-ready_of GfmTaskListItemCheckStart T = C.MayLook T
-ready_of GfmTaskListItemCheckInside T = C.IsOpened T
-ready_of GfmTaskListItemCheckClose T = C.IsOpened T
-ready_of GfmTaskListItemCheckAfter T = C.MayLook T
-ready_of GfmTaskListItemCheckAfterSpaceOrTab T = Unit {0}
-ready_of HtmlTextStart T = H.StartReady T
-ready_of HtmlTextOpen T = H.PartReady T
-ready_of HtmlTextDeclarationOpen T = H.PartReady T
-ready_of HtmlTextCommentOpenInside T = H.PartReady T
-ready_of HtmlTextComment T = H.PartReady T
-ready_of HtmlTextCommentClose T = H.PartReady T
-ready_of HtmlTextCommentEnd T = H.PartReady T
-ready_of HtmlTextCdata T = H.PartReady T
-ready_of HtmlTextCdataClose T = H.PartReady T
-ready_of HtmlTextCdataEnd T = H.PartReady T
-ready_of HtmlTextDeclaration T = H.PartReady T
-ready_of HtmlTextInstruction T = H.PartReady T
-ready_of HtmlTextInstructionClose T = H.PartReady T
-ready_of HtmlTextTagCloseStart T = H.PartReady T
-ready_of HtmlTextTagClose T = H.PartReady T
-ready_of HtmlTextTagCloseBetween T = H.PartReady T
-ready_of HtmlTextTagOpen T = H.PartReady T
-ready_of HtmlTextTagOpenBetween T = H.PartReady T
-ready_of HtmlTextTagOpenAttributeName T = H.PartReady T
-ready_of HtmlTextTagOpenAttributeNameAfter T = H.PartReady T
-ready_of HtmlTextTagOpenAttributeValueBefore T = H.PartReady T
-ready_of HtmlTextTagOpenAttributeValueQuotedAfter T = H.PartReady T
-ready_of HtmlTextTagOpenAttributeValueUnquoted T = H.PartReady T
-ready_of HtmlTextEnd T = H.PartReady T
-ready_of HtmlTextCdataOpenInside T = H.CdataReady T
-ready_of HtmlTextTagOpenAttributeValueQuoted T = H.QuotedReady T
-ready_of HtmlTextLineEndingBefore T = H.BeforeReady T
-ready_of HtmlTextLineEndingAfter T = H.AfterReady T
-ready_of HtmlTextLineEndingAfterPrefix T = H.AfterReady T
-ready_of DestinationStart T = SD.StartReady T
-ready_of DestinationEnclosedBefore T = SD.BeforeReady T
-ready_of DestinationEnclosed T = SD.EnclosedReady T
-ready_of DestinationEnclosedEscape T = SD.EnclosedReady T
-ready_of DestinationRaw T = SD.RawReady T
-ready_of DestinationRawEscape T = SD.RawReady T
-ready_of TitleStart T = ST.StartReady T
-ready_of TitleBegin T = ST.BeginReady T
-ready_of TitleAtBreak T = ST.BreakReady T
-ready_of TitleAfterEol T = ST.AfterEolReady T
-ready_of TitleInside T = ST.InsideReady T
-ready_of TitleEscape T = ST.InsideReady T
-ready_of TitleNok T = Unit {0}
-ready_of LabelStart T = SL.StartReady T
-ready_of LabelAtBreak T = SL.BreakReady T
-ready_of LabelEolAfter T = SL.EolAfterReady T
-ready_of LabelInside T = SL.InsideReady T
-ready_of LabelEscape T = SL.EscapeReady T
-ready_of LabelNok T = Unit {0}
-ready_of TextStart T = M.StartReady T
-ready_of TextBefore T = M.BeforeReady T
-ready_of TextBeforeHtml T = M.BeforeHtmlReady T
-ready_of TextBeforeHardBreakEscape T = M.BeforeBreakReady T
-ready_of TextBeforeLabelStartLink T = M.BeforeDataReady T
-ready_of TextBeforeData T = M.BeforeDataReady T
-ready_of AttentionStart T = Unit {0}
-ready_of GfmAutolinkLiteralProtocolStart T = Unit {0}
-ready_of GfmAutolinkLiteralWwwStart T = Unit {0}
-ready_of GfmLabelStartFootnoteStart T = Unit {0}
-ready_of LabelEndStart T = Unit {0}
-ready_of LabelStartImageStart T = Unit {0}
-ready_of LabelStartLinkStart T = Unit {0}
-ready_of _ T = ⊥
+ready_of s T = said_of s (λ (w : StateWords). w.ready T)
 
 abbrev pub step_of : StateName → Tokenizer → Stepped
-step_of CharacterEscapeStart T = E.start_step T
-step_of CharacterEscapeInside T = E.inside_step T
-step_of CharacterReferenceStart T = R.start_step T
-step_of CharacterReferenceOpen T = R.open_step T
-step_of CharacterReferenceNumeric T = R.numeric_step T
-step_of CharacterReferenceValue T = R.value_step T
-step_of HardBreakEscapeStart T = B.start_step T
-step_of HardBreakEscapeAfter T = B.after_step T
-step_of AutolinkStart T = A.start_step T
-step_of AutolinkOpen T = A.open_step T
-step_of AutolinkSchemeOrEmailAtext T = A.scheme_or_step T
-step_of AutolinkSchemeInsideOrEmailAtext T = A.scheme_inside_step T
-step_of AutolinkUrlInside T = A.url_inside_step T
-step_of AutolinkEmailAtext T = A.email_atext_step T
-step_of AutolinkEmailAtSignOrDot T = A.email_at_sign_or_dot_step T
-step_of AutolinkEmailLabel T = A.email_label_step T
-step_of AutolinkEmailValue T = A.email_value_step T
-step_of RawTextStart T = X.start_step T
-step_of RawTextSequenceOpen T = X.sequence_open_step T
-step_of RawTextBetween T = X.between_step T
-step_of RawTextData T = X.data_step T
-step_of RawTextSequenceClose T = X.sequence_close_step T
-step_of SpaceOrTabStart T = W.start_step T
-step_of SpaceOrTabInside T = W.inside_step T
-step_of SpaceOrTabAfter T = W.after_step T
-step_of SpaceOrTabEolStart T = L.start_step T
-step_of SpaceOrTabEolAfterFirst T = L.after_first_step T
-step_of SpaceOrTabEolAtEol T = L.at_eol_step T
-step_of SpaceOrTabEolAfterEol T = L.after_eol_step T
-step_of SpaceOrTabEolAfterMore T = L.after_more_step T
-step_of DataStart T = D.start_step T
-step_of DataAtBreak T = D.at_break_step T
-step_of DataInside T = D.inside_step T
-step_of StringStart T = S.start_step T
-step_of StringBefore T = S.before_step T
-step_of StringBeforeData T = S.before_data_step T
-step_of GfmTaskListItemCheckStart T = C.start_step T
-step_of GfmTaskListItemCheckInside T = C.inside_step T
-step_of GfmTaskListItemCheckClose T = C.close_step T
-step_of GfmTaskListItemCheckAfter T = C.after_step T
-step_of GfmTaskListItemCheckAfterSpaceOrTab T = C.after_space_or_tab_step T
-step_of HtmlTextStart T = H.start_step T
-step_of HtmlTextOpen T = H.open_step T
-step_of HtmlTextDeclarationOpen T = H.declaration_open_step T
-step_of HtmlTextCommentOpenInside T = H.comment_open_inside_step T
-step_of HtmlTextComment T = H.comment_step T
-step_of HtmlTextCommentClose T = H.comment_close_step T
-step_of HtmlTextCommentEnd T = H.comment_end_step T
-step_of HtmlTextCdata T = H.cdata_step T
-step_of HtmlTextCdataClose T = H.cdata_close_step T
-step_of HtmlTextCdataEnd T = H.cdata_end_step T
-step_of HtmlTextDeclaration T = H.declaration_step T
-step_of HtmlTextInstruction T = H.instruction_step T
-step_of HtmlTextInstructionClose T = H.instruction_close_step T
-step_of HtmlTextTagCloseStart T = H.tag_close_start_step T
-step_of HtmlTextTagClose T = H.tag_close_step T
-step_of HtmlTextTagCloseBetween T = H.tag_close_between_step T
-step_of HtmlTextTagOpen T = H.tag_open_step T
-step_of HtmlTextTagOpenBetween T = H.tag_open_between_step T
-step_of HtmlTextTagOpenAttributeName T = H.tag_open_attribute_name_step T
-step_of HtmlTextTagOpenAttributeNameAfter T = H.tag_open_attribute_name_after_step T
-step_of HtmlTextTagOpenAttributeValueBefore T = H.tag_open_attribute_value_before_step T
-step_of HtmlTextTagOpenAttributeValueQuotedAfter T = H.tag_open_attribute_value_quoted_after_step T
-step_of HtmlTextTagOpenAttributeValueUnquoted T = H.tag_open_attribute_value_unquoted_step T
-step_of HtmlTextEnd T = H.end_step T
-step_of HtmlTextCdataOpenInside T = H.cdata_open_inside_step T
-step_of HtmlTextTagOpenAttributeValueQuoted T = H.tag_open_attribute_value_quoted_step T
-step_of HtmlTextLineEndingBefore T = H.line_ending_before_step T
-step_of HtmlTextLineEndingAfter T = H.line_ending_after_step T
-step_of HtmlTextLineEndingAfterPrefix T = H.line_ending_after_prefix_step T
-step_of DestinationStart T = SD.start_step T
-step_of DestinationEnclosedBefore T = SD.enclosed_before_step T
-step_of DestinationEnclosed T = SD.enclosed_step T
-step_of DestinationEnclosedEscape T = SD.enclosed_escape_step T
-step_of DestinationRaw T = SD.raw_step T
-step_of DestinationRawEscape T = SD.raw_escape_step T
-step_of TitleStart T = ST.start_step T
-step_of TitleBegin T = ST.begin_step T
-step_of TitleAtBreak T = ST.at_break_step T
-step_of TitleAfterEol T = ST.after_eol_step T
-step_of TitleInside T = ST.inside_step T
-step_of TitleEscape T = ST.escape_step T
-step_of TitleNok T = ST.nok_step T
-step_of LabelStart T = SL.start_step T
-step_of LabelAtBreak T = SL.at_break_step T
-step_of LabelEolAfter T = SL.eol_after_step T
-step_of LabelInside T = SL.inside_step T
-step_of LabelEscape T = SL.escape_step T
-step_of LabelNok T = SL.nok_step T
-step_of TextStart T = M.start_step T
-step_of TextBefore T = M.before_step T
-step_of TextBeforeHtml T = M.before_html_step T
-step_of TextBeforeHardBreakEscape T = M.before_hard_break_escape_step T
-step_of TextBeforeLabelStartLink T = M.before_label_start_link_step T
-step_of TextBeforeData T = M.before_data_step T
-step_of AttentionStart T = never_step T
-step_of GfmAutolinkLiteralProtocolStart T = never_step T
-step_of GfmAutolinkLiteralWwwStart T = never_step T
-step_of GfmLabelStartFootnoteStart T = never_step T
-step_of LabelEndStart T = never_step T
-step_of LabelStartImageStart T = never_step T
-step_of LabelStartLinkStart T = never_step T
-step_of _ T = stepped Nok T
+step_of s T = (words_of s).step T
 
 abbrev pub ends_of : StateName → Tokenizer → Bool → Tokenizer → Type 0
-ends_of CharacterEscapeStart T ok U = E.start_ends T ok U
-ends_of CharacterEscapeInside T ok U = E.inside_ends T ok U
-ends_of CharacterReferenceStart T ok U = R.start_ends T ok U
-ends_of CharacterReferenceOpen T ok U = R.open_ends T ok U
-ends_of CharacterReferenceNumeric T ok U = R.numeric_ends T ok U
-ends_of CharacterReferenceValue T ok U = R.value_ends T ok U
-ends_of HardBreakEscapeStart T ok U = B.start_ends T ok U
-ends_of HardBreakEscapeAfter T ok U = B.after_ends T ok U
-ends_of AutolinkStart T ok U = A.start_ends T ok U
-ends_of AutolinkOpen T ok U = A.open_ends T ok U
-ends_of AutolinkSchemeOrEmailAtext T ok U = A.scheme_or_ends T ok U
-ends_of AutolinkSchemeInsideOrEmailAtext T ok U = A.scheme_inside_ends T ok U
-ends_of AutolinkUrlInside T ok U = A.url_inside_ends T ok U
-ends_of AutolinkEmailAtext T ok U = A.email_atext_ends T ok U
-ends_of AutolinkEmailAtSignOrDot T ok U = A.email_at_sign_or_dot_ends T ok U
-ends_of AutolinkEmailLabel T ok U = A.email_label_ends T ok U
-ends_of AutolinkEmailValue T ok U = A.email_value_ends T ok U
-ends_of RawTextStart T ok U = X.start_ends T ok U
-ends_of RawTextSequenceOpen T ok U = X.sequence_open_ends T ok U
-ends_of RawTextBetween T ok U = X.between_ends T ok U
-ends_of RawTextData T ok U = X.data_ends T ok U
-ends_of RawTextSequenceClose T ok U = X.sequence_close_ends T ok U
-ends_of SpaceOrTabStart T ok U = W.start_ends T ok U
-ends_of SpaceOrTabInside T ok U = W.inside_ends T ok U
-ends_of SpaceOrTabAfter T ok U = W.after_ends T ok U
-ends_of SpaceOrTabEolStart T ok U = L.start_ends T ok U
-ends_of SpaceOrTabEolAfterFirst T ok U = L.after_first_ends T ok U
-ends_of SpaceOrTabEolAtEol T ok U = L.at_eol_ends T ok U
-ends_of SpaceOrTabEolAfterEol T ok U = L.after_eol_ends T ok U
-ends_of SpaceOrTabEolAfterMore T ok U = L.after_more_ends T ok U
-ends_of DataStart T ok U = D.start_ends T ok U
-ends_of DataAtBreak T ok U = D.at_break_ends T ok U
-ends_of DataInside T ok U = D.inside_ends T ok U
-ends_of StringStart T ok U = S.start_ends T ok U
-ends_of StringBefore T ok U = S.before_ends T ok U
-ends_of StringBeforeData T ok U = S.before_ends T ok U
-ends_of GfmTaskListItemCheckStart T ok U = C.start_ends T ok U
-ends_of GfmTaskListItemCheckInside T ok U = C.inside_ends T ok U
-ends_of GfmTaskListItemCheckClose T ok U = C.close_ends T ok U
-ends_of GfmTaskListItemCheckAfter T ok U = C.after_ends T ok U
-ends_of GfmTaskListItemCheckAfterSpaceOrTab T ok U = C.after_space_or_tab_ends T ok U
-ends_of HtmlTextStart T ok U = H.start_ends T ok U
-ends_of HtmlTextOpen T ok U = H.part_ends Q.Open T ok U
-ends_of HtmlTextDeclarationOpen T ok U = H.part_ends Q.DeclarationOpen T ok U
-ends_of HtmlTextCommentOpenInside T ok U = H.part_ends Q.CommentOpenInside T ok U
-ends_of HtmlTextComment T ok U = H.part_ends Q.Comment T ok U
-ends_of HtmlTextCommentClose T ok U = H.part_ends Q.CommentClose T ok U
-ends_of HtmlTextCommentEnd T ok U = H.part_ends Q.CommentEnd T ok U
-ends_of HtmlTextCdata T ok U = H.part_ends Q.Cdata T ok U
-ends_of HtmlTextCdataClose T ok U = H.part_ends Q.CdataClose T ok U
-ends_of HtmlTextCdataEnd T ok U = H.part_ends Q.CdataEnd T ok U
-ends_of HtmlTextDeclaration T ok U = H.part_ends Q.Declaration T ok U
-ends_of HtmlTextInstruction T ok U = H.part_ends Q.Instruction T ok U
-ends_of HtmlTextInstructionClose T ok U = H.part_ends Q.InstructionClose T ok U
-ends_of HtmlTextTagCloseStart T ok U = H.part_ends Q.TagCloseStart T ok U
-ends_of HtmlTextTagClose T ok U = H.part_ends Q.TagClose T ok U
-ends_of HtmlTextTagCloseBetween T ok U = H.part_ends Q.TagCloseBetween T ok U
-ends_of HtmlTextTagOpen T ok U = H.part_ends Q.TagOpen T ok U
-ends_of HtmlTextTagOpenBetween T ok U = H.part_ends Q.TagOpenBetween T ok U
-ends_of HtmlTextTagOpenAttributeName T ok U = H.part_ends Q.AttributeName T ok U
-ends_of HtmlTextTagOpenAttributeNameAfter T ok U = H.part_ends Q.AttributeNameAfter T ok U
-ends_of HtmlTextTagOpenAttributeValueBefore T ok U = H.part_ends Q.ValueBefore T ok U
-ends_of HtmlTextTagOpenAttributeValueQuotedAfter T ok U = H.part_ends Q.ValueQuotedAfter T ok U
-ends_of HtmlTextTagOpenAttributeValueUnquoted T ok U = H.part_ends Q.ValueUnquoted T ok U
-ends_of HtmlTextEnd T ok U = H.part_ends Q.End T ok U
-ends_of HtmlTextCdataOpenInside T ok U = H.cdata_open_inside_ends T ok U
-ends_of HtmlTextTagOpenAttributeValueQuoted T ok U = H.quoted_ends T ok U
-ends_of HtmlTextLineEndingBefore T ok U = H.line_ending_before_ends T ok U
-ends_of HtmlTextLineEndingAfter T ok U = H.line_ending_after_ends T ok U
-ends_of HtmlTextLineEndingAfterPrefix T ok U = H.line_ending_after_prefix_ends T ok U
-ends_of DestinationStart T ok U = SD.start_ends T ok U
-ends_of DestinationEnclosedBefore T ok U = SD.enclosed_before_ends T ok U
-ends_of DestinationEnclosed T ok U = SD.enclosed_ends T ok U
-ends_of DestinationEnclosedEscape T ok U = SD.enclosed_escape_ends T ok U
-ends_of DestinationRaw T ok U = SD.raw_ends T ok U
-ends_of DestinationRawEscape T ok U = SD.raw_escape_ends T ok U
-ends_of TitleStart T ok U = ST.start_ends T ok U
-ends_of TitleBegin T ok U = ST.begin_ends T ok U
-ends_of TitleAtBreak T ok U = ST.at_break_ends T ok U
-ends_of TitleAfterEol T ok U = ST.after_eol_ends T ok U
-ends_of TitleInside T ok U = ST.inside_ends T ok U
-ends_of TitleEscape T ok U = ST.escape_ends T ok U
-ends_of TitleNok T ok U = ST.nok_ends T ok U
-ends_of LabelStart T ok U = SL.start_ends T ok U
-ends_of LabelAtBreak T ok U = SL.at_break_ends T ok U
-ends_of LabelEolAfter T ok U = SL.eol_after_ends T ok U
-ends_of LabelInside T ok U = SL.inside_ends T ok U
-ends_of LabelEscape T ok U = SL.escape_ends T ok U
-ends_of LabelNok T ok U = SL.nok_ends T ok U
-ends_of TextStart T ok U = M.start_ends T ok U
-ends_of TextBefore T ok U = M.before_ends T ok U
-ends_of TextBeforeHtml T ok U = M.before_ends T ok U
-ends_of TextBeforeHardBreakEscape T ok U = M.before_ends T ok U
-ends_of TextBeforeLabelStartLink T ok U = M.before_ends T ok U
-ends_of TextBeforeData T ok U = M.before_ends T ok U
-ends_of AttentionStart T ok U = never_ends T ok U
-ends_of GfmAutolinkLiteralProtocolStart T ok U = never_ends T ok U
-ends_of GfmAutolinkLiteralWwwStart T ok U = never_ends T ok U
-ends_of GfmLabelStartFootnoteStart T ok U = never_ends T ok U
-ends_of LabelEndStart T ok U = never_ends T ok U
-ends_of LabelStartImageStart T ok U = never_ends T ok U
-ends_of LabelStartLinkStart T ok U = never_ends T ok U
-ends_of _ T ok U = Unit {0}
-
--- the ranks of the states among those at one place
-abbrev pub rank_of : StateName → ℕ
-rank_of CharacterEscapeStart = 2
-rank_of CharacterEscapeInside = 1
-rank_of CharacterReferenceStart = 4
-rank_of CharacterReferenceOpen = 3
-rank_of CharacterReferenceNumeric = 2
-rank_of CharacterReferenceValue = 1
-rank_of HardBreakEscapeStart = 2
-rank_of HardBreakEscapeAfter = 1
-rank_of AutolinkStart = 3
-rank_of AutolinkOpen = 2
-rank_of AutolinkSchemeOrEmailAtext = 2
-rank_of AutolinkSchemeInsideOrEmailAtext = 2
-rank_of AutolinkUrlInside = 1
-rank_of AutolinkEmailAtext = 1
-rank_of AutolinkEmailAtSignOrDot = 1
-rank_of AutolinkEmailLabel = 1
-rank_of AutolinkEmailValue = 1
-rank_of RawTextStart = 4
-rank_of RawTextSequenceOpen = 3
-rank_of RawTextBetween = 2
-rank_of RawTextData = 3
-rank_of RawTextSequenceClose = 3
-rank_of SpaceOrTabStart = 3
-rank_of SpaceOrTabInside = 2
-rank_of SpaceOrTabAfter = 1
-rank_of SpaceOrTabEolStart = 8
-rank_of SpaceOrTabEolAfterFirst = 7
-rank_of SpaceOrTabEolAtEol = 6
-rank_of SpaceOrTabEolAfterEol = 5
-rank_of SpaceOrTabEolAfterMore = 4
-rank_of DataStart = 1
-rank_of DataAtBreak = 1
-rank_of DataInside = 2
-rank_of StringStart = 7
-rank_of StringBefore = 6
-rank_of StringBeforeData = 5
-rank_of GfmTaskListItemCheckStart = 2
-rank_of GfmTaskListItemCheckInside = 1
-rank_of GfmTaskListItemCheckClose = 1
-rank_of GfmTaskListItemCheckAfter = 4
-rank_of GfmTaskListItemCheckAfterSpaceOrTab = 1
-rank_of HtmlTextStart = 3
-rank_of HtmlTextOpen = 2
-rank_of HtmlTextDeclarationOpen = 2
-rank_of HtmlTextCommentOpenInside = 2
-rank_of HtmlTextComment = 2
-rank_of HtmlTextCommentClose = 3
-rank_of HtmlTextCommentEnd = 4
-rank_of HtmlTextCdata = 2
-rank_of HtmlTextCdataClose = 3
-rank_of HtmlTextCdataEnd = 4
-rank_of HtmlTextDeclaration = 2
-rank_of HtmlTextInstruction = 2
-rank_of HtmlTextInstructionClose = 3
-rank_of HtmlTextTagCloseStart = 2
-rank_of HtmlTextTagClose = 3
-rank_of HtmlTextTagCloseBetween = 2
-rank_of HtmlTextTagOpen = 3
-rank_of HtmlTextTagOpenBetween = 2
-rank_of HtmlTextTagOpenAttributeName = 4
-rank_of HtmlTextTagOpenAttributeNameAfter = 3
-rank_of HtmlTextTagOpenAttributeValueBefore = 2
-rank_of HtmlTextTagOpenAttributeValueQuotedAfter = 3
-rank_of HtmlTextTagOpenAttributeValueUnquoted = 3
-rank_of HtmlTextEnd = 1
-rank_of HtmlTextCdataOpenInside = 2
-rank_of HtmlTextTagOpenAttributeValueQuoted = 2
-rank_of HtmlTextLineEndingBefore = 1
-rank_of HtmlTextLineEndingAfter = 4
-rank_of HtmlTextLineEndingAfterPrefix = 1
-rank_of DestinationStart = 4
-rank_of DestinationEnclosedBefore = 3
-rank_of DestinationEnclosed = 1
-rank_of DestinationEnclosedEscape = 2
-rank_of DestinationRaw = 1
-rank_of DestinationRawEscape = 2
-rank_of TitleStart = 11
-rank_of TitleBegin = 10
-rank_of TitleAtBreak = 9
-rank_of TitleAfterEol = 10
-rank_of TitleInside = 10
-rank_of TitleEscape = 11
-rank_of TitleNok = 1
-rank_of LabelStart = 11
-rank_of LabelAtBreak = 9
-rank_of LabelEolAfter = 10
-rank_of LabelInside = 10
-rank_of LabelEscape = 11
-rank_of LabelNok = 1
-rank_of TextStart = 8
-rank_of TextBefore = 7
-rank_of TextBeforeHtml = 6
-rank_of TextBeforeHardBreakEscape = 6
-rank_of TextBeforeLabelStartLink = 6
-rank_of TextBeforeData = 5
-rank_of _ = 0
+ends_of s T ok U = (words_of s).ends T ok U
 
 abbrev pub weight_of : StateName → Tokenizer → ℕ
-weight_of s T = weight_at (rank_of s) T
+weight_of s T = weight_at (words_of s).rank T

@@ -1,29 +1,30 @@
-use Rattle.std.proofs.Common.{◌∙◌, ap, sym, arith, subst}
-use Rattle.markdown_engine.specs.declared.event.Point.{Point}
+use Rattle.std.proofs.Common.{rules, ◌∙◌, ap, sym, arith}
 use Rattle.markdown_engine.specs.Place.{moved}
-use Rattle.markdown_engine.specs.Walk.{IsPoint}
-use Rattle.markdown_engine.proofs.CursorSteps.{at_some, cursor_next, moved_is}
+use Rattle.markdown_engine.proofs.CursorSteps.{at_some, moved_is}
+use Rattle.markdown_engine.proofs.Past.{Fits_point, point_fits}
+use Rattle.markdown_engine.proofs.PlainRuns.{plain_next}
 use Rattle.markdown_engine.proofs.cursor.Cursor.consume.Goals as goal
 
-pub code_from-previous-requires-clause-begins : goal.code_from-previous-requires-clause-begins
-code_from-previous-requires-clause-begins c = (at_some c.args.self.now c.self.invariant c.self.view_is c.requires).in_bytes
+pub bounds-self-inside-index : goal.bounds-self-inside-index
+bounds-self-inside-index c = (at_some c.args.self.now c.self.invariant c.self.view_is c.requires).in_bytes
 
-pub past_code-exit-requires-clause-begins : goal.past_code-exit-requires-clause-begins
-past_code-exit-requires-clause-begins c = (at_some c.args.self.now c.self.invariant c.self.view_is c.requires).in_bytes
+pub offset_bounds-self-inside-self-inside : goal.offset_bounds-self-inside-self-inside
+offset_bounds-self-inside-self-inside c = search (rules, (at_some c.args.self.now c.self.invariant c.self.view_is c.requires).in_pieces)
 
-pub follow-piece-requires-clause-is_point : goal.follow-piece-requires-clause-is_point
-follow-piece-requires-clause-is_point c =
-    subst (λ (x : Point). IsPoint c.self.inside.bytes.now x) (sym c.past_code-exit.ensures.next) (at_some c.args.self.now c.self.invariant c.self.view_is c.requires).stop
+pub bounds-self-inside-self-inside : goal.bounds-self-inside-self-inside
+bounds-self-inside-self-inside c = (at_some c.args.self.now c.self.invariant c.self.view_is c.requires).in_pieces
 
-pub follow-piece-requires-clause-piece : goal.follow-piece-requires-clause-piece
-follow-piece-requires-clause-piece c = (at_some c.args.self.now c.self.invariant c.self.view_is c.requires).in_pieces
+pub overflow_add-point : goal.overflow_add-point
+overflow_add-point c =
+    let n : Fits_point c.self.inside.point = point_fits c.self.inside.bytes.now c.self.inside.point c.self.invariant.standing.is_point c.self.invariant.standing.content.fits in
+    omega (arith, n.column)
 
 pub overflow_add-self : goal.overflow_add-self
 overflow_add-self c = omega (arith, (at_some c.args.self.now c.self.invariant c.self.view_is c.requires).count)
 
 pub invariant_of-self : goal.invariant_of-self
 invariant_of-self c =
-    cursor_next c.args.self.now c.follow-piece.result.0 c.code_from-previous.result c.follow-piece.result.1 c.past_code-exit.result c.self.invariant c.self.view_is c.requires c.code_from-previous.ensures c.past_code-exit.ensures.next c.follow-piece.ensures
+    plain_next c.self.invariant (record { start = (0, 0); end = (0, 0) }) (at_some c.args.self.now c.self.invariant c.self.view_is c.requires).in_pieces c.if-index-self.true c.if-byte-gt13.true
 
-pub returns : goal.returns
-returns c = sym (ap moved (sym c.self.view_is) ∙ moved_is c.self.inside.bytes.now c.self.inside.pieces.now c.self.inside.passed)
+pub returns-then-index-self : goal.returns-then-index-self
+returns-then-index-self c = sym (ap moved (sym c.self.view_is) ∙ moved_is c.self.inside.bytes.now c.self.inside.pieces.now c.self.inside.passed)

@@ -1,0 +1,48 @@
+-- A cursor past ordinary bytes of a piece.
+use Rattle.std.proofs.Common.{ℕ, zero, suc, ◌+◌, ◌-◌, ◌<◌, ◌≤◌, ◌^◌, Bool, true, false, not, ◌&&◌, ◌==◌, ◌≡◌, arith, List, [], ◌∷◌, length, drop, get_or, refl, sym, ap, subst, ◌∙◌, Option, Some, None, IsSome}
+use Rattle.std.proofs.lemmas.List.{drop_more}
+use Rattle.std.proofs.lemmas.Bool.Decides.{nat_tests}
+use Rattle.markdown_engine.specs.declared.event.Point.{Point}
+use Rattle.markdown_engine.specs.declared.parser.Piece.{Piece}
+use Rattle.markdown_engine.specs.Codes.{is_line_ending_byte, tab_value, next_column, place_of}
+use Rattle.markdown_engine.specs.Place.{Place, code_at}
+use Rattle.markdown_engine.specs.Standing.{is_open, IsCursor, IsStanding, content_place}
+use Rattle.markdown_engine.specs.Walk.{next_point, value_from}
+use Rattle.markdown_engine.proofs.Past.{Fits_point, point_fits, next_byte, value_byte, other_byte}
+use Rattle.markdown_engine.proofs.Follows.{followed-open}
+use Rattle.markdown_engine.proofs.CursorSteps.{at_code, IsAtCode, cursor_next}
+
+open-index : (a b c d : ℕ) → a < c → not (a == c && b == d) ≡ true
+open-index a b c d h = grind (arith, nat_tests)
+
+-- a place before the end of its piece, by the index
+pub open-before-end : (pieces : List Piece) (k : ℕ) (p : Point) (d : Piece) → k < length pieces → p.index < (get_or pieces k d).end.0 → is_open (place_of p) (drop k pieces) ≡ true
+open-before-end pieces k p d lt h =
+    ap (λ (x : List Piece). is_open (place_of p) x) (drop_more pieces k d lt) ∙ open-index p.index p.vs (get_or pieces k d).end.0 (get_or pieces k d).end.1 h
+
+not-control : (b c : ℕ) → 13 < b → c ≤ 13 → b ≡ c → ⊥
+not-control b c h k e = omega arith
+
+some-here : (o : Option ℕ) (v : ℕ) → o ≡ Some v → IsSome o
+some-here o v e = subst (λ (x : Option ℕ). IsSome x) (sym e) refl
+
+-- past an ordinary byte that is not the last of its piece
+pub plain_next : {bytes : List ℕ} {pieces : List Piece} {k : ℕ} {p e : Point} {before : Option ℕ} {n : ℕ} → IsCursor bytes pieces k p e before n → (d : Piece) → k < length pieces → p.index + 1 < (get_or pieces k d).end.0 → 13 < get_or bytes p.index 0 → IsCursor bytes pieces k (next_column p (p.index + 1) 0) (next_column p (p.index + 1) 0) (Some (get_or bytes p.index 0)) (n + 1)
+plain_next {bytes} {pieces} {k} {p} {e} {before} {n} h d lt fits plain =
+    let b : ℕ = get_or bytes p.index 0 in
+    let q : Point = next_column p (p.index + 1) 0 in
+    let at : IsAtCode bytes pieces k p n = at_code h (open-before-end pieces k p d lt (omega (arith, fits))) in
+    let byte : is_line_ending_byte b ≡ false = other_byte b (not-control b 10 plain (omega arith)) (not-control b 13 plain (omega arith)) in
+    let tab : b ≡ tab_value → ⊥ = not-control b tab_value plain (omega arith) in
+    let value : value_from bytes p ≡ Some b = value_byte bytes p h.standing.is_point at.in_bytes byte (λ x. absurd (tab x)) in
+    let stop : q ≡ next_point bytes p = next_byte bytes p h.standing.is_point at.in_bytes byte (λ x. absurd (tab x)) in
+    let here : code_at (content_place bytes pieces n) ≡ Some b = sym at.value ∙ value in
+    cursor_next (content_place bytes pieces n) k b q q h refl (some-here (code_at (content_place bytes pieces n)) b here) value stop (followed-open bytes pieces k q (open-before-end pieces k q d lt fits))
+
+-- and its code is that byte
+pub plain_code : {bytes : List ℕ} {pieces : List Piece} {k : ℕ} {p e : Point} {before : Option ℕ} {n : ℕ} → IsCursor bytes pieces k p e before n → (d : Piece) → k < length pieces → p.index + 1 < (get_or pieces k d).end.0 → 13 < get_or bytes p.index 0 → code_at (content_place bytes pieces n) ≡ Some (get_or bytes p.index 0)
+plain_code {bytes} {pieces} {k} {p} {e} {before} {n} h d lt fits plain =
+    let b : ℕ = get_or bytes p.index 0 in
+    let at : IsAtCode bytes pieces k p n = at_code h (open-before-end pieces k p d lt (omega (arith, fits))) in
+    let byte : is_line_ending_byte b ≡ false = other_byte b (not-control b 10 plain (omega arith)) (not-control b 13 plain (omega arith)) in
+    sym at.value ∙ value_byte bytes p h.standing.is_point at.in_bytes byte (λ x. absurd (not-control b tab_value plain (omega arith) x))
