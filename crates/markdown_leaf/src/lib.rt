@@ -1,4 +1,4 @@
-//! The constructs that stand alone: escapes, references, breaks, spans, autolinks, HTML, literals and task checks.
+//! The constructs that stand alone and need no whitespace: escapes, references, hard breaks by a backslash, spans and autolinks.
 #![tactic(auto)]
 
 pub mod autolink;
