@@ -116,7 +116,7 @@ module _ (s : Setting) (tildes : Bool) (bytes : List ℕ) (same : s.bytes ≡ by
   abbrev Whole : Forest → List Sequence → Type 0
   Whole t list = map shape_of (runs_of s t) ≡ map whole_shape list
 
-  filters : (k : ℕ) (xs ys : List Sequence) → runs_in k (xs ++ ys) ≡ runs_in k xs ++ runs_in k ys
+  pub filters : (k : ℕ) (xs ys : List Sequence) → runs_in k (xs ++ ys) ≡ runs_in k xs ++ runs_in k ys
   filters k xs ys = filter-append (is_in k) xs ys
 
   beside : (v : ℕ) (o : Option ℕ) → is_beside_marker s.options.constructs.gfm_strikethrough v o ≡ Runs.is_beside_marker s v o
@@ -126,7 +126,7 @@ module _ (s : Setting) (tildes : Bool) (bytes : List ℕ) (same : s.bytes ≡ by
   flanking : (v : ℕ) (b a : Option ℕ) → is_flanking s.options.constructs.gfm_strikethrough v b a ≡ Runs.is_flanking s v b a
   flanking v b a = ap (λ x. (is_other (class_of a) || (Runs.is_punctuation_class (class_of a) && not (is_other (class_of b)))) || x) (beside v a)
 
-  leaf-shape : (n i : ℕ) (k : Option ℕ) (cs : List Code) → IsRun bytes cs → shape_of (run_of s cs) ≡ whole_shape (sequence_at tildes bytes n i k (start_of cs) (stop_of document_start cs))
+  pub leaf-shape : (n i : ℕ) (k : Option ℕ) (cs : List Code) → IsRun bytes cs → shape_of (run_of s cs) ≡ whole_shape (sequence_at tildes bytes n i k (start_of cs) (stop_of document_start cs))
   unfolding run_of
   leaf-shape n i k [] h = absurd h
   leaf-shape n i k (c ∷ cs) h =
@@ -153,7 +153,7 @@ module _ (s : Setting) (tildes : Bool) (bytes : List ℕ) (same : s.bytes ≡ by
   unfolding runs_of
   runs-group name p q inside rest = refl
 
-  none-in : (t : Forest) → has_run t ≡ false → runs_of s t ≡ []
+  pub none-in : (t : Forest) → has_run t ≡ false → runs_of s t ≡ []
   unfolding runs_of
   none-in empty h = refl
   none-in (leaf_then name link cs rest) h =
@@ -164,20 +164,20 @@ module _ (s : Setting) (tildes : Bool) (bytes : List ℕ) (same : s.bytes ≡ by
   none-in (group_then name p q inside rest) h = none-in rest h
 
   -- a leaf's run, in a row and in others
-  leaf-in : (n i : ℕ) (k : Option ℕ) (r : ℕ) (name : Name) (p q : Point) → row_of k ≡ r → runs_in r (leaf_run tildes bytes n i k name p q) ≡ leaf_run tildes bytes n i k name p q
+  pub leaf-in : (n i : ℕ) (k : Option ℕ) (r : ℕ) (name : Name) (p q : Point) → row_of k ≡ r → runs_in r (leaf_run tildes bytes n i k name p q) ≡ leaf_run tildes bytes n i k name p q
   leaf-in n i k r name p q e =
       elim (cases_Bool (is_run name)) [ inl is ↦ rw (is, eq-eqb (row_of k) r e) refl | inr off ↦ rw off refl ]
 
-  leaf-out : (n i : ℕ) (k : Option ℕ) (r : ℕ) (name : Name) (p q : Point) → (row_of k ≡ r → ⊥) → runs_in r (leaf_run tildes bytes n i k name p q) ≡ []
+  pub leaf-out : (n i : ℕ) (k : Option ℕ) (r : ℕ) (name : Name) (p q : Point) → (row_of k ≡ r → ⊥) → runs_in r (leaf_run tildes bytes n i k name p q) ≡ []
   leaf-out n i k r name p q e =
       elim (cases_Bool (is_run name)) [ inl is ↦ rw (is, ne_eqb (row_of k) r e) refl | inr off ↦ rw off refl ]
 
   -- the row of what stands inside a group
-  inner-row : (i : ℕ) (k : Option ℕ) (name : Name) → ((is_text name ≡ true) × (row_of (inner i k name) ≡ i + 1)) ⊎ ((is_text name ≡ false) × (inner i k name ≡ k))
+  pub inner-row : (i : ℕ) (k : Option ℕ) (name : Name) → ((is_text name ≡ true) × (row_of (inner i k name) ≡ i + 1)) ⊎ ((is_text name ≡ false) × (inner i k name ≡ k))
   inner-row i k name = elim (cases_Bool (is_text name)) [ inl is ↦ inl (is, rw is refl) | inr off ↦ inr (off, rw off refl) ]
 
   -- no run of another row
-  others : (t : Forest) (n i : ℕ) (k : Option ℕ) (r : ℕ) → (row_of k ≡ r → ⊥) → (r ≤ i) ⊎ (i + event_count t < r) → runs_in r (runs n i k t) ≡ []
+  pub others : (t : Forest) (n i : ℕ) (k : Option ℕ) (r : ℕ) → (row_of k ≡ r → ⊥) → (r ≤ i) ⊎ (i + event_count t < r) → runs_in r (runs n i k t) ≡ []
   others empty n i k r ne far = refl
   others (leaf_then name link cs rest) n i k r ne far =
       let here : List Sequence = leaf_run tildes bytes n i k name (start_of cs) (stop_of document_start cs) in
@@ -200,7 +200,7 @@ module _ (s : Setting) (tildes : Bool) (bytes : List ℕ) (same : s.bytes ≡ by
   leaf-row false r x rs xs h next = next
 
   -- the runs of a row, in its container
-  row-is : (t : Forest) (n i : ℕ) (k : Option ℕ) (r : ℕ) → HasRuns bytes t → row_of k ≡ r → r ≤ i → Whole t (runs_in r (runs n i k t))
+  pub row-is : (t : Forest) (n i : ℕ) (k : Option ℕ) (r : ℕ) → HasRuns bytes t → row_of k ≡ r → r ≤ i → Whole t (runs_in r (runs n i k t))
   unfolding runs_of
   row-is empty n i k r h e low = refl
   row-is (leaf_then name link cs rest) n i k r h e low =

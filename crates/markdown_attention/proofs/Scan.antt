@@ -1,12 +1,14 @@
 -- What one scan over all containers keeps true of each container's pairs.
-use Rattle.std.proofs.Common.{◌≡◌, ℕ, ◌+◌, ◌≤◌, eqb, List, [], ◌∷◌, ◌++◌, sym, ◌∙◌, subst, inl, inr, arith, append_assoc, append-nil}
+use Rattle.std.proofs.Common.{◌≡◌, ℕ, ◌+◌, ◌≤◌, eqb, cond, Bool, true, false, refl, ap, List, [], ◌∷◌, ◌++◌, sym, ◌∙◌, subst, inl, inr, arith, append_assoc, append-nil}
 use Rattle.std.proofs.lemmas.Bool.{cases_lt, cases_eq, eq-eqb, ne_eqb}
 use Rattle.std.proofs.lemmas.List.Elements.{All-head, All-tail, All-push, All-nil, filter-append, All-filter, All-weaker}
 use Rattle.std.specs.Prelude.{All}
 use Rattle.markdown_attention.specs.declared.attention.runs.Sequence.{Sequence}
 use Rattle.markdown_attention.specs.declared.attention.pairing.Pair.{Pair}
 use Rattle.markdown_engine.specs.declared.configuration.ParseOptions.{ParseOptions}
-use Rattle.markdown_attention.specs.Pairs.{row_of, Eligible, IsNext, PairsFrom, NoneEligible, run_at, pairs_in}
+use Rattle.markdown_attention.specs.Containers.{AreWithin, AreTakenOnce}
+use Rattle.markdown_attention.specs.Pairs.{row_of, Eligible, IsNext, PairsFrom, NoneEligible, run_at, pairs_in, taken, takes, left}
+use Rattle.markdown_attention.proofs.Standing.{taken_push, takes_opener, takes_closer, takes_other, fits_size}
 
 module _ (options : ParseOptions) (runs : List Sequence) (k : ℕ) where
   pub pairs_extend : (end : ℕ) (done : List Pair) (last : ℕ) (ps : List Pair)
@@ -99,3 +101,62 @@ module _ (options : ParseOptions) (runs : List Sequence) where
         ];
         closers = All-push (λ p. p.closer ≤ turn) pairs q h.closers (omega arith);
       }
+
+-- the pairs are of two runs of one container
+within-from : (options : ParseOptions) (runs : List Sequence) (k end : ℕ) (done : List Pair) (last : ℕ) (ps : List Pair) → PairsFrom options runs k end done last ps → AreWithin runs ps
+within-from options runs k end done last [] h = tt
+within-from options runs k end done last (p ∷ ps) h =
+    let e = h.0.eligible in
+    (record { order = e.before; within = e.within; row = e.opener_in ∙ sym e.closer_in }, within-from options runs k end (done ++ p ∷ []) p.closer ps h.1)
+
+-- what holds of the pairs of each container holds of all
+within-each : (runs : List Sequence) (ps : List Pair) → ((k : ℕ) → AreWithin runs (pairs_in runs k ps)) → AreWithin runs ps
+within-each runs [] h = tt
+within-each runs (p ∷ ps) h =
+    let k : ℕ = row_of (run_at runs p.closer).container in (
+      (subst (λ (b : Bool). AreWithin runs (cond b (p ∷ pairs_in runs k ps) (pairs_in runs k ps))) (eq-eqb k k refl) (h k)).0,
+      within-each runs ps (λ j. rest j (eqb k j) (h j)),
+    )
+  where
+    rest : (j : ℕ) (b : Bool) → AreWithin runs (cond b (p ∷ pairs_in runs j ps) (pairs_in runs j ps)) → AreWithin runs (pairs_in runs j ps)
+    rest j true a = a.1
+    rest j false a = a
+
+pub all-within : (options : ParseOptions) (runs : List Sequence) (turn : ℕ) (pairs : List Pair) → Scanned options runs turn pairs → AreWithin runs pairs
+all-within options runs turn pairs h = within-each runs pairs (λ k. within-from options runs k turn [] 0 (pairs_in runs k pairs) (h.lists k))
+
+-- of a run no more is taken than it has
+once-next : (options : ParseOptions) (runs : List Sequence) (k : ℕ) (done : List Pair) (last : ℕ) (p : Pair) (g : ℕ) → IsNext options runs k done last p → taken done g ≤ (run_at runs g).size → taken (done ++ p ∷ []) g ≤ (run_at runs g).size
+once-next options runs k done last p g n h =
+    let f = fits_size (left runs done p.opener) (left runs done p.closer) p.size n.eligible.opener_left n.eligible.closer_left n.size in
+    let push = taken_push done p g in
+    elim (cases_eq g p.opener) [
+      | inl o ↦
+          let t : takes g p ≡ p.size = ap (λ i. takes i p) o ∙ takes_opener p in
+          let l : left runs done p.opener ≡ left runs done g = ap (left runs done) (sym o) in
+          let a = f.1 in
+          omega (arith, push, t, l, a, h)
+      | inr not_opener ↦
+          elim (cases_eq g p.closer) [
+            | inl c ↦
+                let t : takes g p ≡ p.size = ap (λ i. takes i p) c ∙ takes_closer p in
+                let l : left runs done p.closer ≡ left runs done g = ap (left runs done) (sym c) in
+                let a = f.2 in
+                omega (arith, push, t, l, a, h)
+            | inr not_closer ↦ let t = takes_other p g not_opener not_closer in omega (arith, push, t, h)
+          ]
+    ]
+
+once-from : (options : ParseOptions) (runs : List Sequence) (k end : ℕ) (done : List Pair) (last : ℕ) (ps : List Pair) (g : ℕ) → PairsFrom options runs k end done last ps → taken done g ≤ (run_at runs g).size → taken (done ++ ps) g ≤ (run_at runs g).size
+once-from options runs k end done last [] g h t = subst (λ (x : List Pair). taken x g ≤ (run_at runs g).size) (sym (append-nil done)) t
+once-from options runs k end done last (p ∷ ps) g h t =
+    subst (λ (x : List Pair). taken x g ≤ (run_at runs g).size) (append_assoc done (p ∷ []) ps) (once-from options runs k end (done ++ p ∷ []) p.closer ps g h.1 (once-next options runs k done last p g h.0 t))
+
+none-taken : (g n : ℕ) → taken [] g ≤ n
+unfolding taken
+none-taken g n = omega arith
+
+pub all-once : (options : ParseOptions) (runs : List Sequence) (turn : ℕ) (pairs : List Pair) → Scanned options runs turn pairs → AreTakenOnce runs pairs
+all-once options runs turn pairs h g =
+    let k : ℕ = row_of (run_at runs g).container in
+    once-from options runs k turn [] 0 (pairs_in runs k pairs) g (h.lists k) (none-taken g (run_at runs g).size)

@@ -1,11 +1,11 @@
 -- The runs and pairs of one container: the whole content, or the text of one label.
-use Rattle.std.specs.Prelude.{◌≡◌, ℕ, zero, suc, Bool, ◌==◌, if◌then◌else◌, List, [], ◌∷◌, map, filter, Option}
+use Rattle.std.specs.Prelude.{◌≡◌, ℕ, zero, suc, ◌<◌, ◌≤◌, Bool, ◌==◌, if◌then◌else◌, List, [], ◌∷◌, length, map, filter, Option}
 use Rattle.markdown_engine.specs.declared.configuration.ParseOptions.{ParseOptions}
 use Rattle.markdown_model.specs.Laws.{Shape, shape_of}
 use Rattle.markdown_model.specs.Pairs as Model
 use Rattle.markdown_model.specs.Runs.{Run}
 use Rattle.markdown_model.specs.Setting.{Setting}
-use Rattle.markdown_attention.specs.Pairs.{row_of, pairs_in}
+use Rattle.markdown_attention.specs.Pairs.{row_of, run_at, pairs_in, taken}
 use Rattle.markdown_attention.specs.declared.attention.pairing.Pair.{Pair}
 use Rattle.markdown_attention.specs.declared.attention.runs.Sequence.{Sequence}
 
@@ -39,3 +39,17 @@ ArePairLists options list pairs =
     (s : Setting) (container : Option ℕ) (runs : List Run)
     → s.options ≡ options → map shape_of runs ≡ map whole_shape (runs_in (row_of container) list)
     → Model.IsPairList s runs (pairs_of (row_of container) list pairs)
+
+-- a pair of two runs of one container, in order
+pub record IsWithin (list : List Sequence) (p : Pair) : Type 0 where
+  pub order : p.opener < p.closer
+  pub within : p.closer < length list
+  pub row : row_of (run_at list p.opener).container ≡ row_of (run_at list p.closer).container
+
+abbrev pub AreWithin : List Sequence → List Pair → Type 0
+AreWithin list [] = Unit {0}
+AreWithin list (p ∷ ps) = IsWithin list p × AreWithin list ps
+
+-- of each run no more is taken than it has
+abbrev pub AreTakenOnce : List Sequence → List Pair → Type 0
+AreTakenOnce list pairs = (g : ℕ) → taken (pairs_in list (row_of (run_at list g).container) pairs) g ≤ (run_at list g).size

@@ -65,6 +65,9 @@ sequence_at tildes bytes n i container from to =
 
 -- In which container events stand.
 
+abbrev pub Around : Type 0
+Around = Where
+
 abbrev pub outermost : Where
 outermost = record { container = None; outer = [] }
 

@@ -7,7 +7,7 @@ ghost use Rattle.std.specs.Prelude.{◌≡◌, ℕ, ◌+◌, ◌-◌, ◌*◌, �
 ghost use Rattle.markdown_attention.specs.Pairs.{run_at, markers_left, sizes_fit, read_size, three_refuses, tilde_allows, size_of_pair, row_of};
 ghost use Rattle.markdown_attention.specs.Walk.{Stands, Whole, AreSmall};
 ghost use Rattle.markdown_attention.specs.Open.{key_of, kind_of, class_of, WalkFound, WalkEnded, IsCut, HaveMarkers, IsClosing};
-ghost use Rattle.markdown_attention.specs.Containers.{ArePairLists};
+ghost use Rattle.markdown_attention.specs.Containers.{ArePairLists, AreWithin, AreTakenOnce};
 
 use crate::attention::runs::{Runs, Sequence};
 use markdown_engine::configuration::ParseOptions;
@@ -282,6 +282,8 @@ pub fn pair_runs(
     requires count { length runs.old.list < 2 ^ 63 }
     requires rows { (r : ℕ) → r < length runs.old.list → row_of (run_at runs.old.list r).container < rows }
     ensures lists { IfOk result (λ pairs. ArePairLists options runs.old.list pairs.items) }
+    ensures within { IfOk result (λ pairs. AreWithin runs.old.list pairs.items) }
+    ensures once { IfOk result (λ pairs. AreTakenOnce runs.old.list pairs.items) }
     ensures left { IfOk result (λ pairs. Stands runs.old.list runs.new.list pairs.items) }
     ensures at_most { IfOk result (λ pairs. runs.new.probes ≤ 6 * count_by (λ r. r.may_open) runs.old.list + count_by (λ r. r.may_close) runs.old.list + 7 * length pairs.items) }
     ensures at_least { IfOk result (λ pairs. length pairs.items ≤ runs.new.probes) }

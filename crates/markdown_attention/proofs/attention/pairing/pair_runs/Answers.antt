@@ -6,6 +6,7 @@ use Rattle.markdown_attention.specs.Open.{class_of, list_of, mark_of, WalkFound,
 use Rattle.markdown_attention.proofs.OpenLists.{by-marker}
 use Rattle.markdown_attention.proofs.Standing.{markers_taking, length_taking}
 use Rattle.markdown_attention.proofs.ListScan.{inv_start}
+use Rattle.markdown_attention.proofs.Scan.{all-within, all-once}
 use Rattle.markdown_attention.proofs.Turns.{scanned-all, paid-all, looks-all, end_turn, pair_turn, fits, key_is, small_runs, some_key, zeros, length_if, less}
 use Rattle.markdown_attention.proofs.attention.pairing.pair_runs.Goals as goal
 use Rattle.markdown_attention.proofs.attention.pairing.pair_runs.Goals.{After-walk, After-pair_size-size, After-row_known-in-Some-1}
@@ -216,6 +217,8 @@ returns c =
     record {
       lists = scanned-all c.args.options c.args.runs.now.list c.loop-closer.runs.list c.loop-closer.runs.turn c.loop-closer.pairs.items c.loop-closer.runs.probes
           c.loop-closer.heads.items c.loop-closer.older.items c.loop-closer.marks.items inv last;
+      within = all-within c.args.options c.args.runs.now.list c.loop-closer.runs.turn c.loop-closer.pairs.items inv.scanned;
+      once = all-once c.args.options c.args.runs.now.list c.loop-closer.runs.turn c.loop-closer.pairs.items inv.scanned;
       left = inv.stands;
       at_most = paid-all c.args.options c.args.runs.now.list c.loop-closer.runs.list c.loop-closer.runs.turn c.loop-closer.pairs.items c.loop-closer.runs.probes
           c.loop-closer.heads.items c.loop-closer.older.items c.loop-closer.marks.items inv last;

@@ -1,0 +1,342 @@
+-- The pairs of all containers of a tree are as many as those of one scan over all runs.
+use Rattle.std.proofs.Common.{◌≡◌, ℕ, zero, suc, ◌+◌, ◌<◌, ◌≤◌, ◌==◌, Bool, true, false, if◌then◌else◌, cond, List, [], ◌∷◌, ◌++◌, length, map, Option, Some, None, refl, sym, ap, subst, ◌∙◌, arith, inl, inr, ◌⊎◌, sum_by}
+use Rattle.std.specs.Prelude.{All}
+use Rattle.std.proofs.lemmas.Bool.{cases_lt}
+use Rattle.std.proofs.lemmas.Bool.Decides.{nat_tests}
+use Rattle.std.proofs.lemmas.List.{length-map}
+use Rattle.std.proofs.lemmas.List.Elements.{All-head, All-tail}
+use Rattle.std.proofs.lemmas.List.Sums.{sum_by-append, sum_by-cons}
+use Rattle.markdown_engine.specs.Codes.{stop_of, document_start}
+use Rattle.markdown_engine.specs.Tree.{Forest, empty, leaf_then, group_then, event_count, start_of}
+use Rattle.markdown_engine.specs.declared.configuration.ParseOptions.{ParseOptions}
+use Rattle.markdown_engine.specs.declared.event.Name.{Name}
+use Rattle.markdown_engine.specs.declared.event.Point.{Point}
+use Rattle.markdown_model.specs.Inline.{pair_count}
+use Rattle.markdown_model.specs.Laws.{shape_of}
+use Rattle.markdown_model.specs.Pairs.{pair_list}
+use Rattle.markdown_model.specs.Runs.{Run, runs_of, rows_inside, containers_of}
+use Rattle.markdown_model.specs.Setting.{Setting}
+use Rattle.markdown_model.proofs.PairFacts.{pairs_are_sound}
+use Rattle.markdown_model.proofs.PairLaws.{some_pair_list, same_pair_list}
+use Rattle.markdown_attention.specs.Containers.{whole_shape, runs_in, placed, pairs_of, ArePairLists, AreWithin}
+use Rattle.markdown_attention.specs.Pairs.{row_of, run_at, pairs_in}
+use Rattle.markdown_attention.specs.Reading.{is_run, is_text}
+use Rattle.markdown_attention.specs.Rows.{HasRows, leaf_run, inner, tree_runs, texts_of, HasRuns}
+use Rattle.markdown_attention.specs.declared.attention.pairing.Pair.{Pair}
+use Rattle.markdown_attention.specs.declared.attention.runs.Sequence.{Sequence}
+use Rattle.markdown_attention.proofs.RowLemmas.{none-in, has-rows}
+use Rattle.markdown_emphasis.proofs.Counts.{rows-empty, rows-leaf, rows-group, leaf-run-yes, leaf-run-no}
+
+true-or : (b : Bool) → (b ≡ true) ⊎ (b ≡ false)
+true-or true = inl refl
+true-or false = inr refl
+
+clash : {A : Type 0} → (b : Bool) → b ≡ true → b ≡ false → A
+clash true h k = cc
+clash false h k = cc
+
+other-test : (a b : ℕ) → (a ≡ b → ⊥) → (a == b) ≡ false
+other-test a b h = grind (arith, nat_tests)
+
+same-test : (a b : ℕ) → a ≡ b → (a == b) ≡ true
+same-test a b h = grind (arith, nat_tests)
+
+-- Sums over the rows of texts.
+
+abbrev Texts : Type 0
+Texts = List (ℕ × Forest)
+
+-- of a number for each row
+abbrev sums : (ℕ → ℕ) → Texts → ℕ
+sums f [] = 0
+sums f (x ∷ xs) = f (x.0 + 1) + sums f xs
+
+abbrev is_row : ℕ → ℕ → ℕ
+is_row r m = if r == m then 1 else 0
+
+-- how many texts have this row
+abbrev hits : ℕ → Texts → ℕ
+hits r xs = sums (is_row r) xs
+
+row-yes : (r m : ℕ) → r ≡ m → is_row r m ≡ 1
+row-yes r m e = ap (λ (b : Bool). if b then 1 else 0) (same-test r m e)
+
+row-no : (r m : ℕ) → (r ≡ m → ⊥) → is_row r m ≡ 0
+row-no r m e = ap (λ (b : Bool). if b then 1 else 0) (other-test r m e)
+
+row-few : (r m : ℕ) → is_row r m ≤ 1
+row-few r m = by_test (r == m)
+  where
+    by_test : (b : Bool) → (if b then 1 else 0) ≤ 1
+    by_test true = omega arith
+    by_test false = omega arith
+
+sums-append : (f : ℕ → ℕ) (xs ys : Texts) → sums f (xs ++ ys) ≡ sums f xs + sums f ys
+sums-append f [] ys = omega arith
+sums-append f (x ∷ xs) ys = omega (arith, sums-append f xs ys)
+
+sums-same : (f g : ℕ → ℕ) (xs : Texts) → ((m : ℕ) → f m ≡ g m) → sums f xs ≡ sums g xs
+sums-same f g [] h = refl
+sums-same f g (x ∷ xs) h = λ i. h (x.0 + 1) i + sums-same f g xs h i
+
+sums-plus : (f g : ℕ → ℕ) (xs : Texts) → sums (λ m. f m + g m) xs ≡ sums f xs + sums g xs
+sums-plus f g [] = omega arith
+sums-plus f g (x ∷ xs) = omega (arith, sums-plus f g xs)
+
+sums-none : (f : ℕ → ℕ) (xs : Texts) → ((m : ℕ) → f m ≡ 0) → sums f xs ≡ 0
+sums-none f [] h = refl
+sums-none f (x ∷ xs) h = omega (arith, h (x.0 + 1), sums-none f xs h)
+
+-- the text of a group itself
+abbrev own : ℕ → Name → Forest → Texts
+own i name inside = if is_text name then (i, inside) ∷ [] else []
+
+own-yes : (f : ℕ → ℕ) (i : ℕ) (name : Name) (inside : Forest) → is_text name ≡ true → sums f (own i name inside) ≡ f (i + 1) + 0
+own-yes f i name inside e = ap (λ (b : Bool). sums f (if b then (i, inside) ∷ [] else [])) e
+
+own-no : (f : ℕ → ℕ) (i : ℕ) (name : Name) (inside : Forest) → is_text name ≡ false → sums f (own i name inside) ≡ 0
+own-no f i name inside e = ap (λ (b : Bool). sums f (if b then (i, inside) ∷ [] else [])) e
+
+group-sums : (f : ℕ → ℕ) (i : ℕ) (name : Name) (a b : Point) (inside rest : Forest)
+    → sums f (texts_of i (group_then name a b inside rest)) ≡ sums f (own i name inside) + (sums f (texts_of (i + 1) inside) + sums f (texts_of (i + 2 + event_count inside) rest))
+group-sums f i name a b inside rest =
+    sums-append f (own i name inside) (texts_of (i + 1) inside ++ texts_of (i + 2 + event_count inside) rest)
+    ∙ ap (λ x. sums f (own i name inside) + x) (sums-append f (texts_of (i + 1) inside) (texts_of (i + 2 + event_count inside) rest))
+
+own-out : (r i : ℕ) (name : Name) (inside : Forest) → (r ≡ i + 1 → ⊥) → hits r (own i name inside) ≡ 0
+own-out r i name inside ne = elim (true-or (is_text name)) [
+  | inl e ↦ let x : hits r (own i name inside) ≡ is_row r (i + 1) + 0 = own-yes (is_row r) i name inside e in omega (arith, x, row-no r (i + 1) ne)
+  | inr e ↦ own-no (is_row r) i name inside e
+]
+
+own-few : (r i : ℕ) (name : Name) (inside : Forest) → hits r (own i name inside) ≤ 1
+own-few r i name inside = elim (true-or (is_text name)) [
+  | inl e ↦ let x : hits r (own i name inside) ≡ is_row r (i + 1) + 0 = own-yes (is_row r) i name inside e in omega (arith, x, row-few r (i + 1))
+  | inr e ↦ let x : hits r (own i name inside) ≡ 0 = own-no (is_row r) i name inside e in omega (arith, x)
+]
+
+-- Rows of texts are different, and lie among the tree's events.
+
+hits-low : (t : Forest) (i r : ℕ) → r ≤ i → hits r (texts_of i t) ≡ 0
+hits-low empty i r l = refl
+hits-low (leaf_then name link cs rest) i r l = hits-low rest (i + 2) r (omega (arith, l))
+hits-low (group_then name a b inside rest) i r l =
+    let x : hits r (own i name inside) ≡ 0 = own-out r i name inside (λ e. omega (arith, l, e)) in
+    let y : hits r (texts_of (i + 1) inside) ≡ 0 = hits-low inside (i + 1) r (omega (arith, l)) in
+    let z : hits r (texts_of (i + 2 + event_count inside) rest) ≡ 0 = hits-low rest (i + 2 + event_count inside) r (omega (arith, l)) in
+    omega (arith, group-sums (is_row r) i name a b inside rest, x, y, z)
+
+hits-high : (t : Forest) (i r : ℕ) → i + event_count t < r → hits r (texts_of i t) ≡ 0
+hits-high empty i r l = refl
+hits-high (leaf_then name link cs rest) i r l = hits-high rest (i + 2) r (omega (arith, l))
+hits-high (group_then name a b inside rest) i r l =
+    let x : hits r (own i name inside) ≡ 0 = own-out r i name inside (λ e. omega (arith, l, e)) in
+    let y : hits r (texts_of (i + 1) inside) ≡ 0 = hits-high inside (i + 1) r (omega (arith, l)) in
+    let z : hits r (texts_of (i + 2 + event_count inside) rest) ≡ 0 = hits-high rest (i + 2 + event_count inside) r (omega (arith, l)) in
+    omega (arith, group-sums (is_row r) i name a b inside rest, x, y, z)
+
+cases-le : (a b : ℕ) → (a ≤ b) ⊎ (b < a)
+cases-le a b = by_test (cases_lt b a)
+  where
+    by_test : (b < a) ⊎ (a ≤ b) → (a ≤ b) ⊎ (b < a)
+    by_test (inl l) = inr l
+    by_test (inr l) = inl l
+
+hits-once : (t : Forest) (i r : ℕ) → hits r (texts_of i t) ≤ 1
+hits-once empty i r = omega arith
+hits-once (leaf_then name link cs rest) i r = hits-once rest (i + 2) r
+hits-once (group_then name a b inside rest) i r =
+    let j : ℕ = i + 2 + event_count inside in
+    let parts = group-sums (is_row r) i name a b inside rest in
+    let in_own : hits r (own i name inside) ≤ 1 = own-few r i name inside in
+    let in_front : hits r (texts_of (i + 1) inside) ≤ 1 = hits-once inside (i + 1) r in
+    let in_back : hits r (texts_of j rest) ≤ 1 = hits-once rest j r in
+    elim (cases-le r (i + 1)) [
+      | inl l ↦
+          let y : hits r (texts_of (i + 1) inside) ≡ 0 = hits-low inside (i + 1) r l in
+          let z : hits r (texts_of j rest) ≡ 0 = hits-low rest j r (omega (arith, l)) in
+          omega (arith, parts, in_own, y, z)
+      | inr l ↦
+          let x : hits r (own i name inside) ≡ 0 = own-out r i name inside (λ e. omega (arith, l, e)) in
+          elim (cases-le r j) [
+            | inl m ↦ let z : hits r (texts_of j rest) ≡ 0 = hits-low rest j r m in omega (arith, parts, in_front, x, z)
+            | inr m ↦ let y : hits r (texts_of (i + 1) inside) ≡ 0 = hits-high inside (i + 1) r (omega (arith, m)) in omega (arith, parts, in_back, x, y)
+          ]
+    ]
+
+-- The row of each run is that of the whole or of a text.
+
+abbrev Every : (Sequence → Type 0) → List Sequence → Type 0
+Every P [] = Unit {0}
+Every P (x ∷ xs) = P x × Every P xs
+
+every-append : (P : Sequence → Type 0) (xs ys : List Sequence) → Every P xs → Every P ys → Every P (xs ++ ys)
+every-append P [] ys h k = k
+every-append P (x ∷ xs) ys h k = (h.0, every-append P xs ys h.1 k)
+
+every-map : (P Q : Sequence → Type 0) (xs : List Sequence) → ((x : Sequence) → P x → Q x) → Every P xs → Every Q xs
+every-map P Q [] f h = tt
+every-map P Q (x ∷ xs) f h = (f x h.0, every-map P Q xs f h.1)
+
+every-at : (P : Sequence → Type 0) (xs : List Sequence) (i : ℕ) → i < length xs → Every P xs → P (run_at xs i)
+every-at P [] i l h = absurd (omega (arith, l))
+every-at P (x ∷ xs) zero l h = h.0
+every-at P (x ∷ xs) (suc i) l h = every-at P xs i (omega (arith, l)) h.1
+
+-- in this row, or in that of one of the texts
+abbrev Stays : ℕ → Texts → Sequence → Type 0
+Stays r xs q = (row_of q.container ≡ r) ⊎ (1 ≤ hits (row_of q.container) xs)
+
+module _ (tildes : Bool) (bytes : List ℕ) where
+  stays-tree : (t : Forest) (n i : ℕ) (k : Option ℕ) → Every (Stays (row_of k) (texts_of i t)) (tree_runs tildes bytes n i k t)
+  stays-tree empty n i k = tt
+  stays-tree (leaf_then name link cs rest) n i k =
+      let here : List Sequence = leaf_run tildes bytes n i k name (start_of cs) (stop_of document_start cs) in
+      let P : Sequence → Type 0 = Stays (row_of k) (texts_of (i + 2) rest) in
+      let one : Every P here = elim (true-or (is_run name)) [
+        | inl e ↦ subst (λ (xs : List Sequence). Every P xs) (sym (leaf-run-yes tildes bytes n i k name (start_of cs) (stop_of document_start cs) e)) (inl refl, tt)
+        | inr e ↦ subst (λ (xs : List Sequence). Every P xs) (sym (leaf-run-no tildes bytes n i k name (start_of cs) (stop_of document_start cs) e)) tt
+      ] in
+      every-append P here (tree_runs tildes bytes (n + length here) (i + 2) k rest) one (stays-tree rest (n + length here) (i + 2) k)
+  stays-tree (group_then name a b inside rest) n i k =
+      let j : ℕ = i + 2 + event_count inside in
+      let whole : Texts = texts_of i (group_then name a b inside rest) in
+      let front : List Sequence = tree_runs tildes bytes n (i + 1) (inner i k name) inside in
+      let back : List Sequence = tree_runs tildes bytes (n + length front) j k rest in
+      let P : Sequence → Type 0 = Stays (row_of k) whole in
+      let parts : (r : ℕ) → hits r whole ≡ hits r (own i name inside) + (hits r (texts_of (i + 1) inside) + hits r (texts_of j rest)) = λ r. group-sums (is_row r) i name a b inside rest in
+      let outer : (q : Sequence) → row_of q.container ≡ row_of (inner i k name) → P q = λ q e. elim (true-or (is_text name)) [
+        | inl x ↦
+            let at : row_of (inner i k name) ≡ i + 1 = ap (λ (b : Bool). row_of (if b then Some i else k)) x in
+            let one : hits (row_of q.container) (own i name inside) ≡ is_row (row_of q.container) (i + 1) + 0 = own-yes (is_row (row_of q.container)) i name inside x in
+            inr (omega (arith, parts (row_of q.container), one, row-yes (row_of q.container) (i + 1) (e ∙ at)))
+        | inr x ↦ inl (e ∙ ap (λ (b : Bool). row_of (if b then Some i else k)) x)
+      ] in
+      let from_front : (q : Sequence) → Stays (row_of (inner i k name)) (texts_of (i + 1) inside) q → P q = λ q h. elim h [
+        | inl e ↦ outer q e
+        | inr l ↦ inr (omega (arith, parts (row_of q.container), l))
+      ] in
+      let from_back : (q : Sequence) → Stays (row_of k) (texts_of j rest) q → P q = λ q h. elim h [
+        | inl e ↦ inl e
+        | inr l ↦ inr (omega (arith, parts (row_of q.container), l))
+      ] in
+      every-append P front back
+      (every-map (Stays (row_of (inner i k name)) (texts_of (i + 1) inside)) P front from_front (stays-tree inside n (i + 1) (inner i k name)))
+      (every-map (Stays (row_of k) (texts_of j rest)) P back from_back (stays-tree rest (n + length front) j k))
+
+-- Pairs by rows.
+
+module _ (list : List Sequence) (texts : Texts) where
+  abbrev row_in : Pair → ℕ
+  row_in p = row_of (run_at list p.closer).container
+
+  abbrev in_row : List Pair → ℕ → ℕ
+  in_row ps m = length (pairs_in list m ps)
+
+  one-more : (p : Pair) (ps : List Pair) (m : ℕ) → in_row (p ∷ ps) m ≡ is_row (row_in p) m + in_row ps m
+  one-more p ps m = by_test (row_in p == m)
+    where
+      by_test : (b : Bool) → length (cond b (p ∷ pairs_in list m ps) (pairs_in list m ps)) ≡ (if b then 1 else 0) + in_row ps m
+      by_test true = omega arith
+      by_test false = omega arith
+
+  -- each pair is of one container
+  abbrev AreOnce : List Pair → Type 0
+  AreOnce [] = Unit {0}
+  AreOnce (p ∷ ps) = (is_row (row_in p) 0 + hits (row_in p) texts ≡ 1) × AreOnce ps
+
+  pairs-once : (ps : List Pair) → AreOnce ps → in_row ps 0 + sums (in_row ps) texts ≡ length ps
+  pairs-once [] h = let x : sums (in_row []) texts ≡ 0 = sums-none (in_row []) texts (λ m. refl) in omega (arith, x)
+  pairs-once (p ∷ ps) h =
+      let first : in_row (p ∷ ps) 0 ≡ is_row (row_in p) 0 + in_row ps 0 = one-more p ps 0 in
+      let more : sums (in_row (p ∷ ps)) texts ≡ hits (row_in p) texts + sums (in_row ps) texts =
+      sums-same (in_row (p ∷ ps)) (λ m. is_row (row_in p) m + in_row ps m) texts (one-more p ps) ∙ sums-plus (is_row (row_in p)) (in_row ps) texts in
+      omega (arith, first, more, h.0, pairs-once ps h.1)
+
+-- Containers.
+
+empty-list : (s : Setting) → length (pair_list s []) ≡ 0
+empty-list s = let x = (pairs_are_sound s [] (pair_list s []) (some_pair_list s [])).half in omega (arith, x)
+
+module _ (s : Setting) (tildes : Bool) (bytes : List ℕ) (same : s.bytes ≡ bytes) (on : s.options.constructs.gfm_strikethrough ≡ tildes) (list : List Sequence) (pairs : List Pair) where
+  abbrev count_of : List Run → ℕ
+  count_of rs = length (pair_list s rs)
+
+  abbrev of_row : ℕ → ℕ
+  of_row m = length (pairs_in list m pairs)
+
+  abbrev IsCounted : ℕ × Forest → Type 0
+  IsCounted text = count_of (runs_of s text.1) ≡ of_row (text.0 + 1)
+
+  abbrev EachText : Texts → Type 0
+  EachText [] = Unit {0}
+  EachText (x ∷ xs) = IsCounted x × EachText xs
+
+  each-front : (xs ys : Texts) → EachText (xs ++ ys) → EachText xs × EachText ys
+  each-front [] ys h = (tt, h)
+  each-front (x ∷ xs) ys h = let r = each-front xs ys h.1 in ((h.0, r.0), r.1)
+
+  rows-paired : (t : Forest) (i : ℕ) → HasRuns bytes t → EachText (texts_of i t) → sum_by count_of (rows_inside s t) ≡ sums of_row (texts_of i t)
+  rows-paired empty i h k = ap (λ x. sum_by count_of x) (rows-empty s)
+  rows-paired (leaf_then name link cs rest) i h k = ap (λ x. sum_by count_of x) (rows-leaf s name link cs rest) ∙ rows-paired rest (i + 2) h.1 k
+  rows-paired (group_then name a b inside rest) i h k =
+      let j : ℕ = i + 2 + event_count inside in
+      let x = each-front (own i name inside) (texts_of (i + 1) inside ++ texts_of j rest) k in
+      let y = each-front (texts_of (i + 1) inside) (texts_of j rest) x.1 in
+      let front : sum_by count_of (rows_inside s inside) ≡ sums of_row (texts_of (i + 1) inside) = rows-paired inside (i + 1) h.1.0 y.0 in
+      let back : sum_by count_of (rows_inside s rest) ≡ sums of_row (texts_of j rest) = rows-paired rest j h.1.1 y.1 in
+      let rows : sum_by count_of (rows_inside s (group_then name a b inside rest)) ≡ sum_by count_of (runs_of s inside ∷ rows_inside s inside) + sum_by count_of (rows_inside s rest) =
+      ap (λ z. sum_by count_of z) (rows-group s name a b inside rest) ∙ sum_by-append count_of (runs_of s inside ∷ rows_inside s inside) (rows_inside s rest) in
+      let first : sum_by count_of (runs_of s inside ∷ rows_inside s inside) ≡ count_of (runs_of s inside) + sum_by count_of (rows_inside s inside) = sum_by-cons count_of (runs_of s inside) (rows_inside s inside) in
+      let it : count_of (runs_of s inside) ≡ sums of_row (own i name inside) = elim (true-or (is_text name)) [
+        | inl e ↦
+            let z : EachText ((i, inside) ∷ []) = subst (λ (b : Bool). EachText (if b then (i, inside) ∷ [] else [])) e x.0 in
+            let w : sums of_row (own i name inside) ≡ of_row (i + 1) + 0 = own-yes of_row i name inside e in
+            omega (arith, z.0, w)
+        | inr e ↦
+            ap (λ z. count_of z) (none-in s tildes bytes same on inside (h.0.1 e)) ∙ empty-list s ∙ sym (own-no of_row i name inside e)
+      ] in
+      omega (arith, front, back, rows, first, it, group-sums of_row i name a b inside rest)
+
+module _ (s : Setting) (tildes : Bool) (bytes : List ℕ) (same : s.bytes ≡ bytes) (on : s.options.constructs.gfm_strikethrough ≡ tildes) (t : Forest) (h : HasRuns bytes t)
+    (options : ParseOptions) (given : s.options ≡ options) (pairs : List Pair) where
+  abbrev all_runs : List Sequence
+  all_runs = tree_runs tildes bytes 0 0 None t
+
+  module _ (lists : ArePairLists options all_runs pairs) (within : AreWithin all_runs pairs) where
+    counted : (k : Option ℕ) (rs : List Run) → map shape_of rs ≡ map whole_shape (runs_in (row_of k) all_runs) → length (pair_list s rs) ≡ length (pairs_in all_runs (row_of k) pairs)
+    counted k rs e =
+        ap length (same_pair_list s rs (pair_list s rs) (pairs_of (row_of k) all_runs pairs) (some_pair_list s rs) (lists s k rs given e))
+        ∙ length-map (pairs_in all_runs (row_of k) pairs) (placed (row_of k) all_runs)
+
+    abbrev IsShaped : ℕ × Forest → Type 0
+    IsShaped text = map shape_of (runs_of s text.1) ≡ map whole_shape (runs_in (text.0 + 1) all_runs)
+
+    each-counted : (xs : Texts) → All IsShaped xs → EachText s tildes bytes same on all_runs pairs xs
+    each-counted [] a = tt
+    each-counted (x ∷ xs) a = (counted (Some x.0) (runs_of s x.1) (All-head IsShaped x xs a), each-counted xs (All-tail IsShaped x xs a))
+
+    once-all : (ps : List Pair) → AreWithin all_runs ps → AreOnce all_runs (texts_of 0 t) ps
+    once-all [] w = tt
+    once-all (p ∷ ps) w =
+        let r : ℕ = row_of (run_at all_runs p.closer).container in
+        let few : hits r (texts_of 0 t) ≤ 1 = hits-once t 0 r in
+        let here : is_row r 0 + hits r (texts_of 0 t) ≡ 1 = elim (every-at (Stays 0 (texts_of 0 t)) all_runs p.closer w.0.within (stays-tree tildes bytes t 0 0 None)) [
+          | inl e ↦
+              let low : hits r (texts_of 0 t) ≡ 0 = hits-low t 0 r (omega (arith, e)) in
+              omega (arith, row-yes r 0 e, low)
+          | inr l ↦
+              let apart : r ≡ 0 → ⊥ = (λ e. let low : hits r (texts_of 0 t) ≡ 0 = hits-low t 0 r (omega (arith, e)) in omega (arith, low, l)) in
+              omega (arith, row-no r 0 apart, few, l)
+        ] in
+        (here, once-all ps w.1)
+
+    pub pair-count : pair_count s t ≡ length pairs
+    unfolding containers_of
+    pair-count =
+        let rows : HasRows s t all_runs = has-rows s tildes bytes same on t h in
+        let whole : length (pair_list s (runs_of s t)) ≡ length (pairs_in all_runs 0 pairs) = counted None (runs_of s t) rows.whole in
+        let inside : sum_by (λ rs. length (pair_list s rs)) (rows_inside s t) ≡ sums (λ m. length (pairs_in all_runs m pairs)) (texts_of 0 t) =
+        rows-paired s tildes bytes same on all_runs pairs t 0 h (each-counted (texts_of 0 t) rows.texts) in
+        let sum : pair_count s t ≡ length (pair_list s (runs_of s t)) + sum_by (λ rs. length (pair_list s rs)) (rows_inside s t) = sum_by-cons (λ rs. length (pair_list s rs)) (runs_of s t) (rows_inside s t) in
+        omega (arith, whole, inside, sum, pairs-once all_runs (texts_of 0 t) pairs (once-all pairs within))

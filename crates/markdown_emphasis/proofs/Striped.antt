@@ -1,0 +1,244 @@
+-- The elements of a content are sound, so its tree of labels is striped.
+use Rattle.std.proofs.Common.{◌≡◌, ℕ, ◌==◌, Bool, true, false, not, List, [], ◌∷◌, ◌++◌, refl, sym, subst, Option, Some, None, inl, inr}
+use Rattle.std.specs.List.{list_any}
+use Rattle.markdown_engine.specs.declared.event.Name.{Name}
+use Rattle.markdown_engine.specs.declared.parser.Piece.{Piece}
+use Rattle.markdown_engine.specs.declared.tokenizer.LabelKind.{LabelKind}
+use Rattle.markdown_engine.specs.Codes.{Code}
+use Rattle.markdown_engine.specs.Content.{content_of, are_pieces}
+use Rattle.markdown_engine.specs.Tree.{Forest, leaf}
+use Rattle.markdown_model.specs.CodeTests.{is_value}
+use Rattle.markdown_model.specs.Grammar.{Reading, ◌>>=◌, ◌>>◌, gives, provided, either, some}
+use Rattle.markdown_model.specs.Setting.{Setting}
+use Rattle.markdown_model.specs.LabelEnd.{Element, plain, starts, ends, Label, label_before, is_barred, footnote_call, link_or_image, outcome_of, label_end}
+use Rattle.markdown_model.specs.Element.{as_plain, switched, line_ending, data_code, attention_run, image_start, footnote_start, link_start, code_span, math_span, Tries, tries, tried, first_check, text_element, AreElementsFrom, AreElements, code_before, elements_of}
+use Rattle.markdown_model.specs.Inline.{label_tree}
+use Rattle.markdown_model.specs.Passes.{labels_of}
+use Rattle.markdown_model.proofs.ElementCodes.{covers_text_element}
+use Rattle.markdown_model.proofs.ElementLaws.{text_elements}
+use Rattle.markdown_model.proofs.LabelCodes.{element_codes, unused}
+use Rattle.markdown_model.proofs.Readings.{At}
+use Rattle.markdown_model.proofs.LinkFree.{Passes, Yields, yields_bind, yields_gives, yields_either, yields_passed, then_any}
+use Rattle.markdown_attention.specs.Open.{IsMarker}
+use Rattle.markdown_attention.specs.Rows.{HasRuns}
+use Rattle.markdown_emphasis.specs.Trees.{IsStriped}
+use Rattle.markdown_emphasis.specs.Word.{IsUnlinkedRow}
+use Rattle.markdown_emphasis.proofs.Good.{IsGood, IsSound, AllSound, quiet-good, good-run, good-leaf, good-labels}
+use Rattle.markdown_emphasis.proofs.Quiet.{IsQuiet, Free, quiet_escape, quiet_hard_break_escape, quiet_reference, quiet_autolink, quiet_task_check, quiet_code, quiet_math, quiet_html, quiet_protocol, quiet_www, quiet_after_label}
+use Rattle.markdown_emphasis.proofs.Singles.{AreSingles, IsRunLeaf, singles-back, singles-content, run-leaf}
+
+-- Readings whose values all pass, at codes of a content.
+
+record YieldsOn (bytes : List ℕ) {A : Type 0} (P : A → Type 0) (a : Reading A) : Type 0 where
+  at : (cs : List Code) → AreSingles bytes cs → Passes P (a cs)
+
+module _ (bytes : List ℕ) where
+  module _ {A : Type 0} (P : A → Type 0) where
+    on_any : (a : Reading A) → Yields P a → YieldsOn bytes P a
+    on_any a h = record { at = λ cs _. h.at cs }
+
+    on_either : (a b : Reading A) → YieldsOn bytes P a → YieldsOn bytes P b → YieldsOn bytes P (either a b)
+    unfolding either
+    on_either a b ha hb = record { at = λ cs k. by_answer cs k (a cs) (ha.at cs k) }
+      where
+        by_answer : (cs : List Code) → AreSingles bytes cs → (r : Option (A × List Code)) → Passes P r → Passes P (elim r [ None ↦ b cs | Some x ↦ Some x ])
+        by_answer cs k None h = hb.at cs k
+        by_answer cs k (Some x) h = h
+
+    on_passed : (test : Bool) (b : Reading A) → YieldsOn bytes P b → YieldsOn bytes P (provided test >> b)
+    unfolding provided ◌>>◌
+    on_passed true b h = record { at = h.at }
+    on_passed false b h = record { at = λ cs _. tt }
+
+  -- Single elements.
+
+  abbrev Sound : Reading Element → Type 0
+  Sound a = YieldsOn bytes (IsSound bytes) a
+
+  either_on : (a b : Reading Element) → Sound a → Sound b → Sound (either a b)
+  either_on a b h k = on_either (IsSound bytes) a b h k
+
+  sound_plain : (a : Reading Forest) → Free a → Sound (as_plain a)
+  unfolding as_plain
+  sound_plain a h = on_any _ _ (yields_bind (IsQuiet true) _ _ _ h λ tree k. yields_gives _ (plain tree) (quiet-good bytes tree k))
+
+  sound_switched : (on : Bool) (a : Reading Element) → Sound a → Sound (switched on a)
+  unfolding switched
+  sound_switched on a h = on_passed _ _ _ h
+
+  sound_line_ending : Sound line_ending
+  unfolding line_ending
+  sound_line_ending = on_any _ _ (then_any _ _ _ λ c. yields_gives _ (plain (leaf Name.LineEnding c)) (good-leaf bytes Name.LineEnding c refl))
+
+  sound_data_code : Sound data_code
+  unfolding data_code
+  sound_data_code = on_any _ _ (then_any _ _ _ λ c. yields_gives _ (plain (leaf Name.Data c)) (good-leaf bytes Name.Data c refl))
+
+  sound_run : (m : ℕ) → IsMarker m → Sound (attention_run m)
+  unfolding attention_run ◌>>=◌ gives
+  sound_run m k = record { at = λ cs h. by_answer (some (is_value m) cs) (run-leaf bytes m cs k h) }
+    where
+      by_answer : (r : Option (List Code × List Code)) → Passes (IsRunLeaf bytes) r
+          → Passes (IsSound bytes) (elim r [ None ↦ None | Some x ↦ Some (plain (leaf Name.AttentionSequence x.0), x.1) ])
+      by_answer None h = tt
+      by_answer (Some x) h = good-run bytes x.0 h
+
+  sound_image_start : (footnotes : Bool) → Sound (image_start footnotes)
+  unfolding image_start
+  sound_image_start footnotes = on_any _ _ (then_any _ _ _ λ marker. yields_gives _ (starts LabelKind.Image marker) tt)
+
+  sound_footnote_start : Sound footnote_start
+  unfolding footnote_start
+  sound_footnote_start = on_any _ _ (then_any _ _ _ λ marker. yields_gives _ (starts LabelKind.GfmFootnote marker) tt)
+
+  sound_link_start : Sound link_start
+  unfolding link_start
+  sound_link_start = on_any _ _ (then_any _ _ _ λ marker. yields_gives _ (starts LabelKind.Link marker) tt)
+
+  sound_code_span : (earlier : List Element) (previous : Option Code) → Sound (code_span earlier previous)
+  unfolding code_span
+  sound_code_span earlier previous = sound_plain _ (quiet_code _ _ _ _)
+
+  sound_math_span : (single : Bool) (earlier : List Element) (previous : Option Code) → Sound (math_span single earlier previous)
+  unfolding math_span
+  sound_math_span single earlier previous = sound_plain _ (quiet_math _ _ _ _)
+
+  -- Ends of labels.
+
+  abbrev QuietOutcome : LabelKind × Forest → Type 0
+  QuietOutcome outcome = IsQuiet false outcome.1
+
+  quiet_outcome : (s : Setting) (l : Option Label) (back : List Code) → Yields QuietOutcome (outcome_of s l back)
+  unfolding outcome_of footnote_call link_or_image
+  quiet_outcome s None back = record { at = λ cs. tt }
+  quiet_outcome s (Some l) back = record { at = λ cs. whole.at cs }
+    where
+      whole : Yields QuietOutcome (provided (not (is_barred l)) >> either (footnote_call s l back) (link_or_image s l back))
+      whole = yields_passed _ _ _ (yields_either _ _ _
+          (yields_passed _ _ _ (yields_gives _ _ refl))
+          (yields_bind (IsQuiet false) _ _ _ (quiet_after_label s _) λ tail k. yields_gives _ _ k))
+
+  sound_label_end : (s : Setting) (earlier : List Element) → Sound (label_end s earlier)
+  unfolding label_end
+  sound_label_end s earlier =
+      on_any _ _ (then_any _ _ _ λ back. yields_either _ _ _
+      (yields_bind QuietOutcome _ _ _ (quiet_outcome s (label_before earlier) back) λ outcome k. yields_gives _ (ends back (Some outcome)) k)
+      (yields_gives _ (ends back None) tt))
+
+  -- The order of tries.
+
+  abbrev EachSound : Tries → Type 0
+  EachSound [] = Unit {0}
+  EachSound (row ∷ rows) = Sound row.1 × EachSound rows
+
+  sound_tried : (rows : Tries) (v : ℕ) → EachSound rows → Sound (tried rows v)
+  unfolding tried
+  sound_tried [] v h = record { at = sound_data_code.at }
+  sound_tried (row ∷ rows) v h = record { at = λ cs k. by_test cs k (list_any (λ n. v == n) row.0) (sound_tried rows v h.1) }
+    where
+      by_test : (cs : List Code) → AreSingles bytes cs → (b : Bool) → Sound (tried rows v)
+          → Passes (IsSound bytes) ((elim b as (λ _. Reading Element) [ true ↦ row.1 | false ↦ tried rows v ]) cs)
+      by_test cs k true x = h.0.at cs k
+      by_test cs k false x = x.at cs k
+
+  module _ (s : Setting) (end : ℕ) (earlier : List Element) (previous : Option Code) where
+    each_sound : EachSound (tries s end earlier previous)
+    unfolding tries
+    each_sound = (
+      sound_line_ending,
+      (
+        sound_switched _ _ (sound_image_start _),
+        (
+          sound_switched _ _ (sound_math_span _ _ _),
+          (
+            sound_switched _ _ (sound_code_span _ _),
+            (
+              sound_switched _ _ (sound_plain _ (quiet_reference _)),
+              (
+                sound_switched _ _ (sound_run _ (inl refl)),
+                (
+                  sound_switched _ _ (sound_run _ (inr (inl refl))),
+                  (
+                    sound_switched _ _ (sound_run _ (inr (inr refl))),
+                    (
+                      either_on _ _ (sound_switched _ _ (sound_plain _ quiet_autolink)) (sound_switched _ _ (sound_plain _ quiet_html)),
+                      (
+                        sound_switched _ _ (sound_plain _ (quiet_protocol _ _ _)),
+                        (
+                          sound_switched _ _ (sound_plain _ (quiet_www _ _ _)),
+                          (
+                            either_on _ _ (sound_switched _ _ (sound_footnote_start)) (sound_switched _ _ (sound_link_start)),
+                            (
+                              either_on _ _ (sound_switched _ _ (sound_plain _ quiet_escape)) (sound_switched _ _ (sound_plain _ quiet_hard_break_escape)),
+                              (
+                                sound_switched _ _ (sound_label_end s earlier),
+                                tt,
+                              ),
+                            ),
+                          ),
+                        ),
+                      ),
+                    ),
+                  ),
+                ),
+              ),
+            ),
+          ),
+        ),
+      ),
+    )
+
+    sound_first_check : Sound (first_check s end earlier previous)
+    unfolding first_check
+    sound_first_check = sound_switched _ _ (sound_plain _ quiet_task_check)
+
+    sound_text_element : Sound (text_element s end earlier previous)
+    unfolding text_element
+    sound_text_element = record { at = at_codes }
+      where
+        at_codes : (cs : List Code) → AreSingles bytes cs → Passes (IsSound bytes) (text_element s end earlier previous cs)
+        at_codes [] k = tt
+        at_codes (c ∷ cs) k = (either_on _ _ sound_first_check (either_on _ _ (sound_tried (tries s end earlier previous) c.value each_sound) sound_data_code)).at (c ∷ cs) k
+
+  -- Lists of elements: what is left after an element is the end of the codes.
+
+  all_sound : (s : Setting) (end : ℕ) (es earlier : List Element) (previous : Option Code) (cs : List Code)
+      → AreSingles bytes cs → AreElementsFrom (text_element s end) earlier previous cs es → AllSound bytes es
+  all_sound s end [] earlier previous cs k h = tt
+  all_sound s end (e ∷ es) earlier previous cs k h =
+      let d : ℕ = unused earlier in
+      let whole : element_codes d e ++ h.0 ≡ cs = covered (text_element s end earlier previous cs) h.1 ((covers_text_element s end earlier previous).at cs) in
+      let rest : AreSingles bytes h.0 = singles-back bytes (element_codes d e) h.0 (subst (λ (x : List Code). AreSingles bytes x) (sym whole) k) in
+      (at_some (text_element s end earlier previous cs) h.1 ((sound_text_element s end earlier previous).at cs k), all_sound s end es (e ∷ earlier) (code_before cs h.0) h.0 rest h.2)
+    where
+      at_some : (r : Option (Element × List Code)) → r ≡ Some (e, h.0) → Passes (IsSound bytes) r → IsSound bytes e
+      at_some r n x = subst (λ z. Passes (IsSound bytes) z) n x
+
+      covered : (r : Option (Element × List Code)) → r ≡ Some (e, h.0) → At (element_codes (unused earlier)) [] cs r → element_codes (unused earlier) e ++ h.0 ≡ cs
+      covered r n x = subst (λ z. At (element_codes (unused earlier)) [] cs z) n x
+
+  pub sound-elements : (s : Setting) (cs : List Code) (es : List Element) → AreSingles bytes cs → AreElements s cs es → AllSound bytes es
+  sound-elements s cs es k h = all_sound s _ es [] None cs k h
+
+-- The tree of labels.
+
+pub good-tree : (bytes : List ℕ) (s : Setting) (cs : List Code) → AreSingles bytes cs → IsGood bytes (label_tree s cs)
+unfolding label_tree
+good-tree bytes s cs k = good-labels bytes (elements_of s cs) (sound-elements bytes s cs (elements_of s cs) k (text_elements s cs))
+
+pub tree-row : (bytes : List ℕ) (s : Setting) (cs : List Code) → AreSingles bytes cs → IsUnlinkedRow (label_tree s cs)
+tree-row bytes s cs k = (good-tree bytes s cs k).1.1.0
+
+-- each text content's tree of labels is as the pass of runs asks
+pub label-tree : (bytes : List ℕ) (s : Setting) (pieces : List Piece) → are_pieces bytes pieces ≡ true
+    → let t : Forest = label_tree s (content_of bytes pieces) in HasRuns bytes t × IsStriped t
+label-tree bytes s pieces h =
+    let g : IsGood bytes (label_tree s (content_of bytes pieces)) = good-tree bytes s (content_of bytes pieces) (singles-content bytes pieces h) in
+    (g.0, ((λ e. g.1.1.0), g.1.0))
+
+-- the same of any list of elements of the content
+pub labels-of : (bytes : List ℕ) (s : Setting) (pieces : List Piece) (es : List Element) → are_pieces bytes pieces ≡ true → AreElements s (content_of bytes pieces) es
+    → HasRuns bytes (labels_of es) × IsStriped (labels_of es)
+labels-of bytes s pieces es h k =
+    let g : IsGood bytes (labels_of es) = good-labels bytes es (sound-elements bytes s (content_of bytes pieces) es (singles-content bytes pieces h) k) in
+    (g.0, ((λ e. g.1.1.0), g.1.0))

@@ -1,0 +1,6 @@
+pub mod Marks
+pub mod Word
+pub mod Trees
+pub mod RunEdits
+pub mod Sides
+pub mod Pass

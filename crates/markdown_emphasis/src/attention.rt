@@ -1,0 +1,140 @@
+//! The pass that makes groups of the runs of markers that pair (CommonMark 6.2, GFM 6.5).
+//!
+//! Runs stand in the events as `AttentionSequence`. `markdown_attention` finds which of them pair; here the events of each run give way
+//! to those that its pairs make of it. `brackets` writes these events, and `edits` collects and applies the edits.
+#![tactic(auto)]
+
+mod brackets;
+mod edits;
+
+ghost use Rattle.std.specs.Prelude.{◌≡◌, ◌+◌, ◌<◌, [], length, ℕ, IfOk, OnOk, OnErr, IsTrue, IsUtf8, None};
+ghost use Rattle.markdown_attention.specs.Events.{runs_of_events};
+ghost use Rattle.markdown_attention.specs.Open.{HaveMarkers};
+ghost use Rattle.markdown_attention.specs.Pairs.{row_of, run_at};
+ghost use Rattle.markdown_attention.specs.Reading.{HaveRunPlaces};
+ghost use Rattle.markdown_attention.specs.Rows.{IsOf, HasRuns};
+ghost use Rattle.markdown_attention.specs.Walk.{Whole};
+ghost use Rattle.markdown_engine.specs.Past.{appended_from};
+ghost use Rattle.markdown_engine.specs.Tree.{Forest};
+ghost use Rattle.markdown_model.specs.Groups.{paired};
+ghost use Rattle.markdown_model.specs.Pairs.{pair_list};
+ghost use Rattle.markdown_model.specs.Setting.{Setting};
+ghost use Rattle.markdown_emphasis.specs.Pass.{IsSmall, MayGroup, IsPairing, IsGrouped, IsProbed};
+ghost use Rattle.markdown_emphasis.specs.RunEdits.{HaveRunEnds, HaveRunRoom};
+ghost use Rattle.markdown_emphasis.specs.Trees.{IsStriped};
+
+use crate::attention::edits::group_runs;
+use markdown_attention::attention::pairing::{Pair, pair_runs};
+use markdown_attention::attention::runs::{Runs, Sequence};
+use markdown_engine::configuration::ParseOptions;
+use markdown_engine::subtokenize::Subresult;
+use markdown_engine::tokenizer::Tokenizer;
+use std::alloc::{AllocError, Global};
+
+// What pairing leaves: the runs as they stand, the pairs, and the number of looks.
+#[derive(Drop)]
+struct Pairing {
+    runs: Vec<Sequence>,
+    pairs: Vec<Pair>,
+    probes: u128,
+}
+
+// Pairs the runs.
+fn paired_runs(
+    alloc: Global,
+    options: ParseOptions,
+    runs: Runs,
+    rows: usize,
+) -> Result<Pairing, AllocError>
+    requires start { runs.turn ≡ 0 }
+    requires unread { runs.probes ≡ 0 }
+    requires whole { Whole runs.list }
+    requires markers { HaveMarkers runs.list }
+    requires small { IsSmall runs.list }
+    requires rows { (r : ℕ) → r < length runs.list → row_of (run_at runs.list r).container < rows }
+    ensures { IfOk result (λ p. IsPairing options runs.list p.runs.items p.pairs.items p.probes) }
+{
+    let mut runs = runs;
+    let pairs = pair_runs(alloc, options, &mut runs, rows)?;
+    let probes = runs.probes();
+    Ok(Pairing {
+        runs: runs.finish(),
+        pairs,
+        probes,
+    })
+}
+
+// Pairs the runs of the events, makes groups of the pairs, and answers the number of looks.
+fn pair_and_group(tokenizer: &mut Tokenizer) -> Result<u128, AllocError>
+    requires { MayGroup tokenizer.old }
+    ensures same { OnOk result (tokenizer.new ≡ record tokenizer.old { events = tokenizer.new.events }) }
+    ensures grouped { IfOk result (λ probes. IsGrouped tokenizer.old.parse_state.now.options.now (runs_of_events tokenizer.old) tokenizer.old.events tokenizer.new.events probes) }
+{
+    let alloc = tokenizer.alloc;
+    let options = *tokenizer.parse_state.options;
+    let runs = Runs::new(tokenizer)?;
+    let rows = tokenizer.events.len().checked_add(1).ok_or(AllocError)?;
+    let pairing = paired_runs(alloc, options, runs, rows)?;
+    group_runs(
+        alloc,
+        &mut tokenizer.events,
+        &mut tokenizer.map,
+        &pairing.runs,
+        &pairing.pairs,
+    )?;
+    Ok(pairing.probes)
+}
+
+/// Makes groups of the runs that pair, in each container by itself: in the whole content, and in the text of each label.
+///
+/// The events of a run give way to those of the brackets that its pairs make of its markers, and to data over the markers that no pair
+/// takes; nothing else changes, and links follow the events that they name. Behind the `Enter` of a run stands an event as many columns
+/// as bytes further on, both carry no link, and the edits are empty before and after. `probes` becomes the number of looks at a run as a
+/// possible opener of one closer. The work is that of the events, the runs and the pairs. The error comes where memory is refused; then
+/// `failed` is true and `probes` as it was.
+pub fn resolve_counted(tokenizer: &mut Tokenizer, probes: &mut u128) -> Result<(), AllocError>
+    requires map { tokenizer.old.map ≡ [] }
+    requires utf8 { IsUtf8 tokenizer.old.parse_state.now.bytes.now }
+    requires places { HaveRunPlaces tokenizer.old.parse_state.now.bytes.now tokenizer.old.events }
+    requires ends { HaveRunEnds tokenizer.old.events }
+    requires room { HaveRunRoom tokenizer.old.events }
+    requires small { IsSmall (runs_of_events tokenizer.old) }
+    ensures same { OnOk result (tokenizer.new ≡ record tokenizer.old { events = tokenizer.new.events }) }
+    ensures grouped { OnOk result (IsGrouped tokenizer.old.parse_state.now.options.now (runs_of_events tokenizer.old) tokenizer.old.events tokenizer.new.events probes.new) }
+    ensures paired { (s : Setting) (t : Forest) → IsOf s tokenizer.old → HasRuns tokenizer.old.parse_state.now.bytes.now t → IsStriped t → tokenizer.old.events ≡ appended_from 0 None t → OnOk result (tokenizer.new.events ≡ appended_from 0 None (paired s (pair_list s) t)) }
+    ensures probed { (s : Setting) (t : Forest) → IsOf s tokenizer.old → HasRuns tokenizer.old.parse_state.now.bytes.now t → tokenizer.old.events ≡ appended_from 0 None t → OnOk result (IsProbed s t probes.new) }
+    ensures stays { OnErr result (probes.new ≡ probes.old) }
+    ensures err { OnErr result (IsTrue tokenizer.new.failed) }
+{
+    match pair_and_group(tokenizer) {
+        Err(error) => {
+            tokenizer.fail();
+            Err(error)
+        }
+        Ok(count) => {
+            *probes = count;
+            Ok(())
+        }
+    }
+}
+
+/// The same as a pass by its name: the number of looks is kept in the scratch field `probes`.
+pub fn resolve(tokenizer: &mut Tokenizer) -> Result<Option<Subresult>, AllocError>
+    requires map { tokenizer.old.map ≡ [] }
+    requires utf8 { IsUtf8 tokenizer.old.parse_state.now.bytes.now }
+    requires places { HaveRunPlaces tokenizer.old.parse_state.now.bytes.now tokenizer.old.events }
+    requires ends { HaveRunEnds tokenizer.old.events }
+    requires room { HaveRunRoom tokenizer.old.events }
+    requires small { IsSmall (runs_of_events tokenizer.old) }
+    ensures none { IfOk result (λ r. r ≡ None) }
+    ensures same { OnOk result (tokenizer.new ≡ record tokenizer.old { events = tokenizer.new.events; tokenize_state = record tokenizer.old.tokenize_state { probes = tokenizer.new.tokenize_state.probes } }) }
+    ensures grouped { OnOk result (IsGrouped tokenizer.old.parse_state.now.options.now (runs_of_events tokenizer.old) tokenizer.old.events tokenizer.new.events tokenizer.new.tokenize_state.probes) }
+    ensures paired { (s : Setting) (t : Forest) → IsOf s tokenizer.old → HasRuns tokenizer.old.parse_state.now.bytes.now t → IsStriped t → tokenizer.old.events ≡ appended_from 0 None t → OnOk result (tokenizer.new.events ≡ appended_from 0 None (paired s (pair_list s) t)) }
+    ensures probed { (s : Setting) (t : Forest) → IsOf s tokenizer.old → HasRuns tokenizer.old.parse_state.now.bytes.now t → tokenizer.old.events ≡ appended_from 0 None t → OnOk result (IsProbed s t tokenizer.new.tokenize_state.probes) }
+    ensures err { OnErr result (IsTrue tokenizer.new.failed) }
+{
+    let mut probes = 0;
+    resolve_counted(tokenizer, &mut probes)?;
+    tokenizer.tokenize_state.probes = probes;
+    Ok(None)
+}
