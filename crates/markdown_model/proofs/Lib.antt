@@ -1,4 +1,3 @@
-pub mod Computed
 pub mod Leaves
 pub mod Readings
 pub mod Literals

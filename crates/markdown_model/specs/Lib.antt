@@ -16,5 +16,3 @@ pub mod Groups
 pub mod Passes
 pub mod Inline
 pub mod Laws
-pub mod RowWords
-pub mod Rows

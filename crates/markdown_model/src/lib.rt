@@ -5,4 +5,3 @@
 #![tactic(auto)]
 
 pub mod laws;
-pub mod rows;

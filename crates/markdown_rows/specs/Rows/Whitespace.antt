@@ -1,0 +1,67 @@
+-- Worked rows, written by tools/rows.py from tools/rows.txt.
+use Rattle.std.specs.Prelude.{◌≡◌, [], ◌∷◌, codes}
+use Rattle.markdown_engine.specs.declared.event.Name.{Name}
+use Rattle.markdown_rows.specs.RowWords.{default, piece, enter, exit, text_answer, text_outline, string_answer}
+
+-- text «a  ␊b»: Data 0-1, HardBreakTrailing 1-3, LineEnding 3-4, Data 4-5
+abbrev pub row_1 : Type 0
+row_1 = text_answer (default) (97 ∷ 32 ∷ 32 ∷ 10 ∷ 98 ∷ []) (piece 0 0 5 0 ∷ []) ≡ (enter Name.Data 1 1 0 0 ∷ exit Name.Data 1 2 1 0 ∷ enter Name.HardBreakTrailing 1 2 1 0 ∷ exit Name.HardBreakTrailing 1 4 3 0 ∷ enter Name.LineEnding 1 4 3 0 ∷ exit Name.LineEnding 2 1 4 0 ∷ enter Name.Data 2 1 4 0 ∷ exit Name.Data 2 2 5 0 ∷ [])
+
+-- text «a ␉␊b»: Data 0-1, SpaceOrTab 1-3, LineEnding 3-4, Data 4-5
+abbrev pub row_2 : Type 0
+row_2 = text_answer (default) (97 ∷ 32 ∷ 9 ∷ 10 ∷ 98 ∷ []) (piece 0 0 5 0 ∷ []) ≡ (enter Name.Data 1 1 0 0 ∷ exit Name.Data 1 2 1 0 ∷ enter Name.SpaceOrTab 1 2 1 0 ∷ exit Name.SpaceOrTab 1 5 3 0 ∷ enter Name.LineEnding 1 5 3 0 ∷ exit Name.LineEnding 2 1 4 0 ∷ enter Name.Data 2 1 4 0 ∷ exit Name.Data 2 2 5 0 ∷ [])
+
+-- text «␉a» 0.2-2: SpaceOrTab 0.2-1, Data 1-2
+abbrev pub row_3 : Type 0
+row_3 = text_answer (default) (9 ∷ 97 ∷ []) (piece 0 2 2 0 ∷ []) ≡ (enter Name.SpaceOrTab 1 3 0 2 ∷ exit Name.SpaceOrTab 1 5 1 0 ∷ enter Name.Data 1 5 1 0 ∷ exit Name.Data 1 6 2 0 ∷ [])
+
+-- text «a␍␊b»: Data 0-1, LineEnding 1-3, Data 3-4
+abbrev pub row_4 : Type 0
+row_4 = text_answer (default) (97 ∷ 13 ∷ 10 ∷ 98 ∷ []) (piece 0 0 4 0 ∷ []) ≡ (enter Name.Data 1 1 0 0 ∷ exit Name.Data 1 2 1 0 ∷ enter Name.LineEnding 1 2 1 0 ∷ exit Name.LineEnding 2 1 3 0 ∷ enter Name.Data 2 1 3 0 ∷ exit Name.Data 2 2 4 0 ∷ [])
+
+-- text «é»: Data 0-2
+abbrev pub row_5 : Type 0
+row_5 = text_answer (default) (195 ∷ 169 ∷ []) (piece 0 0 2 0 ∷ []) ≡ (enter Name.Data 1 1 0 0 ∷ exit Name.Data 1 3 2 0 ∷ [])
+
+-- text «{a}»: Data 0-3
+abbrev pub row_6 : Type 0
+row_6 = text_answer (default) (codes "{a}") (piece 0 0 3 0 ∷ []) ≡ (enter Name.Data 1 1 0 0 ∷ exit Name.Data 1 4 3 0 ∷ [])
+
+-- text «␠a␠»: SpaceOrTab 0-1, Data 1-2, SpaceOrTab 2-3
+abbrev pub row_7 : Type 0
+row_7 = text_answer (default) (codes " a ") (piece 0 0 3 0 ∷ []) ≡ (enter Name.SpaceOrTab 1 1 0 0 ∷ exit Name.SpaceOrTab 1 2 1 0 ∷ enter Name.Data 1 2 1 0 ∷ exit Name.Data 1 3 2 0 ∷ enter Name.SpaceOrTab 1 3 2 0 ∷ exit Name.SpaceOrTab 1 4 3 0 ∷ [])
+
+-- text «*a  ␊b*»: Emphasis 0-7 [EmphasisSequence 0-1, EmphasisText 1-6 [Data 1-2, HardBreakTrailing 2-4, LineEnding 4-5, Data 5-6], EmphasisSequence 6-7]
+abbrev pub row_8 : Type 0
+row_8 = text_answer (default) (42 ∷ 97 ∷ 32 ∷ 32 ∷ 10 ∷ 98 ∷ 42 ∷ []) (piece 0 0 7 0 ∷ []) ≡ (enter Name.Emphasis 1 1 0 0 ∷ enter Name.EmphasisSequence 1 1 0 0 ∷ exit Name.EmphasisSequence 1 2 1 0 ∷ enter Name.EmphasisText 1 2 1 0 ∷ enter Name.Data 1 2 1 0 ∷ exit Name.Data 1 3 2 0 ∷ enter Name.HardBreakTrailing 1 3 2 0 ∷ exit Name.HardBreakTrailing 1 5 4 0 ∷ enter Name.LineEnding 1 5 4 0 ∷ exit Name.LineEnding 2 1 5 0 ∷ enter Name.Data 2 1 5 0 ∷ exit Name.Data 2 2 6 0 ∷ exit Name.EmphasisText 2 2 6 0 ∷ enter Name.EmphasisSequence 2 2 6 0 ∷ exit Name.EmphasisSequence 2 3 7 0 ∷ exit Name.Emphasis 2 3 7 0 ∷ [])
+
+-- text outer «`a`  ␊b»: CodeText 0-3, HardBreakTrailing 3-5, LineEnding 5-6, Data 6-7
+abbrev pub row_9 : Type 0
+row_9 = text_outline (default) (96 ∷ 97 ∷ 96 ∷ 32 ∷ 32 ∷ 10 ∷ 98 ∷ []) (piece 0 0 7 0 ∷ []) ≡ (enter Name.CodeText 1 1 0 0 ∷ exit Name.CodeText 1 4 3 0 ∷ enter Name.HardBreakTrailing 1 4 3 0 ∷ exit Name.HardBreakTrailing 1 6 5 0 ∷ enter Name.LineEnding 1 6 5 0 ∷ exit Name.LineEnding 2 1 6 0 ∷ enter Name.Data 2 1 6 0 ∷ exit Name.Data 2 2 7 0 ∷ [])
+
+-- text «a␀b»: Data 0-3
+abbrev pub row_10 : Type 0
+row_10 = text_answer (default) (97 ∷ 0 ∷ 98 ∷ []) (piece 0 0 3 0 ∷ []) ≡ (enter Name.Data 1 1 0 0 ∷ exit Name.Data 1 4 3 0 ∷ [])
+
+-- text «a␉b» 0-1.2: Data 0-1, SpaceOrTab 1-1.2
+abbrev pub row_11 : Type 0
+row_11 = text_answer (default) (97 ∷ 9 ∷ 98 ∷ []) (piece 0 0 1 2 ∷ []) ≡ (enter Name.Data 1 1 0 0 ∷ exit Name.Data 1 2 1 0 ∷ enter Name.SpaceOrTab 1 2 1 0 ∷ exit Name.SpaceOrTab 1 4 1 2 ∷ [])
+
+-- string «a␉b» 0-1.2: Data 0-1.2
+abbrev pub row_12 : Type 0
+row_12 = string_answer (default) (97 ∷ 9 ∷ 98 ∷ []) (piece 0 0 1 2 ∷ []) ≡ (enter Name.Data 1 1 0 0 ∷ exit Name.Data 1 4 1 2 ∷ [])
+
+-- string «␉» 0.1-0.3: Data 0.1-0.3
+abbrev pub row_13 : Type 0
+row_13 = string_answer (default) (9 ∷ []) (piece 0 1 0 3 ∷ []) ≡ (enter Name.Data 1 2 0 1 ∷ exit Name.Data 1 4 0 3 ∷ [])
+
+-- string «␉» 0-0.1: Data 0-0.1
+abbrev pub row_14 : Type 0
+row_14 = string_answer (default) (9 ∷ []) (piece 0 0 0 1 ∷ []) ≡ (enter Name.Data 1 1 0 0 ∷ exit Name.Data 1 2 0 1 ∷ [])
+
+-- string «␉»: Data 0-1
+abbrev pub row_15 : Type 0
+row_15 = string_answer (default) (9 ∷ []) (piece 0 0 1 0 ∷ []) ≡ (enter Name.Data 1 1 0 0 ∷ exit Name.Data 1 5 1 0 ∷ [])
+
+abbrev pub Rows : Type 0
+Rows = row_1 × row_2 × row_3 × row_4 × row_5 × row_6 × row_7 × row_8 × row_9 × row_10 × row_11 × row_12 × row_13 × row_14 × row_15

@@ -1,0 +1,191 @@
+#!/usr/bin/env python3
+"""Writes the theorems of tools/rows.txt: specs/Rows/, proofs/rows/ and src/rows.rt.
+
+Run it in the crate's folder. It computes lines, columns and link numbers by itself, from the documents."""
+import os, re
+
+HERE = os.path.dirname(os.path.dirname(os.path.abspath(__file__)))
+SYMBOLS = {'␊': '\n', '␍': '\r', '␉': '\t', '␀': '\0', '␠': ' ', '␋': '\v'}
+READINGS = {'label', 'title', 'destination', 'spacing', 'bounded'}
+CHAINED = {'ReferenceString', 'ResourceTitleString', 'ResourceDestinationString'}
+WORDS = {'gfm': 'gfm = true', 'math': 'math = true', 'first': 'first_of_item = true', 'shortcut': 'shortcut = true',
+         'lengths': 'lengths = true', 'no-single-tilde': 'single_tilde = false', 'no-single-dollar': 'single_dollar = false'}
+
+
+def plain(text):
+    text = re.sub(r'⟦(.*?)×(\d+)⟧', lambda m: m.group(1) * int(m.group(2)), text)
+    return ''.join(SYMBOLS.get(c, c) for c in text)
+
+
+def place(text):
+    index, _, inside = text.partition('.')
+    return int(index), int(inside or 0)
+
+
+def points(data):
+    """Line and column of each place, an index and the codes of its tab before it."""
+    at, line, column, i = {}, 1, 1, 0
+    while i <= len(data):
+        at[(i, 0)] = (line, column)
+        if i == len(data):
+            break
+        if data[i] in (10, 13):
+            i += 2 if data[i:i + 2] == b'\r\n' else 1
+            line, column = line + 1, 1
+        elif data[i] == 9:
+            width = 4 - (column - 1) % 4
+            for k in range(width):
+                at[(i, k)] = (line, column + k)
+            i, column = i + 1, column + width
+        else:
+            i, column = i + 1, column + 1
+    return at
+
+
+def parsed(text):
+    """A list of (name, start, end, children); children are None where none are written."""
+    tokens = re.findall(r'[A-Za-z]+ [\d.]+-[\d.]+|[\[\],]', text)
+    def row():
+        out = []
+        while tokens and tokens[0] != ']':
+            token = tokens.pop(0)
+            if token == ',':
+                continue
+            name, span = token.split(' ')
+            start, end = map(place, span.split('-'))
+            children = None
+            if tokens and tokens[0] == '[':
+                tokens.pop(0)
+                children = row()
+                assert tokens.pop(0) == ']'
+            out.append(expanded(name, start, end, children))
+        return out
+    return row()
+
+
+def expanded(name, start, end, children):
+    if name == 'Raw':
+        inside = None
+        for inner in ('Data', 'ResourceDestinationString', 'ResourceDestinationRaw', 'ResourceDestination'):
+            inside = [(inner, start, end, inside)]
+        return inside[0]
+    if name in ('LabelLink', 'LabelEnd') and children is None:
+        return name, start, end, [('LabelMarker', start, end, None)]
+    return name, start, end, children
+
+
+def events(row, at, number=0, chained=False):
+    """The event terms, with the numbers of the events on a chain."""
+    out, enters, n = [], [], number
+    sizes = []
+    for tree in row:
+        inside = events(tree[3] or [], at, n + 1, tree[0] in CHAINED)
+        sizes.append((n, inside))
+        n += 2 + len(inside)
+    numbers = [first for first, _ in sizes]
+    for i, (name, start, end, _) in enumerate(row):
+        where = lambda p: '%d %d %d %d' % (at[p] + p)
+        if chained:
+            link = lambda k: '(Some %d)' % numbers[k] if 0 <= k < len(numbers) else 'None'
+            out.append('chained Name.%s %s %s %s' % (name, where(start), link(i - 1), link(i + 1)))
+        else:
+            out.append('enter Name.%s %s' % (name, where(start)))
+        out += sizes[i][1]
+        out.append('exit Name.%s %s' % (name, where(end)))
+    return out
+
+
+def listed(terms):
+    return ' ∷ '.join(terms + ['[]'])
+
+
+def literal(data):
+    if all(32 <= b < 127 for b in data):
+        return 'codes "%s"' % data.decode().replace('\\', '\\\\').replace('"', '\\"')
+    return listed([str(b) for b in data])
+
+
+def statement(line):
+    kind, words, document, pieces, answer = re.fullmatch(r'([a-z]+) ?(.*?)«(.*)»(.*?):(.*)', line).groups()
+    data = plain(document).encode()
+    if kind in READINGS:
+        wanted = 'None' if answer == ' no' else 'Some (%s)' % listed(events(parsed(answer), points(data)))
+        limits = dict(word.split('=') for word in words.split())
+        bounds = ' %s %s' % (limits.get('min', 0), limits.get('max', 2 ** 64 - 1)) if kind == 'bounded' else ''
+        return '%s_answer%s (%s) ≡ %s' % (kind, bounds, literal(data), wanted)
+    fields, definitions, footnotes, outer = [], [], [], False
+    for word in words.split():
+        if word == 'outer':
+            outer = True
+        elif word.startswith('definition='):
+            definitions.append(plain(word[11:]).encode())
+        elif word.startswith('footnote='):
+            footnotes.append(plain(word[9:]).encode())
+        else:
+            fields.append(WORDS[word])
+    for field, names in (('definitions', definitions), ('footnotes', footnotes)):
+        if names:
+            fields.append('%s = %s' % (field, listed(['(%s)' % literal(n) for n in names])))
+    row = 'record default { %s }' % '; '.join(fields) if fields else 'default'
+    ends = [tuple(map(place, p.split('-'))) for p in pieces.split()] or [((0, 0), (len(data), 0))]
+    content = listed(['piece %d %d %d %d' % (a + b) for a, b in ends])
+    if kind == 'counts':
+        return 'counts_answer (%s) (%s) (%s) ≡ (%s)' % (row, literal(data), content, ' ∷ '.join(answer.split() + ['[]']))
+    function = kind + ('_outline' if outer else '_answer')
+    return '%s (%s) (%s) (%s) ≡ (%s)' % (function, row, literal(data), content, listed(events(parsed(answer), points(data))))
+
+
+def main():
+    groups, name = {}, None
+    for line in open(HERE + '/tools/rows.txt', encoding='utf-8').read().split('\n'):
+        if line.startswith('== '):
+            name = line[3:]
+            groups[name] = []
+        elif name and line and not line.startswith('#'):
+            groups[name].append(line)
+    for name, lines in groups.items():
+        rows = ['row_%d' % (i + 1) for i in range(len(lines))]
+        spec, proof = [], []
+        for row, line in zip(rows, lines):
+            spec += ['', '-- ' + line, 'abbrev pub %s : Type 0' % row, '%s = %s' % (row, statement(line))]
+            proof += ['', 'holds_%s : %s' % (row, row), 'unfolding computed', 'holds_%s = refl' % row]
+        spec += ['', 'abbrev pub Rows : Type 0', 'Rows = ' + ' × '.join(rows)]
+        proof += ['', 'pub returns : goal.returns', 'returns c = (' + ', '.join('holds_' + row for row in rows) + ')']
+        write('specs/Rows/%s.antt' % name, imports(SPEC_USES, spec) + spec)
+        write('proofs/rows/%s/Answers.antt' % name.lower(),
+              ['use Rattle.std.proofs.Common.{refl}', 'use Rattle.markdown_rows.proofs.Computed.{computed}',
+               'use Rattle.markdown_rows.specs.Rows.%s.{%s}' % (name, ', '.join(rows)),
+               'use Rattle.markdown_rows.proofs.rows.%s.Goals as goal' % name.lower()] + proof)
+    write('specs/Rows.antt', ['pub mod %s' % name for name in groups])
+    write('src/rows.rt', ['ghost use Rattle.markdown_rows.specs.Rows.%s.{Rows as %sRows};' % (name, name) for name in sorted(groups)]
+          + [line for name in groups for line in ['', '/// The rows of `tools/rows.txt` under `%s` hold.' % name,
+             'pub fn %s()' % name.lower(), '    ensures { %sRows }' % name, '{}']], '//')
+
+
+SPEC_USES = [
+    ('Rattle.std.specs.Prelude', ['◌≡◌', 'true', 'false', '[]', '◌∷◌', 'codes', 'Some', 'None']),
+    ('Rattle.markdown_engine.specs.declared.event.Name', ['Name']),
+    ('Rattle.markdown_rows.specs.RowWords', ['default', 'piece', 'enter', 'exit', 'chained', 'text_answer', 'text_outline', 'string_answer', 'string_outline', 'label_answer', 'title_answer', 'destination_answer', 'spacing_answer', 'bounded_answer', 'counts_answer']),
+]
+
+
+def imports(uses, lines):
+    """The imports of which the lines, comments left out, name something."""
+    text = '\n'.join(line for line in lines if not line.startswith('--'))
+    out = []
+    for module, names in uses:
+        used = [n for n in names if re.search(r'(?<![\w])%s(?![\w])' % re.escape(n.strip('◌')), text)]
+        if used:
+            out.append('use %s.{%s}' % (module, ', '.join(used)))
+    return out
+
+
+def write(path, lines, comment='--'):
+    path = os.path.join(HERE, path)
+    os.makedirs(os.path.dirname(path), exist_ok=True)
+    with open(path, 'w', encoding='utf-8') as file:
+        file.write('\n'.join([comment + ' Worked rows, written by tools/rows.py from tools/rows.txt.'] + lines) + '\n')
+
+
+if __name__ == '__main__':
+    main()
