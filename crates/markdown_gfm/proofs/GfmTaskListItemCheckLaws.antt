@@ -29,10 +29,10 @@ use Rattle.markdown_model.specs.Whitespace.{space_or_tab}
 use Rattle.markdown_partial.specs.SpaceSteps as S
 use Rattle.markdown_partial.specs.SpaceSteps.{most, rested}
 use Rattle.markdown_partial.proofs.SpacingLemmas.{space-all}
-use Rattle.markdown_leaf.specs.Program.{Program, preceded, tree_ops, program_of, KeepsAs}
-use Rattle.markdown_leaf.proofs.ProgramLemmas.{GoesOn-map, Goes-next, Goes-yes, Goes-no, EndsAs-program}
-use Rattle.markdown_leaf.proofs.WholeReadings.{Gives, Covers, IsSome, Gives-bind, Gives-before, Gives-switched, Gives-one, Gives-gives, Covers-group, Covers-row, Covers-leaf, some-first}
-use Rattle.markdown_gfm.specs.GfmTaskListItemCheck.{opening, value, closing, is_mark, is_space, may_begin, start_at, start_step, inside_at, inside_step, close_at, close_step, space_asked, looked, after_at, after_step, after_space_or_tab_at, after_space_or_tab_step, MayLook, IsOpened, check_here, start_ends, after_program, close_program, inside_program, inside_ends, close_ends, after_ends, after_space_or_tab_ends}
+use Rattle.markdown_construct.specs.Plan.{Plan, preceded, tree_ops, plan_of, KeepsAs}
+use Rattle.markdown_construct.proofs.PlanLemmas.{GoesOn-map, Goes-next, Goes-yes, Goes-no, EndsAs-plan}
+use Rattle.markdown_construct.proofs.WholeReadings.{Gives, Covers, IsSome, Gives-bind, Gives-before, Gives-switched, Gives-one, Gives-gives, Covers-group, Covers-row, Covers-leaf, some-first}
+use Rattle.markdown_gfm.specs.GfmTaskListItemCheck.{opening, value, closing, is_mark, is_space, may_begin, start_at, start_step, inside_at, inside_step, close_at, close_step, space_asked, looked, after_at, after_step, after_space_or_tab_at, after_space_or_tab_step, MayLook, IsOpened, check_here, start_ends, after_plan, close_plan, inside_plan, inside_ends, close_ends, after_ends, after_space_or_tab_ends}
 use Rattle.markdown_gfm.proofs.LookLemmas.{Goes-looked}
 use Rattle.markdown_model.proofs.ReadingSteps.{span-takes, bind-some, bind-none, before-some, before-none, before-other, one-here, one-not, switched-on, switched-off, and-left, and-right, and-false, if-true, if-false}
 
@@ -64,7 +64,7 @@ closes name front read = before (one (is_value 93)) begins_task_text >>= λ back
 abbrev goes_on : List Code → Reading Forest
 goes_on front = one (λ c. is_whitespace_code c || is_among (codes "xX") c) >>= λ read. closes (check_name read) front read
 
-close-reading : (name : Name) (a v : Code) (cs : List Code) → tree_ops (closes name (a ∷ []) (v ∷ []) cs) ≡ preceded opening (preceded (value name) (close_program cs))
+close-reading : (name : Name) (a v : Code) (cs : List Code) → tree_ops (closes name (a ∷ []) (v ∷ []) cs) ≡ preceded opening (preceded (value name) (close_plan cs))
 unfolding gives
 close-reading name a v [] = ap tree_ops (bind-none _ _ _ (before-none _ _ _ (one-not (is_value 93) [] refl)))
 close-reading name a v (c ∷ cs) =
@@ -93,16 +93,16 @@ name-by : (read : List Code) (b : Bool) → next_is (is_among (codes "xX")) read
 name-by read true e = rw (e, check_name) refl
 name-by read false e = rw (e, check_name) refl
 
-value-here : (a c : Code) (cs : List Code) (b : Bool) → is_among (codes "xX") c ≡ b → is_whitespace_code c || is_among (codes "xX") c ≡ true → tree_ops (goes_on (a ∷ []) (c ∷ cs)) ≡ preceded opening (preceded (value (if b then N.GfmTaskListItemValueChecked else N.GfmTaskListItemValueUnchecked)) (close_program cs))
+value-here : (a c : Code) (cs : List Code) (b : Bool) → is_among (codes "xX") c ≡ b → is_whitespace_code c || is_among (codes "xX") c ≡ true → tree_ops (goes_on (a ∷ []) (c ∷ cs)) ≡ preceded opening (preceded (value (if b then N.GfmTaskListItemValueChecked else N.GfmTaskListItemValueUnchecked)) (close_plan cs))
 value-here a c cs b e h =
     let name : Name = if b then N.GfmTaskListItemValueChecked else N.GfmTaskListItemValueUnchecked in
     ap tree_ops (bind-some _ _ _ (c ∷ []) cs _ (one-here (λ d. is_whitespace_code d || is_among (codes "xX") d) c cs h) (ap (λ n. closes n (a ∷ []) (c ∷ []) cs) (name-by (c ∷ []) b e))) ∙ close-reading name a c cs
 
-value-reading : (a : Code) (cs : List Code) → tree_ops (goes_on (a ∷ []) cs) ≡ preceded opening (inside_program cs)
+value-reading : (a : Code) (cs : List Code) → tree_ops (goes_on (a ∷ []) cs) ≡ preceded opening (inside_plan cs)
 value-reading a [] = ap tree_ops (bind-none _ _ _ (one-not (λ d. is_whitespace_code d || is_among (codes "xX") d) [] refl))
 value-reading a (c ∷ cs) =
-    let checked : Option (List Op) = preceded (value N.GfmTaskListItemValueChecked) (close_program cs) in
-    let unchecked : Option (List Op) = preceded (value N.GfmTaskListItemValueUnchecked) (close_program cs) in
+    let checked : Option (List Op) = preceded (value N.GfmTaskListItemValueChecked) (close_plan cs) in
+    let unchecked : Option (List Op) = preceded (value N.GfmTaskListItemValueUnchecked) (close_plan cs) in
     let P : Bool → Bool → Type 0 = λ m w. tree_ops (goes_on (a ∷ []) (c ∷ cs)) ≡ preceded opening (if m then checked else (if w then unchecked else None)) in
     elim (is_among (codes "xX") c) as (λ m. is_among (codes "xX") c ≡ m → P m (is_whitespace_code c)) [
       | true ↦ λ e. value-here a c cs true e (or-right _ _ e)
@@ -112,12 +112,12 @@ value-reading a (c ∷ cs) =
       ] refl
     ] refl
 
-check-bracket : (on : Bool) (c : Code) (cs : List Code) → on ≡ true → (c.value == 91) ≡ true → program_of (provided on >> task_check) (c ∷ cs) ≡ preceded opening (inside_program cs)
+check-bracket : (on : Bool) (c : Code) (cs : List Code) → on ≡ true → (c.value == 91) ≡ true → plan_of (provided on >> task_check) (c ∷ cs) ≡ preceded opening (inside_plan cs)
 unfolding task_check
 check-bracket on c cs e h =
     ap tree_ops (switched-on task_check on (c ∷ cs) e ∙ bind-some _ _ _ _ _ _ (one-here (is_value 91) c cs h) refl) ∙ value-reading c cs
 
-no-check : (on : Bool) (cs : List Code) → on && next_is (is_value 91) cs ≡ false → program_of (provided on >> task_check) cs ≡ None
+no-check : (on : Bool) (cs : List Code) → on && next_is (is_value 91) cs ≡ false → plan_of (provided on >> task_check) cs ≡ None
 unfolding task_check
 no-check false cs e = ap tree_ops (switched-off task_check false cs refl)
 no-check true cs e = ap tree_ops (switched-on task_check true cs refl ∙ bind-none _ _ _ (one-not (is_value 91) cs e))
@@ -147,15 +147,15 @@ look-done os T h k =
 
 pub start-law : (ready : StateName → Tokenizer → Type 0) (ends : StateName → Tokenizer → Bool → Tokenizer → Type 0) (weight : StateName → Tokenizer → ℕ) → Within ready ends weight → (T : Tokenizer) → T.attempts ≡ [] → MayLook T → GoesOn ready ends weight (weight_at 2 T) (start_ends T) (start_step T)
 start-law ready ends weight within T alone look =
-    let p : Program = program_of (check_here T) in
+    let p : Plan = plan_of (check_here T) in
     let E : Bool → Tokenizer → Type 0 = KeepsAs 0 p T in
     let P : Stepped → Type 0 = GoesOn ready ends weight (weight_at 2 T) E in
-    GoesOn-map ready ends weight (weight_at 2 T) E (start_ends T) (start_step T) (λ ok U k. EndsAs-program (check_here T) (whole (may_begin T)) T.tokenize_state T ok U k)
+    GoesOn-map ready ends weight (weight_at 2 T) E (start_ends T) (start_step T) (λ ok U k. EndsAs-plan (check_here T) (whole (may_begin T)) T.tokenize_state T ok U k)
     (code-step P (current_of T) (λ o. start_at (may_begin T) o T)
     (λ e. Goes-no ready ends weight 2 0 p T alone (ap p (ahead-none T e) ∙ no-check (may_begin T) [] (and-false (may_begin T))))
     (λ c e. let b = ahead-some T c e in
     if-step P (may_begin T && (c == 91)) _ _
-    (λ h. Goes-next ready ends weight 2 1 0 p inside_program opening T (Next GfmTaskListItemCheckInside) alone refl (some-codes T c e) (omega arith)
+    (λ h. Goes-next ready ends weight 2 1 0 p inside_plan opening T (Next GfmTaskListItemCheckInside) alone refl (some-codes T c e) (omega arith)
     (ap p b.whole ∙ check-bracket (may_begin T) b.code (rest_of (ahead T)) (and-left _ _ h) (ap (λ v. v == 91) b.value ∙ and-right _ _ h))
     (within.inside_ready (done opening T) (record { whole = grind (arith, law_rules); look = look-done opening T (some-codes T c e) look }))
     (within.inside_weight (done opening T))
@@ -163,9 +163,9 @@ start-law ready ends weight within T alone look =
     (λ h. Goes-no ready ends weight 2 0 p T alone (ap p b.whole ∙ no-check (may_begin T) (b.code ∷ rest_of (ahead T)) (ap (λ v. may_begin T && (v == 91)) b.value ∙ h)))))
 
 -- past the value of this name
-value-goes : (ready : StateName → Tokenizer → Type 0) (ends : StateName → Tokenizer → Bool → Tokenizer → Type 0) (weight : StateName → Tokenizer → ℕ) → Within ready ends weight → (name : Name) (T : Tokenizer) → T.attempts ≡ [] → IsOpened T → 1 ≤ length (ahead T) → inside_program (ahead T) ≡ preceded (value name) (close_program (rest_of (ahead T))) → GoesOn ready ends weight (weight_at 1 T) (inside_ends T) (stepped (Next GfmTaskListItemCheckClose) (done (value name) T))
+value-goes : (ready : StateName → Tokenizer → Type 0) (ends : StateName → Tokenizer → Bool → Tokenizer → Type 0) (weight : StateName → Tokenizer → ℕ) → Within ready ends weight → (name : Name) (T : Tokenizer) → T.attempts ≡ [] → IsOpened T → 1 ≤ length (ahead T) → inside_plan (ahead T) ≡ preceded (value name) (close_plan (rest_of (ahead T))) → GoesOn ready ends weight (weight_at 1 T) (inside_ends T) (stepped (Next GfmTaskListItemCheckClose) (done (value name) T))
 value-goes ready ends weight within name T alone on some e =
-    Goes-next ready ends weight 1 1 1 inside_program close_program (value name) T (Next GfmTaskListItemCheckClose) alone refl some (omega arith) e
+    Goes-next ready ends weight 1 1 1 inside_plan close_plan (value name) T (Next GfmTaskListItemCheckClose) alone refl some (omega arith) e
     (within.close_ready (done (value name) T) (record { whole = (let w : IsOpen N.GfmTaskListItemCheck T = on.whole in grind (arith, law_rules)); look = look-done (value name) T some on.look }))
     (within.close_weight (done (value name) T))
     (within.close_end (done (value name) T))
@@ -174,29 +174,29 @@ pub inside-law : (ready : StateName → Tokenizer → Type 0) (ends : StateName 
 inside-law ready ends weight within T alone on =
     let P : Stepped → Type 0 = GoesOn ready ends weight (weight_at 1 T) (inside_ends T) in
     code-step P (current_of T) (λ o. inside_at o T)
-    (λ e. Goes-no ready ends weight 1 1 inside_program T alone (ap inside_program (ahead-none T e)))
+    (λ e. Goes-no ready ends weight 1 1 inside_plan T alone (ap inside_plan (ahead-none T e)))
     (λ c e. let b = ahead-some T c e in
     if-step P (is_mark c) _ _
     (λ h. value-goes ready ends weight within N.GfmTaskListItemValueChecked T alone on (some-codes T c e)
-    (ap inside_program b.whole ∙ if-true _ _ _ (ap is_mark b.value ∙ h)))
+    (ap inside_plan b.whole ∙ if-true _ _ _ (ap is_mark b.value ∙ h)))
     (λ h. if-step P (is_space c) _ _
     (λ k. value-goes ready ends weight within N.GfmTaskListItemValueUnchecked T alone on (some-codes T c e)
-    (ap inside_program b.whole ∙ if-false _ _ _ (ap is_mark b.value ∙ h) ∙ if-true _ _ _ (ap is_space b.value ∙ k)))
-    (λ k. Goes-no ready ends weight 1 1 inside_program T alone (ap inside_program b.whole ∙ if-false _ _ _ (ap is_mark b.value ∙ h) ∙ if-false _ _ _ (ap is_space b.value ∙ k)))))
+    (ap inside_plan b.whole ∙ if-false _ _ _ (ap is_mark b.value ∙ h) ∙ if-true _ _ _ (ap is_space b.value ∙ k)))
+    (λ k. Goes-no ready ends weight 1 1 inside_plan T alone (ap inside_plan b.whole ∙ if-false _ _ _ (ap is_mark b.value ∙ h) ∙ if-false _ _ _ (ap is_space b.value ∙ k)))))
 
 pub close-law : (ready : StateName → Tokenizer → Type 0) (ends : StateName → Tokenizer → Bool → Tokenizer → Type 0) (weight : StateName → Tokenizer → ℕ) → Within ready ends weight → (T : Tokenizer) → T.attempts ≡ [] → IsOpened T → GoesOn ready ends weight (weight_at 1 T) (close_ends T) (close_step T)
 close-law ready ends weight within T alone on =
     let P : Stepped → Type 0 = GoesOn ready ends weight (weight_at 1 T) (close_ends T) in
     code-step P (current_of T) (λ o. close_at o T)
-    (λ e. Goes-no ready ends weight 1 1 close_program T alone (ap close_program (ahead-none T e)))
+    (λ e. Goes-no ready ends weight 1 1 close_plan T alone (ap close_plan (ahead-none T e)))
     (λ c e. let b = ahead-some T c e in
     if-step P (c == 93) _ _
-    (λ h. Goes-next ready ends weight 1 4 1 close_program after_program closing T (Next GfmTaskListItemCheckAfter) alone refl (some-codes T c e) (omega arith)
-    (ap close_program b.whole ∙ if-true _ _ _ (ap (λ v. v == 93) b.value ∙ h))
+    (λ h. Goes-next ready ends weight 1 4 1 close_plan after_plan closing T (Next GfmTaskListItemCheckAfter) alone refl (some-codes T c e) (omega arith)
+    (ap close_plan b.whole ∙ if-true _ _ _ (ap (λ v. v == 93) b.value ∙ h))
     (within.after_ready (done closing T) (look-done closing T (some-codes T c e) on.look))
     (within.after_weight (done closing T))
     (within.after_end (done closing T)))
-    (λ h. Goes-no ready ends weight 1 1 close_program T alone (ap close_program b.whole ∙ if-false _ _ _ (ap (λ v. v == 93) b.value ∙ h))))
+    (λ h. Goes-no ready ends weight 1 1 close_plan T alone (ap close_plan b.whole ∙ if-false _ _ _ (ap (λ v. v == 93) b.value ∙ h))))
 
 -- After the check.
 
@@ -280,19 +280,19 @@ pub after-law : (ready : StateName → Tokenizer → Type 0) (ends : StateName �
 after-law ready ends weight within T alone look =
     let P : Stepped → Type 0 = GoesOn ready ends weight (weight_at 4 T) (after_ends T) in
     code-step P (current_of T) (λ o. after_at o T)
-    (λ e. Goes-no ready ends weight 4 0 after_program T alone (ap after_program (ahead-none T e)))
+    (λ e. Goes-no ready ends weight 4 0 after_plan T alone (ap after_plan (ahead-none T e)))
     (λ c e. let b = ahead-some T c e in
     let more : List Code = rest_of (ahead T) in
     if-step P (c == 10) _ _
-    (λ h. Goes-yes ready ends weight 4 0 after_program [] T alone (ap after_program b.whole ∙ if-true _ _ _ (or-left _ _ (ap (λ v. v == 10) b.value ∙ h))))
+    (λ h. Goes-yes ready ends weight 4 0 after_plan [] T alone (ap after_plan b.whole ∙ if-true _ _ _ (or-left _ _ (ap (λ v. v == 10) b.value ∙ h))))
     (λ h. let line : is_line_ending b.code ≡ false = ap (λ v. v == 10) b.value ∙ h in
     if-step P (S.at_blank (Some c)) _ _
     (λ k. let blank : is_blank b.code ≡ true = ap (λ v. S.at_blank (Some v)) b.value ∙ k in
     look-law ready ends weight within T alone look (ap (next_is is_blank) b.whole ∙ blank)
     (ap begins_task_text b.whole ∙ blank-text b.code more line blank ∙ ap (λ cs. not (is_empty (span is_blank cs).1)) (sym b.whole)))
     (λ k. let blank : is_blank b.code ≡ false = ap (λ v. S.at_blank (Some v)) b.value ∙ k in
-    Goes-no ready ends weight 4 0 after_program T alone
-    (ap after_program b.whole ∙ if-false _ _ _ (or-none _ _ line (ap (λ x. x && not (is_empty (span is_blank more).1)) blank))))))
+    Goes-no ready ends weight 4 0 after_plan T alone
+    (ap after_plan b.whole ∙ if-false _ _ _ (or-none _ _ line (ap (λ x. x && not (is_empty (span is_blank more).1)) blank))))))
 
 pub after_space_or_tab-law : (ready : StateName → Tokenizer → Type 0) (ends : StateName → Tokenizer → Bool → Tokenizer → Type 0) (weight : StateName → Tokenizer → ℕ) (T : Tokenizer) → T.attempts ≡ [] → GoesOn ready ends weight (weight_at 1 T) (after_space_or_tab_ends T) (after_space_or_tab_step T)
 after_space_or_tab-law ready ends weight T alone =

@@ -19,10 +19,10 @@ use Rattle.markdown_engine.proofs.OpRules.{ahead-none, ahead-some, left-consumed
 use Rattle.markdown_model.specs.CodeTests.{is_value, is_among, is_later_byte}
 use Rattle.markdown_model.specs.Literal.{is_other, is_space, trails, trails_in, is_domain_code, ends_path, count_if}
 use Rattle.markdown_util.specs.Neighbours.{class_of, after_index}
-use Rattle.markdown_leaf.specs.Autolink.{among_values}
-use Rattle.markdown_leaf.specs.Program.{Program, preceded, DoesAs}
-use Rattle.markdown_leaf.proofs.ProgramLemmas.{Goes-on, Goes-kept, Goes-ok, Goes-nok, no-codes}
-use Rattle.markdown_gfm.specs.GfmAutolinkLiteral.{bytes_of, end_of, kind_here, later_value, at_later, mark_value, rested, sized, closed, saw, underscored, dotted, domain_rested, looked, domain_at, domain_step, domain_punctuation_at, domain_punctuation_step, is_well, domain_after_step, path_at, path_step, path_punctuation_at, path_punctuation_step, path_after_step, LiteralReady, CodeReady, LookReady, passed_code, path_program, path_punctuation_program, domain_program, domain_after_program, domain_punctuation_program, nothing_more, domain_ends, domain_punctuation_ends, domain_after_ends, path_ends, path_punctuation_ends, path_after_ends}
+use Rattle.markdown_construct.specs.Values.{among_values}
+use Rattle.markdown_construct.specs.Plan.{Plan, preceded, DoesAs}
+use Rattle.markdown_construct.proofs.PlanLemmas.{preceded-nil, Goes-on, Goes-kept, Goes-ok, Goes-nok, no-codes}
+use Rattle.markdown_gfm.specs.GfmAutolinkLiteral.{bytes_of, end_of, kind_here, later_value, at_later, mark_value, rested, sized, closed, saw, underscored, dotted, domain_rested, looked, domain_at, domain_step, domain_punctuation_at, domain_punctuation_step, is_well, domain_after_step, path_at, path_step, path_punctuation_at, path_punctuation_step, path_after_step, LiteralReady, CodeReady, LookReady, passed_code, path_plan, path_punctuation_plan, domain_plan, domain_after_plan, domain_punctuation_plan, nothing_more, domain_ends, domain_punctuation_ends, domain_after_ends, path_ends, path_punctuation_ends, path_after_ends}
 use Rattle.markdown_gfm.proofs.LiteralReadings.{domain-more, domain-stop, domain-end, path-more, path-stop}
 use Rattle.markdown_gfm.proofs.LiteralLooks.{text-consumed, text-passed, space-here, looked-back}
 use Rattle.markdown_gfm.proofs.LiteralTrailLaws as T
@@ -68,48 +68,44 @@ ready-passed T c k e =
 
 -- How the rest of a run ends, as the definition reads it.
 
-pub domain-then : (r : TokenizeState) (T : Tokenizer) (ok : Bool) (U : Tokenizer) → domain_ends (scratched r (done (Consume ∷ []) T)) ok U → DoesAs 0 (domain_program (bytes_of T) (end_of T) r) (rested r) (scratched r (done (Consume ∷ []) T)) ok U
+pub domain-then : (r : TokenizeState) (T : Tokenizer) (ok : Bool) (U : Tokenizer) → domain_ends (scratched r (done (Consume ∷ []) T)) ok U → DoesAs 0 (domain_plan (bytes_of T) (end_of T) r) (rested r) (scratched r (done (Consume ∷ []) T)) ok U
 unfolding scratched applied moved
 domain-then r T ok U k = k
 
-domain-passed : (T : Tokenizer) (ok : Bool) (U : Tokenizer) → domain_ends (done (Consume ∷ []) T) ok U → DoesAs 0 (domain_program (bytes_of T) (end_of T) T.tokenize_state) (rested T.tokenize_state) (done (Consume ∷ []) T) ok U
+domain-passed : (T : Tokenizer) (ok : Bool) (U : Tokenizer) → domain_ends (done (Consume ∷ []) T) ok U → DoesAs 0 (domain_plan (bytes_of T) (end_of T) T.tokenize_state) (rested T.tokenize_state) (done (Consume ∷ []) T) ok U
 unfolding applied moved
 domain-passed T ok U k = k
 
-path-then : (r : TokenizeState) (T : Tokenizer) (ok : Bool) (U : Tokenizer) → path_ends (scratched r (done (Consume ∷ []) T)) ok U → DoesAs 0 (path_program (bytes_of T) (end_of T) r.size r.size_b) (rested r) (scratched r (done (Consume ∷ []) T)) ok U
+path-then : (r : TokenizeState) (T : Tokenizer) (ok : Bool) (U : Tokenizer) → path_ends (scratched r (done (Consume ∷ []) T)) ok U → DoesAs 0 (path_plan (bytes_of T) (end_of T) r.size r.size_b) (rested r) (scratched r (done (Consume ∷ []) T)) ok U
 unfolding scratched applied moved
 path-then r T ok U k = k
 
-path-passed : (T : Tokenizer) (ok : Bool) (U : Tokenizer) → path_ends (done (Consume ∷ []) T) ok U → DoesAs 0 (path_program (bytes_of T) (end_of T) T.tokenize_state.size T.tokenize_state.size_b) (rested T.tokenize_state) (done (Consume ∷ []) T) ok U
+path-passed : (T : Tokenizer) (ok : Bool) (U : Tokenizer) → path_ends (done (Consume ∷ []) T) ok U → DoesAs 0 (path_plan (bytes_of T) (end_of T) T.tokenize_state.size T.tokenize_state.size_b) (rested T.tokenize_state) (done (Consume ∷ []) T) ok U
 unfolding applied moved
 path-passed T ok U k = k
 
-path-rested : (T : Tokenizer) (ok : Bool) (U : Tokenizer) → path_ends (scratched (domain_rested T.tokenize_state) T) ok U → DoesAs 0 (path_program (bytes_of T) (end_of T) T.tokenize_state.size T.tokenize_state.size_b) (rested T.tokenize_state) (scratched (domain_rested T.tokenize_state) T) ok U
+path-rested : (T : Tokenizer) (ok : Bool) (U : Tokenizer) → path_ends (scratched (domain_rested T.tokenize_state) T) ok U → DoesAs 0 (path_plan (bytes_of T) (end_of T) T.tokenize_state.size T.tokenize_state.size_b) (rested T.tokenize_state) (scratched (domain_rested T.tokenize_state) T) ok U
 unfolding scratched
 path-rested T ok U k = k
 
--- the program reads the same here
-pub does-same : (p q : Program) (s : TokenizeState) (T : Tokenizer) (ok : Bool) (U : Tokenizer) → p (ahead T) ≡ q (ahead T) → DoesAs 0 q s T ok U → DoesAs 0 p s T ok U
+-- the plan reads the same here
+pub does-same : (p q : Plan) (s : TokenizeState) (T : Tokenizer) (ok : Bool) (U : Tokenizer) → p (ahead T) ≡ q (ahead T) → DoesAs 0 q s T ok U → DoesAs 0 p s T ok U
 does-same p q s T true U e k = record { ops = k.ops; holds = e ∙ k.holds; left = k.left }
 does-same p q s T false U e k = record { none = e ∙ k.none; grown = k.grown; scratch = k.scratch }
 
-preceded-nil : (o : Option (List Op)) → o ≡ preceded [] o
-preceded-nil None = refl
-preceded-nil (Some os) = refl
-
 module _ (ready : StateName → Tokenizer → Type 0) (ends : StateName → Tokenizer → Bool → Tokenizer → Type 0) (weight : StateName → Tokenizer → ℕ) where
   -- another state takes over here
-  over : (k j : ℕ) (p q : Program) (s : TokenizeState) (T : Tokenizer) (st : StateName) → T.attempts ≡ [] → j < k → p (ahead T) ≡ q (ahead T) → ready st T → weight st T ≡ weight_at j T → ((ok : Bool) (U : Tokenizer) → ends st T ok U → DoesAs 0 q s T ok U) → GoesOn ready ends weight (weight_at k T) (DoesAs 0 p s T) (stepped (Retry st) T)
+  over : (k j : ℕ) (p q : Plan) (s : TokenizeState) (T : Tokenizer) (st : StateName) → T.attempts ≡ [] → j < k → p (ahead T) ≡ q (ahead T) → ready st T → weight st T ≡ weight_at j T → ((ok : Bool) (U : Tokenizer) → ends st T ok U → DoesAs 0 q s T ok U) → GoesOn ready ends weight (weight_at k T) (DoesAs 0 p s T) (stepped (Retry st) T)
   over k j p q s T st alone less e on w closed =
       Goes-plain ready ends weight (weight_at k T) (DoesAs 0 p s T) (Retry st) T alone on (rw w (omega (arith, less))) (λ ok U x. does-same p q s T ok U e (closed ok U x))
 
-  pub follows : (k j : ℕ) (p q : Program) (s : TokenizeState) (T U : Tokenizer) (st : StateName) → U ≡ T → j < k → p (ahead T) ≡ q (ahead T) → ready st T → weight st T ≡ weight_at j T → ((ok : Bool) (V : Tokenizer) → ends st T ok V → DoesAs 0 q s T ok V) → Follows ready ends weight (weight_at k T) (DoesAs 0 p s T) (Next st) U
+  pub follows : (k j : ℕ) (p q : Plan) (s : TokenizeState) (T U : Tokenizer) (st : StateName) → U ≡ T → j < k → p (ahead T) ≡ q (ahead T) → ready st T → weight st T ≡ weight_at j T → ((ok : Bool) (V : Tokenizer) → ends st T ok V → DoesAs 0 q s T ok V) → Follows ready ends weight (weight_at k T) (DoesAs 0 p s T) (Next st) U
   follows k j p q s T U st same less e on w closed =
       subst (λ (x : Tokenizer). Follows ready ends weight (weight_at k T) (DoesAs 0 p s T) (Next st) x) (sym same)
       (record { goes_on = on; falls = rw w (omega (arith, less)); closed = λ ok V x. does-same p q s T ok V e (closed ok V x) })
 
   -- one of two states takes over, by whether a trail begins here
-  over-look : T.Within ready ends weight → (k j1 j2 : ℕ) (p q1 q2 : Program) (s : TokenizeState) (T : Tokenizer) (held failed : StateName) → T.attempts ≡ [] → LookReady T → 1 < k → j1 < k → j2 < k → (trails_in (bytes_of T) (end_of T) None (ahead T) ≡ true → p (ahead T) ≡ q1 (ahead T)) → (trails_in (bytes_of T) (end_of T) None (ahead T) ≡ false → p (ahead T) ≡ q2 (ahead T)) → ready held T → weight held T ≡ weight_at j1 T → ((ok : Bool) (U : Tokenizer) → ends held T ok U → DoesAs 0 q1 s T ok U) → ready failed T → weight failed T ≡ weight_at j2 T → ((ok : Bool) (U : Tokenizer) → ends failed T ok U → DoesAs 0 q2 s T ok U) → GoesOn ready ends weight (weight_at k T) (DoesAs 0 p s T) (looked held failed T)
+  over-look : T.Within ready ends weight → (k j1 j2 : ℕ) (p q1 q2 : Plan) (s : TokenizeState) (T : Tokenizer) (held failed : StateName) → T.attempts ≡ [] → LookReady T → 1 < k → j1 < k → j2 < k → (trails_in (bytes_of T) (end_of T) None (ahead T) ≡ true → p (ahead T) ≡ q1 (ahead T)) → (trails_in (bytes_of T) (end_of T) None (ahead T) ≡ false → p (ahead T) ≡ q2 (ahead T)) → ready held T → weight held T ≡ weight_at j1 T → ((ok : Bool) (U : Tokenizer) → ends held T ok U → DoesAs 0 q1 s T ok U) → ready failed T → weight failed T ≡ weight_at j2 T → ((ok : Bool) (U : Tokenizer) → ends failed T ok U → DoesAs 0 q2 s T ok U) → GoesOn ready ends weight (weight_at k T) (DoesAs 0 p s T) (looked held failed T)
   over-look within k j1 j2 p q1 q2 s T held failed alone look one less1 less2 e1 e2 on1 w1 closed1 on2 w2 closed2 =
       let test : Bool = trails_in (bytes_of T) (end_of T) None (ahead T) in
       Goes-check ready ends weight (weight_at k T) (DoesAs 0 p s T) (Retry GfmAutolinkLiteralTrail) (Next held) (Next failed) T alone (within.trail_ready T look)
@@ -190,8 +186,8 @@ module _ (ready : StateName → Tokenizer → Type 0) (ends : StateName → Toke
   domain-law T alone on =
       let P : Stepped → Type 0 = GoesOn ready ends weight (weight_at 5 T) (domain_ends T) in
       let s : TokenizeState = T.tokenize_state in
-      let p : Program = domain_program (bytes_of T) (end_of T) s in
-      let q : Program = domain_after_program (bytes_of T) (end_of T) s in
+      let p : Plan = domain_plan (bytes_of T) (end_of T) s in
+      let q : Plan = domain_after_plan (bytes_of T) (end_of T) s in
       code-step P (current_of T) (λ o. domain_at o T)
       (λ e. let none : ahead T ≡ [] = ahead-none T e in
       over ready ends weight 5 4 p q (rested s) T GfmAutolinkLiteralDomainAfter alone (omega arith) (ap p none ∙ domain-end (bytes_of T) (end_of T) s ∙ ap q (sym none)) (within.domain_after_ready T on) (within.domain_after_weight T) (within.domain_after_end T))
@@ -201,12 +197,12 @@ module _ (ready : StateName → Tokenizer → Type 0) (ends : StateName → Toke
       (λ h. let mark : is_among (codes "._") b.code ≡ true = ap (among_values (codes "._")) b.value ∙ h in
       let code : is_domain_code (bytes_of T) (end_of T) (b.code ∷ more) ≡ not (trails_in (bytes_of T) (end_of T) None (ahead T)) =
       mark-by (bytes_of T) (end_of T) b.code more mark ∙ ap (λ cs. not (trails_in (bytes_of T) (end_of T) None cs)) (sym b.whole) in
-      over-look ready ends weight within.trails 5 4 1 p q (domain_punctuation_program (bytes_of T) (end_of T) s) (rested s) T GfmAutolinkLiteralDomainAfter GfmAutolinkLiteralDomainAtPunctuation alone
+      over-look ready ends weight within.trails 5 4 1 p q (domain_punctuation_plan (bytes_of T) (end_of T) s) (rested s) T GfmAutolinkLiteralDomainAfter GfmAutolinkLiteralDomainAtPunctuation alone
       (record { text = on.text; begins = early T c e (mark-early c h) }) (omega arith) (omega arith) (omega arith)
       (λ t. ap p b.whole ∙ domain-stop (bytes_of T) (end_of T) s b.code more (code ∙ ap not t) ∙ ap q (sym b.whole))
       (λ t. ap p b.whole
       ∙ domain-more (bytes_of T) (end_of T) s (marked b.code.value s) b.code more (code ∙ ap not t) (mark-fields s b.code mark) (marked-size (b.code.value == 95) s) (marked-size_b (b.code.value == 95) s)
-      ∙ ap (domain_punctuation_program (bytes_of T) (end_of T) s) (sym b.whole))
+      ∙ ap (domain_punctuation_plan (bytes_of T) (end_of T) s) (sym b.whole))
       (within.domain_after_ready T on) (within.domain_after_weight T) (within.domain_after_end T)
       (within.domain_punctuation_ready T (record { goes_on = on; code = some-here T c e })) (within.domain_punctuation_weight T) (within.domain_punctuation_end T))
       (λ h. let mark : is_among (codes "._") b.code ≡ false = ap (among_values (codes "._")) b.value ∙ h in
@@ -223,7 +219,7 @@ module _ (ready : StateName → Tokenizer → Type 0) (ends : StateName → Toke
       let code2 : is_domain_code (bytes_of T) (end_of T) (b.code ∷ more) ≡ (later_value c || is_other (kind_here T)) =
       code ∙ ap (λ x. (x || is_later_byte b.code) || is_other (kind_here T)) hyphen ∙ ap (λ v. later_value v || is_other (kind_here T)) b.value in
       if-step P (later_value c || is_other (kind_here T)) _ _
-      (λ g. Goes-on ready ends weight 5 5 0 p (domain_program (bytes_of T) (end_of T) (saw s)) (Consume ∷ []) (rested s) (saw s) T (Next GfmAutolinkLiteralDomainInside) alone refl (some-codes T c e) (omega arith)
+      (λ g. Goes-on ready ends weight 5 5 0 p (domain_plan (bytes_of T) (end_of T) (saw s)) (Consume ∷ []) (rested s) (saw s) T (Next GfmAutolinkLiteralDomainInside) alone refl (some-codes T c e) (omega arith)
       (ap p b.whole ∙ domain-more (bytes_of T) (end_of T) s (saw s) b.code more (code2 ∙ g) (fields ∙ if-false _ _ _ hyphen) refl refl)
       (within.domain_ready _ (ready-next (saw s) T c on e (omega arith) (omega arith))) (within.domain_weight _) (λ ok U k. domain-then (saw s) T ok U (within.domain_end _ ok U k)))
       (λ g. over ready ends weight 5 4 p q (rested s) T GfmAutolinkLiteralDomainAfter alone (omega arith) (ap p b.whole ∙ domain-stop (bytes_of T) (end_of T) s b.code more (code2 ∙ g) ∙ ap q (sym b.whole)) (within.domain_after_ready T on) (within.domain_after_weight T) (within.domain_after_end T)))))
@@ -232,17 +228,17 @@ module _ (ready : StateName → Tokenizer → Type 0) (ends : StateName → Toke
   domain_punctuation-law T alone on =
       let P : Stepped → Type 0 = GoesOn ready ends weight (weight_at 1 T) (domain_punctuation_ends T) in
       let s : TokenizeState = T.tokenize_state in
-      let p : Program = domain_punctuation_program (bytes_of T) (end_of T) s in
+      let p : Plan = domain_punctuation_plan (bytes_of T) (end_of T) s in
       code-step P (current_of T) (λ o. domain_punctuation_at o T)
       (λ e. absurd (none-here T e on.code))
       (λ c e. let b = ahead-some T c e in
       let more : List Code = rest_of (ahead T) in
       if-step P (c == 95) _ _
-      (λ h. Goes-on ready ends weight 1 5 0 p (domain_program (bytes_of T) (end_of T) (underscored s)) (Consume ∷ []) (rested s) (underscored s) T (Next GfmAutolinkLiteralDomainInside) alone refl (some-codes T c e) (omega arith)
-      (ap p b.whole ∙ ap (λ (r : TokenizeState). preceded (Consume ∷ []) (domain_program (bytes_of T) (end_of T) r more)) (if-true _ _ _ (ap (λ v. v == 95) b.value ∙ h)))
+      (λ h. Goes-on ready ends weight 1 5 0 p (domain_plan (bytes_of T) (end_of T) (underscored s)) (Consume ∷ []) (rested s) (underscored s) T (Next GfmAutolinkLiteralDomainInside) alone refl (some-codes T c e) (omega arith)
+      (ap p b.whole ∙ ap (λ (r : TokenizeState). preceded (Consume ∷ []) (domain_plan (bytes_of T) (end_of T) r more)) (if-true _ _ _ (ap (λ v. v == 95) b.value ∙ h)))
       (within.domain_ready _ (ready-next (underscored s) T c on.goes_on e (omega arith) (omega arith))) (within.domain_weight _) (λ ok U k. domain-then (underscored s) T ok U (within.domain_end _ ok U k)))
-      (λ h. Goes-on ready ends weight 1 5 0 p (domain_program (bytes_of T) (end_of T) (dotted s)) (Consume ∷ []) (rested s) (dotted s) T (Next GfmAutolinkLiteralDomainInside) alone refl (some-codes T c e) (omega arith)
-      (ap p b.whole ∙ ap (λ (r : TokenizeState). preceded (Consume ∷ []) (domain_program (bytes_of T) (end_of T) r more)) (if-false _ _ _ (ap (λ v. v == 95) b.value ∙ h)))
+      (λ h. Goes-on ready ends weight 1 5 0 p (domain_plan (bytes_of T) (end_of T) (dotted s)) (Consume ∷ []) (rested s) (dotted s) T (Next GfmAutolinkLiteralDomainInside) alone refl (some-codes T c e) (omega arith)
+      (ap p b.whole ∙ ap (λ (r : TokenizeState). preceded (Consume ∷ []) (domain_plan (bytes_of T) (end_of T) r more)) (if-false _ _ _ (ap (λ v. v == 95) b.value ∙ h)))
       (within.domain_ready _ (ready-next (dotted s) T c on.goes_on e (omega arith) (omega arith))) (within.domain_weight _) (λ ok U k. domain-then (dotted s) T ok U (within.domain_end _ ok U k))))
 
   rested-ready : (T : Tokenizer) → LiteralReady T → LiteralReady (scratched (domain_rested T.tokenize_state) T)
@@ -253,8 +249,8 @@ module _ (ready : StateName → Tokenizer → Type 0) (ends : StateName → Toke
   domain_after-law T alone on =
       let P : Stepped → Type 0 = GoesOn ready ends weight (weight_at 4 T) (domain_after_ends T) in
       let s : TokenizeState = T.tokenize_state in
-      let p : Program = domain_after_program (bytes_of T) (end_of T) s in
-      let q : Program = path_program (bytes_of T) (end_of T) s.size s.size_b in
+      let p : Plan = domain_after_plan (bytes_of T) (end_of T) s in
+      let q : Plan = path_plan (bytes_of T) (end_of T) s.size s.size_b in
       if-step P (is_well s) _ _
       (λ h. Goes-on ready ends weight 4 3 0 p q [] (rested s) (domain_rested s) T (Retry GfmAutolinkLiteralPathInside) alone refl (no-codes T) (omega arith)
       (if-true _ _ _ h ∙ preceded-nil (q (ahead T)))
@@ -343,14 +339,14 @@ module _ (bytes : List ℕ) (end : ℕ) where
   path-mark o k c cs e f g h = ends-mark (later_value c.value) (is_space (class_of (after_index bytes c.start.index))) (mark_value c.value) (c.value == 41 && nat_lt k o) (trails bytes end (c ∷ cs)) e f g h
 
   -- one code further, with these numbers of parentheses
-  goes-on : (o k j l : ℕ) (c : Code) (cs : List Code) → ends_path bytes end o k (c ∷ cs) ≡ false → count_if 40 c o ≡ j → count_if 41 c k ≡ l → path_program bytes end o k (c ∷ cs) ≡ preceded (Consume ∷ []) (path_program bytes end j l cs)
+  goes-on : (o k j l : ℕ) (c : Code) (cs : List Code) → ends_path bytes end o k (c ∷ cs) ≡ false → count_if 40 c o ≡ j → count_if 41 c k ≡ l → path_plan bytes end o k (c ∷ cs) ≡ preceded (Consume ∷ []) (path_plan bytes end j l cs)
   goes-on o k j l c cs e f g =
       path-more bytes end o k c cs e
-      ∙ ap (λ x. preceded (Consume ∷ []) (path_program bytes end x (count_if 41 c k) cs)) f
-      ∙ ap (λ x. preceded (Consume ∷ []) (path_program bytes end j x cs)) g
+      ∙ ap (λ x. preceded (Consume ∷ []) (path_plan bytes end x (count_if 41 c k) cs)) f
+      ∙ ap (λ x. preceded (Consume ∷ []) (path_plan bytes end j x cs)) g
 
   -- past punctuation of the path
-  goes-past : (o k : ℕ) (c : Code) (cs : List Code) → ends_path bytes end o k (c ∷ cs) ≡ false → (c.value == 40) ≡ false → path_program bytes end o k (c ∷ cs) ≡ path_punctuation_program bytes end o k (c ∷ cs)
+  goes-past : (o k : ℕ) (c : Code) (cs : List Code) → ends_path bytes end o k (c ∷ cs) ≡ false → (c.value == 40) ≡ false → path_plan bytes end o k (c ∷ cs) ≡ path_punctuation_plan bytes end o k (c ∷ cs)
   goes-past o k c cs e f = goes-on o k o _ c cs e (count-no 40 c o f) (count-by k (c.value == 41))
 
 -- Paths.
@@ -365,8 +361,8 @@ module _ (ready : StateName → Tokenizer → Type 0) (ends : StateName → Toke
       let E : ℕ = end_of T in
       let o : ℕ = s.size in
       let k : ℕ = s.size_b in
-      let p : Program = path_program B E o k in
-      let q : Program = path_punctuation_program B E o k in
+      let p : Plan = path_plan B E o k in
+      let q : Plan = path_punctuation_plan B E o k in
       code-step P (current_of T) (λ x. path_at x T)
       (λ e. over ready ends weight 3 1 p nothing_more (rested s) T GfmAutolinkLiteralPathAfter alone (omega arith) (ap p (ahead-none T e)) (within.path_after_ready T) (within.path_after_weight T) (within.path_after_end T))
       (λ c e. let b = ahead-some T c e in
@@ -387,7 +383,7 @@ module _ (ready : StateName → Tokenizer → Type 0) (ends : StateName → Toke
       if-step P (c == 40) _ _
       (λ g. let opens : (d.value == 40) ≡ true = ap (λ v. v == 40) b.value ∙ g in
       let is : d.value ≡ 40 = eqb-true d.value 40 opens in
-      Goes-on ready ends weight 3 3 0 p (path_program B E (o + 1) k) (Consume ∷ []) (rested s) (sized (o + 1) s) T (Next GfmAutolinkLiteralPathInside) alone refl (some-codes T c e) (omega arith)
+      Goes-on ready ends weight 3 3 0 p (path_plan B E (o + 1) k) (Consume ∷ []) (rested s) (sized (o + 1) s) T (Next GfmAutolinkLiteralPathInside) alone refl (some-codes T c e) (omega arith)
       (ap p b.whole ∙ goes-on B E o k (o + 1) k d more (path-free B E o k d more later space (ap mark_value is)) (count-yes 40 d o opens) (count-no 41 d k (ap (λ v. v == 41) is)))
       (within.path_ready _ (ready-next (sized (o + 1) s) T c on e (omega arith) (omega arith))) (within.path_weight _) (λ ok U x. path-then (sized (o + 1) s) T ok U (within.path_end _ ok U x)))
       (λ g. let opens : (d.value == 40) ≡ false = ap (λ v. v == 40) b.value ∙ g in
@@ -416,17 +412,17 @@ module _ (ready : StateName → Tokenizer → Type 0) (ends : StateName → Toke
       let P : Stepped → Type 0 = GoesOn ready ends weight (weight_at 1 T) (path_punctuation_ends T) in
       let s : TokenizeState = T.tokenize_state in
       let k : ℕ = s.size_b in
-      let p : Program = path_punctuation_program (bytes_of T) (end_of T) s.size k in
+      let p : Plan = path_punctuation_plan (bytes_of T) (end_of T) s.size k in
       code-step P (current_of T) (λ o. path_punctuation_at o T)
       (λ e. absurd (none-here T e on.code))
       (λ c e. let b = ahead-some T c e in
       let more : List Code = rest_of (ahead T) in
       if-step P (c == 41) _ _
-      (λ h. Goes-on ready ends weight 1 3 0 p (path_program (bytes_of T) (end_of T) s.size (k + 1)) (Consume ∷ []) (rested s) (closed (k + 1) s) T (Next GfmAutolinkLiteralPathInside) alone refl (some-codes T c e) (omega arith)
-      (ap p b.whole ∙ ap (λ n. preceded (Consume ∷ []) (path_program (bytes_of T) (end_of T) s.size n more)) (if-true _ _ _ (ap (λ v. v == 41) b.value ∙ h)))
+      (λ h. Goes-on ready ends weight 1 3 0 p (path_plan (bytes_of T) (end_of T) s.size (k + 1)) (Consume ∷ []) (rested s) (closed (k + 1) s) T (Next GfmAutolinkLiteralPathInside) alone refl (some-codes T c e) (omega arith)
+      (ap p b.whole ∙ ap (λ n. preceded (Consume ∷ []) (path_plan (bytes_of T) (end_of T) s.size n more)) (if-true _ _ _ (ap (λ v. v == 41) b.value ∙ h)))
       (within.path_ready _ (ready-next (closed (k + 1) s) T c on.goes_on e (omega arith) (omega arith))) (within.path_weight _) (λ ok U x. path-then (closed (k + 1) s) T ok U (within.path_end _ ok U x)))
-      (λ h. Goes-kept ready ends weight 1 3 0 p (path_program (bytes_of T) (end_of T) s.size k) (Consume ∷ []) (rested s) T (Next GfmAutolinkLiteralPathInside) alone refl (some-codes T c e) (omega arith)
-      (ap p b.whole ∙ ap (λ n. preceded (Consume ∷ []) (path_program (bytes_of T) (end_of T) s.size n more)) (if-false _ _ _ (ap (λ v. v == 41) b.value ∙ h)))
+      (λ h. Goes-kept ready ends weight 1 3 0 p (path_plan (bytes_of T) (end_of T) s.size k) (Consume ∷ []) (rested s) T (Next GfmAutolinkLiteralPathInside) alone refl (some-codes T c e) (omega arith)
+      (ap p b.whole ∙ ap (λ n. preceded (Consume ∷ []) (path_plan (bytes_of T) (end_of T) s.size n more)) (if-false _ _ _ (ap (λ v. v == 41) b.value ∙ h)))
       (within.path_ready _ (ready-passed T c on.goes_on e)) (within.path_weight _) (λ ok U x. path-passed T ok U (within.path_end _ ok U x))))
 
 pub path_after-law : (ready : StateName → Tokenizer → Type 0) (ends : StateName → Tokenizer → Bool → Tokenizer → Type 0) (weight : StateName → Tokenizer → ℕ) (T : Tokenizer) → T.attempts ≡ [] → GoesOn ready ends weight (weight_at 1 T) (path_after_ends T) (path_after_step T)

@@ -18,7 +18,7 @@ use Rattle.markdown_engine.proofs.OpRules.{attempts-applied, left-ahead, left-ap
 use Rattle.markdown_engine.proofs.OpsLemmas.{Grown-done, ahead-done, scratch-done}
 use Rattle.markdown_engine.proofs.TreeLemmas.{done-append}
 use Rattle.markdown_model.specs.Grammar.{Reading}
-use Rattle.markdown_leaf.specs.Program.{Program, preceded, DoesAs}
+use Rattle.markdown_construct.specs.Plan.{Plan, preceded, DoesAs}
 use Rattle.markdown_gfm.specs.GfmAutolinkLiteral.{rested, entered_literal, pass_ops}
 use Rattle.markdown_gfm.proofs.LiteralWhole.{leaf_ops, ops-leaf}
 
@@ -55,8 +55,8 @@ begins-first (Some xs) os e = (xs, cc)
 enter-same : (name : Name) (T : Tokenizer) → rested T.tokenize_state ≡ T.tokenize_state → scratched (rested T.tokenize_state) (entered_literal name T) ≡ entered_literal name T
 enter-same name T e = ap (λ (x : TokenizeState). scratched x (entered_literal name T)) (e ∙ sym (scratch-done (Enter name ∷ []) T)) ∙ scratched-same (entered_literal name T)
 
-module _ (ready : StateName → Tokenizer → Type 0) (ends : StateName → Tokenizer → Bool → Tokenizer → Type 0) (weight : StateName → Tokenizer → ℕ) (name : Name) (st last : StateName) (reading : Reading (List Code)) (p : Program) (T : Tokenizer) (resting : rested T.tokenize_state ≡ T.tokenize_state) (same : p (ahead T) ≡ leaf_ops name (reading (ahead T))) where
-  abbrev inside : Program
+module _ (ready : StateName → Tokenizer → Type 0) (ends : StateName → Tokenizer → Bool → Tokenizer → Type 0) (weight : StateName → Tokenizer → ℕ) (name : Name) (st last : StateName) (reading : Reading (List Code)) (p : Plan) (T : Tokenizer) (resting : rested T.tokenize_state ≡ T.tokenize_state) (same : p (ahead T) ≡ leaf_ops name (reading (ahead T))) where
+  abbrev inside : Plan
   inside cs = pass_ops (reading cs)
 
   -- the codes are passed, and the literal is exited

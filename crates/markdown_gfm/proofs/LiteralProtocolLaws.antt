@@ -16,9 +16,9 @@ use Rattle.markdown_engine.specs.declared.tokenizer.Tokenizer.{Tokenizer}
 use Rattle.markdown_engine.proofs.Laws.{if-step, code-step, Goes-plain}
 use Rattle.markdown_engine.proofs.OpRules.{ahead-none, ahead-some, attempts-applied, left-consumed, left-scratched, some-codes}
 use Rattle.markdown_model.specs.CodeTests.{is_letter, is_some_code, next_is}
-use Rattle.markdown_leaf.specs.Program.{Program, program_of, DoesAs}
-use Rattle.markdown_leaf.proofs.ProgramLemmas.{GoesOn-map, Goes-on, Goes-no, Goes-nok, EndsAs-program}
-use Rattle.markdown_gfm.specs.GfmAutolinkLiteral.{bytes_of, end_of, before_of, is_on, may_begin, is_letter_before, scheme_letter, rested, sized, protocol_start_at, protocol_start_step, protocol_after_step, prefix_at, prefix_step, slashes_at, slashes_step, entered_literal, WordReady, LiteralReady, StartReady, pass_ops, prefix_reading, prefix_program, slashes_program, domain_program, protocol_here, protocol_start_ends, protocol_after_ends, prefix_ends, slashes_ends}
+use Rattle.markdown_construct.specs.Plan.{Plan, plan_of, DoesAs}
+use Rattle.markdown_construct.proofs.PlanLemmas.{GoesOn-map, Goes-on, Goes-no, Goes-nok, EndsAs-plan}
+use Rattle.markdown_gfm.specs.GfmAutolinkLiteral.{bytes_of, end_of, before_of, is_on, may_begin, is_letter_before, scheme_letter, rested, sized, protocol_start_at, protocol_start_step, protocol_after_step, prefix_at, prefix_step, slashes_at, slashes_step, entered_literal, WordReady, LiteralReady, StartReady, pass_ops, prefix_reading, prefix_plan, slashes_plan, domain_plan, protocol_here, protocol_start_ends, protocol_after_ends, prefix_ends, slashes_ends}
 use Rattle.markdown_gfm.proofs.LiteralReadings.{prefix-more, prefix-colon, prefix-none, slashes-more, slashes-last, slashes-none}
 use Rattle.markdown_gfm.proofs.LiteralLooks.{text-consumed}
 use Rattle.markdown_gfm.proofs.LiteralWhole.{leaf_ops, protocol-is, whole-protocol}
@@ -62,11 +62,11 @@ address-ready T c k e =
 
 -- How the rest of a run ends, as the definition reads it.
 
-prefix-then : (n : ℕ) (T : Tokenizer) (ok : Bool) (U : Tokenizer) → prefix_ends (scratched (sized n T.tokenize_state) (done (Consume ∷ []) T)) ok U → DoesAs 0 (prefix_program (bytes_of T) (end_of T) n) (rested T.tokenize_state) (scratched (sized n T.tokenize_state) (done (Consume ∷ []) T)) ok U
+prefix-then : (n : ℕ) (T : Tokenizer) (ok : Bool) (U : Tokenizer) → prefix_ends (scratched (sized n T.tokenize_state) (done (Consume ∷ []) T)) ok U → DoesAs 0 (prefix_plan (bytes_of T) (end_of T) n) (rested T.tokenize_state) (scratched (sized n T.tokenize_state) (done (Consume ∷ []) T)) ok U
 unfolding scratched applied moved
 prefix-then n T ok U k = k
 
-slashes-then : (n : ℕ) (T : Tokenizer) (ok : Bool) (U : Tokenizer) → slashes_ends (scratched (sized n T.tokenize_state) (done (Consume ∷ []) T)) ok U → DoesAs 0 (slashes_program (bytes_of T) (end_of T) n) (rested T.tokenize_state) (scratched (sized n T.tokenize_state) (done (Consume ∷ []) T)) ok U
+slashes-then : (n : ℕ) (T : Tokenizer) (ok : Bool) (U : Tokenizer) → slashes_ends (scratched (sized n T.tokenize_state) (done (Consume ∷ []) T)) ok U → DoesAs 0 (slashes_plan (bytes_of T) (end_of T) n) (rested T.tokenize_state) (scratched (sized n T.tokenize_state) (done (Consume ∷ []) T)) ok U
 unfolding scratched applied moved
 slashes-then n T ok U k = k
 
@@ -76,18 +76,18 @@ module _ (ready : StateName → Tokenizer → Type 0) (ends : StateName → Toke
       let P : Stepped → Type 0 = GoesOn ready ends weight (weight_at 1 T) (prefix_ends T) in
       let s : TokenizeState = T.tokenize_state in
       let n : ℕ = s.size in
-      let p : Program = prefix_program (bytes_of T) (end_of T) n in
+      let p : Plan = prefix_plan (bytes_of T) (end_of T) n in
       code-step P (current_of T) (λ o. prefix_at o T)
       (λ e. Goes-nok ready ends weight 1 0 p (rested s) T alone (ap p (ahead-none T e) ∙ prefix-none (bytes_of T) (end_of T) n [] refl (and-false (nat_le 4 n))))
       (λ c e. let b = ahead-some T c e in
       let more : List Code = rest_of (ahead T) in
       if-step P (scheme_letter n c) _ _
-      (λ h. Goes-on ready ends weight 1 1 0 p (prefix_program (bytes_of T) (end_of T) (n + 1)) (Consume ∷ []) (rested s) (sized (n + 1) s) T (Next GfmAutolinkLiteralProtocolPrefixInside) alone refl (some-codes T c e) (omega arith)
+      (λ h. Goes-on ready ends weight 1 1 0 p (prefix_plan (bytes_of T) (end_of T) (n + 1)) (Consume ∷ []) (rested s) (sized (n + 1) s) T (Next GfmAutolinkLiteralProtocolPrefixInside) alone refl (some-codes T c e) (omega arith)
       (ap p b.whole ∙ prefix-more (bytes_of T) (end_of T) n b.code more (ap (scheme_letter n) b.value ∙ h))
       (within.prefix_ready _ (word-next (n + 1) T c on e)) (within.prefix_weight _) (λ ok U x. prefix-then (n + 1) T ok U (within.prefix_end _ ok U x)))
       (λ h. let other : scheme_letter n b.code.value ≡ false = ap (scheme_letter n) b.value ∙ h in
       if-step P (nat_le 4 n && (c == 58)) _ _
-      (λ f. Goes-on ready ends weight 1 1 0 p (slashes_program (bytes_of T) (end_of T) 0) (Consume ∷ []) (rested s) (sized 0 s) T (Next GfmAutolinkLiteralProtocolSlashesInside) alone refl (some-codes T c e) (omega arith)
+      (λ f. Goes-on ready ends weight 1 1 0 p (slashes_plan (bytes_of T) (end_of T) 0) (Consume ∷ []) (rested s) (sized 0 s) T (Next GfmAutolinkLiteralProtocolSlashesInside) alone refl (some-codes T c e) (omega arith)
       (ap p b.whole ∙ prefix-colon (bytes_of T) (end_of T) n b.code more other (ap (λ v. nat_le 4 n && (v == 58)) b.value ∙ f))
       (within.slashes_ready _ (word-next 0 T c on e)) (within.slashes_weight _) (λ ok U x. slashes-then 0 T ok U (within.slashes_end _ ok U x)))
       (λ f. Goes-nok ready ends weight 1 0 p (rested s) T alone (ap p b.whole ∙ prefix-none (bytes_of T) (end_of T) n (b.code ∷ more) other (ap (λ v. nat_le 4 n && (v == 58)) b.value ∙ f)))))
@@ -97,7 +97,7 @@ module _ (ready : StateName → Tokenizer → Type 0) (ends : StateName → Toke
       let P : Stepped → Type 0 = GoesOn ready ends weight (weight_at 1 T) (slashes_ends T) in
       let s : TokenizeState = T.tokenize_state in
       let n : ℕ = s.size in
-      let p : Program = slashes_program (bytes_of T) (end_of T) n in
+      let p : Plan = slashes_plan (bytes_of T) (end_of T) n in
       code-step P (current_of T) (λ o. slashes_at o T)
       (λ e. Goes-nok ready ends weight 1 0 p (rested s) T alone (ap p (ahead-none T e) ∙ slashes-none (bytes_of T) (end_of T) n [] refl))
       (λ c e. let b = ahead-some T c e in
@@ -105,10 +105,10 @@ module _ (ready : StateName → Tokenizer → Type 0) (ends : StateName → Toke
       if-step P (c == 47) _ _
       (λ h. let slash : (b.code.value == 47) ≡ true = ap (λ v. v == 47) b.value ∙ h in
       if-step P (n == 0) _ _
-      (λ f. Goes-on ready ends weight 1 1 0 p (slashes_program (bytes_of T) (end_of T) 1) (Consume ∷ []) (rested s) (sized 1 s) T (Next GfmAutolinkLiteralProtocolSlashesInside) alone refl (some-codes T c e) (omega arith)
+      (λ f. Goes-on ready ends weight 1 1 0 p (slashes_plan (bytes_of T) (end_of T) 1) (Consume ∷ []) (rested s) (sized 1 s) T (Next GfmAutolinkLiteralProtocolSlashesInside) alone refl (some-codes T c e) (omega arith)
       (ap p b.whole ∙ slashes-more (bytes_of T) (end_of T) n b.code more slash f)
       (within.slashes_ready _ (word-next 1 T c on e)) (within.slashes_weight _) (λ ok U x. slashes-then 1 T ok U (within.slashes_end _ ok U x)))
-      (λ f. Goes-on ready ends weight 1 5 0 p (domain_program (bytes_of T) (end_of T) (sized 0 s)) (Consume ∷ []) (rested s) (sized 0 s) T (Next GfmAutolinkLiteralDomainInside) alone refl (some-codes T c e) (omega arith)
+      (λ f. Goes-on ready ends weight 1 5 0 p (domain_plan (bytes_of T) (end_of T) (sized 0 s)) (Consume ∷ []) (rested s) (sized 0 s) T (Next GfmAutolinkLiteralDomainInside) alone refl (some-codes T c e) (omega arith)
       (ap p b.whole ∙ slashes-last (bytes_of T) (end_of T) n b.code more (sized 0 s) slash f (sym on.fresh))
       (within.address.domain_ready _ (address-ready T c on e)) (within.address.domain_weight _) (λ ok U x. domain-then (sized 0 s) T ok U (within.address.domain_end _ ok U x))))
       (λ h. Goes-nok ready ends weight 1 0 p (rested s) T alone (ap p b.whole ∙ slashes-none (bytes_of T) (end_of T) n (b.code ∷ more) (ap (λ v. v == 47) b.value ∙ h))))
@@ -127,7 +127,7 @@ before-letter T = by_code (last_of T.cursor.codes T.cursor.at)
     by_code None = refl
     by_code (Some c) = refl
 
-here-is : (T : Tokenizer) (cs : List Code) → program_of (protocol_here T) cs ≡ (if may_begin T then leaf_ops N.GfmAutolinkLiteralProtocol (prefix_reading (bytes_of T) (end_of T) 0 cs) else None)
+here-is : (T : Tokenizer) (cs : List Code) → plan_of (protocol_here T) cs ≡ (if may_begin T then leaf_ops N.GfmAutolinkLiteralProtocol (prefix_reading (bytes_of T) (end_of T) 0 cs) else None)
 here-is T cs =
     protocol-is (bytes_of T) (end_of T) (is_on T) (before_of T) cs
     ∙ ap (λ b. if is_on T && not b then leaf_ops N.GfmAutolinkLiteralProtocol (prefix_reading (bytes_of T) (end_of T) 0 cs) else None) (sym (before-letter T))
@@ -136,7 +136,7 @@ pub none-read : (o : Option (List Code × List Code)) → pass_ops o ≡ None �
 none-read None e = refl
 none-read (Some r) e = cc
 
-no-literal : (T : Tokenizer) (cs : List Code) (b : Bool) → may_begin T ≡ b → b && next_is (λ c. scheme_letter 0 c.value) cs ≡ false → program_of (protocol_here T) cs ≡ None
+no-literal : (T : Tokenizer) (cs : List Code) (b : Bool) → may_begin T ≡ b → b && next_is (λ c. scheme_letter 0 c.value) cs ≡ false → plan_of (protocol_here T) cs ≡ None
 no-literal T cs true e h = here-is T cs ∙ if-true _ _ _ e ∙ ap (leaf_ops N.GfmAutolinkLiteralProtocol) (none-read _ (prefix-none (bytes_of T) (end_of T) 0 cs h refl))
 no-literal T cs false e h = here-is T cs ∙ if-false _ _ _ e
 
@@ -151,11 +151,11 @@ prefix-entered T e ok U k = subst (λ n. DoesAs 0 (λ cs. pass_ops (prefix_readi
 pub protocol_start-law : (ready : StateName → Tokenizer → Type 0) (ends : StateName → Tokenizer → Bool → Tokenizer → Type 0) (weight : StateName → Tokenizer → ℕ) → Within ready ends weight → (T : Tokenizer) → T.attempts ≡ [] → StartReady T → GoesOn ready ends weight (weight_at 2 T) (protocol_start_ends T) (protocol_start_step T)
 protocol_start-law ready ends weight within T alone on =
     let s : TokenizeState = T.tokenize_state in
-    let p : Program = program_of (protocol_here T) in
+    let p : Plan = plan_of (protocol_here T) in
     let F : Bool → Tokenizer → Type 0 = DoesAs 0 p s T in
     let P : Stepped → Type 0 = GoesOn ready ends weight (weight_at 2 T) F in
     let reading : List Code → Option (List Code × List Code) = prefix_reading (bytes_of T) (end_of T) 0 in
-    GoesOn-map ready ends weight (weight_at 2 T) F (protocol_start_ends T) (protocol_start_step T) (λ ok U k. EndsAs-program (protocol_here T) (whole-protocol (bytes_of T) (end_of T) (is_on T) (before_of T)) s T ok U k)
+    GoesOn-map ready ends weight (weight_at 2 T) F (protocol_start_ends T) (protocol_start_step T) (λ ok U k. EndsAs-plan (protocol_here T) (whole-protocol (bytes_of T) (end_of T) (is_on T) (before_of T)) s T ok U k)
     (code-step P (current_of T) (λ o. protocol_start_at (may_begin T) o T)
     (λ e. Goes-no ready ends weight 2 0 p T alone (ap p (ahead-none T e) ∙ no-literal T [] (may_begin T) refl (and-false (may_begin T))))
     (λ c e. let b = ahead-some T c e in

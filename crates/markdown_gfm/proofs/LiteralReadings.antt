@@ -11,11 +11,12 @@ use Rattle.markdown_engine.specs.declared.tokenizer.TokenizeState.{TokenizeState
 use Rattle.markdown_model.specs.CodeTests.{is_value, is_among, is_letter, is_empty, next_is}
 use Rattle.markdown_model.specs.Grammar.{Reading, ◌>>=◌, ◌then_◌, either, one, gives, with_first}
 use Rattle.markdown_model.specs.Literal.{letters, last_parts_plain, is_domain, domain, domain_from, is_domain_code, path, path_from, ends_path, count_if}
-use Rattle.markdown_leaf.specs.Autolink.{after, letter_value}
-use Rattle.markdown_leaf.specs.Program.{preceded}
-use Rattle.markdown_leaf.proofs.AutolinkReadings.{then-after, after-more}
-use Rattle.markdown_leaf.proofs.ProgramLemmas.{consumes-append}
-use Rattle.markdown_gfm.specs.GfmAutolinkLiteral.{scheme_letter, www_letter, www_test, rested, saw, underscored, dotted, is_well, passed_code, fields_after, pass_ops, path_program, domain_program, domain_after_program, address, schemes, slashes_program, prefix_program}
+use Rattle.markdown_construct.specs.Readings.{after}
+use Rattle.markdown_construct.specs.Values.{letter_value}
+use Rattle.markdown_construct.specs.Plan.{preceded}
+use Rattle.markdown_construct.proofs.AfterLemmas.{then-after, after-more}
+use Rattle.markdown_construct.proofs.PlanLemmas.{consumes-append}
+use Rattle.markdown_gfm.specs.GfmAutolinkLiteral.{scheme_letter, www_letter, www_test, rested, saw, underscored, dotted, is_well, passed_code, fields_after, pass_ops, path_plan, domain_plan, domain_after_plan, address, schemes, slashes_plan, prefix_plan}
 use Rattle.markdown_model.proofs.ReadingSteps.{bind-some, bind-none, one-here, one-not, then-some, then-none, either-some, either-second, and-left, and-right, left-true, if-true, if-false}
 
 -- Domains: their fields, code by code.
@@ -125,19 +126,19 @@ module _ (bytes : List ℕ) (end : ℕ) where
       ∙ ap (λ (k : ℕ). if is_well (fields_after d.0 r) then Some (Consume ∷ consumes d.0 ++ consumes (path_from bytes end r.size k d.1).0) else None) (sym n)
       ∙ preceded-if Consume (is_well (fields_after d.0 r)) _
 
-  pub domain-more : (s r : TokenizeState) (c : Code) (cs : List Code) → is_domain_code bytes end (c ∷ cs) ≡ true → passed_code c s ≡ r → r.size ≡ s.size → r.size_b ≡ s.size_b → domain_program bytes end s (c ∷ cs) ≡ preceded (Consume ∷ []) (domain_program bytes end r cs)
+  pub domain-more : (s r : TokenizeState) (c : Code) (cs : List Code) → is_domain_code bytes end (c ∷ cs) ≡ true → passed_code c s ≡ r → r.size ≡ s.size → r.size_b ≡ s.size_b → domain_plan bytes end s (c ∷ cs) ≡ preceded (Consume ∷ []) (domain_plan bytes end r cs)
   unfolding domain_of first_of
   domain-more s r c cs h e m n = ap (λ b. domain_of s (first_of b c cs)) h ∙ more-of s r c (domain_from bytes end cs) e m n
 
-  pub domain-stop : (s : TokenizeState) (c : Code) (cs : List Code) → is_domain_code bytes end (c ∷ cs) ≡ false → domain_program bytes end s (c ∷ cs) ≡ domain_after_program bytes end s (c ∷ cs)
+  pub domain-stop : (s : TokenizeState) (c : Code) (cs : List Code) → is_domain_code bytes end (c ∷ cs) ≡ false → domain_plan bytes end s (c ∷ cs) ≡ domain_after_plan bytes end s (c ∷ cs)
   unfolding domain_of first_of
   domain-stop s c cs h = ap (λ b. domain_of s (first_of b c cs)) h
 
-  pub domain-end : (s : TokenizeState) → domain_program bytes end s [] ≡ domain_after_program bytes end s []
+  pub domain-end : (s : TokenizeState) → domain_plan bytes end s [] ≡ domain_after_plan bytes end s []
   domain-end s = refl
 
   -- a domain and a path, with the fields at rest
-  tried : (s : TokenizeState) (cs : List Code) (b : Bool) → is_domain (domain_from bytes end cs).0 ≡ b → is_well (fields_after (domain_from bytes end cs).0 s) ≡ b → s.size ≡ 0 → s.size_b ≡ 0 → pass_ops (address bytes end cs) ≡ domain_program bytes end s cs
+  tried : (s : TokenizeState) (cs : List Code) (b : Bool) → is_domain (domain_from bytes end cs).0 ≡ b → is_well (fields_after (domain_from bytes end cs).0 s) ≡ b → s.size ≡ 0 → s.size_b ≡ 0 → pass_ops (address bytes end cs) ≡ domain_plan bytes end s cs
   unfolding domain path ◌then_◌
   tried s cs true e h m n =
       let d : List Code × List Code = domain_from bytes end cs in
@@ -149,7 +150,7 @@ module _ (bytes : List ℕ) (end : ℕ) where
       ∙ sym (if-true _ _ _ h)
   tried s cs false e h m n = ap pass_ops (then-none (domain bytes end) (path bytes end) cs (rw (e, domain) refl)) ∙ sym (if-false _ _ _ h)
 
-  pub address-is : (s : TokenizeState) (cs : List Code) → rested s ≡ s → pass_ops (address bytes end cs) ≡ domain_program bytes end s cs
+  pub address-is : (s : TokenizeState) (cs : List Code) → rested s ≡ s → pass_ops (address bytes end cs) ≡ domain_plan bytes end s cs
   address-is s cs e =
       tried s cs (is_domain (domain_from bytes end cs).0) refl (domain-test s (domain_from bytes end cs).0 e) (ap (λ (q : TokenizeState). q.size) (sym e)) (ap (λ (q : TokenizeState). q.size_b) (sym e))
 
@@ -157,11 +158,11 @@ module _ (bytes : List ℕ) (end : ℕ) where
   path_split_by b o k c cs =
       elim b [ true ↦ ([], c ∷ cs) | false ↦ (let s = path_from bytes end (count_if 40 c o) (count_if 41 c k) cs in (c ∷ s.0, s.1)) ]
 
-  pub path-more : (o k : ℕ) (c : Code) (cs : List Code) → ends_path bytes end o k (c ∷ cs) ≡ false → path_program bytes end o k (c ∷ cs) ≡ preceded (Consume ∷ []) (path_program bytes end (count_if 40 c o) (count_if 41 c k) cs)
+  pub path-more : (o k : ℕ) (c : Code) (cs : List Code) → ends_path bytes end o k (c ∷ cs) ≡ false → path_plan bytes end o k (c ∷ cs) ≡ preceded (Consume ∷ []) (path_plan bytes end (count_if 40 c o) (count_if 41 c k) cs)
   unfolding path_split_by
   path-more o k c cs e = ap (λ b. Some (consumes (path_split_by b o k c cs).0)) e
 
-  pub path-stop : (o k : ℕ) (c : Code) (cs : List Code) → ends_path bytes end o k (c ∷ cs) ≡ true → path_program bytes end o k (c ∷ cs) ≡ Some []
+  pub path-stop : (o k : ℕ) (c : Code) (cs : List Code) → ends_path bytes end o k (c ∷ cs) ≡ true → path_plan bytes end o k (c ∷ cs) ≡ Some []
   unfolding path_split_by
   path-stop o k c cs e = ap (λ b. Some (consumes (path_split_by b o k c cs).0)) e
 
@@ -296,41 +297,41 @@ then-nothing : (a k : Reading (List Code)) (cs : List Code) → a cs ≡ Some ([
 then-nothing a k cs e = then-after a k cs [] cs e ∙ after-nothing (k cs)
 
 module _ (bytes : List ℕ) (end : ℕ) where
-  pub prefix-more : (n : ℕ) (c : Code) (cs : List Code) → scheme_letter n c.value ≡ true → prefix_program bytes end n (c ∷ cs) ≡ preceded (Consume ∷ []) (prefix_program bytes end (n + 1) cs)
+  pub prefix-more : (n : ℕ) (c : Code) (cs : List Code) → scheme_letter n c.value ≡ true → prefix_plan bytes end n (c ∷ cs) ≡ preceded (Consume ∷ []) (prefix_plan bytes end (n + 1) cs)
   prefix-more n c cs e =
       ap pass_ops (then-first (schemes n) (schemes (n + 1)) (letters (codes "://") then_ address bytes end) c cs (schemes-more n c cs e)) ∙ ops-first c _
 
-  prefix-here : (n : ℕ) (cs : List Code) → next_is (λ c. scheme_letter n c.value) cs ≡ false → nat_le 4 n ≡ true → prefix_program bytes end n cs ≡ pass_ops ((letters (codes "://") then_ address bytes end) cs)
+  prefix-here : (n : ℕ) (cs : List Code) → next_is (λ c. scheme_letter n c.value) cs ≡ false → nat_le 4 n ≡ true → prefix_plan bytes end n cs ≡ pass_ops ((letters (codes "://") then_ address bytes end) cs)
   prefix-here n cs e h = ap pass_ops (then-nothing (schemes n) (letters (codes "://") then_ address bytes end) cs (schemes-none n cs e ∙ if-true _ _ _ h))
 
-  pub prefix-colon : (n : ℕ) (c : Code) (cs : List Code) → scheme_letter n c.value ≡ false → nat_le 4 n && (c.value == 58) ≡ true → prefix_program bytes end n (c ∷ cs) ≡ preceded (Consume ∷ []) (slashes_program bytes end 0 cs)
+  pub prefix-colon : (n : ℕ) (c : Code) (cs : List Code) → scheme_letter n c.value ≡ false → nat_le 4 n && (c.value == 58) ≡ true → prefix_plan bytes end n (c ∷ cs) ≡ preceded (Consume ∷ []) (slashes_plan bytes end 0 cs)
   prefix-colon n c cs e h =
       prefix-here n (c ∷ cs) e (and-left _ _ h) ∙ letters-here 58 _ (address bytes end) c cs (sym (case-colon c.value) ∙ and-right _ _ h)
 
-  pub prefix-none : (n : ℕ) (cs : List Code) → next_is (λ c. scheme_letter n c.value) cs ≡ false → nat_le 4 n && next_is (is_value 58) cs ≡ false → prefix_program bytes end n cs ≡ None
+  pub prefix-none : (n : ℕ) (cs : List Code) → next_is (λ c. scheme_letter n c.value) cs ≡ false → nat_le 4 n && next_is (is_value 58) cs ≡ false → prefix_plan bytes end n cs ≡ None
   prefix-none n cs e h =
-      elim (nat_le 4 n) as (λ b. nat_le 4 n ≡ b → prefix_program bytes end n cs ≡ None) [
+      elim (nat_le 4 n) as (λ b. nat_le 4 n ≡ b → prefix_plan bytes end n cs ≡ None) [
         | true ↦ λ k. prefix-here n cs e k ∙ letters-other 58 _ (address bytes end) cs (next-same (letter_test 58) (is_value 58) (λ c. sym (case-colon c.value)) cs ∙ left-true _ _ h k)
         | false ↦ λ k. ap pass_ops (then-none (schemes n) (letters (codes "://") then_ address bytes end) cs (schemes-none n cs e ∙ if-false _ _ _ k))
       ] refl
 
-  slashes-by : (b : Bool) (c : Code) (cs : List Code) → (c.value == 47) ≡ true → pass_ops ((letters (if b then codes "//" else codes "/") then_ address bytes end) (c ∷ cs)) ≡ preceded (Consume ∷ []) (if b then slashes_program bytes end 1 cs else pass_ops (address bytes end cs))
+  slashes-by : (b : Bool) (c : Code) (cs : List Code) → (c.value == 47) ≡ true → pass_ops ((letters (if b then codes "//" else codes "/") then_ address bytes end) (c ∷ cs)) ≡ preceded (Consume ∷ []) (if b then slashes_plan bytes end 1 cs else pass_ops (address bytes end cs))
   slashes-by true c cs e = letters-here 47 _ (address bytes end) c cs (sym (case-slash c.value) ∙ e)
   slashes-by false c cs e =
       letters-here 47 _ (address bytes end) c cs (sym (case-slash c.value) ∙ e)
       ∙ ap (λ o. preceded (Consume ∷ []) (pass_ops o)) (then-nothing (letters []) (address bytes end) cs (letters-nil cs))
 
-  pub slashes-more : (n : ℕ) (c : Code) (cs : List Code) → (c.value == 47) ≡ true → (n == 0) ≡ true → slashes_program bytes end n (c ∷ cs) ≡ preceded (Consume ∷ []) (slashes_program bytes end 1 cs)
+  pub slashes-more : (n : ℕ) (c : Code) (cs : List Code) → (c.value == 47) ≡ true → (n == 0) ≡ true → slashes_plan bytes end n (c ∷ cs) ≡ preceded (Consume ∷ []) (slashes_plan bytes end 1 cs)
   slashes-more n c cs e h = slashes-by (n == 0) c cs e ∙ ap (preceded (Consume ∷ [])) (if-true _ _ _ h)
 
-  pub slashes-last : (n : ℕ) (c : Code) (cs : List Code) (s : TokenizeState) → (c.value == 47) ≡ true → (n == 0) ≡ false → rested s ≡ s → slashes_program bytes end n (c ∷ cs) ≡ preceded (Consume ∷ []) (domain_program bytes end s cs)
+  pub slashes-last : (n : ℕ) (c : Code) (cs : List Code) (s : TokenizeState) → (c.value == 47) ≡ true → (n == 0) ≡ false → rested s ≡ s → slashes_plan bytes end n (c ∷ cs) ≡ preceded (Consume ∷ []) (domain_plan bytes end s cs)
   slashes-last n c cs s e h k = slashes-by (n == 0) c cs e ∙ ap (preceded (Consume ∷ [])) (if-false _ _ _ h ∙ address-is bytes end s cs k)
 
   none-by : (b : Bool) (cs : List Code) → next_is (is_value 47) cs ≡ false → pass_ops ((letters (if b then codes "//" else codes "/") then_ address bytes end) cs) ≡ None
   none-by true cs e = letters-other 47 _ (address bytes end) cs (next-same (letter_test 47) (is_value 47) (λ c. sym (case-slash c.value)) cs ∙ e)
   none-by false cs e = letters-other 47 _ (address bytes end) cs (next-same (letter_test 47) (is_value 47) (λ c. sym (case-slash c.value)) cs ∙ e)
 
-  pub slashes-none : (n : ℕ) (cs : List Code) → next_is (is_value 47) cs ≡ false → slashes_program bytes end n cs ≡ None
+  pub slashes-none : (n : ℕ) (cs : List Code) → next_is (is_value 47) cs ≡ false → slashes_plan bytes end n cs ≡ None
   slashes-none n cs e = none-by (n == 0) cs e
 
 -- The word `www.`.

@@ -16,7 +16,7 @@ use Rattle.markdown_engine.proofs.Laws.{if-step, code-step}
 use Rattle.markdown_engine.proofs.OpRules.{ahead-none, ahead-some, ahead-consumed, current-ahead}
 use Rattle.markdown_model.specs.CodeTests.{is_among, is_empty, next_is, is_whitespace_code}
 use Rattle.markdown_model.specs.Literal.{is_space, trails_in}
-use Rattle.markdown_leaf.specs.Autolink.{letter_value}
+use Rattle.markdown_construct.specs.Values.{letter_value}
 use Rattle.markdown_gfm.specs.GfmAutolinkLiteral.{bytes_of, end_of, kind_here, trail_value, trail_at, trail_step, ends_bracket, bracket_after_step, reference_start_at, reference_start_step, reference_at, reference_step, ReadsText, LookReady, trails_on, trail_ends, bracket_after_ends, reference_start_ends, reference_ends}
 use Rattle.markdown_gfm.proofs.LiteralLooks.{text-passed, look-passed, space-here, space-end, trails-mark, trails-and, trails-angle, trails-bracket, trails-else, trails-end, name-letter, name-closed, name-other, name-none, name-end, look-ended, look-next, look-retry}
 

@@ -11,10 +11,10 @@ use Rattle.markdown_model.specs.CodeTests.{is_letter, is_some_code}
 use Rattle.markdown_model.specs.Grammar.{Reading, ◌>>=◌, ◌>>◌, ◌then_◌, gives, provided}
 use Rattle.markdown_model.specs.Literal.{letters, domain, domain_from, is_domain, path, path_from, ends_path, count_if, protocol_literal, www_from_here, www_literal, may_precede_www, begins_with_www}
 use Rattle.markdown_model.proofs.Literals.{domain_split}
-use Rattle.markdown_leaf.specs.Program.{tree_ops, program_of}
-use Rattle.markdown_leaf.specs.Autolink.{after}
-use Rattle.markdown_leaf.proofs.AutolinkReadings.{then-after}
-use Rattle.markdown_leaf.proofs.WholeReadings.{Read, Gives, Covers, both-parts, Gives-bind, Gives-either, Gives-gives, Gives-one, Gives-switched, Covers-leaf}
+use Rattle.markdown_construct.specs.Plan.{tree_ops, plan_of}
+use Rattle.markdown_construct.specs.Readings.{after}
+use Rattle.markdown_construct.proofs.AfterLemmas.{then-after}
+use Rattle.markdown_construct.proofs.WholeReadings.{Read, Gives, Covers, both-parts, Gives-bind, Gives-either, Gives-gives, Gives-one, Gives-switched, Covers-leaf}
 use Rattle.markdown_gfm.specs.GfmAutolinkLiteral.{address, schemes, prefix_reading}
 use Rattle.markdown_gfm.proofs.LiteralReadings.{letter_test}
 use Rattle.markdown_model.proofs.ReadingSteps.{bind-some, bind-none, then-none, switched-on, switched-off}
@@ -89,7 +89,7 @@ module _ (bytes : List ℕ) (end : ℕ) where
   protocol-by previous cs false e =
       ap tree_ops (switched-on _ _ cs (ap not e) ∙ protocol-text cs) ∙ mapped-ops N.GfmAutolinkLiteralProtocol (prefix_reading bytes end 0 cs)
 
-  pub protocol-is : (on : Bool) (previous : Option Code) (cs : List Code) → program_of (provided on >> protocol_literal bytes end previous) cs ≡ (if on && not (is_some_code is_letter previous) then leaf_ops N.GfmAutolinkLiteralProtocol (prefix_reading bytes end 0 cs) else None)
+  pub protocol-is : (on : Bool) (previous : Option Code) (cs : List Code) → plan_of (provided on >> protocol_literal bytes end previous) cs ≡ (if on && not (is_some_code is_letter previous) then leaf_ops N.GfmAutolinkLiteralProtocol (prefix_reading bytes end 0 cs) else None)
   protocol-is true previous cs = ap tree_ops (switched-on (protocol_literal bytes end previous) true cs refl) ∙ protocol-by previous cs (is_some_code is_letter previous) refl
   protocol-is false previous cs = ap tree_ops (switched-off (protocol_literal bytes end previous) false cs refl)
 
@@ -151,7 +151,7 @@ module _ (bytes : List ℕ) (end : ℕ) where
   www-text cs =
       bind-then (domain bytes end) (path bytes end) _ (leaf N.GfmAutolinkLiteralWww) (λ z t. bind-gives (path bytes end) (λ w. leaf N.GfmAutolinkLiteralWww (z ++ w)) t) cs
 
-  pub from-here-is : (cs : List Code) → program_of (www_from_here bytes end) cs ≡ leaf_ops N.GfmAutolinkLiteralWww (address bytes end cs)
+  pub from-here-is : (cs : List Code) → plan_of (www_from_here bytes end) cs ≡ leaf_ops N.GfmAutolinkLiteralWww (address bytes end cs)
   from-here-is cs = ap tree_ops (www-text cs) ∙ mapped-ops N.GfmAutolinkLiteralWww (address bytes end cs)
 
   whole-from-here : Gives Covers (www_from_here bytes end)
@@ -168,13 +168,13 @@ module _ (bytes : List ℕ) (end : ℕ) where
       Gives-switched on (www_literal bytes end previous) Covers (λ cs x rest k.
       Gives-switched (may_precede_www previous && begins_with_www cs) (www_from_here bytes end) Covers whole-from-here cs x rest k)
 
-  pub www-is : (on : Bool) (previous : Option Code) (cs : List Code) → on && (may_precede_www previous && begins_with_www cs) ≡ true → program_of (provided on >> www_literal bytes end previous) cs ≡ program_of (www_from_here bytes end) cs
+  pub www-is : (on : Bool) (previous : Option Code) (cs : List Code) → on && (may_precede_www previous && begins_with_www cs) ≡ true → plan_of (provided on >> www_literal bytes end previous) cs ≡ plan_of (www_from_here bytes end) cs
   unfolding www_literal
   www-is true previous cs e =
       ap tree_ops (switched-on (www_literal bytes end previous) true cs refl ∙ switched-on (www_from_here bytes end) (may_precede_www previous && begins_with_www cs) cs e)
   www-is false previous cs e = cc
 
-  pub www-none : (on : Bool) (previous : Option Code) (cs : List Code) → on && (may_precede_www previous && begins_with_www cs) ≡ false → program_of (provided on >> www_literal bytes end previous) cs ≡ None
+  pub www-none : (on : Bool) (previous : Option Code) (cs : List Code) → on && (may_precede_www previous && begins_with_www cs) ≡ false → plan_of (provided on >> www_literal bytes end previous) cs ≡ None
   unfolding www_literal
   www-none true previous cs e =
       ap tree_ops (switched-on (www_literal bytes end previous) true cs refl ∙ switched-off (www_from_here bytes end) (may_precede_www previous && begins_with_www cs) cs e)

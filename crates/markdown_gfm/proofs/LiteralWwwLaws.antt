@@ -23,9 +23,9 @@ use Rattle.markdown_engine.proofs.OpRules.{ahead-none, ahead-some, ahead-consume
 use Rattle.markdown_engine.proofs.OpsLemmas.{Grown-applied, Grown-scratched}
 use Rattle.markdown_model.specs.CodeTests.{is_empty}
 use Rattle.markdown_model.specs.Literal.{domain_from, path_from, may_precede_www, begins_with_www, www_from_here}
-use Rattle.markdown_leaf.specs.Program.{Program, program_of, DoesAs}
-use Rattle.markdown_leaf.proofs.ProgramLemmas.{GoesOn-map, Goes-no, EndsAs-program}
-use Rattle.markdown_gfm.specs.GfmAutolinkLiteral.{bytes_of, end_of, before_of, is_on, rested, sized, refused, precedes_www, www_letter, may_begin_www, www_start_at, www_start_step, www_prefix_at, www_prefix_step, www_prefix_after_step, www_after_step, entered_literal, StartReady, LiteralReady, WwwReady, Tries, is_well, fields_after, domain_program, address, pass_ops, domain_ends, www_test, www_prefix_ends, www_prefix_after_ends, www_after_ends, www_here, www_start_ends}
+use Rattle.markdown_construct.specs.Plan.{Plan, plan_of, DoesAs}
+use Rattle.markdown_construct.proofs.PlanLemmas.{GoesOn-map, Goes-no, EndsAs-plan}
+use Rattle.markdown_gfm.specs.GfmAutolinkLiteral.{bytes_of, end_of, before_of, is_on, rested, sized, refused, precedes_www, www_letter, may_begin_www, www_start_at, www_start_step, www_prefix_at, www_prefix_step, www_prefix_after_step, www_after_step, entered_literal, StartReady, LiteralReady, WwwReady, Tries, is_well, fields_after, domain_plan, address, pass_ops, domain_ends, www_test, www_prefix_ends, www_prefix_after_ends, www_after_ends, www_here, www_start_ends}
 use Rattle.markdown_gfm.proofs.LiteralReadings.{address-is, www-more, www-other, www-left}
 use Rattle.markdown_gfm.proofs.LiteralWhole.{from-here-is, whole-www, www-is, www-none}
 use Rattle.markdown_gfm.proofs.LiteralAttempts.{Begins, literal-law}
@@ -135,11 +135,11 @@ module _ (ready : StateName → Tokenizer → Type 0) (ends : StateName → Toke
   unfolding applied
   address-entered T e ok U k =
       let A : Tokenizer = entered_literal N.GfmAutolinkLiteralWww T in
-      does-same (λ cs. pass_ops (address (bytes_of T) (end_of T) cs)) (domain_program (bytes_of T) (end_of T) T.tokenize_state) (rested T.tokenize_state) A ok U (address-is (bytes_of T) (end_of T) T.tokenize_state (ahead A) e) k
+      does-same (λ cs. pass_ops (address (bytes_of T) (end_of T) cs)) (domain_plan (bytes_of T) (end_of T) T.tokenize_state) (rested T.tokenize_state) A ok U (address-is (bytes_of T) (end_of T) T.tokenize_state (ahead A) e) k
 
   pub www_prefix_after-law : (T : Tokenizer) → T.attempts ≡ [] → StartReady T → GoesOn ready ends weight (weight_at 6 T) (www_prefix_after_ends T) (www_prefix_after_step T)
   www_prefix_after-law T alone on =
-      literal-law ready ends weight N.GfmAutolinkLiteralWww GfmAutolinkLiteralDomainInside GfmAutolinkLiteralWwwAfter (address (bytes_of T) (end_of T)) (program_of (www_from_here (bytes_of T) (end_of T))) T on.resting
+      literal-law ready ends weight N.GfmAutolinkLiteralWww GfmAutolinkLiteralDomainInside GfmAutolinkLiteralWwwAfter (address (bytes_of T) (end_of T)) (plan_of (www_from_here (bytes_of T) (end_of T))) T on.resting
       (from-here-is (bytes_of T) (end_of T) (ahead T))
       6 5 alone (omega arith) (omega arith)
       (begins-address (bytes_of T) (end_of T) T.tokenize_state (ahead T) on.resting)
@@ -162,7 +162,7 @@ module _ (ready : StateName → Tokenizer → Type 0) (ends : StateName → Toke
   back-here T U test ok e k =
       restored-grown true (Next GfmAutolinkLiteralWwwPrefixAfter) Nok T U k.grown ∙ ap (λ (x : TokenizeState). scratched x T) (k.scratch ∙ e) ∙ scratched-same T
 
-  no-fall : (T : Tokenizer) (p : Program) → p (ahead T) ≡ None → (ok : Bool) (V : Tokenizer) → (ok ≡ false) × (V ≡ T) → DoesAs 0 p T.tokenize_state T ok V
+  no-fall : (T : Tokenizer) (p : Plan) → p (ahead T) ≡ None → (ok : Bool) (V : Tokenizer) → (ok ≡ false) × (V ≡ T) → DoesAs 0 p T.tokenize_state T ok V
   no-fall T p e ok V x =
       subst (λ b. DoesAs 0 p T.tokenize_state T b V) (sym x.0)
       (record { none = e; grown = subst (λ (y : Tokenizer). Grown 0 T y) (sym x.1) (Grown-refl 0 T); scratch = ap (λ (y : Tokenizer). y.tokenize_state) x.1 })
@@ -175,10 +175,10 @@ module _ (ready : StateName → Tokenizer → Type 0) (ends : StateName → Toke
   stands-by : (T : Tokenizer) (cs : List Code) → is_on T && (may_precede_www (before_of T) && begins_with_www cs) ≡ may_begin_www T && www_test 0 cs
   stands-by T cs = and-three (is_on T) (may_precede_www (before_of T)) (begins_with_www cs) ∙ ap (λ m. (is_on T && m) && begins_with_www cs) (sym (before-www T))
 
-  www-stands : (T : Tokenizer) (cs : List Code) → may_begin_www T && www_test 0 cs ≡ true → program_of (www_here T) cs ≡ program_of (www_from_here (bytes_of T) (end_of T)) cs
+  www-stands : (T : Tokenizer) (cs : List Code) → may_begin_www T && www_test 0 cs ≡ true → plan_of (www_here T) cs ≡ plan_of (www_from_here (bytes_of T) (end_of T)) cs
   www-stands T cs e = www-is (bytes_of T) (end_of T) (is_on T) (before_of T) cs (stands-by T cs ∙ e)
 
-  www-fails : (T : Tokenizer) (cs : List Code) → may_begin_www T && www_test 0 cs ≡ false → program_of (www_here T) cs ≡ None
+  www-fails : (T : Tokenizer) (cs : List Code) → may_begin_www T && www_test 0 cs ≡ false → plan_of (www_here T) cs ≡ None
   www-fails T cs e = www-none (bytes_of T) (end_of T) (is_on T) (before_of T) cs (stands-by T cs ∙ e)
 
   both-true : (a b : Bool) → a ≡ true → b ≡ true → a && b ≡ true
@@ -196,13 +196,13 @@ module _ (ready : StateName → Tokenizer → Type 0) (ends : StateName → Toke
   pub www_start-law : (T : Tokenizer) → T.attempts ≡ [] → StartReady T → GoesOn ready ends weight (weight_at 7 T) (www_start_ends T) (www_start_step T)
   www_start-law T alone on =
       let s : TokenizeState = T.tokenize_state in
-      let p : Program = program_of (www_here T) in
-      let q : Program = program_of (www_from_here (bytes_of T) (end_of T)) in
+      let p : Plan = plan_of (www_here T) in
+      let q : Plan = plan_of (www_from_here (bytes_of T) (end_of T)) in
       let n : ℕ = weight_at 7 T in
       let F : Bool → Tokenizer → Type 0 = DoesAs 0 p s T in
       let P : Stepped → Type 0 = GoesOn ready ends weight n F in
       let size : s.size ≡ 0 = ap (λ (x : TokenizeState). x.size) (sym on.resting) in
-      GoesOn-map ready ends weight n F (www_start_ends T) (www_start_step T) (λ ok U k. EndsAs-program (www_here T) (whole-www (bytes_of T) (end_of T) (is_on T) (before_of T)) s T ok U k)
+      GoesOn-map ready ends weight n F (www_start_ends T) (www_start_step T) (λ ok U k. EndsAs-plan (www_here T) (whole-www (bytes_of T) (end_of T) (is_on T) (before_of T)) s T ok U k)
       (code-step P (current_of T) (λ o. www_start_at (may_begin_www T) o T)
       (λ e. Goes-no ready ends weight 7 0 p T alone (ap p (ahead-none T e) ∙ www-fails T [] (second-false (may_begin_www T) (www_test 0 []) (www-other 0 [] (omega arith) refl))))
       (λ c e. let b = ahead-some T c e in

@@ -14,8 +14,8 @@ use Rattle.markdown_model.specs.Grammar.{Reading, ◌>>◌, ◌then_◌, either,
 use Rattle.markdown_model.specs.Literal.{letters, is_other, is_space, trails_in, domain, domain_from, path, path_from, protocol_literal, www_from_here, www_literal}
 use Rattle.markdown_util.specs.Neighbours.{class_of, after_index}
 use Rattle.markdown_util.specs.declared.util.char.Kind.{Kind}
-use Rattle.markdown_leaf.specs.Autolink.{letter_value, among_values}
-use Rattle.markdown_leaf.specs.Program.{Program, preceded, program_of, DoesAs, KeepsAs}
+use Rattle.markdown_construct.specs.Values.{letter_value, among_values}
+use Rattle.markdown_construct.specs.Plan.{Plan, preceded, plan_of, DoesAs, KeepsAs}
 use Rattle.markdown_partial.specs.SpaceSteps.{most}
 use Rattle.markdown_engine.specs.declared.event.Name.{Name}
 use Rattle.markdown_engine.specs.declared.event.Name.TheVariants as N
@@ -385,29 +385,29 @@ schemes n = either (letters (drop n (codes "https"))) (letters (drop n (codes "h
 
 module _ (bytes : List ℕ) (end : ℕ) where
   -- the rest of a path, with so many parentheses
-  abbrev pub path_program : ℕ → ℕ → Program
-  path_program opened closed cs = Some (consumes (path_from bytes end opened closed cs).0)
+  abbrev pub path_plan : ℕ → ℕ → Plan
+  path_plan opened closed cs = Some (consumes (path_from bytes end opened closed cs).0)
 
   -- at punctuation of a path
-  abbrev pub path_punctuation_program : ℕ → ℕ → Program
-  path_punctuation_program opened closed [] = None
-  path_punctuation_program opened closed (c ∷ cs) =
-      preceded (Consume ∷ []) (path_program opened (if c.value == 41 then closed + 1 else closed) cs)
+  abbrev pub path_punctuation_plan : ℕ → ℕ → Plan
+  path_punctuation_plan opened closed [] = None
+  path_punctuation_plan opened closed (c ∷ cs) =
+      preceded (Consume ∷ []) (path_plan opened (if c.value == 41 then closed + 1 else closed) cs)
 
   -- after a domain
-  abbrev pub domain_after_program : TokenizeState → Program
-  domain_after_program s cs = if is_well s then path_program s.size s.size_b cs else None
+  abbrev pub domain_after_plan : TokenizeState → Plan
+  domain_after_plan s cs = if is_well s then path_plan s.size s.size_b cs else None
 
   -- the rest of a domain, and a path
-  abbrev pub domain_program : TokenizeState → Program
-  domain_program s cs =
+  abbrev pub domain_plan : TokenizeState → Plan
+  domain_plan s cs =
       let d = domain_from bytes end cs in
       if is_well (fields_after d.0 s) then Some (consumes d.0 ++ consumes (path_from bytes end s.size s.size_b d.1).0) else None
 
   -- at punctuation of a domain
-  abbrev pub domain_punctuation_program : TokenizeState → Program
-  domain_punctuation_program s [] = None
-  domain_punctuation_program s (c ∷ cs) = preceded (Consume ∷ []) (domain_program (if c.value == 95 then underscored s else dotted s) cs)
+  abbrev pub domain_punctuation_plan : TokenizeState → Plan
+  domain_punctuation_plan s [] = None
+  domain_punctuation_plan s (c ∷ cs) = preceded (Consume ∷ []) (domain_plan (if c.value == 95 then underscored s else dotted s) cs)
 
   abbrev pub address : Reading (List Code)
   address = domain bytes end then_ path bytes end
@@ -420,11 +420,11 @@ module _ (bytes : List ℕ) (end : ℕ) where
   abbrev pub prefix_reading : ℕ → Reading (List Code)
   prefix_reading n = schemes n then_ (letters (codes "://") then_ address)
 
-  abbrev pub slashes_program : ℕ → Program
-  slashes_program n cs = pass_ops (slashes_reading n cs)
+  abbrev pub slashes_plan : ℕ → Plan
+  slashes_plan n cs = pass_ops (slashes_reading n cs)
 
-  abbrev pub prefix_program : ℕ → Program
-  prefix_program n cs = pass_ops (prefix_reading n cs)
+  abbrev pub prefix_plan : ℕ → Plan
+  prefix_plan n cs = pass_ops (prefix_reading n cs)
 
 -- the code before the place
 abbrev pub before_of : Tokenizer → Option Code
@@ -441,29 +441,29 @@ abbrev pub protocol_after_ends : Tokenizer → Bool → Tokenizer → Type 0
 protocol_after_ends T ok U = (ok ≡ true) × (U ≡ done (Exit N.GfmAutolinkLiteralProtocol ∷ []) T)
 
 abbrev pub prefix_ends : Tokenizer → Bool → Tokenizer → Type 0
-prefix_ends T ok U = DoesAs 0 (prefix_program (bytes_of T) (end_of T) T.tokenize_state.size) (rested T.tokenize_state) T ok U
+prefix_ends T ok U = DoesAs 0 (prefix_plan (bytes_of T) (end_of T) T.tokenize_state.size) (rested T.tokenize_state) T ok U
 
 abbrev pub slashes_ends : Tokenizer → Bool → Tokenizer → Type 0
-slashes_ends T ok U = DoesAs 0 (slashes_program (bytes_of T) (end_of T) T.tokenize_state.size) (rested T.tokenize_state) T ok U
+slashes_ends T ok U = DoesAs 0 (slashes_plan (bytes_of T) (end_of T) T.tokenize_state.size) (rested T.tokenize_state) T ok U
 
 abbrev pub domain_ends : Tokenizer → Bool → Tokenizer → Type 0
-domain_ends T ok U = DoesAs 0 (domain_program (bytes_of T) (end_of T) T.tokenize_state) (rested T.tokenize_state) T ok U
+domain_ends T ok U = DoesAs 0 (domain_plan (bytes_of T) (end_of T) T.tokenize_state) (rested T.tokenize_state) T ok U
 
 abbrev pub domain_punctuation_ends : Tokenizer → Bool → Tokenizer → Type 0
-domain_punctuation_ends T ok U = DoesAs 0 (domain_punctuation_program (bytes_of T) (end_of T) T.tokenize_state) (rested T.tokenize_state) T ok U
+domain_punctuation_ends T ok U = DoesAs 0 (domain_punctuation_plan (bytes_of T) (end_of T) T.tokenize_state) (rested T.tokenize_state) T ok U
 
 abbrev pub domain_after_ends : Tokenizer → Bool → Tokenizer → Type 0
-domain_after_ends T ok U = DoesAs 0 (domain_after_program (bytes_of T) (end_of T) T.tokenize_state) (rested T.tokenize_state) T ok U
+domain_after_ends T ok U = DoesAs 0 (domain_after_plan (bytes_of T) (end_of T) T.tokenize_state) (rested T.tokenize_state) T ok U
 
 abbrev pub path_ends : Tokenizer → Bool → Tokenizer → Type 0
-path_ends T ok U = DoesAs 0 (path_program (bytes_of T) (end_of T) T.tokenize_state.size T.tokenize_state.size_b) (rested T.tokenize_state) T ok U
+path_ends T ok U = DoesAs 0 (path_plan (bytes_of T) (end_of T) T.tokenize_state.size T.tokenize_state.size_b) (rested T.tokenize_state) T ok U
 
 abbrev pub path_punctuation_ends : Tokenizer → Bool → Tokenizer → Type 0
 path_punctuation_ends T ok U =
-    DoesAs 0 (path_punctuation_program (bytes_of T) (end_of T) T.tokenize_state.size T.tokenize_state.size_b) (rested T.tokenize_state) T ok U
+    DoesAs 0 (path_punctuation_plan (bytes_of T) (end_of T) T.tokenize_state.size T.tokenize_state.size_b) (rested T.tokenize_state) T ok U
 
 -- it ends here
-abbrev pub nothing_more : Program
+abbrev pub nothing_more : Plan
 nothing_more cs = Some []
 
 abbrev pub path_after_ends : Tokenizer → Bool → Tokenizer → Type 0
@@ -488,7 +488,7 @@ www_prefix_ends T ok U = Tries (www_test T.tokenize_state.size (ahead T)) T ok U
 
 -- a domain and a path
 abbrev pub www_prefix_after_ends : Tokenizer → Bool → Tokenizer → Type 0
-www_prefix_after_ends T ok U = KeepsAs 0 (program_of (www_from_here (bytes_of T) (end_of T))) T ok U
+www_prefix_after_ends T ok U = KeepsAs 0 (plan_of (www_from_here (bytes_of T) (end_of T))) T ok U
 
 abbrev pub www_after_ends : Tokenizer → Bool → Tokenizer → Type 0
 www_after_ends T ok U = (ok ≡ true) × (U ≡ done (Exit N.GfmAutolinkLiteralWww ∷ []) T)

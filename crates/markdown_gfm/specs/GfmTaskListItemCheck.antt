@@ -8,8 +8,8 @@ use Rattle.markdown_engine.specs.Weights.{codes_left}
 use Rattle.markdown_model.specs.CodeTests.{is_value, is_among, is_whitespace_code, is_empty, next_is}
 use Rattle.markdown_model.specs.Grammar.{◌>>◌, provided}
 use Rattle.markdown_model.specs.Leaf.{task_check, begins_task_text}
-use Rattle.markdown_leaf.specs.Autolink.{among_values}
-use Rattle.markdown_leaf.specs.Program.{Program, preceded, KeepsAs}
+use Rattle.markdown_construct.specs.Values.{among_values}
+use Rattle.markdown_construct.specs.Plan.{Plan, preceded, KeepsAs}
 use Rattle.markdown_partial.specs.SpaceSteps.{most, asked, rested, at_blank}
 use Rattle.markdown_engine.specs.declared.event.Name.{Name}
 use Rattle.markdown_engine.specs.declared.event.Name.TheVariants as N
@@ -115,25 +115,25 @@ abbrev pub start_ends : Tokenizer → Bool → Tokenizer → Type 0
 start_ends T ok U = EndsAs (check_here T) None T.tokenize_state T ok U
 
 -- the text of the item follows
-abbrev pub after_program : Program
-after_program cs = if begins_task_text cs then Some [] else None
+abbrev pub after_plan : Plan
+after_plan cs = if begins_task_text cs then Some [] else None
 
-abbrev pub close_program : Program
-close_program cs = if next_is (is_value 93) cs then preceded closing (after_program (rest_of cs)) else None
+abbrev pub close_plan : Plan
+close_plan cs = if next_is (is_value 93) cs then preceded closing (after_plan (rest_of cs)) else None
 
-abbrev pub inside_program : Program
-inside_program cs =
-    if next_is (is_among (codes "xX")) cs then preceded (value N.GfmTaskListItemValueChecked) (close_program (rest_of cs))
-    else (if next_is is_whitespace_code cs then preceded (value N.GfmTaskListItemValueUnchecked) (close_program (rest_of cs)) else None)
+abbrev pub inside_plan : Plan
+inside_plan cs =
+    if next_is (is_among (codes "xX")) cs then preceded (value N.GfmTaskListItemValueChecked) (close_plan (rest_of cs))
+    else (if next_is is_whitespace_code cs then preceded (value N.GfmTaskListItemValueUnchecked) (close_plan (rest_of cs)) else None)
 
 abbrev pub inside_ends : Tokenizer → Bool → Tokenizer → Type 0
-inside_ends T ok U = KeepsAs 1 inside_program T ok U
+inside_ends T ok U = KeepsAs 1 inside_plan T ok U
 
 abbrev pub close_ends : Tokenizer → Bool → Tokenizer → Type 0
-close_ends T ok U = KeepsAs 1 close_program T ok U
+close_ends T ok U = KeepsAs 1 close_plan T ok U
 
 abbrev pub after_ends : Tokenizer → Bool → Tokenizer → Type 0
-after_ends T ok U = KeepsAs 0 after_program T ok U
+after_ends T ok U = KeepsAs 0 after_plan T ok U
 
 -- it ends where it stands, by whether a code is left
 abbrev pub after_space_or_tab_ends : Tokenizer → Bool → Tokenizer → Type 0

@@ -7,9 +7,9 @@
 ghost use Rattle.std.specs.Prelude.{◌≡◌, false, IfOk, OnErr, IsTrue};
 ghost use Rattle.markdown_engine.specs.Ops.{HasCode, IsOpen, current_of, scratched};
 ghost use Rattle.markdown_engine.specs.declared.event.Name.TheVariants.{GfmAutolinkLiteralProtocol, GfmAutolinkLiteralWww};
-ghost use Rattle.markdown_leaf.specs.Autolink.{letter_value};
 ghost use Rattle.markdown_gfm.specs.GfmAutolinkLiteral.{at_later, kind_here, scheme_letter, trail_value, mark_value, rested, refused, protocol_start_step, protocol_after_step, prefix_step, slashes_step, precedes_www, www_letter, www_start_step, www_prefix_step, www_prefix_after_step, www_after_step, domain_step, domain_punctuation_step, domain_after_step, path_step, path_punctuation_step, path_after_step, trail_step, bracket_after_step, reference_start_step, reference_step, MayClass, TrailReady, MayCount};
 
+use markdown_construct::bytes::is_letter;
 use markdown_engine::event::Name;
 use markdown_engine::state::{State, StateName};
 use markdown_engine::tokenizer::Tokenizer;
@@ -42,13 +42,6 @@ fn class_here(tokenizer: &Tokenizer) -> Kind
     ensures { result ≡ kind_here tokenizer.now }
 {
     kind_after_index(tokenizer.parse_state.bytes, tokenizer.point().index)
-}
-
-// Whether this is an ASCII letter.
-fn is_letter(code: u8) -> bool
-    ensures { result ≡ letter_value code }
-{
-    matches!(code, b'A'..=b'Z' | b'a'..=b'z')
 }
 
 // Whether this is the letter of this number of `https`, in either case.

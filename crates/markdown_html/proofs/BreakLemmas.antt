@@ -7,8 +7,8 @@ use Rattle.markdown_model.specs.CodeTests.{is_whitespace_code}
 use Rattle.markdown_model.specs.Grammar.{Reading, with_first}
 use Rattle.markdown_model.proofs.Readings.{At, Covers, itself}
 use Rattle.markdown_model.proofs.Consuming.{Left, Consumes}
-use Rattle.markdown_leaf.specs.Program.{preceded, depth_after}
-use Rattle.markdown_leaf.proofs.ProgramLemmas.{preceded-twice}
+use Rattle.markdown_construct.specs.Plan.{preceded, depth_after}
+use Rattle.markdown_construct.proofs.PlanLemmas.{preceded-twice}
 use Rattle.markdown_html.specs.LineOps.{Mode, InLine, AtStart, InBlank, takes_blank, left_open, to_data, to_blank, ending_ops, ops_from, break_from, text_from, text_of}
 use Rattle.markdown_html.proofs.LineLemmas.{from-ending, from-blank, from-data}
 

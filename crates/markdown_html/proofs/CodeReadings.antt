@@ -6,8 +6,8 @@ use Rattle.markdown_model.specs.CodeTests.{is_value, is_whitespace_code, next_is
 use Rattle.markdown_model.specs.Grammar.{Reading, either, if_next, before, one, any_number, with_first, word_of, up_to_word, ◌then_◌}
 use Rattle.markdown_model.proofs.Readings.{itself, takes_up_to_word}
 use Rattle.markdown_model.proofs.Consuming.{Left, Consumes, with_takes, word_takes, takes_no_more}
-use Rattle.markdown_leaf.specs.Autolink.{after}
-use Rattle.markdown_leaf.proofs.AutolinkReadings.{then-after}
+use Rattle.markdown_construct.specs.Readings.{after}
+use Rattle.markdown_construct.proofs.AfterLemmas.{then-after}
 use Rattle.markdown_html.specs.Values.{whitespace_value}
 use Rattle.markdown_html.proofs.BreakLemmas.{Goes}
 use Rattle.markdown_model.proofs.ReadingSteps.{span-takes, span-none, one-here, one-not, then-none, either-second, either-some}

@@ -18,10 +18,10 @@ use Rattle.markdown_engine.proofs.OpRules.{ahead-none, ahead-some, Begins, some-
 use Rattle.markdown_engine.proofs.OpsLemmas.{scratch-done}
 use Rattle.markdown_model.specs.CodeTests.{is_value, next_is}
 use Rattle.markdown_model.specs.Grammar.{with_first, word, word_of, through, ◌then_◌}
-use Rattle.markdown_leaf.specs.Autolink.{letter_value, among_values}
-use Rattle.markdown_leaf.specs.Program.{DoesAs}
-use Rattle.markdown_leaf.specs.RawText.{with_size}
-use Rattle.markdown_leaf.proofs.ProgramLemmas.{Goes-on, Goes-kept, Goes-nok, Goes-yes}
+use Rattle.markdown_construct.specs.Values.{letter_value, among_values}
+use Rattle.markdown_construct.specs.Plan.{DoesAs}
+use Rattle.markdown_construct.specs.Scratch.{with_size}
+use Rattle.markdown_construct.proofs.PlanLemmas.{Goes-on, Goes-kept, Goes-nok, Goes-yes}
 use Rattle.markdown_html.specs.LineOps.{InLine, break_from, text_from, text_of}
 use Rattle.markdown_html.specs.Rests.{Open, DeclarationOpen, CommentOpenInside, Comment, CommentClose, CommentEnd, Cdata, CdataClose, CdataEnd, Declaration, Instruction, InstructionClose, TagCloseStart, TagClose, TagCloseBetween, TagOpen, TagOpenBetween, AttributeName, AttributeNameAfter, ValueBefore, ValueQuotedAfter, ValueUnquoted, End, rank_of, tag_rest, tag_next, name_next, value_rest, quoted_rest, closing_between, comment_after_two, cdata_opening, cdata_after_two, instruction_after_one, declaration_rest}
 use Rattle.markdown_html.specs.Values.{blank_value, whitespace_value, name_value, attribute_first_value, attribute_rest_value, after_value, barred_value}

@@ -10,7 +10,8 @@ use Rattle.markdown_engine.specs.declared.tokenizer.Tokenizer.{Tokenizer}
 use Rattle.markdown_engine.proofs.OpRules.{stack-applied}
 use Rattle.markdown_engine.proofs.OpsLemmas.{left-done, scratch-done}
 use Rattle.markdown_partial.specs.SpaceSteps as S
-use Rattle.markdown_leaf.specs.RawText.{AreOpen, with_size}
+use Rattle.markdown_construct.proofs.OpenLemmas.{second-open}
+use Rattle.markdown_construct.specs.Scratch.{AreOpen, with_size}
 use Rattle.markdown_html.specs.LineOps.{Mode, InLine, AtStart, InBlank, takes_blank, left_open, to_data, to_blank, ending_ops, break_from}
 use Rattle.markdown_html.specs.HtmlText.{rested, with_marker, opening, StartReady, SpacesReady, InsideReady, PartReady, CdataReady, QuotedReady, AfterReady}
 use Rattle.markdown_html.specs.Values.{whitespace_value}
@@ -69,11 +70,6 @@ broken-stack m ns (c ∷ cs) = broken-by (is_line_ending c) (takes_blank m && is
 -- these two are open, with others behind them
 open-by : (xs : List Name) (a b : Name) (ns : List Name) → xs ≡ a ∷ b ∷ ns → xs ≡ a ∷ b ∷ drop 2 xs
 open-by xs a b ns e = e ∙ ap (λ z. a ∷ b ∷ z) (ap (drop 2) (sym e))
-
-pub second-open : (xs : List Name) (a b : Name) → xs ≡ a ∷ b ∷ drop 2 xs → rest_of xs ≡ b ∷ rest_of (rest_of xs)
-second-open [] a b e = cc
-second-open (x ∷ []) a b e = cc
-second-open (x ∷ y ∷ ys) a b e = cc
 
 open-broken : (T : Tokenizer) (cs : List Code) → AreOpen N.HtmlTextData N.HtmlText T → AreOpen N.HtmlTextData N.HtmlText (done (break_from InLine cs) T)
 open-broken T cs h =

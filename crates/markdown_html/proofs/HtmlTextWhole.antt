@@ -14,9 +14,9 @@ use Rattle.markdown_model.specs.Lines.{linked_leaf, line_leaf, lines_from, lines
 use Rattle.markdown_model.proofs.Readings.{itself, takes_html_text, codes-lines}
 use Rattle.markdown_model.proofs.Consuming.{html_text_takes}
 use Rattle.markdown_model.proofs.ReadingLaws.{read-codes, read-shorter}
-use Rattle.markdown_leaf.specs.Program.{preceded, tree_ops, program_of}
-use Rattle.markdown_leaf.proofs.WholeReadings as W
-use Rattle.markdown_leaf.proofs.WholeReadings.{Gives, IsSome, Gives-bind, Gives-switched, Gives-gives, Covers-group, some-first}
+use Rattle.markdown_construct.specs.Plan.{preceded, tree_ops, plan_of}
+use Rattle.markdown_construct.proofs.WholeReadings as W
+use Rattle.markdown_construct.proofs.WholeReadings.{Gives, IsSome, Gives-bind, Gives-switched, Gives-gives, Covers-group, some-first}
 use Rattle.markdown_html.specs.HtmlText.{opening}
 use Rattle.markdown_html.specs.LineOps.{InLine, text_from, text_of}
 use Rattle.markdown_html.specs.Rests.{tag_rest, closing_between, open_rest}
@@ -93,13 +93,13 @@ tree-by c cs (Some r) h e =
     ap tree_ops (bind-some html_text _ (c ∷ cs) (c ∷ r.0) r.1 _ e refl)
     ∙ ap (λ os. Some (Enter N.HtmlText ∷ (os ++ Exit N.HtmlText ∷ []))) (ops-lines c r.0 h)
 
-pub html-opens : (on : Bool) (c : Code) (cs : List Code) → on ≡ true → is_value 60 c ≡ true → is_line_ending c ≡ false → program_of (provided on >> html) (c ∷ cs) ≡ preceded opening (text_of open_rest cs)
+pub html-opens : (on : Bool) (c : Code) (cs : List Code) → on ≡ true → is_value 60 c ≡ true → is_line_ending c ≡ false → plan_of (provided on >> html) (c ∷ cs) ≡ preceded opening (text_of open_rest cs)
 html-opens on c cs e h k = ap tree_ops (switched-on html on (c ∷ cs) e) ∙ tree-by c cs (open_rest cs) k (text-on c cs h)
 
 html-none : (cs : List Code) → next_is (is_value 60) cs ≡ false → html cs ≡ None
 unfolding html
 html-none cs e = bind-none html_text _ cs (text-none cs e)
 
-pub no-html : (on : Bool) (cs : List Code) → on && next_is (is_value 60) cs ≡ false → program_of (provided on >> html) cs ≡ None
+pub no-html : (on : Bool) (cs : List Code) → on && next_is (is_value 60) cs ≡ false → plan_of (provided on >> html) cs ≡ None
 no-html false cs e = ap tree_ops (switched-off html false cs refl)
 no-html true cs e = ap tree_ops (switched-on html true cs refl ∙ html-none cs e)

@@ -8,7 +8,7 @@ use Rattle.markdown_engine.specs.declared.event.Name.TheVariants as N
 use Rattle.markdown_model.specs.Grammar.{span}
 use Rattle.markdown_model.specs.Lines.{lines_of, lines_from, linked_leaf, joins}
 use Rattle.markdown_model.proofs.ReadingLaws.{lines_of-ending, lines_of-line, is_in_line}
-use Rattle.markdown_leaf.proofs.StretchLemmas.{stretch-joined}
+use Rattle.markdown_construct.proofs.StretchLemmas.{stretch-joined}
 use Rattle.markdown_html.specs.LineOps.{Mode, InLine, AtStart, InBlank, takes_blank, left_open, to_data, to_blank, ending_ops, ops_from}
 
 pub ops-row : (t u : Forest) → ops_of (t ⊕ u) ≡ ops_of t ++ ops_of u

@@ -15,8 +15,8 @@ use Rattle.markdown_engine.proofs.Laws.{Goes-attempt}
 use Rattle.markdown_engine.proofs.OpRules.{ahead-some, Begins, some-codes}
 use Rattle.markdown_engine.proofs.OpsLemmas.{left-done, scratch-done}
 use Rattle.markdown_model.specs.Grammar.{Reading, with_first}
-use Rattle.markdown_leaf.specs.Program.{preceded, DoesAs}
-use Rattle.markdown_leaf.proofs.ProgramLemmas.{DoesAs-then, Goes-next, Goes-no, kept}
+use Rattle.markdown_construct.specs.Plan.{preceded, DoesAs}
+use Rattle.markdown_construct.proofs.PlanLemmas.{DoesAs-then, Goes-next, Goes-no, kept, preceded-nil}
 use Rattle.markdown_html.specs.LineOps.{InLine, break_from, text_from, text_of}
 use Rattle.markdown_html.specs.Rests.{Part, Open, DeclarationOpen, CommentOpenInside, Comment, CommentClose, CommentEnd, Cdata, CdataClose, CdataEnd, Declaration, Instruction, InstructionClose, TagCloseStart, TagClose, TagCloseBetween, TagOpen, TagOpenBetween, AttributeName, AttributeNameAfter, ValueBefore, ValueQuotedAfter, ValueUnquoted, End, state_of, reading_of, rank_of}
 use Rattle.markdown_html.specs.HtmlText.{past_code, over_to, broken, InsideReady, PartReady, part_ends}
@@ -49,10 +49,6 @@ rank-low ValueQuotedAfter = omega arith
 rank-low ValueUnquoted = omega arith
 rank-low End = omega arith
 
-preceded-none : (o : Option (List Op)) → o ≡ preceded [] o
-preceded-none None = refl
-preceded-none (Some os) = refl
-
 -- one code of a text
 pub text-next : (r q : Reading (List Code)) (T : Tokenizer) (c : ℕ) (e : current_of T ≡ Some c) → (c == 10) ≡ false → r ((ahead-some T c e).code ∷ rest_of (ahead T)) ≡ with_first (ahead-some T c e).code (q (rest_of (ahead T))) → text_of r (ahead T) ≡ preceded (Consume ∷ []) (text_of q (rest_of (ahead T)))
 text-next r q T c e h k =
@@ -76,7 +72,7 @@ module _ (ready : StateName → Tokenizer → Type 0) (ends : StateName → Toke
 
   pub part-over : (k j : Part) (T : Tokenizer) → T.attempts ≡ [] → PartReady T → rank_of j < rank_of k → reading_of k (ahead T) ≡ reading_of j (ahead T) → GoesOn ready ends weight (weight_at (rank_of k) T) (part_ends k T) (over_to (state_of j) T)
   part-over k j T alone r lower same =
-      Goes-next ready ends weight (rank_of k) (rank_of j) 2 (text_of (reading_of k)) (text_of (reading_of j)) [] T (Retry (state_of j)) alone refl (omega arith) (omega (arith, lower)) (ap (text_from InLine) same ∙ preceded-none (text_of (reading_of j) (ahead T))) (within.part_ready j T r) (within.part_weight j T)
+      Goes-next ready ends weight (rank_of k) (rank_of j) 2 (text_of (reading_of k)) (text_of (reading_of j)) [] T (Retry (state_of j)) alone refl (omega arith) (omega (arith, lower)) (ap (text_from InLine) same ∙ preceded-nil (text_of (reading_of j) (ahead T))) (within.part_ready j T r) (within.part_weight j T)
       (λ ok U x. within.part_end j T ok U x)
 
   pub part-fails : (k : Part) (T : Tokenizer) → T.attempts ≡ [] → reading_of k (ahead T) ≡ None → GoesOn ready ends weight (weight_at (rank_of k) T) (part_ends k T) (stepped Nok T)

@@ -11,8 +11,8 @@ use Rattle.markdown_engine.specs.declared.state.StateName.TheVariants as H
 use Rattle.markdown_engine.specs.declared.tokenizer.Tokenizer.{Tokenizer}
 use Rattle.markdown_engine.proofs.Laws.{code-step, if-step}
 use Rattle.markdown_engine.proofs.OpRules.{ahead-none, ahead-some, Begins, some-codes}
-use Rattle.markdown_leaf.specs.Program.{Program, program_of, KeepsAs}
-use Rattle.markdown_leaf.proofs.ProgramLemmas.{GoesOn-map, Goes-next, Goes-no, EndsAs-program}
+use Rattle.markdown_construct.specs.Plan.{Plan, plan_of, KeepsAs}
+use Rattle.markdown_construct.proofs.PlanLemmas.{GoesOn-map, Goes-next, Goes-no, EndsAs-plan}
 use Rattle.markdown_html.specs.HtmlText.{is_on, opening, start_at, start_step, StartReady, html_here, start_ends}
 use Rattle.markdown_html.specs.LineOps.{text_of}
 use Rattle.markdown_html.specs.Rests.{Open, open_rest}
@@ -23,10 +23,10 @@ use Rattle.markdown_model.proofs.ReadingSteps.{and-left, and-right, and-false}
 
 pub start-law : (ready : StateName → Tokenizer → Type 0) (ends : StateName → Tokenizer → Bool → Tokenizer → Type 0) (weight : StateName → Tokenizer → ℕ) → Within ready ends weight → (T : Tokenizer) → T.attempts ≡ [] → StartReady T → GoesOn ready ends weight (weight_at 3 T) (start_ends T) (start_step T)
 start-law ready ends weight within T alone r =
-    let p : Program = program_of (html_here T) in
+    let p : Plan = plan_of (html_here T) in
     let E : Bool → Tokenizer → Type 0 = KeepsAs 0 p T in
     let P : Stepped → Type 0 = GoesOn ready ends weight (weight_at 3 T) E in
-    GoesOn-map ready ends weight (weight_at 3 T) E (start_ends T) (start_step T) (λ ok U x. EndsAs-program (html_here T) (whole-html (is_on T)) T.tokenize_state T ok U x)
+    GoesOn-map ready ends weight (weight_at 3 T) E (start_ends T) (start_step T) (λ ok U x. EndsAs-plan (html_here T) (whole-html (is_on T)) T.tokenize_state T ok U x)
     (code-step P (current_of T) (λ o. start_at o T)
     (λ e. Goes-no ready ends weight 3 0 p T alone (ap p (ahead-none T e) ∙ no-html (is_on T) [] (and-false (is_on T))))
     (λ c e.

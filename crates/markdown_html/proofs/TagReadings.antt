@@ -9,8 +9,9 @@ use Rattle.markdown_model.specs.Html.{spaces, optional_spaces, attribute_name, q
 use Rattle.markdown_model.proofs.Readings.{Covers, itself, by_next, takes_one, takes_any_number, takes_then, takes_word, takes_optional, takes_repeatedly, takes_spaces, takes_optional_spaces, takes_attribute, takes_attribute_value}
 use Rattle.markdown_model.proofs.Consuming.{Consumes, one_takes, some_takes, any_takes, then_takes, text_takes, takes_no_more, weaker}
 use Rattle.markdown_model.proofs.ReadingLaws.{and_then, repeatedly-next}
-use Rattle.markdown_leaf.specs.Autolink.{after, among_values}
-use Rattle.markdown_leaf.proofs.AutolinkReadings.{then-after}
+use Rattle.markdown_construct.specs.Readings.{after}
+use Rattle.markdown_construct.specs.Values.{among_values}
+use Rattle.markdown_construct.proofs.AfterLemmas.{then-after}
 use Rattle.markdown_html.specs.Rests.{is_attribute_first, is_attribute_code, tag_end, tag_rest, tag_next, tag_between, initializer, name_rest, value_rest, name_next, name_after, quoted_rest, is_unquoted_code, is_after_value, unquoted_rest}
 use Rattle.markdown_html.specs.Values.{whitespace_value}
 use Rattle.markdown_html.specs.HtmlText.{starts_no_value, quote_value}

@@ -15,9 +15,9 @@ use Rattle.markdown_model.specs.Grammar.{◌>>◌, provided}
 use Rattle.markdown_model.specs.Html.{html}
 use Rattle.markdown_partial.specs.SpaceSteps as S
 use Rattle.markdown_partial.specs.SpaceSteps.{most, asked}
-use Rattle.markdown_leaf.specs.Autolink.{letter_value, among_values}
-use Rattle.markdown_leaf.specs.Program.{DoesAs, KeepsAs}
-use Rattle.markdown_leaf.specs.RawText.{AreOpen, with_size}
+use Rattle.markdown_construct.specs.Values.{letter_value, among_values}
+use Rattle.markdown_construct.specs.Plan.{DoesAs, KeepsAs}
+use Rattle.markdown_construct.specs.Scratch.{AreOpen, with_size}
 use Rattle.markdown_html.specs.LineOps.{InLine, AtStart, break_from, prefix_from, ending_ops, text_of}
 use Rattle.markdown_html.specs.Rests.{Part, reading_of, quoted_rest, cdata_opening}
 use Rattle.markdown_html.specs.Values.{blank_value, whitespace_value, name_value, attribute_first_value, attribute_rest_value, after_value, barred_value}

@@ -3,7 +3,7 @@ use Rattle.std.specs.Prelude.{Bool, true, false, ◌&&◌, if◌then◌else◌, 
 use Rattle.markdown_engine.specs.Codes.{Code, is_line_ending, is_blank}
 use Rattle.markdown_engine.specs.Ops.{Op, Enter, Exit, Consume}
 use Rattle.markdown_engine.specs.declared.event.Name.TheVariants as N
-use Rattle.markdown_leaf.specs.Program.{Program}
+use Rattle.markdown_construct.specs.Plan.{Plan}
 use Rattle.markdown_model.specs.Grammar.{Reading}
 
 -- Where a text goes on: in the data of a line, at the start of a later line, or in the blank codes there.
@@ -62,5 +62,5 @@ text_from m None = None
 text_from m (Some r) = Some (ops_from m r.0 ++ Exit N.HtmlText ∷ [])
 
 -- the rest of the HTML, in the data of a line
-abbrev pub text_of : Reading (List Code) → Program
+abbrev pub text_of : Reading (List Code) → Plan
 text_of r cs = text_from InLine (r cs)

@@ -1,6 +1,6 @@
 -- Tests on the values of the codes of HTML in text.
 use Rattle.std.specs.Prelude.{ℕ, Bool, ◌||◌, codes, ◌==◌}
-use Rattle.markdown_leaf.specs.Autolink.{letter_value, alphanumeric_value, among_values}
+use Rattle.markdown_construct.specs.Values.{letter_value, alphanumeric_value, among_values}
 
 -- a space or a tab
 abbrev pub blank_value : ℕ → Bool

@@ -7,11 +7,11 @@
 ghost use Rattle.std.specs.Prelude.{◌≡◌, ◌<◌, Some, IfOk, OnErr, IsTrue};
 ghost use Rattle.markdown_engine.specs.Ops.{HasCode, current_of};
 ghost use Rattle.markdown_engine.specs.declared.event.Name.TheVariants.{HtmlText, HtmlTextData};
-ghost use Rattle.markdown_leaf.specs.Autolink.{letter_value};
-ghost use Rattle.markdown_leaf.specs.RawText.{AreOpen};
+ghost use Rattle.markdown_construct.specs.Scratch.{AreOpen};
 ghost use Rattle.markdown_html.specs.Values.{name_value, attribute_first_value, attribute_rest_value, after_value};
 ghost use Rattle.markdown_html.specs.HtmlText.{broken, ending_passed, start_step, open_step, declaration_open_step, comment_open_inside_step, comment_step, comment_close_step, comment_end_step, cdata_open_inside_step, cdata_step, cdata_close_step, cdata_end_step, declaration_step, instruction_step, instruction_close_step, tag_close_start_step, tag_close_step, tag_close_between_step, tag_open_step, tag_open_between_step, tag_open_attribute_name_step, tag_open_attribute_name_after_step, tag_open_attribute_value_before_step, tag_open_attribute_value_quoted_step, tag_open_attribute_value_quoted_after_step, tag_open_attribute_value_unquoted_step, end_step, line_ending_before_step, line_ending_after_step, line_ending_after_prefix_step};
 
+use markdown_construct::bytes::{is_alphanumeric, is_letter};
 use markdown_engine::event::Name;
 use markdown_engine::state::{State, StateName};
 use markdown_engine::tokenizer::Tokenizer;
@@ -19,18 +19,11 @@ use markdown_partial::partial_space_or_tab::space_or_tab;
 use markdown_util::util::constant::HTML_CDATA_PREFIX;
 use std::alloc::AllocError;
 
-// Whether it is an ASCII letter.
-fn is_letter(code: u8) -> bool
-    ensures { result ≡ letter_value code }
-{
-    matches!(code, b'A'..=b'Z' | b'a'..=b'z')
-}
-
 // Whether a tag's name may go on with it.
 fn is_name(code: u8) -> bool
     ensures { result ≡ name_value code }
 {
-    is_letter(code) || matches!(code, b'0'..=b'9') || code == b'-'
+    is_alphanumeric(code) || code == b'-'
 }
 
 // Whether an attribute's name may start with it.
@@ -44,7 +37,7 @@ fn is_attribute_first(code: u8) -> bool
 fn is_attribute(code: u8) -> bool
     ensures { result ≡ attribute_rest_value code }
 {
-    is_letter(code) || matches!(code, b'0'..=b'9' | b'-' | b'.' | b':' | b'_')
+    is_alphanumeric(code) || matches!(code, b'-' | b'.' | b':' | b'_')
 }
 
 // Whether it may follow a value: whitespace or what ends the tag.

@@ -21,14 +21,15 @@ use Rattle.markdown_engine.proofs.OpRules.{ahead-none, ahead-some, Begins, some-
 use Rattle.markdown_model.specs.CodeTests.{is_value, is_alphanumeric, is_letter, next_is}
 use Rattle.markdown_model.specs.Grammar.{any_number}
 use Rattle.markdown_model.specs.Leaf.{uri, email_address, is_scheme_code, is_uri_code, is_local_code}
-use Rattle.markdown_leaf.specs.Autolink.{letter_value, alphanumeric_value, scheme_value, local_value, uri_value, is_on, opening, ending, start_at, start_step, open_at, open_step, scheme_or_at, scheme_or_step, scheme_inside_at, scheme_inside_step, url_inside_at, url_inside_step, email_atext_at, email_atext_step, email_at_sign_or_dot_at, email_at_sign_or_dot_step, in_label_at, email_value_step, email_label_at, email_label_step, InsideReady, SchemeReady, LabelReady, link_here, start_ends, ended, up_to_bracket, or_else, scheme_rest, local_rest, domains, is_label_code, label_rest, open_naming, scheme_naming, open_ends, scheme_or_ends, scheme_inside_ends, url_inside_ends, email_atext_ends, email_at_sign_or_dot_ends, email_label_ends, email_value_ends}
-use Rattle.markdown_leaf.specs.Program.{Program, preceded, program_of, DoesAs, KeepsAs}
-use Rattle.markdown_leaf.specs.RawText.{with_size}
-use Rattle.markdown_leaf.specs.Renaming.{Naming, NamesAs, renamed, preceded_by, opening_of}
+use Rattle.markdown_construct.specs.Values.{letter_value, alphanumeric_value}
+use Rattle.markdown_leaf.specs.Autolink.{scheme_value, local_value, uri_value, is_on, opening, ending, start_at, start_step, open_at, open_step, scheme_or_at, scheme_or_step, scheme_inside_at, scheme_inside_step, url_inside_at, url_inside_step, email_atext_at, email_atext_step, email_at_sign_or_dot_at, email_at_sign_or_dot_step, in_label_at, email_value_step, email_label_at, email_label_step, InsideReady, SchemeReady, LabelReady, link_here, start_ends, ended, up_to_bracket, or_else, scheme_rest, local_rest, domains, is_label_code, label_rest, open_naming, scheme_naming, open_ends, scheme_or_ends, scheme_inside_ends, url_inside_ends, email_atext_ends, email_at_sign_or_dot_ends, email_label_ends, email_value_ends}
+use Rattle.markdown_construct.specs.Plan.{Plan, preceded, plan_of, DoesAs, KeepsAs}
+use Rattle.markdown_construct.specs.Scratch.{with_size}
+use Rattle.markdown_construct.specs.Renaming.{Naming, NamesAs, renamed, preceded_by, opening_of}
 use Rattle.markdown_leaf.proofs.AutolinkReadings.{bracket-next, or-next, scheme-more, scheme-colon, scheme-here, scheme-other, scheme-long, uri-first, uri-none, url-more, url-end, local-more, local-at, local-other, email-first, email-none, label-more, label-long, label-unended, label-ended, domains-first, domains-none}
 use Rattle.markdown_leaf.proofs.AutolinkWhole.{whole-link, ended-here, ended-other, more-none, more-dot, bracket_ops, link-here, no-link}
-use Rattle.markdown_leaf.proofs.NamingLemmas.{renamed-entered, renamed-consumed, renamed-scratched, Goes-inside, Goes-inside-kept, Goes-over, Goes-refused, Goes-named, Goes-to, DoesAs-entered}
-use Rattle.markdown_leaf.proofs.ProgramLemmas.{GoesOn-map, Goes-no, EndsAs-program, DoesAs-then, kept}
+use Rattle.markdown_construct.proofs.NamingLemmas.{renamed-entered, renamed-consumed, renamed-scratched, Goes-inside, Goes-inside-kept, Goes-over, Goes-refused, Goes-named, Goes-to, DoesAs-entered}
+use Rattle.markdown_construct.proofs.PlanLemmas.{GoesOn-map, Goes-no, EndsAs-plan, DoesAs-then, kept}
 use Rattle.markdown_leaf.proofs.RawTextReady.{some-event}
 use Rattle.markdown_model.proofs.ReadingSteps.{and-left, and-right, and-false}
 
@@ -328,10 +329,10 @@ module _ (ready : StateName → Tokenizer → Type 0) (ends : StateName → Toke
       (λ h. subst (λ (o : Option ℕ). P (in_label_at o T)) e (in-label true T alone k (λ i. ap p b.whole ∙ end (b.code ∷ cs) (sym (ap (λ xs. next_is is_label_code xs) b.whole) ∙ i) (ap (λ v. v == 46) b.value ∙ g) (ap (λ v. v == 62) b.value ∙ h))))))
 
   -- past the bracket, the leaf entered
-  link-opened : (T : Tokenizer) → 1 ≤ length (ahead T) → T.attempts ≡ [] → T.tokenize_state.size ≡ 0 → program_of (link_here T) (ahead T) ≡ preceded bracket_ops (opening_of open_naming (drop 1 (ahead T))) → GoesOn ready ends weight (weight_at 3 T) (KeepsAs 0 (program_of (link_here T)) T) (stepped (Next AutolinkOpen) (done opening T))
+  link-opened : (T : Tokenizer) → 1 ≤ length (ahead T) → T.attempts ≡ [] → T.tokenize_state.size ≡ 0 → plan_of (link_here T) (ahead T) ≡ preceded bracket_ops (opening_of open_naming (drop 1 (ahead T))) → GoesOn ready ends weight (weight_at 3 T) (KeepsAs 0 (plan_of (link_here T)) T) (stepped (Next AutolinkOpen) (done opening T))
   link-opened T more alone k e =
       let s : TokenizeState = T.tokenize_state in
-      let p : Program = program_of (link_here T) in
+      let p : Plan = plan_of (link_here T) in
       let E : Bool → Tokenizer → Type 0 = KeepsAs 0 p T in
       subst (λ (V : Tokenizer). ready AutolinkOpen V → weight AutolinkOpen V ≡ weight_at 2 V → ((ok : Bool) (U : Tokenizer) → ends AutolinkOpen V ok U → E ok U) → GoesOn ready ends weight (weight_at 3 T) E (stepped (Next AutolinkOpen) V)) (kept opening T)
       (Goes-to ready ends weight 3 2 E opening s T T (Next AutolinkOpen) alone refl more (omega arith))
@@ -343,10 +344,10 @@ module _ (ready : StateName → Tokenizer → Type 0) (ends : StateName → Toke
 
   pub start-law : (T : Tokenizer) → T.attempts ≡ [] → T.tokenize_state.size ≡ 0 → GoesOn ready ends weight (weight_at 3 T) (start_ends T) (start_step T)
   start-law T alone k =
-      let p : Program = program_of (link_here T) in
+      let p : Plan = plan_of (link_here T) in
       let E : Bool → Tokenizer → Type 0 = KeepsAs 0 p T in
       let P : Stepped → Type 0 = GoesOn ready ends weight (weight_at 3 T) E in
-      GoesOn-map ready ends weight (weight_at 3 T) E (start_ends T) (start_step T) (λ ok U x. EndsAs-program (link_here T) (whole-link (is_on T)) T.tokenize_state T ok U x)
+      GoesOn-map ready ends weight (weight_at 3 T) E (start_ends T) (start_step T) (λ ok U x. EndsAs-plan (link_here T) (whole-link (is_on T)) T.tokenize_state T ok U x)
       (code-step P (current_of T) (λ o. start_at o T)
       (λ e. Goes-no ready ends weight 3 0 p T alone (ap p (ahead-none T e) ∙ no-link (is_on T) [] (and-false (is_on T))))
       (λ c e.

@@ -10,32 +10,12 @@ use Rattle.markdown_engine.specs.declared.event.Name.{Name}
 use Rattle.markdown_model.specs.CodeTests.{is_value, is_between, is_letter, is_alphanumeric, is_some_code, last_code, next_is, is_length_in}
 use Rattle.markdown_model.specs.Grammar.{Reading, ◌>>◌, ◌then_◌, gives, one, some, provided, any_number, span, with_first}
 use Rattle.markdown_model.specs.Leaf.{scheme, uri, email_address, domain_label, is_scheme_code, is_uri_code, is_local_code}
-use Rattle.markdown_leaf.specs.Autolink.{after, ended, up_to_bracket, or_else, ending, scheme_rest, local_rest, domains, more_labels, is_label_code, ends_well, label_rest, scheme_value, local_value}
-use Rattle.markdown_leaf.specs.Renaming.{preceded_by}
+use Rattle.markdown_construct.specs.Readings.{after}
+use Rattle.markdown_leaf.specs.Autolink.{ended, up_to_bracket, or_else, ending, scheme_rest, local_rest, domains, more_labels, is_label_code, ends_well, label_rest, scheme_value, local_value}
+use Rattle.markdown_construct.specs.Renaming.{preceded_by}
+use Rattle.markdown_construct.proofs.AfterLemmas.{after-more, after-none, after-one, then-after}
 use Rattle.markdown_leaf.proofs.RawTextReadings.{counted, none-more, one-more, some-here, some-none}
 use Rattle.markdown_model.proofs.ReadingSteps.{bind-some, bind-none, one-here, one-not, some-span, some-nothing, any-number-is, then-some, then-none, then-other, switched-on, switched-off, span-takes, span-none}
-
--- Codes before what a reading gives.
-
-pub after-more : (c : Code) (front : List Code) (o : Option (List Code × List Code)) → after (c ∷ front) o ≡ with_first c (after front o)
-after-more c front None = refl
-after-more c front (Some r) = refl
-
-after-none : (o : Option (List Code × List Code)) → after [] o ≡ o
-after-none None = refl
-after-none (Some r) = refl
-
-after-one : (c : Code) (o : Option (List Code × List Code)) → after (c ∷ []) o ≡ with_first c o
-after-one c None = refl
-after-one c (Some r) = refl
-
-then-by : (x : List Code) (o : Option (List Code × List Code)) → elim o as (λ _. Option (List Code × List Code)) [ None ↦ None | Some s ↦ Some (x ++ s.0, s.1) ] ≡ after x o
-then-by x None = refl
-then-by x (Some s) = refl
-
-pub then-after : (a b : Reading (List Code)) (cs x r : List Code) → ◌≡◌ {A = Option (List Code × List Code)} (a cs) (Some (x, r)) → (a then_ b) cs ≡ after x (b r)
-unfolding ◌then_◌
-then-after a b cs x r e = rw (e, ◌then_◌) (then-by x (b r))
 
 -- The end of the link.
 

@@ -10,15 +10,17 @@ use Rattle.markdown_engine.specs.declared.event.Name.TheVariants as N
 use Rattle.markdown_model.specs.CodeTests.{is_value, is_letter, next_is}
 use Rattle.markdown_model.specs.Grammar.{Reading, ◌>>=◌, ◌>>◌, ◌then_◌, gives, one, some, provided, either, any_number, with_first}
 use Rattle.markdown_model.specs.Leaf.{scheme, uri, email_address, domain_label, in_angle_brackets, autolink, is_scheme_code, is_uri_code, is_local_code}
-use Rattle.markdown_leaf.specs.Autolink.{after, ended, up_to_bracket, or_else, ending, domains, more_labels, open_naming}
-use Rattle.markdown_leaf.specs.Program.{preceded, tree_ops, program_of}
-use Rattle.markdown_leaf.specs.Renaming.{opened, preceded_by}
-use Rattle.markdown_leaf.proofs.AutolinkReadings.{then-after, bracket-next}
+use Rattle.markdown_construct.specs.Readings.{after}
+use Rattle.markdown_leaf.specs.Autolink.{ended, up_to_bracket, or_else, ending, domains, more_labels, open_naming}
+use Rattle.markdown_construct.specs.Plan.{preceded, tree_ops, plan_of}
+use Rattle.markdown_construct.specs.Renaming.{opened, preceded_by}
+use Rattle.markdown_construct.proofs.AfterLemmas.{then-after}
+use Rattle.markdown_leaf.proofs.AutolinkReadings.{bracket-next}
 use Rattle.markdown_model.proofs.ReadingSteps.{bind-some, bind-none, one-here, one-not, then-none, switched-on, switched-off}
 use Rattle.markdown_model.proofs.ReadingLaws.{and_then, repeatedly-next, repeatedly-holds, Holds, read-codes}
 use Rattle.markdown_model.proofs.Readings.{itself, takes_one, takes_then, takes_repeatedly, takes_domain_label}
 use Rattle.markdown_model.proofs.Consuming.{Consumes, one_takes, then_takes, takes_no_more}
-use Rattle.markdown_leaf.proofs.WholeReadings.{Gives, IsSome, Covers, Gives-bind, Gives-switched, Gives-either, Gives-gives, Gives-one, Gives-some, Gives-any, Gives-then, Covers-leaf, Covers-row, Covers-group, some-first}
+use Rattle.markdown_construct.proofs.WholeReadings.{Gives, IsSome, Covers, Gives-bind, Gives-switched, Gives-either, Gives-gives, Gives-one, Gives-some, Gives-any, Gives-then, Covers-leaf, Covers-row, Covers-group, some-first}
 
 -- What the readings pass.
 
@@ -136,7 +138,7 @@ either-by os None p (Some x) b e f = cc
 either-by os (Some r) p None b e f = cc
 either-by os (Some r) p (Some x) b e f = e
 
-pub link-here : (on : Bool) (c : Code) (cs : List Code) → on ≡ true → is_value 60 c ≡ true → program_of (provided on >> autolink) (c ∷ cs) ≡ preceded bracket_ops (opened (open_naming cs))
+pub link-here : (on : Bool) (c : Code) (cs : List Code) → on ≡ true → is_value 60 c ≡ true → plan_of (provided on >> autolink) (c ∷ cs) ≡ preceded bracket_ops (opened (open_naming cs))
 unfolding autolink either
 link-here on c cs e h =
     ap tree_ops (switched-on autolink on (c ∷ cs) e)
@@ -146,7 +148,7 @@ no-brackets : (inside : Reading (List Code)) (name : Name) (cs : List Code) → 
 unfolding in_angle_brackets
 no-brackets inside name cs h = bind-none _ _ cs (one-not (is_value 60) cs h)
 
-pub no-link : (on : Bool) (cs : List Code) → on && next_is (is_value 60) cs ≡ false → program_of (provided on >> autolink) cs ≡ None
+pub no-link : (on : Bool) (cs : List Code) → on && next_is (is_value 60) cs ≡ false → plan_of (provided on >> autolink) cs ≡ None
 unfolding autolink either
 no-link false cs e = ap tree_ops (switched-off autolink false cs refl)
 no-link true cs e =

@@ -15,11 +15,11 @@ use Rattle.markdown_engine.proofs.OpRules.{law_rules, ahead-none, ahead-some, so
 use Rattle.markdown_model.specs.CodeTests.{is_value, is_ascii_punctuation, next_is}
 use Rattle.markdown_model.specs.Grammar.{◌>>◌, ◌>>=◌, provided, one, gives}
 use Rattle.markdown_model.specs.Leaf.{escape, escape_tree}
-use Rattle.markdown_leaf.specs.CharacterEscape.{is_punctuation, is_on, opening, value, start_at, start_step, inside_at, inside_step, escape_here, inside_program, start_ends, inside_ends}
-use Rattle.markdown_leaf.specs.Program.{preceded, tree_ops, program_of, KeepsAs}
-use Rattle.markdown_leaf.proofs.ProgramLemmas.{GoesOn-map, Goes-next, Goes-yes, Goes-no, EndsAs-program}
+use Rattle.markdown_leaf.specs.CharacterEscape.{is_punctuation, is_on, opening, value, start_at, start_step, inside_at, inside_step, escape_here, inside_plan, start_ends, inside_ends}
+use Rattle.markdown_construct.specs.Plan.{preceded, tree_ops, plan_of, KeepsAs}
+use Rattle.markdown_construct.proofs.PlanLemmas.{GoesOn-map, Goes-next, Goes-yes, Goes-no, EndsAs-plan}
 use Rattle.markdown_model.proofs.ReadingSteps.{bind-some, bind-none, one-here, one-not, switched-on, switched-off, and-left, and-right, and-false, if-true, if-false}
-use Rattle.markdown_leaf.proofs.WholeReadings.{Gives, Covers, IsSome, Gives-bind, Gives-switched, Gives-one, Gives-gives, Covers-group, Covers-row, Covers-leaf, some-first}
+use Rattle.markdown_construct.proofs.WholeReadings.{Gives, Covers, IsSome, Gives-bind, Gives-switched, Gives-one, Gives-gives, Covers-group, Covers-row, Covers-leaf, some-first}
 
 -- what the layer says of these states
 pub record Within (ready : StateName → Tokenizer → Type 0) (ends : StateName → Tokenizer → Bool → Tokenizer → Type 0) (weight : StateName → Tokenizer → ℕ) : Type 0 where
@@ -30,7 +30,7 @@ pub record Within (ready : StateName → Tokenizer → Type 0) (ends : StateName
 -- The reading, by what stands there.
 
 -- after a backslash
-escape-value : (slash : Code) (cs : List Code) → tree_ops ((one is_ascii_punctuation >>= λ read. gives (escape_tree (slash ∷ []) read)) cs) ≡ preceded opening (inside_program cs)
+escape-value : (slash : Code) (cs : List Code) → tree_ops ((one is_ascii_punctuation >>= λ read. gives (escape_tree (slash ∷ []) read)) cs) ≡ preceded opening (inside_plan cs)
 unfolding gives
 escape-value slash [] = ap tree_ops (bind-none _ _ _ (one-not is_ascii_punctuation [] refl))
 escape-value slash (c ∷ cs) =
@@ -39,12 +39,12 @@ escape-value slash (c ∷ cs) =
       | false ↦ λ e. ap tree_ops (bind-none _ _ _ (one-not is_ascii_punctuation (c ∷ cs) e))
     ] refl
 
-escape-slash : (on : Bool) (c : Code) (cs : List Code) → on ≡ true → (c.value == 92) ≡ true → program_of (provided on >> escape) (c ∷ cs) ≡ preceded opening (inside_program cs)
+escape-slash : (on : Bool) (c : Code) (cs : List Code) → on ≡ true → (c.value == 92) ≡ true → plan_of (provided on >> escape) (c ∷ cs) ≡ preceded opening (inside_plan cs)
 unfolding escape
 escape-slash on c cs e h =
     ap tree_ops (switched-on escape on (c ∷ cs) e ∙ bind-some _ _ _ _ _ _ (one-here (is_value 92) c cs h) refl) ∙ escape-value c cs
 
-no-escape : (on : Bool) (cs : List Code) → on && next_is (is_value 92) cs ≡ false → program_of (provided on >> escape) cs ≡ None
+no-escape : (on : Bool) (cs : List Code) → on && next_is (is_value 92) cs ≡ false → plan_of (provided on >> escape) cs ≡ None
 unfolding escape
 no-escape false cs e = ap tree_ops (switched-off escape false cs refl)
 no-escape true cs e = ap tree_ops (switched-on escape true cs refl ∙ bind-none _ _ _ (one-not (is_value 92) cs e))
@@ -63,26 +63,26 @@ whole on =
 
 pub start-law : (ready : StateName → Tokenizer → Type 0) (ends : StateName → Tokenizer → Bool → Tokenizer → Type 0) (weight : StateName → Tokenizer → ℕ) → Within ready ends weight → (T : Tokenizer) → T.attempts ≡ [] → GoesOn ready ends weight (weight_at 2 T) (start_ends T) (start_step T)
 start-law ready ends weight within T alone =
-    let E : Bool → Tokenizer → Type 0 = KeepsAs 0 (program_of (escape_here T)) T in
+    let E : Bool → Tokenizer → Type 0 = KeepsAs 0 (plan_of (escape_here T)) T in
     let P : Stepped → Type 0 = GoesOn ready ends weight (weight_at 2 T) E in
-    GoesOn-map ready ends weight (weight_at 2 T) E (start_ends T) (start_step T) (λ ok U k. EndsAs-program (escape_here T) (whole (is_on T)) T.tokenize_state T ok U k)
+    GoesOn-map ready ends weight (weight_at 2 T) E (start_ends T) (start_step T) (λ ok U k. EndsAs-plan (escape_here T) (whole (is_on T)) T.tokenize_state T ok U k)
     (code-step P (current_of T) (λ o. start_at (is_on T) o T)
-    (λ e. Goes-no ready ends weight 2 0 (program_of (escape_here T)) T alone (ap (program_of (escape_here T)) (ahead-none T e) ∙ no-escape (is_on T) [] (and-false (is_on T))))
+    (λ e. Goes-no ready ends weight 2 0 (plan_of (escape_here T)) T alone (ap (plan_of (escape_here T)) (ahead-none T e) ∙ no-escape (is_on T) [] (and-false (is_on T))))
     (λ c e. let b = ahead-some T c e in
     if-step P (is_on T && (c == 92)) _ _
-    (λ h. Goes-next ready ends weight 2 1 0 (program_of (escape_here T)) inside_program opening T (Next CharacterEscapeInside) alone refl (some-codes T c e) (omega arith)
-    (ap (program_of (escape_here T)) b.whole ∙ escape-slash (is_on T) b.code (rest_of (ahead T)) (and-left _ _ h) (ap (λ v. v == 92) b.value ∙ and-right _ _ h))
+    (λ h. Goes-next ready ends weight 2 1 0 (plan_of (escape_here T)) inside_plan opening T (Next CharacterEscapeInside) alone refl (some-codes T c e) (omega arith)
+    (ap (plan_of (escape_here T)) b.whole ∙ escape-slash (is_on T) b.code (rest_of (ahead T)) (and-left _ _ h) (ap (λ v. v == 92) b.value ∙ and-right _ _ h))
     (within.inside_ready (done opening T) (grind (arith, law_rules)))
     (within.inside_weight (done opening T))
     (within.inside_end (done opening T)))
-    (λ h. Goes-no ready ends weight 2 0 (program_of (escape_here T)) T alone (ap (program_of (escape_here T)) b.whole ∙ no-escape (is_on T) (b.code ∷ rest_of (ahead T)) (ap (λ v. is_on T && (v == 92)) b.value ∙ h)))))
+    (λ h. Goes-no ready ends weight 2 0 (plan_of (escape_here T)) T alone (ap (plan_of (escape_here T)) b.whole ∙ no-escape (is_on T) (b.code ∷ rest_of (ahead T)) (ap (λ v. is_on T && (v == 92)) b.value ∙ h)))))
 
 pub inside-law : (ready : StateName → Tokenizer → Type 0) (ends : StateName → Tokenizer → Bool → Tokenizer → Type 0) (weight : StateName → Tokenizer → ℕ) (T : Tokenizer) → T.attempts ≡ [] → GoesOn ready ends weight (weight_at 1 T) (inside_ends T) (inside_step T)
 inside-law ready ends weight T alone =
     let P : Stepped → Type 0 = GoesOn ready ends weight (weight_at 1 T) (inside_ends T) in
     code-step P (current_of T) (λ o. inside_at o T)
-    (λ e. Goes-no ready ends weight 1 1 inside_program T alone (ap inside_program (ahead-none T e)))
+    (λ e. Goes-no ready ends weight 1 1 inside_plan T alone (ap inside_plan (ahead-none T e)))
     (λ c e. let b = ahead-some T c e in
     if-step P (is_punctuation c) _ _
-    (λ h. Goes-yes ready ends weight 1 1 inside_program value T alone (ap inside_program b.whole ∙ if-true _ _ _ (ap is_punctuation b.value ∙ h)))
-    (λ h. Goes-no ready ends weight 1 1 inside_program T alone (ap inside_program b.whole ∙ if-false _ _ _ (ap is_punctuation b.value ∙ h))))
+    (λ h. Goes-yes ready ends weight 1 1 inside_plan value T alone (ap inside_plan b.whole ∙ if-true _ _ _ (ap is_punctuation b.value ∙ h)))
+    (λ h. Goes-no ready ends weight 1 1 inside_plan T alone (ap inside_plan b.whole ∙ if-false _ _ _ (ap is_punctuation b.value ∙ h))))

@@ -12,10 +12,10 @@ use Rattle.markdown_model.specs.CodeTests.{is_value, is_among, is_between, is_al
 use Rattle.markdown_model.specs.Grammar.{Reading, ◌>>◌, ◌>>=◌, either, provided, one, some, span, gives}
 use Rattle.markdown_model.specs.Leaf.{Parts, reference, reference_tree, named_parts, decimal_parts, hexadecimal_parts, is_name}
 use Rattle.markdown_util.specs.Reference.{html_5_rows, value_size_max, is_value_byte}
-use Rattle.markdown_leaf.specs.CharacterReference.{opening, number_sign, hexadecimal_sign, value_start, closing, begins_name, is_value_code, is_taken, value_of, value_program, numeric_program, named_program, open_program}
-use Rattle.markdown_leaf.specs.Program.{preceded, tree_ops, program_of}
+use Rattle.markdown_leaf.specs.CharacterReference.{opening, number_sign, hexadecimal_sign, value_start, closing, begins_name, is_value_code, is_taken, value_of, value_plan, numeric_plan, named_plan, open_plan}
+use Rattle.markdown_construct.specs.Plan.{preceded, tree_ops, plan_of}
 use Rattle.markdown_leaf.proofs.NameLemmas.{name-short, length-values, same-code}
-use Rattle.markdown_leaf.proofs.ProgramLemmas.{preceded-twice}
+use Rattle.markdown_construct.proofs.PlanLemmas.{preceded-twice}
 use Rattle.markdown_model.proofs.ReadingSteps.{bind-some, bind-none, after-some, after-none, provided-true, provided-false, one-here, one-not, some-span, some-nothing, either-first, either-second, switched-on, switched-off, and-left, and-right, left-true, right-true, and-false, if-true, if-false, span-takes, span-none}
 use Rattle.markdown_model.proofs.ReadingLaws.{span-agrees}
 
@@ -36,7 +36,7 @@ eq-true a b e = grind arith
 between-size : (n max : ℕ) → nat_lt 0 n ≡ true → n ≤ max → is_between 1 max (n + 0) ≡ true
 between-size n max e h = grind arith
 
-pub value-close : (m n : ℕ) (c : Code) (cs : List Code) → (c.value == 59) ≡ true → nat_lt 0 n ≡ true → n ≤ value_size_max m → value_program m n (c ∷ cs) ≡ Some closing
+pub value-close : (m n : ℕ) (c : Code) (cs : List Code) → (c.value == 59) ≡ true → nat_lt 0 n ≡ true → n ≤ value_size_max m → value_plan m n (c ∷ cs) ≡ Some closing
 value-close m n c cs e h l =
     let other : is_value_code m c ≡ false = ap (is_value_byte m) (eq-true c.value 59 e) ∙ semicolon-byte m in
     ap (value_of m n) (span-none (is_value_code m) (c ∷ cs) other)
@@ -46,7 +46,7 @@ preceded-if : (os : List Op) (b : Bool) (x : List Op) → (if b then Some (os ++
 preceded-if os true x = refl
 preceded-if os false x = refl
 
-pub value-more : (m n : ℕ) (c : Code) (cs : List Code) → is_taken m n c.value ≡ true → value_program m n (c ∷ cs) ≡ preceded (Consume ∷ []) (value_program m (n + 1) cs)
+pub value-more : (m n : ℕ) (c : Code) (cs : List Code) → is_taken m n c.value ≡ true → value_plan m n (c ∷ cs) ≡ preceded (Consume ∷ []) (value_plan m (n + 1) cs)
 unfolding is_taken
 value-more m n c cs e =
     let s : List Code × List Code = span (is_value_code m) cs in
@@ -61,13 +61,13 @@ too-many n max k e = grind arith
 none-yet : (n max : ℕ) → nat_lt 0 n ≡ false → is_between 1 max (n + 0) ≡ false
 none-yet n max e = grind arith
 
-pub value-end : (m n : ℕ) → value_program m n [] ≡ None
+pub value-end : (m n : ℕ) → value_plan m n [] ≡ None
 value-end m n = if-false _ _ _ (and-false (is_between 1 (value_size_max m) (n + 0)))
 
-pub value-stop : (m n : ℕ) (c : Code) (cs : List Code) → (c.value == 59) && nat_lt 0 n ≡ false → is_taken m n c.value ≡ false → value_program m n (c ∷ cs) ≡ None
+pub value-stop : (m n : ℕ) (c : Code) (cs : List Code) → (c.value == 59) && nat_lt 0 n ≡ false → is_taken m n c.value ≡ false → value_plan m n (c ∷ cs) ≡ None
 unfolding is_taken
 value-stop m n c cs e h =
-    elim (is_value_code m c) as (λ b. is_value_code m c ≡ b → value_program m n (c ∷ cs) ≡ None) [
+    elim (is_value_code m c) as (λ b. is_value_code m c ≡ b → value_plan m n (c ∷ cs) ≡ None) [
       | true ↦ λ k. ap (value_of m n) (span-takes (is_value_code m) c cs k) ∙ if-false _ _ _ (ap (λ b. b && next_is (is_value 59) (span (is_value_code m) cs).1) (too-many n (value_size_max m) (length (span (is_value_code m) cs).0) (right-true _ _ h k)))
       | false ↦ λ k. ap (value_of m n) (span-none (is_value_code m) (c ∷ cs) k)
           ∙ (elim (c.value == 59) as (λ b. (c.value == 59) ≡ b → value_of m n ([], c ∷ cs) ≡ None) [
@@ -134,8 +134,8 @@ tail-by m os p ok f g cs (v ∷ vs) r e h =
     closed [] e t i k = cc
     closed (b ∷ r) e t i k = ap part_ops (tail-whole p ok f cs v vs b r e k t) ∙ g v vs b ∙ ap (preceded os) (sym (if-true _ _ _ (ap (λ x. x && (b.value == 59)) i ∙ t)))
 
-tail-program : (m : ℕ) (os : List Op) (p : Code → Bool) (ok : List Code → Bool) (f : List Code → List Code → Parts) → Begins os f → (cs : List Code) → ((c : Code) → p c ≡ is_value_code m c) → (is_empty (span p cs).0 ≡ false → ok (span p cs).0 ≡ nat_le (length (span p cs).0) (value_size_max m)) → part_ops (tail p ok f cs) ≡ preceded os (value_program m 0 cs)
-tail-program m os p ok f g cs same h =
+tail-plan : (m : ℕ) (os : List Op) (p : Code → Bool) (ok : List Code → Bool) (f : List Code → List Code → Parts) → Begins os f → (cs : List Code) → ((c : Code) → p c ≡ is_value_code m c) → (is_empty (span p cs).0 ≡ false → ok (span p cs).0 ≡ nat_le (length (span p cs).0) (value_size_max m)) → part_ops (tail p ok f cs) ≡ preceded os (value_plan m 0 cs)
+tail-plan m os p ok f g cs same h =
     tail-by m os p ok f g cs (span p cs).0 (span p cs).1 refl h ∙ ap (λ s. preceded os (value_of m 0 s)) (span-agrees p (is_value_code m) same cs)
 
 -- The three kinds.
@@ -210,29 +210,29 @@ le-test : (a b : ℕ) → a ≤ b → nat_le a b ≡ true
 le-test a b h = grind arith
 
 -- a name of the table and a `;`
-named-here : (c : Code) (cs : List Code) → (c.value == 38) ≡ true → begins_name cs ≡ true → part_ops (named_parts html_5_rows (c ∷ cs)) ≡ preceded opening (preceded value_start (value_program 38 0 cs))
+named-here : (c : Code) (cs : List Code) → (c.value == 38) ≡ true → begins_name cs ≡ true → part_ops (named_parts html_5_rows (c ∷ cs)) ≡ preceded opening (preceded value_start (value_plan 38 0 cs))
 named-here c cs e h =
     let short : nat_le (length (span is_alphanumeric cs).0) 31 ≡ true = le-test _ 31 (subst (λ n. n ≤ 31) (length-values (span is_alphanumeric cs).0) (name-short _ (and-left _ _ h))) in
     ap part_ops (named-is c cs e)
-    ∙ tail-program 38 (opening ++ value_start) is_alphanumeric (is_name html_5_rows) (named_by c) (begins-named c) cs same-code (λ _. and-left _ _ h ∙ sym short)
-    ∙ preceded-twice opening value_start (value_program 38 0 cs)
+    ∙ tail-plan 38 (opening ++ value_start) is_alphanumeric (is_name html_5_rows) (named_by c) (begins-named c) cs same-code (λ _. and-left _ _ h ∙ sym short)
+    ∙ preceded-twice opening value_start (value_plan 38 0 cs)
 
 no-name : (c : Code) (cs : List Code) → (c.value == 38) ≡ true → begins_name cs ≡ false → named_parts html_5_rows (c ∷ cs) ≡ None
 no-name c cs e h = named-is c cs e ∙ tail-none is_alphanumeric (is_name html_5_rows) (named_by c) cs (span is_alphanumeric cs).0 (span is_alphanumeric cs).1 refl h
 
-decimal-here : (c d : Code) (cs : List Code) → (c.value == 38) ≡ true → (d.value == 35) ≡ true → part_ops (decimal_parts (c ∷ d ∷ cs)) ≡ preceded opening (preceded number_sign (preceded value_start (value_program 35 0 cs)))
+decimal-here : (c d : Code) (cs : List Code) → (c.value == 38) ≡ true → (d.value == 35) ≡ true → part_ops (decimal_parts (c ∷ d ∷ cs)) ≡ preceded opening (preceded number_sign (preceded value_start (value_plan 35 0 cs)))
 decimal-here c d cs e h =
     ap part_ops (decimal-is c d cs e h)
-    ∙ tail-program 35 (opening ++ number_sign ++ value_start) is_digit (λ v. nat_le (length v) 7) (decimal_by c d) (begins-decimal c d) cs (λ k. refl) (λ _. refl)
-    ∙ preceded-twice opening (number_sign ++ value_start) (value_program 35 0 cs)
-    ∙ ap (preceded opening) (preceded-twice number_sign value_start (value_program 35 0 cs))
+    ∙ tail-plan 35 (opening ++ number_sign ++ value_start) is_digit (λ v. nat_le (length v) 7) (decimal_by c d) (begins-decimal c d) cs (λ k. refl) (λ _. refl)
+    ∙ preceded-twice opening (number_sign ++ value_start) (value_plan 35 0 cs)
+    ∙ ap (preceded opening) (preceded-twice number_sign value_start (value_plan 35 0 cs))
 
-hexadecimal-here : (c d x : Code) (cs : List Code) → (c.value == 38) ≡ true → (d.value == 35) ≡ true → is_among (codes "xX") x ≡ true → part_ops (hexadecimal_parts (c ∷ d ∷ x ∷ cs)) ≡ preceded opening (preceded number_sign (preceded hexadecimal_sign (value_program 120 0 cs)))
+hexadecimal-here : (c d x : Code) (cs : List Code) → (c.value == 38) ≡ true → (d.value == 35) ≡ true → is_among (codes "xX") x ≡ true → part_ops (hexadecimal_parts (c ∷ d ∷ x ∷ cs)) ≡ preceded opening (preceded number_sign (preceded hexadecimal_sign (value_plan 120 0 cs)))
 hexadecimal-here c d x cs e h k =
     ap part_ops (hexadecimal-is c d x cs e h k)
-    ∙ tail-program 120 (opening ++ number_sign ++ hexadecimal_sign) is_hex_digit (λ v. nat_le (length v) 6) (hexadecimal_by c d x) (begins-hexadecimal c d x) cs (λ y. refl) (λ _. refl)
-    ∙ preceded-twice opening (number_sign ++ hexadecimal_sign) (value_program 120 0 cs)
-    ∙ ap (preceded opening) (preceded-twice number_sign hexadecimal_sign (value_program 120 0 cs))
+    ∙ tail-plan 120 (opening ++ number_sign ++ hexadecimal_sign) is_hex_digit (λ v. nat_le (length v) 6) (hexadecimal_by c d x) (begins-hexadecimal c d x) cs (λ y. refl) (λ _. refl)
+    ∙ preceded-twice opening (number_sign ++ hexadecimal_sign) (value_plan 120 0 cs)
+    ∙ ap (preceded opening) (preceded-twice number_sign hexadecimal_sign (value_plan 120 0 cs))
 
 -- no digit is an `x`
 no-digits : (c d x : Code) (cs : List Code) → (c.value == 38) ≡ true → (d.value == 35) ≡ true → is_among (codes "xX") x ≡ true → decimal_parts (c ∷ d ∷ x ∷ cs) ≡ None
@@ -256,39 +256,39 @@ abbrev parts : Reading Parts
 parts = either (named_parts html_5_rows) numbered
 
 -- a number
-number-parts : (c d : Code) (cs : List Code) → (c.value == 38) ≡ true → (d.value == 35) ≡ true → part_ops (parts (c ∷ d ∷ cs)) ≡ preceded opening (preceded number_sign (numeric_program cs))
+number-parts : (c d : Code) (cs : List Code) → (c.value == 38) ≡ true → (d.value == 35) ≡ true → part_ops (parts (c ∷ d ∷ cs)) ≡ preceded opening (preceded number_sign (numeric_plan cs))
 number-parts c d cs e h =
     ap part_ops (either-second (named_parts html_5_rows) numbered (c ∷ d ∷ cs) (no-letters c d cs e h))
-    ∙ elim (next_is (is_among (codes "xX")) cs) as (λ b. next_is (is_among (codes "xX")) cs ≡ b → part_ops (numbered (c ∷ d ∷ cs)) ≡ preceded opening (preceded number_sign (if b then preceded hexadecimal_sign (value_program 120 0 (rest_of cs)) else preceded value_start (value_program 35 0 cs)))) [
+    ∙ elim (next_is (is_among (codes "xX")) cs) as (λ b. next_is (is_among (codes "xX")) cs ≡ b → part_ops (numbered (c ∷ d ∷ cs)) ≡ preceded opening (preceded number_sign (if b then preceded hexadecimal_sign (value_plan 120 0 (rest_of cs)) else preceded value_start (value_plan 35 0 cs)))) [
       | true ↦ λ k. signed cs k
       | false ↦ λ k. ap part_ops (either-first decimal_parts hexadecimal_parts (c ∷ d ∷ cs) (no-sign c d cs e h k)) ∙ decimal-here c d cs e h
     ] refl
   where
-    signed : (cs : List Code) → next_is (is_among (codes "xX")) cs ≡ true → part_ops (numbered (c ∷ d ∷ cs)) ≡ preceded opening (preceded number_sign (preceded hexadecimal_sign (value_program 120 0 (rest_of cs))))
+    signed : (cs : List Code) → next_is (is_among (codes "xX")) cs ≡ true → part_ops (numbered (c ∷ d ∷ cs)) ≡ preceded opening (preceded number_sign (preceded hexadecimal_sign (value_plan 120 0 (rest_of cs))))
     signed [] k = cc
     signed (x ∷ cs) k = ap part_ops (either-second decimal_parts hexadecimal_parts (c ∷ d ∷ x ∷ cs) (no-digits c d x cs e h k)) ∙ hexadecimal-here c d x cs e h k
 
 -- a name, or nothing
-name-parts : (c : Code) (cs : List Code) → (c.value == 38) ≡ true → next_is (is_value 35) cs ≡ false → part_ops (parts (c ∷ cs)) ≡ preceded opening (named_program cs)
+name-parts : (c : Code) (cs : List Code) → (c.value == 38) ≡ true → next_is (is_value 35) cs ≡ false → part_ops (parts (c ∷ cs)) ≡ preceded opening (named_plan cs)
 name-parts c cs e h =
     ap part_ops (either-first (named_parts html_5_rows) numbered (c ∷ cs) (either-second decimal_parts hexadecimal_parts (c ∷ cs) (no-decimal c cs e h) ∙ no-hexadecimal c cs e h))
-    ∙ elim (begins_name cs) as (λ b. begins_name cs ≡ b → part_ops (named_parts html_5_rows (c ∷ cs)) ≡ preceded opening (if b then preceded value_start (value_program 38 0 cs) else None)) [
+    ∙ elim (begins_name cs) as (λ b. begins_name cs ≡ b → part_ops (named_parts html_5_rows (c ∷ cs)) ≡ preceded opening (if b then preceded value_start (value_plan 38 0 cs) else None)) [
       | true ↦ λ k. named-here c cs e k
       | false ↦ λ k. ap part_ops (no-name c cs e k)
     ] refl
 
-reference-parts : (c : Code) (cs : List Code) → (c.value == 38) ≡ true → part_ops (parts (c ∷ cs)) ≡ preceded opening (open_program cs)
+reference-parts : (c : Code) (cs : List Code) → (c.value == 38) ≡ true → part_ops (parts (c ∷ cs)) ≡ preceded opening (open_plan cs)
 reference-parts c cs e =
-    elim (next_is (is_value 35) cs) as (λ b. next_is (is_value 35) cs ≡ b → part_ops (parts (c ∷ cs)) ≡ preceded opening (if b then preceded number_sign (numeric_program (rest_of cs)) else named_program cs)) [
+    elim (next_is (is_value 35) cs) as (λ b. next_is (is_value 35) cs ≡ b → part_ops (parts (c ∷ cs)) ≡ preceded opening (if b then preceded number_sign (numeric_plan (rest_of cs)) else named_plan cs)) [
       | true ↦ λ h. numbered-here cs h
       | false ↦ λ h. name-parts c cs e h
     ] refl
   where
-    numbered-here : (cs : List Code) → next_is (is_value 35) cs ≡ true → part_ops (parts (c ∷ cs)) ≡ preceded opening (preceded number_sign (numeric_program (rest_of cs)))
+    numbered-here : (cs : List Code) → next_is (is_value 35) cs ≡ true → part_ops (parts (c ∷ cs)) ≡ preceded opening (preceded number_sign (numeric_plan (rest_of cs)))
     numbered-here [] h = cc
     numbered-here (d ∷ cs) h = number-parts c d cs e h
 
-pub reference-start : (on : Bool) (c : Code) (cs : List Code) → on ≡ true → (c.value == 38) ≡ true → program_of (provided on >> reference html_5_rows) (c ∷ cs) ≡ preceded opening (open_program cs)
+pub reference-start : (on : Bool) (c : Code) (cs : List Code) → on ≡ true → (c.value == 38) ≡ true → plan_of (provided on >> reference html_5_rows) (c ∷ cs) ≡ preceded opening (open_plan cs)
 unfolding reference
 reference-start on c cs o e =
     ap tree_ops (switched-on (reference html_5_rows) on (c ∷ cs) o) ∙ reference-ops parts (c ∷ cs) ∙ reference-parts c cs e
@@ -301,7 +301,7 @@ named-other cs e =
     ∙ either-second decimal_parts hexadecimal_parts cs (bind-none _ _ _ (one-not (is_value 38) cs e))
     ∙ bind-none _ _ _ (one-not (is_value 38) cs e)
 
-pub no-reference : (on : Bool) (cs : List Code) → on && next_is (is_value 38) cs ≡ false → program_of (provided on >> reference html_5_rows) cs ≡ None
+pub no-reference : (on : Bool) (cs : List Code) → on && next_is (is_value 38) cs ≡ false → plan_of (provided on >> reference html_5_rows) cs ≡ None
 unfolding reference
 no-reference false cs e = ap tree_ops (switched-off (reference html_5_rows) false cs refl)
 no-reference true cs e = ap tree_ops (switched-on (reference html_5_rows) true cs refl) ∙ reference-ops parts cs ∙ ap part_ops (named-other cs e)

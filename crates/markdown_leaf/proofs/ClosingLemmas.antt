@@ -12,7 +12,7 @@ use Rattle.markdown_model.specs.Grammar.{span}
 use Rattle.markdown_model.specs.Leaf.{closing_run, closing, code_names}
 use Rattle.markdown_model.specs.Lines.{stretches}
 use Rattle.markdown_leaf.proofs.RawTextReadings.{other-value, flipped, not-right, agree-marker, agree-data, ending-alone}
-use Rattle.markdown_leaf.proofs.StretchLemmas.{stretch-alone, stretch-span}
+use Rattle.markdown_construct.proofs.StretchLemmas.{stretch-alone, stretch-span}
 use Rattle.markdown_leaf.specs.RawText.{HasMarker, IsIndexed, is_hopeless, is_data}
 
 -- The first stretch is not the closing run.

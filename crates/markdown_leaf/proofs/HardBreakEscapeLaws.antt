@@ -16,11 +16,11 @@ use Rattle.markdown_engine.proofs.OpRules.{law_rules, ahead-none, ahead-some, so
 use Rattle.markdown_model.specs.CodeTests.{is_value, next_is}
 use Rattle.markdown_model.specs.Grammar.{◌>>◌, provided, gives}
 use Rattle.markdown_model.specs.Leaf.{hard_break_escape}
-use Rattle.markdown_leaf.specs.HardBreakEscape.{is_on, opening, closing, start_at, start_step, after_at, after_step, break_here, after_program, start_ends, after_ends}
-use Rattle.markdown_leaf.specs.Program.{Program, preceded, tree_ops, program_of, KeepsAs}
-use Rattle.markdown_leaf.proofs.ProgramLemmas.{GoesOn-map, Goes-next, Goes-yes, Goes-no, EndsAs-program}
+use Rattle.markdown_leaf.specs.HardBreakEscape.{is_on, opening, closing, start_at, start_step, after_at, after_step, break_here, after_plan, start_ends, after_ends}
+use Rattle.markdown_construct.specs.Plan.{Plan, preceded, tree_ops, plan_of, KeepsAs}
+use Rattle.markdown_construct.proofs.PlanLemmas.{GoesOn-map, Goes-next, Goes-yes, Goes-no, EndsAs-plan}
 use Rattle.markdown_model.proofs.ReadingSteps.{bind-some, bind-none, before-some, before-none, before-other, one-here, one-not, switched-on, switched-off, and-left, and-right, and-false, if-true, if-false}
-use Rattle.markdown_leaf.proofs.WholeReadings.{Gives, Covers, IsSome, Gives-bind, Gives-before, Gives-switched, Gives-one, Gives-gives, Covers-leaf}
+use Rattle.markdown_construct.proofs.WholeReadings.{Gives, Covers, IsSome, Gives-bind, Gives-before, Gives-switched, Gives-one, Gives-gives, Covers-leaf}
 
 -- what the layer says of these states
 pub record Within (ready : StateName → Tokenizer → Type 0) (ends : StateName → Tokenizer → Bool → Tokenizer → Type 0) (weight : StateName → Tokenizer → ℕ) : Type 0 where
@@ -30,7 +30,7 @@ pub record Within (ready : StateName → Tokenizer → Type 0) (ends : StateName
 
 -- The reading, by what stands there.
 
-break-slash : (on : Bool) (c : Code) (cs : List Code) → on ≡ true → (c.value == 92) ≡ true → program_of (provided on >> hard_break_escape) (c ∷ cs) ≡ preceded opening (after_program cs)
+break-slash : (on : Bool) (c : Code) (cs : List Code) → on ≡ true → (c.value == 92) ≡ true → plan_of (provided on >> hard_break_escape) (c ∷ cs) ≡ preceded opening (after_plan cs)
 unfolding hard_break_escape gives
 break-slash on c cs e h =
     ap tree_ops (switched-on hard_break_escape on (c ∷ cs) e)
@@ -39,7 +39,7 @@ break-slash on c cs e h =
       | false ↦ λ k. ap tree_ops (bind-none _ _ _ (before-other _ _ _ _ _ (one-here (is_value 92) c cs h) k))
     ] refl
 
-no-break : (on : Bool) (cs : List Code) → on && next_is (is_value 92) cs ≡ false → program_of (provided on >> hard_break_escape) cs ≡ None
+no-break : (on : Bool) (cs : List Code) → on && next_is (is_value 92) cs ≡ false → plan_of (provided on >> hard_break_escape) cs ≡ None
 unfolding hard_break_escape
 no-break false cs e = ap tree_ops (switched-off hard_break_escape false cs refl)
 no-break true cs e = ap tree_ops (switched-on hard_break_escape true cs refl ∙ bind-none _ _ _ (before-none _ _ _ (one-not (is_value 92) cs e)))
@@ -55,15 +55,15 @@ whole on =
 
 pub start-law : (ready : StateName → Tokenizer → Type 0) (ends : StateName → Tokenizer → Bool → Tokenizer → Type 0) (weight : StateName → Tokenizer → ℕ) → Within ready ends weight → (T : Tokenizer) → T.attempts ≡ [] → GoesOn ready ends weight (weight_at 2 T) (start_ends T) (start_step T)
 start-law ready ends weight within T alone =
-    let p : Program = program_of (break_here T) in
+    let p : Plan = plan_of (break_here T) in
     let E : Bool → Tokenizer → Type 0 = KeepsAs 0 p T in
     let P : Stepped → Type 0 = GoesOn ready ends weight (weight_at 2 T) E in
-    GoesOn-map ready ends weight (weight_at 2 T) E (start_ends T) (start_step T) (λ ok U k. EndsAs-program (break_here T) (whole (is_on T)) T.tokenize_state T ok U k)
+    GoesOn-map ready ends weight (weight_at 2 T) E (start_ends T) (start_step T) (λ ok U k. EndsAs-plan (break_here T) (whole (is_on T)) T.tokenize_state T ok U k)
     (code-step P (current_of T) (λ o. start_at (is_on T) o T)
     (λ e. Goes-no ready ends weight 2 0 p T alone (ap p (ahead-none T e) ∙ no-break (is_on T) [] (and-false (is_on T))))
     (λ c e. let b = ahead-some T c e in
     if-step P (is_on T && (c == 92)) _ _
-    (λ h. Goes-next ready ends weight 2 1 0 p after_program opening T (Next HardBreakEscapeAfter) alone refl (some-codes T c e) (omega arith)
+    (λ h. Goes-next ready ends weight 2 1 0 p after_plan opening T (Next HardBreakEscapeAfter) alone refl (some-codes T c e) (omega arith)
     (ap p b.whole ∙ break-slash (is_on T) b.code (rest_of (ahead T)) (and-left _ _ h) (ap (λ v. v == 92) b.value ∙ and-right _ _ h))
     (within.after_ready (done opening T) (grind (arith, law_rules)))
     (within.after_weight (done opening T))
@@ -74,8 +74,8 @@ pub after-law : (ready : StateName → Tokenizer → Type 0) (ends : StateName �
 after-law ready ends weight T alone =
     let P : Stepped → Type 0 = GoesOn ready ends weight (weight_at 1 T) (after_ends T) in
     code-step P (current_of T) (λ o. after_at o T)
-    (λ e. Goes-no ready ends weight 1 1 after_program T alone (ap after_program (ahead-none T e)))
+    (λ e. Goes-no ready ends weight 1 1 after_plan T alone (ap after_plan (ahead-none T e)))
     (λ c e. let b = ahead-some T c e in
     if-step P (c == 10) _ _
-    (λ h. Goes-yes ready ends weight 1 1 after_program closing T alone (ap after_program b.whole ∙ if-true _ _ _ (ap (λ v. v == 10) b.value ∙ h)))
-    (λ h. Goes-no ready ends weight 1 1 after_program T alone (ap after_program b.whole ∙ if-false _ _ _ (ap (λ v. v == 10) b.value ∙ h))))
+    (λ h. Goes-yes ready ends weight 1 1 after_plan closing T alone (ap after_plan b.whole ∙ if-true _ _ _ (ap (λ v. v == 10) b.value ∙ h)))
+    (λ h. Goes-no ready ends weight 1 1 after_plan T alone (ap after_plan b.whole ∙ if-false _ _ _ (ap (λ v. v == 10) b.value ∙ h))))

@@ -1,14 +1,9 @@
-pub mod WholeReadings
-pub mod ProgramLemmas
 pub mod CharacterEscapeLaws
 pub mod HardBreakEscapeLaws
 pub mod NameLemmas
 pub mod CharacterReferenceReading
 pub mod CharacterReferenceLaws
-pub mod StretchLemmas
 pub mod EscapeEvents
-pub mod RenamingLemmas
-pub mod NamingLemmas
 pub mod RawTextReadings
 pub mod RawTextWhole
 pub mod ClosingLemmas

@@ -17,17 +17,18 @@ use Rattle.markdown_engine.proofs.Laws.{if-step, code-step}
 use Rattle.markdown_engine.proofs.OpRules.{ahead-none, ahead-some, Begins, some-codes}
 use Rattle.markdown_model.specs.CodeTests.{is_value, is_some_code, next_is}
 use Rattle.markdown_model.specs.Leaf.{SpanNames, code_names, math_names}
-use Rattle.markdown_leaf.specs.Program.{Program, preceded, program_of, KeepsAs}
-use Rattle.markdown_leaf.specs.RawText.{names_in, begun, rested, with_size, with_size_b, is_same, is_barred, follows_escape, code_just_before, code_is_on, math_is_on, single_dollar, opened, start_at, start_step, after_opening, sequence_open_at, sequence_open_step, between_at, between_step, after_data, data_at, data_step, after_run, sequence_close_at, sequence_close_step, StartReady, SequenceOpenReady, BetweenReady, DataReady, SequenceCloseReady, span_at, is_hopeless, closed_ops, inside_program, is_data, data_program, run_naming, opening_program, start_ends, sequence_open_ends, between_ends, data_ends, sequence_close_ends}
-use Rattle.markdown_leaf.specs.Renaming.{Naming, renamed}
+use Rattle.markdown_construct.specs.Plan.{Plan, preceded, plan_of, KeepsAs}
+use Rattle.markdown_leaf.specs.RawText.{names_in, begun, rested, is_same, is_barred, follows_escape, code_just_before, code_is_on, math_is_on, single_dollar, opened, start_at, start_step, after_opening, sequence_open_at, sequence_open_step, between_at, between_step, after_data, data_at, data_step, after_run, sequence_close_at, sequence_close_step, StartReady, SequenceOpenReady, BetweenReady, DataReady, SequenceCloseReady, span_at, is_hopeless, closed_ops, inside_plan, is_data, data_plan, run_naming, opening_plan, start_ends, sequence_open_ends, between_ends, data_ends, sequence_close_ends}
+use Rattle.markdown_construct.specs.Scratch.{with_size, with_size_b}
+use Rattle.markdown_construct.specs.Renaming.{Naming, renamed}
 use Rattle.markdown_leaf.proofs.ClosingLemmas.{hopeless-none}
-use Rattle.markdown_leaf.proofs.NamingLemmas.{Goes-entered, Goes-inside, Goes-settled, Goes-named}
-use Rattle.markdown_leaf.proofs.ProgramLemmas.{GoesOn-map, Goes-on, Goes-kept, Goes-nok, Goes-no, EndsAs-program}
+use Rattle.markdown_construct.proofs.NamingLemmas.{Goes-entered, Goes-inside, Goes-settled, Goes-named}
+use Rattle.markdown_construct.proofs.PlanLemmas.{GoesOn-map, Goes-on, Goes-kept, Goes-nok, Goes-no, EndsAs-plan}
 use Rattle.markdown_leaf.proofs.RawTextReadings.{inside-none, inside-ending, inside-data, inside-run, data-more, data-end, run-more, run-closed, run-other, open-more, open-end, code-opens, math-opens-here, no-span}
 use Rattle.markdown_leaf.proofs.RawTextReady.{start-opened, opened-more, opened-between, between-ending, between-data, between-run, data-next, data-between, run-next, run-between, opening-says}
 use Rattle.markdown_leaf.proofs.RawTextWhole.{whole-here}
 use Rattle.markdown_model.proofs.ReadingSteps.{and-left, and-right, if-true}
-use Rattle.markdown_leaf.proofs.WholeReadings.{Gives, Covers, Gives-either}
+use Rattle.markdown_construct.proofs.WholeReadings.{Gives, Covers, Gives-either}
 
 -- what the layer says of these states
 pub record Within (ready : StateName → Tokenizer → Type 0) (ends : StateName → Tokenizer → Bool → Tokenizer → Type 0) (weight : StateName → Tokenizer → ℕ) : Type 0 where
@@ -77,7 +78,7 @@ module _ (ready : StateName → Tokenizer → Type 0) (ends : StateName → Toke
   between-law T alone k =
       let s : TokenizeState = T.tokenize_state in
       let m : ℕ = s.marker in
-      let p : Program = inside_program m (names_in s) s.size in
+      let p : Plan = inside_plan m (names_in s) s.size in
       let P : Stepped → Type 0 = GoesOn ready ends weight (weight_at 2 T) (between_ends T) in
       code-step P (current_of T) (λ o. between_at o T)
       (λ e. Goes-nok ready ends weight 2 1 p (rested s) T alone (ap p (ahead-none T e) ∙ inside-none m (names_in s) s.size))
@@ -96,7 +97,7 @@ module _ (ready : StateName → Tokenizer → Type 0) (ends : StateName → Toke
       (within.sequence_close_ready _ (between-run T more k))
       (within.sequence_close_weight _)
       (λ ok U x. within.sequence_close_end _ ok U x))
-      (λ g. Goes-kept ready ends weight 2 3 1 p (data_program m (names_in s) s.size) (Enter s.token_3 ∷ Consume ∷ []) (rested s) T (Next RawTextData) alone refl more (omega arith)
+      (λ g. Goes-kept ready ends weight 2 3 1 p (data_plan m (names_in s) s.size) (Enter s.token_3 ∷ Consume ∷ []) (rested s) T (Next RawTextData) alone refl more (omega arith)
       (ap p b.whole ∙ inside-data m (names_in s) s.size b.code (rest_of (ahead T)) (or-false _ _ (ap (λ v. v == 10) b.value ∙ h) (ap (λ v. v == m) b.value ∙ g)))
       (within.data_ready _ (between-data T more k))
       (within.data_weight _)
@@ -107,7 +108,7 @@ module _ (ready : StateName → Tokenizer → Type 0) (ends : StateName → Toke
   unfolding scratched applied
   data-ends-here T alone k h =
       let s : TokenizeState = T.tokenize_state in
-      Goes-kept ready ends weight 3 2 2 (data_program s.marker (names_in s) s.size) (inside_program s.marker (names_in s) s.size) (Exit s.token_3 ∷ []) (rested s) T (Retry RawTextBetween) alone refl (omega arith) (omega arith)
+      Goes-kept ready ends weight 3 2 2 (data_plan s.marker (names_in s) s.size) (inside_plan s.marker (names_in s) s.size) (Exit s.token_3 ∷ []) (rested s) T (Retry RawTextBetween) alone refl (omega arith) (omega arith)
       (data-end s.marker (names_in s) s.size (ahead T) h)
       (within.between_ready _ (data-between T k))
       (within.between_weight _)
@@ -118,7 +119,7 @@ module _ (ready : StateName → Tokenizer → Type 0) (ends : StateName → Toke
   data-law T alone k =
       let s : TokenizeState = T.tokenize_state in
       let m : ℕ = s.marker in
-      let p : Program = data_program m (names_in s) s.size in
+      let p : Plan = data_plan m (names_in s) s.size in
       let q : Code → Bool = is_data m (names_in s) s.size in
       let P : Stepped → Type 0 = GoesOn ready ends weight (weight_at 3 T) (data_ends T) in
       code-step P (current_of T) (λ o. data_at o T)
@@ -146,7 +147,7 @@ module _ (ready : StateName → Tokenizer → Type 0) (ends : StateName → Toke
       if-step P (s.size_b == s.size) _ _
       (λ g. subst (λ (x : Tokenizer). P (record { state = State.Ok; left = scratched (rested s) (done os x) })) k.entered
       (Goes-named ready ends weight 3 1 p s.token_2 os (rested s) T alone (run-closed m (names_in s) s.size s.size_b (ahead T) h g)))
-      (λ g. Goes-settled ready ends weight 3 2 1 p s.token_3 (inside_program m (names_in s) s.size) (Exit s.token_3 ∷ []) (rested s) (with_size_b 0 s) T (Retry RawTextBetween) alone refl (omega arith) (omega arith)
+      (λ g. Goes-settled ready ends weight 3 2 1 p s.token_3 (inside_plan m (names_in s) s.size) (Exit s.token_3 ∷ []) (rested s) (with_size_b 0 s) T (Retry RawTextBetween) alone refl (omega arith) (omega arith)
       (run-other m (names_in s) s.size s.size_b (ahead T) h g)
       (within.between_ready _ (run-between T k))
       (within.between_weight _)
@@ -175,7 +176,7 @@ module _ (ready : StateName → Tokenizer → Type 0) (ends : StateName → Toke
   -- The opening run.
 
   -- nothing closes where the run is too short or hopeless
-  none-opened : (T : Tokenizer) → SequenceOpenReady T → next_is (is_value T.tokenize_state.marker) (ahead T) ≡ false → (short : Bool) → (short || is_hopeless T) ≡ true → (if not short then preceded (Exit T.tokenize_state.token_2 ∷ []) (inside_program T.tokenize_state.marker (names_in T.tokenize_state) T.tokenize_state.size (ahead T)) else None) ≡ None
+  none-opened : (T : Tokenizer) → SequenceOpenReady T → next_is (is_value T.tokenize_state.marker) (ahead T) ≡ false → (short : Bool) → (short || is_hopeless T) ≡ true → (if not short then preceded (Exit T.tokenize_state.token_2 ∷ []) (inside_plan T.tokenize_state.marker (names_in T.tokenize_state) T.tokenize_state.size (ahead T)) else None) ≡ None
   none-opened T k h true e = refl
   none-opened T k h false e = ap (λ o. preceded (Exit T.tokenize_state.token_2 ∷ []) (closed_ops (names_in T.tokenize_state) o)) (hopeless-none T k.marker k.indexed e h)
 
@@ -184,13 +185,13 @@ module _ (ready : StateName → Tokenizer → Type 0) (ends : StateName → Toke
   run-opened T alone k h =
       let s : TokenizeState = T.tokenize_state in
       let m : ℕ = s.marker in
-      let p : Program = opening_program (single_dollar T) m (names_in s) s.size in
+      let p : Plan = opening_plan (single_dollar T) m (names_in s) s.size in
       let P : Stepped → Type 0 = GoesOn ready ends weight (weight_at 3 T) (sequence_open_ends T) in
       let end = open-end (single_dollar T) m (names_in s) s.size (ahead T) h in
       let short : Bool = m == 36 && (s.size == 1 && not (single_dollar T)) in
       if-step P (short || is_hopeless T) _ _
       (λ g. Goes-nok ready ends weight 3 2 p (rested s) T alone (end ∙ none-opened T k h short g))
-      (λ g. Goes-kept ready ends weight 3 2 2 p (inside_program m (names_in s) s.size) (Exit s.token_2 ∷ []) (rested s) T (Retry RawTextBetween) alone refl (omega arith) (omega arith)
+      (λ g. Goes-kept ready ends weight 3 2 2 p (inside_plan m (names_in s) s.size) (Exit s.token_2 ∷ []) (rested s) T (Retry RawTextBetween) alone refl (omega arith) (omega arith)
       (end ∙ if-true _ _ _ (ap not (or-left short (is_hopeless T) g)))
       (within.between_ready _ (opened-between T k))
       (within.between_weight _)
@@ -207,9 +208,9 @@ module _ (ready : StateName → Tokenizer → Type 0) (ends : StateName → Toke
       (λ c e.
       let b : Begins c (ahead T) = ahead-some T c e in
       let here : is_value m b.code ≡ (c == m) = ap (λ v. v == m) b.value in
-      let p : Program = opening_program (single_dollar T) m (names_in s) s.size in
+      let p : Plan = opening_plan (single_dollar T) m (names_in s) s.size in
       if-step P (c == m) _ _
-      (λ h. Goes-on ready ends weight 3 3 2 p (opening_program (single_dollar T) m (names_in s) (s.size + 1)) (Consume ∷ []) (rested s) (with_size (s.size + 1) s) T (Next RawTextSequenceOpen) alone refl (some-codes T c e) (omega arith)
+      (λ h. Goes-on ready ends weight 3 3 2 p (opening_plan (single_dollar T) m (names_in s) (s.size + 1)) (Consume ∷ []) (rested s) (with_size (s.size + 1) s) T (Next RawTextSequenceOpen) alone refl (some-codes T c e) (omega arith)
       (ap p b.whole ∙ open-more (single_dollar T) m (names_in s) s.size b.code (rest_of (ahead T)) (here ∙ h))
       (within.sequence_open_ready _ (opened-more T (some-codes T c e) k))
       (within.sequence_open_weight _)
@@ -219,16 +220,16 @@ module _ (ready : StateName → Tokenizer → Type 0) (ends : StateName → Toke
   -- The start.
 
   -- past the first marker of a span
-  span-opened : (m : ℕ) (names : SpanNames) (T : Tokenizer) → T.attempts ≡ [] → StartReady T → (m == 10) ≡ false → 1 ≤ length (ahead T) → program_of (span_at T) (ahead T) ≡ preceded (Enter names.whole ∷ Enter names.sequence ∷ Consume ∷ []) (opening_program (single_dollar T) m names 1 (drop 1 (ahead T))) → GoesOn ready ends weight (weight_at 4 T) (KeepsAs 0 (program_of (span_at T)) T) (opened m names T)
+  span-opened : (m : ℕ) (names : SpanNames) (T : Tokenizer) → T.attempts ≡ [] → StartReady T → (m == 10) ≡ false → 1 ≤ length (ahead T) → plan_of (span_at T) (ahead T) ≡ preceded (Enter names.whole ∷ Enter names.sequence ∷ Consume ∷ []) (opening_plan (single_dollar T) m names 1 (drop 1 (ahead T))) → GoesOn ready ends weight (weight_at 4 T) (KeepsAs 0 (plan_of (span_at T)) T) (opened m names T)
   span-opened m names T alone k other more e =
-      Goes-on ready ends weight 4 3 0 (program_of (span_at T)) (opening_program (single_dollar T) m names 1) (Enter names.whole ∷ Enter names.sequence ∷ Consume ∷ []) T.tokenize_state (begun m names T.tokenize_state) T (Next RawTextSequenceOpen) alone refl more (omega arith) e
+      Goes-on ready ends weight 4 3 0 (plan_of (span_at T)) (opening_plan (single_dollar T) m names 1) (Enter names.whole ∷ Enter names.sequence ∷ Consume ∷ []) T.tokenize_state (begun m names T.tokenize_state) T (Next RawTextSequenceOpen) alone refl more (omega arith) e
       (within.sequence_open_ready _ (start-opened m names T other more k))
       (within.sequence_open_weight _)
       (λ ok U x. opening-says m names T ok U k.rest (within.sequence_open_end _ ok U x))
 
   pub start-law : (T : Tokenizer) → T.attempts ≡ [] → StartReady T → GoesOn ready ends weight (weight_at 4 T) (start_ends T) (start_step T)
   start-law T alone k =
-      let p : Program = program_of (span_at T) in
+      let p : Plan = plan_of (span_at T) in
       let on : Bool = code_is_on T in
       let math : Bool = math_is_on T in
       let single : Bool = single_dollar T in
@@ -238,7 +239,7 @@ module _ (ready : StateName → Tokenizer → Type 0) (ends : StateName → Toke
       let P : Stepped → Type 0 = GoesOn ready ends weight (weight_at 4 T) E in
       let code_free = barred-is 96 T in
       let math_free = barred-is 36 T in
-      GoesOn-map ready ends weight (weight_at 4 T) E (start_ends T) (start_step T) (λ ok U x. EndsAs-program (span_at T) (whole T) T.tokenize_state T ok U x)
+      GoesOn-map ready ends weight (weight_at 4 T) E (start_ends T) (start_step T) (λ ok U x. EndsAs-plan (span_at T) (whole T) T.tokenize_state T ok U x)
       (code-step P (current_of T) (λ o. start_at o T)
       (λ e. Goes-no ready ends weight 4 0 p T alone (ap p (ahead-none T e) ∙ no-span on math single escaped previous [] refl refl))
       (λ c e.

@@ -15,10 +15,10 @@ use Rattle.markdown_model.specs.Grammar.{◌>>=◌, ◌>>◌, gives, provided, e
 use Rattle.markdown_model.specs.Lines.{joins, stretches, line_leaf, line_leaves}
 use Rattle.markdown_model.specs.Leaf.{SpanNames, code_names, math_names, closing_run, closing, span_of, span_here}
 use Rattle.markdown_model.proofs.ReadingSteps.{bind-some, bind-none, switched-on, switched-off, either-first, either-second, span-takes, span-none, and-false}
-use Rattle.markdown_leaf.proofs.StretchLemmas.{stretch-alone, stretch-span}
-use Rattle.markdown_leaf.specs.Program.{preceded, tree_ops, program_of}
-use Rattle.markdown_leaf.specs.RawText.{closed_ops, inside_program, is_data, data_program, run_naming, opens, opening_program}
-use Rattle.markdown_leaf.specs.Renaming.{opened, under, preceded_by}
+use Rattle.markdown_construct.proofs.StretchLemmas.{stretch-alone, stretch-span}
+use Rattle.markdown_construct.specs.Plan.{preceded, tree_ops, plan_of}
+use Rattle.markdown_leaf.specs.RawText.{closed_ops, inside_plan, is_data, data_plan, run_naming, opens, opening_plan}
+use Rattle.markdown_construct.specs.Renaming.{opened, under, preceded_by}
 
 -- Tests.
 
@@ -82,7 +82,7 @@ preceded-twice xs ys (Some os) = ap (λ os. Some os) (sym (append_assoc xs ys os
 
 module _ (m : ℕ) (names : SpanNames) (size : ℕ) where
   -- At the content's end no span ends.
-  pub inside-none : inside_program m names size [] ≡ None
+  pub inside-none : inside_plan m names size [] ≡ None
   unfolding closing_run
   inside-none = refl
 
@@ -123,18 +123,18 @@ module _ (m : ℕ) (names : SpanNames) (size : ℕ) where
   ending-alone c [] e = refl
   ending-alone c (d ∷ ds) e = joined-ending (is_line_ending c) (is_line_ending d) (is_value m c) (is_value m d) e
 
-  pub inside-ending : (m == 10) ≡ false → (c : Code) (cs : List Code) → is_line_ending c ≡ true → inside_program m names size (c ∷ cs) ≡ preceded (Enter N.LineEnding ∷ Consume ∷ Exit N.LineEnding ∷ []) (inside_program m names size cs)
+  pub inside-ending : (m == 10) ≡ false → (c : Code) (cs : List Code) → is_line_ending c ≡ true → inside_plan m names size (c ∷ cs) ≡ preceded (Enter N.LineEnding ∷ Consume ∷ Exit N.LineEnding ∷ []) (inside_plan m names size cs)
   inside-ending e c cs h =
       let other : (10 == m) ≡ false = flipped m 10 e in
       ap (λ ss. closed_ops names (closing_run (is_value m) size ss)) (stretch-alone (is_value m) c cs (ending-alone c cs h))
       ∙ closed-past N.LineEnding c [] (stretches (is_value m) cs) (ending-leaf c [] h) (and_left (is_value m c) (length (c ∷ []) == size) (other-value c.value 10 m other h))
 
-  pub inside-data : (c : Code) (cs : List Code) → is_data m names size c ≡ true → inside_program m names size (c ∷ cs) ≡ preceded (Enter names.text ∷ Consume ∷ []) (data_program m names size cs)
+  pub inside-data : (c : Code) (cs : List Code) → is_data m names size c ≡ true → inside_plan m names size (c ∷ cs) ≡ preceded (Enter names.text ∷ Consume ∷ []) (data_plan m names size cs)
   inside-data c cs h =
       let s : List Code × List Code = span (is_data m names size) cs in
       ap (λ ss. closed_ops names (closing_run (is_value m) size ss)) (stretch-span (is_value m) (is_data m names size) (λ a b k. agree-data a b k) c cs h)
       ∙ closed-past names.text c s.0 (stretches (is_value m) s.1) (text-leaf c s.0 (not-left (is_line_ending c) (is_value m c) h)) (and_left (is_value m c) (length (c ∷ s.0) == size) (not-right (is_line_ending c) (is_value m c) h))
-      ∙ sym (preceded-twice (Enter names.text ∷ Consume ∷ []) (consumes s.0 ++ Exit names.text ∷ []) (inside_program m names size s.1))
+      ∙ sym (preceded-twice (Enter names.text ∷ Consume ∷ []) (consumes s.0 ++ Exit names.text ∷ []) (inside_plan m names size s.1))
 
   closed-here : (c : Code) (front : List Code) (ss : List (List Code)) → (next_is (is_value m) (c ∷ front) && length (c ∷ front) == size) ≡ true → closed_ops names (closing_run (is_value m) size ((c ∷ front) ∷ ss)) ≡ Some (Enter names.sequence ∷ Consume ∷ (consumes front ++ Exit names.sequence ∷ Exit names.whole ∷ []))
   unfolding closing_run
@@ -144,33 +144,33 @@ module _ (m : ℕ) (names : SpanNames) (size : ℕ) where
   opened-under n os None = refl
   opened-under n os (Some r) = refl
 
-  pub inside-run : (m == 10) ≡ false → (c : Code) (cs : List Code) → is_value m c ≡ true → inside_program m names size (c ∷ cs) ≡ opened (preceded_by (Consume ∷ []) (run_naming m names size 1 cs))
+  pub inside-run : (m == 10) ≡ false → (c : Code) (cs : List Code) → is_value m c ≡ true → inside_plan m names size (c ∷ cs) ≡ opened (preceded_by (Consume ∷ []) (run_naming m names size 1 cs))
   inside-run e c cs h =
       let s : List Code × List Code = span (is_value m) cs in
       let same : (is_value m c && length (c ∷ s.0) == size) ≡ (1 + length s.0 == size) = and-second (is_value m c) (length (c ∷ s.0) == size) h ∙ ap (λ k. k == size) (one-more s.0 c) in
       ap (λ ss. closed_ops names (closing_run (is_value m) size ss)) (stretch-span (is_value m) (is_value m) (λ a b k. agree-marker e a b k) c cs h)
-      ∙ elim (1 + length s.0 == size) as (λ b. (1 + length s.0 == size) ≡ b → closed_ops names (closing_run (is_value m) size ((c ∷ s.0) ∷ stretches (is_value m) s.1)) ≡ opened (preceded_by (Consume ∷ []) (if b then Some (names.sequence, consumes s.0 ++ Exit names.sequence ∷ Exit names.whole ∷ []) else under names.text (preceded (consumes s.0 ++ Exit names.text ∷ []) (inside_program m names size s.1))))) [
+      ∙ elim (1 + length s.0 == size) as (λ b. (1 + length s.0 == size) ≡ b → closed_ops names (closing_run (is_value m) size ((c ∷ s.0) ∷ stretches (is_value m) s.1)) ≡ opened (preceded_by (Consume ∷ []) (if b then Some (names.sequence, consumes s.0 ++ Exit names.sequence ∷ Exit names.whole ∷ []) else under names.text (preceded (consumes s.0 ++ Exit names.text ∷ []) (inside_plan m names size s.1))))) [
         | true ↦ λ k. closed-here c s.0 (stretches (is_value m) s.1) (same ∙ k)
-        | false ↦ λ k. closed-past names.text c s.0 (stretches (is_value m) s.1) (text-leaf c s.0 (not-newline e c h)) (same ∙ k) ∙ opened-under names.text (consumes s.0 ++ Exit names.text ∷ []) (inside_program m names size s.1)
+        | false ↦ λ k. closed-past names.text c s.0 (stretches (is_value m) s.1) (text-leaf c s.0 (not-newline e c h)) (same ∙ k) ∙ opened-under names.text (consumes s.0 ++ Exit names.text ∷ []) (inside_plan m names size s.1)
       ] refl
 
   -- Inside data and inside a run, by the next code.
 
-  pub data-more : (c : Code) (cs : List Code) → is_data m names size c ≡ true → data_program m names size (c ∷ cs) ≡ preceded (Consume ∷ []) (data_program m names size cs)
+  pub data-more : (c : Code) (cs : List Code) → is_data m names size c ≡ true → data_plan m names size (c ∷ cs) ≡ preceded (Consume ∷ []) (data_plan m names size cs)
   data-more c cs h =
       let s : List Code × List Code = span (is_data m names size) cs in
-      ap (λ (r : List Code × List Code). preceded (consumes r.0 ++ Exit names.text ∷ []) (inside_program m names size r.1)) (span-takes (is_data m names size) c cs h)
-      ∙ sym (preceded-twice (Consume ∷ []) (consumes s.0 ++ Exit names.text ∷ []) (inside_program m names size s.1))
+      ap (λ (r : List Code × List Code). preceded (consumes r.0 ++ Exit names.text ∷ []) (inside_plan m names size r.1)) (span-takes (is_data m names size) c cs h)
+      ∙ sym (preceded-twice (Consume ∷ []) (consumes s.0 ++ Exit names.text ∷ []) (inside_plan m names size s.1))
 
-  pub data-end : (cs : List Code) → next_is (is_data m names size) cs ≡ false → data_program m names size cs ≡ preceded (Exit names.text ∷ []) (inside_program m names size cs)
-  data-end cs h = ap (λ (r : List Code × List Code). preceded (consumes r.0 ++ Exit names.text ∷ []) (inside_program m names size r.1)) (span-none (is_data m names size) cs h)
+  pub data-end : (cs : List Code) → next_is (is_data m names size) cs ≡ false → data_plan m names size cs ≡ preceded (Exit names.text ∷ []) (inside_plan m names size cs)
+  data-end cs h = ap (λ (r : List Code × List Code). preceded (consumes r.0 ++ Exit names.text ∷ []) (inside_plan m names size r.1)) (span-none (is_data m names size) cs h)
 
   -- the answer after a run
   abbrev run_answer : ℕ → List Code × List Code → Option (Name × List Op)
   run_answer passed s =
       if passed + length s.0 == size
       then Some (names.sequence, consumes s.0 ++ Exit names.sequence ∷ Exit names.whole ∷ [])
-      else under names.text (preceded (consumes s.0 ++ Exit names.text ∷ []) (inside_program m names size s.1))
+      else under names.text (preceded (consumes s.0 ++ Exit names.text ∷ []) (inside_plan m names size s.1))
 
   answer-more : (b : Bool) (front : List Code) (o : Option (List Op)) → (if b then Some (names.sequence, Consume ∷ (consumes front ++ Exit names.sequence ∷ Exit names.whole ∷ [])) else under names.text (preceded (Consume ∷ (consumes front ++ Exit names.text ∷ [])) o)) ≡ preceded_by (Consume ∷ []) (if b then Some (names.sequence, consumes front ++ Exit names.sequence ∷ Exit names.whole ∷ []) else under names.text (preceded (consumes front ++ Exit names.text ∷ []) o))
   answer-more true front o = refl
@@ -181,25 +181,25 @@ module _ (m : ℕ) (names : SpanNames) (size : ℕ) where
   run-more passed c cs h =
       let s : List Code × List Code = span (is_value m) cs in
       ap (λ (r : List Code × List Code). run_answer passed r) (span-takes (is_value m) c cs h)
-      ∙ ap (λ n. if n == size then Some (names.sequence, Consume ∷ (consumes s.0 ++ Exit names.sequence ∷ Exit names.whole ∷ [])) else under names.text (preceded (Consume ∷ (consumes s.0 ++ Exit names.text ∷ [])) (inside_program m names size s.1))) (counted passed s.0 c)
-      ∙ answer-more (passed + 1 + length s.0 == size) s.0 (inside_program m names size s.1)
+      ∙ ap (λ n. if n == size then Some (names.sequence, Consume ∷ (consumes s.0 ++ Exit names.sequence ∷ Exit names.whole ∷ [])) else under names.text (preceded (Consume ∷ (consumes s.0 ++ Exit names.text ∷ [])) (inside_plan m names size s.1))) (counted passed s.0 c)
+      ∙ answer-more (passed + 1 + length s.0 == size) s.0 (inside_plan m names size s.1)
 
   pub run-closed : (passed : ℕ) (cs : List Code) → next_is (is_value m) cs ≡ false → (passed == size) ≡ true → run_naming m names size passed cs ≡ Some (names.sequence, Exit names.sequence ∷ Exit names.whole ∷ [])
   run-closed passed cs h k =
       ap (λ (r : List Code × List Code). run_answer passed r) (span-none (is_value m) cs h)
-      ∙ ap (λ b. if b then Some (names.sequence, Exit names.sequence ∷ Exit names.whole ∷ []) else under names.text (preceded (Exit names.text ∷ []) (inside_program m names size cs))) (ap (λ n. n == size) (none-more passed) ∙ k)
+      ∙ ap (λ b. if b then Some (names.sequence, Exit names.sequence ∷ Exit names.whole ∷ []) else under names.text (preceded (Exit names.text ∷ []) (inside_plan m names size cs))) (ap (λ n. n == size) (none-more passed) ∙ k)
 
-  pub run-other : (passed : ℕ) (cs : List Code) → next_is (is_value m) cs ≡ false → (passed == size) ≡ false → run_naming m names size passed cs ≡ under names.text (preceded (Exit names.text ∷ []) (inside_program m names size cs))
+  pub run-other : (passed : ℕ) (cs : List Code) → next_is (is_value m) cs ≡ false → (passed == size) ≡ false → run_naming m names size passed cs ≡ under names.text (preceded (Exit names.text ∷ []) (inside_plan m names size cs))
   run-other passed cs h k =
       ap (λ (r : List Code × List Code). run_answer passed r) (span-none (is_value m) cs h)
-      ∙ ap (λ b. if b then Some (names.sequence, Exit names.sequence ∷ Exit names.whole ∷ []) else under names.text (preceded (Exit names.text ∷ []) (inside_program m names size cs))) (ap (λ n. n == size) (none-more passed) ∙ k)
+      ∙ ap (λ b. if b then Some (names.sequence, Exit names.sequence ∷ Exit names.whole ∷ []) else under names.text (preceded (Exit names.text ∷ []) (inside_plan m names size cs))) (ap (λ n. n == size) (none-more passed) ∙ k)
 
 -- Inside the opening run.
 module _ (single : Bool) (m : ℕ) (names : SpanNames) where
   abbrev opening_answer : ℕ → List Code × List Code → Option (List Op)
   opening_answer passed s =
       if opens single m (passed + length s.0)
-      then preceded (consumes s.0 ++ Exit names.sequence ∷ []) (inside_program m names (passed + length s.0) s.1)
+      then preceded (consumes s.0 ++ Exit names.sequence ∷ []) (inside_plan m names (passed + length s.0) s.1)
       else None
 
   opening-more : (b : Bool) (front : List Code) (o : Option (List Op)) → (if b then preceded (Consume ∷ (consumes front ++ Exit names.sequence ∷ [])) o else None) ≡ preceded (Consume ∷ []) (if b then preceded (consumes front ++ Exit names.sequence ∷ []) o else None)
@@ -207,17 +207,17 @@ module _ (single : Bool) (m : ℕ) (names : SpanNames) where
   opening-more true front (Some os) = refl
   opening-more false front o = refl
 
-  pub open-more : (passed : ℕ) (c : Code) (cs : List Code) → is_value m c ≡ true → opening_program single m names passed (c ∷ cs) ≡ preceded (Consume ∷ []) (opening_program single m names (passed + 1) cs)
+  pub open-more : (passed : ℕ) (c : Code) (cs : List Code) → is_value m c ≡ true → opening_plan single m names passed (c ∷ cs) ≡ preceded (Consume ∷ []) (opening_plan single m names (passed + 1) cs)
   open-more passed c cs h =
       let s : List Code × List Code = span (is_value m) cs in
       ap (λ (r : List Code × List Code). opening_answer passed r) (span-takes (is_value m) c cs h)
-      ∙ ap (λ n. if opens single m n then preceded (Consume ∷ (consumes s.0 ++ Exit names.sequence ∷ [])) (inside_program m names n s.1) else None) (counted passed s.0 c)
-      ∙ opening-more (opens single m (passed + 1 + length s.0)) s.0 (inside_program m names (passed + 1 + length s.0) s.1)
+      ∙ ap (λ n. if opens single m n then preceded (Consume ∷ (consumes s.0 ++ Exit names.sequence ∷ [])) (inside_plan m names n s.1) else None) (counted passed s.0 c)
+      ∙ opening-more (opens single m (passed + 1 + length s.0)) s.0 (inside_plan m names (passed + 1 + length s.0) s.1)
 
-  pub open-end : (passed : ℕ) (cs : List Code) → next_is (is_value m) cs ≡ false → opening_program single m names passed cs ≡ (if opens single m passed then preceded (Exit names.sequence ∷ []) (inside_program m names passed cs) else None)
+  pub open-end : (passed : ℕ) (cs : List Code) → next_is (is_value m) cs ≡ false → opening_plan single m names passed cs ≡ (if opens single m passed then preceded (Exit names.sequence ∷ []) (inside_plan m names passed cs) else None)
   open-end passed cs h =
       ap (λ (r : List Code × List Code). opening_answer passed r) (span-none (is_value m) cs h)
-      ∙ ap (λ n. if opens single m n then preceded (Exit names.sequence ∷ []) (inside_program m names n cs) else None) (none-more passed)
+      ∙ ap (λ n. if opens single m n then preceded (Exit names.sequence ∷ []) (inside_plan m names n cs) else None) (none-more passed)
 
 -- The whole reading.
 
@@ -236,7 +236,7 @@ whole-ops names c front r =
 
 module _ (single : Bool) (m : ℕ) (names : SpanNames) (allowed : ℕ → Bool) where
   -- past the opening run
-  after-run : (c : Code) (front rest : List Code) (b : Bool) → allowed (length (c ∷ front)) ≡ b → tree_ops ((provided (allowed (length (c ∷ front))) >> (closing (is_value m) (length (c ∷ front)) >>= λ inside. gives (group names.whole (leaf names.sequence (c ∷ front) ⊕ line_leaves names.text inside.0 ⊕ leaf names.sequence inside.1)))) rest) ≡ preceded (Enter names.whole ∷ Enter names.sequence ∷ Consume ∷ []) (if b then preceded (consumes front ++ Exit names.sequence ∷ []) (inside_program m names (length (c ∷ front)) rest) else None)
+  after-run : (c : Code) (front rest : List Code) (b : Bool) → allowed (length (c ∷ front)) ≡ b → tree_ops ((provided (allowed (length (c ∷ front))) >> (closing (is_value m) (length (c ∷ front)) >>= λ inside. gives (group names.whole (leaf names.sequence (c ∷ front) ⊕ line_leaves names.text inside.0 ⊕ leaf names.sequence inside.1)))) rest) ≡ preceded (Enter names.whole ∷ Enter names.sequence ∷ Consume ∷ []) (if b then preceded (consumes front ++ Exit names.sequence ∷ []) (inside_plan m names (length (c ∷ front)) rest) else None)
   unfolding gives
   after-run c front rest true h =
       ap tree_ops (switched-on _ (allowed (length (c ∷ front))) rest h)
@@ -246,14 +246,14 @@ module _ (single : Bool) (m : ℕ) (names : SpanNames) (allowed : ℕ → Bool) 
       ] refl
   after-run c front rest false h = ap tree_ops (switched-off _ (allowed (length (c ∷ front))) rest h)
 
-  pub span-opens : ((n : ℕ) → allowed (1 + n) ≡ opens single m (1 + n)) → (c : Code) (cs : List Code) → is_value m c ≡ true → program_of (span_of m names allowed) (c ∷ cs) ≡ preceded (Enter names.whole ∷ Enter names.sequence ∷ Consume ∷ []) (opening_program single m names 1 cs)
+  pub span-opens : ((n : ℕ) → allowed (1 + n) ≡ opens single m (1 + n)) → (c : Code) (cs : List Code) → is_value m c ≡ true → plan_of (span_of m names allowed) (c ∷ cs) ≡ preceded (Enter names.whole ∷ Enter names.sequence ∷ Consume ∷ []) (opening_plan single m names 1 cs)
   unfolding span_of
   span-opens agree c cs h =
       let s : List Code × List Code = span (is_value m) cs in
       let same : allowed (length (c ∷ s.0)) ≡ opens single m (1 + length s.0) = ap allowed (one-more s.0 c) ∙ agree (length s.0) in
       ap tree_ops (bind-some _ _ (c ∷ cs) (c ∷ s.0) s.1 _ (some-here (is_value m) c cs h) refl)
       ∙ after-run c s.0 s.1 (opens single m (1 + length s.0)) same
-      ∙ ap (λ n. preceded (Enter names.whole ∷ Enter names.sequence ∷ Consume ∷ []) (if opens single m (1 + length s.0) then preceded (consumes s.0 ++ Exit names.sequence ∷ []) (inside_program m names n s.1) else None)) (one-more s.0 c)
+      ∙ ap (λ n. preceded (Enter names.whole ∷ Enter names.sequence ∷ Consume ∷ []) (if opens single m (1 + length s.0) then preceded (consumes s.0 ++ Exit names.sequence ∷ []) (inside_plan m names n s.1) else None)) (one-more s.0 c)
 
   pub span-none-here : (cs : List Code) → next_is (is_value m) cs ≡ false → span_of m names allowed cs ≡ None
   unfolding span_of
@@ -285,19 +285,19 @@ module _ (on_code on_math single escaped : Bool) (previous : Option Code) where
       either (provided on_code >> span_here 96 code_names (λ n. true) escaped previous)
       (provided on_math >> span_here 36 math_names (λ n. single || nat_lt 1 n) escaped previous)
 
-  pub code-opens : (c : Code) (cs : List Code) → (c.value == 96) ≡ true → on_code ≡ true → (escaped || not (is_some_code (is_value 96) previous)) ≡ true → program_of both (c ∷ cs) ≡ preceded (Enter N.CodeText ∷ Enter N.CodeTextSequence ∷ Consume ∷ []) (opening_program single 96 code_names 1 cs)
+  pub code-opens : (c : Code) (cs : List Code) → (c.value == 96) ≡ true → on_code ≡ true → (escaped || not (is_some_code (is_value 96) previous)) ≡ true → plan_of both (c ∷ cs) ≡ preceded (Enter N.CodeText ∷ Enter N.CodeTextSequence ∷ Consume ∷ []) (opening_plan single 96 code_names 1 cs)
   code-opens c cs h on free =
       ap tree_ops (either-first _ _ (c ∷ cs) (here-off single 36 math_names (λ n. single || nat_lt 1 n) on_math escaped previous (c ∷ cs) (and_left _ _ (other-value c.value 96 36 refl h)))
       ∙ here-on single 96 code_names (λ n. true) on_code escaped previous (c ∷ cs) on free)
       ∙ span-opens single 96 code_names (λ n. true) (λ n. refl) c cs h
 
-  pub math-opens-here : (c : Code) (cs : List Code) → (c.value == 36) ≡ true → on_math ≡ true → (escaped || not (is_some_code (is_value 36) previous)) ≡ true → program_of both (c ∷ cs) ≡ preceded (Enter N.MathText ∷ Enter N.MathTextSequence ∷ Consume ∷ []) (opening_program single 36 math_names 1 cs)
+  pub math-opens-here : (c : Code) (cs : List Code) → (c.value == 36) ≡ true → on_math ≡ true → (escaped || not (is_some_code (is_value 36) previous)) ≡ true → plan_of both (c ∷ cs) ≡ preceded (Enter N.MathText ∷ Enter N.MathTextSequence ∷ Consume ∷ []) (opening_plan single 36 math_names 1 cs)
   math-opens-here c cs h on free =
       ap tree_ops (either-second _ _ (c ∷ cs) (here-off single 96 code_names (λ n. true) on_code escaped previous (c ∷ cs) (and_left _ _ (other-value c.value 36 96 refl h)))
       ∙ here-on single 36 math_names (λ n. single || nat_lt 1 n) on_math escaped previous (c ∷ cs) on free)
       ∙ span-opens single 36 math_names (λ n. single || nat_lt 1 n) (λ n. math-opens single n) c cs h
 
-  pub no-span : (cs : List Code) → (next_is (is_value 96) cs && (on_code && (escaped || not (is_some_code (is_value 96) previous)))) ≡ false → (next_is (is_value 36) cs && (on_math && (escaped || not (is_some_code (is_value 36) previous)))) ≡ false → program_of both cs ≡ None
+  pub no-span : (cs : List Code) → (next_is (is_value 96) cs && (on_code && (escaped || not (is_some_code (is_value 96) previous)))) ≡ false → (next_is (is_value 36) cs && (on_math && (escaped || not (is_some_code (is_value 36) previous)))) ≡ false → plan_of both cs ≡ None
   no-span cs h k =
       ap tree_ops (either-second _ _ cs (here-off single 96 code_names (λ n. true) on_code escaped previous cs h)
       ∙ here-off single 36 math_names (λ n. single || nat_lt 1 n) on_math escaped previous cs k)

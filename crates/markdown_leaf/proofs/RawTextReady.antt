@@ -13,15 +13,12 @@ use Rattle.markdown_engine.specs.declared.tokenizer.Tokenizer.{Tokenizer}
 use Rattle.markdown_engine.proofs.OpRules.{left-scratched}
 use Rattle.markdown_engine.proofs.OpsLemmas.{left-done}
 use Rattle.markdown_model.specs.Leaf.{SpanNames}
-use Rattle.markdown_leaf.proofs.NamingLemmas.{renamed-entered, renamed-consumed, renamed-scratched}
-use Rattle.markdown_leaf.specs.Program.{DoesAs}
-use Rattle.markdown_leaf.specs.RawText.{begun, rested, with_size, with_size_b, Fits, IsIndexed, StartReady, SequenceOpenReady, BetweenReady, DataReady, SequenceCloseReady, single_dollar, opening_program, sequence_open_ends}
-use Rattle.markdown_leaf.specs.Renaming.{renamed}
-
-second-open : (xs : List Name) (a b : Name) → xs ≡ a ∷ b ∷ drop 2 xs → rest_of xs ≡ b ∷ rest_of (rest_of xs)
-second-open [] a b e = cc
-second-open (x ∷ []) a b e = cc
-second-open (x ∷ y ∷ ys) a b e = cc
+use Rattle.markdown_construct.proofs.OpenLemmas.{second-open}
+use Rattle.markdown_construct.proofs.NamingLemmas.{renamed-entered, renamed-consumed, renamed-scratched}
+use Rattle.markdown_construct.specs.Plan.{DoesAs}
+use Rattle.markdown_leaf.specs.RawText.{begun, rested, IsIndexed, StartReady, SequenceOpenReady, BetweenReady, DataReady, SequenceCloseReady, single_dollar, opening_plan, sequence_open_ends}
+use Rattle.markdown_construct.specs.Scratch.{with_size, with_size_b, Fits}
+use Rattle.markdown_construct.specs.Renaming.{renamed}
 
 -- fewer codes are left
 fits-after : (n k : ℕ) (os : List Op) (r : TokenizeState) (X T : Tokenizer) → codes_left X ≡ codes_left T → moves os ≤ length (ahead X) → n ≤ k + moves os → Fits k T → Fits n (scratched r (done os X))
@@ -116,6 +113,6 @@ run-between T k =
     record { marker = k.marker; stand_open = second-open T.stack T.tokenize_state.token_2 T.tokenize_state.token_1 k.stand_open; fits = omega (arith, k.fits) }
 
 -- what the opening run's end says, right after its first marker
-pub opening-says : (m : ℕ) (names : SpanNames) (T : Tokenizer) (ok : Bool) (U : Tokenizer) → T.tokenize_state ≡ rested T.tokenize_state → sequence_open_ends (scratched (begun m names T.tokenize_state) (done (Enter names.whole ∷ Enter names.sequence ∷ Consume ∷ []) T)) ok U → DoesAs 2 (opening_program (single_dollar T) m names 1) T.tokenize_state (scratched (begun m names T.tokenize_state) (done (Enter names.whole ∷ Enter names.sequence ∷ Consume ∷ []) T)) ok U
+pub opening-says : (m : ℕ) (names : SpanNames) (T : Tokenizer) (ok : Bool) (U : Tokenizer) → T.tokenize_state ≡ rested T.tokenize_state → sequence_open_ends (scratched (begun m names T.tokenize_state) (done (Enter names.whole ∷ Enter names.sequence ∷ Consume ∷ []) T)) ok U → DoesAs 2 (opening_plan (single_dollar T) m names 1) T.tokenize_state (scratched (begun m names T.tokenize_state) (done (Enter names.whole ∷ Enter names.sequence ∷ Consume ∷ []) T)) ok U
 unfolding scratched applied
-opening-says m names T ok U e x = subst (λ (s : TokenizeState). DoesAs 2 (opening_program (single_dollar T) m names 1) s (scratched (begun m names T.tokenize_state) (done (Enter names.whole ∷ Enter names.sequence ∷ Consume ∷ []) T)) ok U) (sym e) x
+opening-says m names T ok U e x = subst (λ (s : TokenizeState). DoesAs 2 (opening_plan (single_dollar T) m names 1) s (scratched (begun m names T.tokenize_state) (done (Enter names.whole ∷ Enter names.sequence ∷ Consume ∷ []) T)) ok U) (sym e) x

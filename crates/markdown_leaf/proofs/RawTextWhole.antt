@@ -8,7 +8,7 @@ use Rattle.markdown_model.specs.CodeTests.{is_value}
 use Rattle.markdown_model.specs.Grammar.{◌>>◌, provided}
 use Rattle.markdown_model.specs.Leaf.{SpanNames, joined_codes, closing, span_of, span_here}
 use Rattle.markdown_model.specs.Lines.{line_leaf, line_leaves}
-use Rattle.markdown_leaf.proofs.WholeReadings.{Gives, IsSome, Covers, Gives-bind, Gives-switched, Gives-gives, Gives-some, Covers-leaf, Covers-row, Covers-group, some-first}
+use Rattle.markdown_construct.proofs.WholeReadings.{Gives, IsSome, Covers, Gives-bind, Gives-switched, Gives-gives, Gives-some, Covers-leaf, Covers-row, Covers-group, some-first}
 use Rattle.markdown_model.proofs.ReadingLaws.{read-codes}
 use Rattle.markdown_model.proofs.Readings.{span_codes, covers_closing}
 

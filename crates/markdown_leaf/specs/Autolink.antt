@@ -1,6 +1,5 @@
 -- What the states of an autolink do, and how runs from them end.
 use Rattle.std.specs.Prelude.{◌≡◌, ℕ, ◌+◌, ◌≤◌, Bool, true, false, ◌&&◌, ◌||◌, not, codes, nat_le, nat_lt, ◌==◌, if◌then◌else◌, Option, Some, None, List, [], ◌∷◌, ◌++◌, length}
-use Rattle.std.specs.List.{list_any}
 use Rattle.markdown_engine.specs.Codes.{Code}
 use Rattle.markdown_engine.specs.Ops.{Op, Enter, Exit, Consume, done, current_of, scratched}
 use Rattle.markdown_engine.specs.Past.{EndsAs, TreeReading}
@@ -9,8 +8,10 @@ use Rattle.markdown_engine.specs.TreeOps.{consumes}
 use Rattle.markdown_model.specs.CodeTests.{is_value, is_between, is_alphanumeric, is_some_code, last_code, next_is}
 use Rattle.markdown_model.specs.Grammar.{Reading, ◌>>◌, ◌then_◌, one, provided, any_number, span, repeatedly}
 use Rattle.markdown_model.specs.Leaf.{autolink, uri, email_address, domain_label, is_scheme_code, is_uri_code, is_local_code}
-use Rattle.markdown_leaf.specs.RawText.{AreOpen, with_size}
-use Rattle.markdown_leaf.specs.Renaming.{Naming, NamesAs, renamed, HasEvent}
+use Rattle.markdown_construct.specs.Readings.{after}
+use Rattle.markdown_construct.specs.Scratch.{AreOpen, with_size}
+use Rattle.markdown_construct.specs.Values.{letter_value, alphanumeric_value, among_values}
+use Rattle.markdown_construct.specs.Renaming.{Naming, NamesAs, renamed, HasEvent}
 use Rattle.markdown_engine.specs.declared.event.Name.{Name}
 use Rattle.markdown_engine.specs.declared.event.Name.TheVariants as N
 use Rattle.markdown_engine.specs.declared.state.State.TheVariants.{Next, Retry, Nok}
@@ -19,15 +20,6 @@ use Rattle.markdown_engine.specs.declared.state.StateName.TheVariants.{AutolinkO
 use Rattle.markdown_engine.specs.declared.tokenizer.Tokenizer.{Tokenizer}
 
 -- Tests on the value of a code.
-
-abbrev pub letter_value : ℕ → Bool
-letter_value v = is_between 65 90 v || is_between 97 122 v
-
-abbrev pub alphanumeric_value : ℕ → Bool
-alphanumeric_value v = letter_value v || is_between 48 57 v
-
-abbrev pub among_values : List ℕ → ℕ → Bool
-among_values ns v = list_any (λ n. v == n) ns
 
 abbrev pub scheme_value : ℕ → Bool
 scheme_value v = alphanumeric_value v || among_values (codes "+-.") v
@@ -165,11 +157,6 @@ link_here T = provided (is_on T) >> autolink
 
 abbrev pub start_ends : Tokenizer → Bool → Tokenizer → Type 0
 start_ends T ok U = EndsAs (link_here T) None T.tokenize_state T ok U
-
--- these codes, and then those of a reading
-abbrev pub after : List Code → Option (List Code × List Code) → Option (List Code × List Code)
-after front None = None
-after front (Some r) = Some (front ++ r.0, r.1)
 
 -- a URI after this many codes of its scheme
 abbrev pub scheme_rest : ℕ → Reading (List Code)

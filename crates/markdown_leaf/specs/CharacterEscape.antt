@@ -6,7 +6,7 @@ use Rattle.markdown_engine.specs.Runs.{Stepped, stepped}
 use Rattle.markdown_model.specs.CodeTests.{is_ascii_punctuation, next_is}
 use Rattle.markdown_model.specs.Grammar.{◌>>◌, provided}
 use Rattle.markdown_model.specs.Leaf.{escape}
-use Rattle.markdown_leaf.specs.Program.{Program, KeepsAs}
+use Rattle.markdown_construct.specs.Plan.{Plan, KeepsAs}
 use Rattle.markdown_engine.specs.declared.event.Name.TheVariants as N
 use Rattle.markdown_engine.specs.declared.state.State.TheVariants.{Next, Nok}
 use Rattle.markdown_engine.specs.declared.state.State.TheVariants as State
@@ -50,8 +50,8 @@ abbrev pub start_ends : Tokenizer → Bool → Tokenizer → Type 0
 start_ends T ok U = EndsAs (escape_here T) None T.tokenize_state T ok U
 
 -- punctuation comes next
-abbrev pub inside_program : Program
-inside_program cs = if next_is is_ascii_punctuation cs then Some value else None
+abbrev pub inside_plan : Plan
+inside_plan cs = if next_is is_ascii_punctuation cs then Some value else None
 
 abbrev pub inside_ends : Tokenizer → Bool → Tokenizer → Type 0
-inside_ends T ok U = KeepsAs 1 inside_program T ok U
+inside_ends T ok U = KeepsAs 1 inside_plan T ok U

@@ -12,7 +12,7 @@ use Rattle.markdown_model.specs.CodeTests.{is_value, is_among, is_between, is_al
 use Rattle.markdown_model.specs.Grammar.{◌>>◌, provided, span}
 use Rattle.markdown_model.specs.Leaf.{reference, is_name}
 use Rattle.markdown_util.specs.Reference.{Table, IsMarker, html_5_rows, named_value, value_size_max, is_value_byte}
-use Rattle.markdown_leaf.specs.Program.{Program, preceded, DoesAs}
+use Rattle.markdown_construct.specs.Plan.{Plan, preceded, DoesAs}
 use Rattle.markdown_engine.specs.declared.event.Name.TheVariants as N
 use Rattle.markdown_engine.specs.declared.state.State.TheVariants.{Next, Retry, Nok}
 use Rattle.markdown_engine.specs.declared.state.State.TheVariants as State
@@ -166,26 +166,26 @@ abbrev pub value_of : ℕ → ℕ → List Code × List Code → Option (List Op
 value_of marker size s =
     if is_between 1 (value_size_max marker) (size + length s.0) && next_is (is_value 59) s.1 then Some (consumes s.0 ++ closing) else None
 
-abbrev pub value_program : ℕ → ℕ → Program
-value_program marker size cs = value_of marker size (span (is_value_code marker) cs)
+abbrev pub value_plan : ℕ → ℕ → Plan
+value_plan marker size cs = value_of marker size (span (is_value_code marker) cs)
 
 abbrev pub value_ends : Tokenizer → Bool → Tokenizer → Type 0
-value_ends T ok U = DoesAs 2 (value_program T.tokenize_state.marker T.tokenize_state.size) (rested T.tokenize_state) T ok U
+value_ends T ok U = DoesAs 2 (value_plan T.tokenize_state.marker T.tokenize_state.size) (rested T.tokenize_state) T ok U
 
 -- after the `#`: an `x` and hexadecimal digits, or decimal digits
-abbrev pub numeric_program : Program
-numeric_program cs =
-    if next_is (is_among (codes "xX")) cs then preceded hexadecimal_sign (value_program 120 0 (rest_of cs)) else preceded value_start (value_program 35 0 cs)
+abbrev pub numeric_plan : Plan
+numeric_plan cs =
+    if next_is (is_among (codes "xX")) cs then preceded hexadecimal_sign (value_plan 120 0 (rest_of cs)) else preceded value_start (value_plan 35 0 cs)
 
 abbrev pub numeric_ends : Tokenizer → Bool → Tokenizer → Type 0
-numeric_ends T ok U = DoesAs 1 numeric_program (rested T.tokenize_state) T ok U
+numeric_ends T ok U = DoesAs 1 numeric_plan (rested T.tokenize_state) T ok U
 
 -- after the `&`: a number, or a name
-abbrev pub named_program : Program
-named_program cs = if begins_name cs then preceded value_start (value_program 38 0 cs) else None
+abbrev pub named_plan : Plan
+named_plan cs = if begins_name cs then preceded value_start (value_plan 38 0 cs) else None
 
-abbrev pub open_program : Program
-open_program cs = if next_is (is_value 35) cs then preceded number_sign (numeric_program (rest_of cs)) else named_program cs
+abbrev pub open_plan : Plan
+open_plan cs = if next_is (is_value 35) cs then preceded number_sign (numeric_plan (rest_of cs)) else named_plan cs
 
 abbrev pub open_ends : Tokenizer → Bool → Tokenizer → Type 0
-open_ends T ok U = DoesAs 1 open_program (rested T.tokenize_state) T ok U
+open_ends T ok U = DoesAs 1 open_plan (rested T.tokenize_state) T ok U

@@ -7,7 +7,7 @@ use Rattle.markdown_engine.specs.Runs.{Stepped, stepped}
 use Rattle.markdown_model.specs.CodeTests.{next_is}
 use Rattle.markdown_model.specs.Grammar.{◌>>◌, provided}
 use Rattle.markdown_model.specs.Leaf.{hard_break_escape}
-use Rattle.markdown_leaf.specs.Program.{Program, KeepsAs}
+use Rattle.markdown_construct.specs.Plan.{Plan, KeepsAs}
 use Rattle.markdown_engine.specs.declared.event.Name.TheVariants as N
 use Rattle.markdown_engine.specs.declared.state.State.TheVariants.{Next, Nok}
 use Rattle.markdown_engine.specs.declared.state.State.TheVariants as State
@@ -48,8 +48,8 @@ abbrev pub start_ends : Tokenizer → Bool → Tokenizer → Type 0
 start_ends T ok U = EndsAs (break_here T) None T.tokenize_state T ok U
 
 -- a line ending comes next
-abbrev pub after_program : Program
-after_program cs = if next_is is_line_ending cs then Some closing else None
+abbrev pub after_plan : Plan
+after_plan cs = if next_is is_line_ending cs then Some closing else None
 
 abbrev pub after_ends : Tokenizer → Bool → Tokenizer → Type 0
-after_ends T ok U = KeepsAs 1 after_program T ok U
+after_ends T ok U = KeepsAs 1 after_plan T ok U

@@ -13,8 +13,9 @@ use Rattle.markdown_model.specs.CodeTests.{is_value}
 use Rattle.markdown_model.specs.Grammar.{◌>>◌, provided, either, span}
 use Rattle.markdown_model.specs.Leaf.{SpanNames, code_names, math_names, span_here, closing}
 use Rattle.markdown_model.specs.Lines.{line_leaves}
-use Rattle.markdown_leaf.specs.Program.{Program, preceded, DoesAs}
-use Rattle.markdown_leaf.specs.Renaming.{Naming, NamesAs, under, renamed, HasEvent}
+use Rattle.markdown_construct.specs.Plan.{Plan, preceded, DoesAs}
+use Rattle.markdown_construct.specs.Scratch.{Fits, AreOpen, with_size, with_size_b}
+use Rattle.markdown_construct.specs.Renaming.{Naming, NamesAs, under, renamed, HasEvent}
 use Rattle.markdown_engine.specs.declared.event.Event.{Event}
 use Rattle.markdown_engine.specs.declared.event.Kind.{Kind}
 use Rattle.markdown_engine.specs.declared.event.Name.{Name}
@@ -37,12 +38,6 @@ begun marker names s = record s { marker = marker; size = 1; token_1 = names.who
 -- at rest
 abbrev pub rested : TokenizeState → TokenizeState
 rested s = record s { marker = 0; size = 0; size_b = 0; token_1 = N.Data; token_2 = N.Data; token_3 = N.Data }
-
-abbrev pub with_size : ℕ → TokenizeState → TokenizeState
-with_size n s = record s { size = n }
-
-abbrev pub with_size_b : ℕ → TokenizeState → TokenizeState
-with_size_b n s = record s { size_b = n }
 
 -- Where a span may start.
 
@@ -160,14 +155,6 @@ sequence_close_step T = sequence_close_at (current_of T) T
 
 -- When they may be called.
 
--- as many codes as a `usize` can count, with these
-abbrev pub Fits : ℕ → Tokenizer → Type 0
-Fits n T = n + codes_left T < 2 ^ 64
-
--- these two are the innermost open events
-abbrev pub AreOpen : Name → Name → Tokenizer → Type 0
-AreOpen n m T = T.stack ≡ n ∷ m ∷ drop 2 T.stack
-
 -- what is known of the runs is right; nothing is known where no byte was asked for
 abbrev pub IsIndexed : Tokenizer → Type 0
 IsIndexed T = T.tokenize_state.runs ≡ last_runs T.tokenize_state.runs.asked T.cursor.codes
@@ -227,15 +214,15 @@ closed_ops names (Some r) = Some (ops_of (line_leaves names.text r.0.0 ⊕ leaf 
 -- a span of this marker, these names, and an opening run of this size
 module _ (marker : ℕ) (names : SpanNames) (size : ℕ) where
   -- after its opening run or any stretch inside
-  abbrev pub inside_program : Program
-  inside_program cs = closed_ops names (closing (is_value marker) size cs)
+  abbrev pub inside_plan : Plan
+  inside_plan cs = closed_ops names (closing (is_value marker) size cs)
 
   abbrev pub is_data : Code → Bool
   is_data c = not (is_line_ending c || is_value marker c)
 
   -- inside data: the rest of it
-  abbrev pub data_program : Program
-  data_program cs = let s = span is_data cs in preceded (consumes s.0 ++ Exit names.text ∷ []) (inside_program s.1)
+  abbrev pub data_plan : Plan
+  data_plan cs = let s = span is_data cs in preceded (consumes s.0 ++ Exit names.text ∷ []) (inside_plan s.1)
 
   -- inside a run of markers, so many of which are passed: the closing run where the sizes are the same, else data
   abbrev pub run_naming : ℕ → Naming
@@ -243,34 +230,34 @@ module _ (marker : ℕ) (names : SpanNames) (size : ℕ) where
       let s = span (is_value marker) cs in
       if passed + length s.0 == size
       then Some (names.sequence, consumes s.0 ++ Exit names.sequence ∷ Exit names.whole ∷ [])
-      else under names.text (preceded (consumes s.0 ++ Exit names.text ∷ []) (inside_program s.1))
+      else under names.text (preceded (consumes s.0 ++ Exit names.text ∷ []) (inside_plan s.1))
 
 -- an opening run of this size will do
 abbrev pub opens : Bool → ℕ → ℕ → Bool
 opens single marker n = not (marker == 36 && (n == 1 && not single))
 
 -- inside the opening run, so many markers of which are passed
-abbrev pub opening_program : Bool → ℕ → SpanNames → ℕ → Program
-opening_program single marker names passed cs =
+abbrev pub opening_plan : Bool → ℕ → SpanNames → ℕ → Plan
+opening_plan single marker names passed cs =
     let s = span (is_value marker) cs in
     if opens single marker (passed + length s.0)
-    then preceded (consumes s.0 ++ Exit names.sequence ∷ []) (inside_program marker names (passed + length s.0) s.1)
+    then preceded (consumes s.0 ++ Exit names.sequence ∷ []) (inside_plan marker names (passed + length s.0) s.1)
     else None
 
 abbrev pub sequence_open_ends : Tokenizer → Bool → Tokenizer → Type 0
 sequence_open_ends T ok U =
     let s : TokenizeState = T.tokenize_state in
-    DoesAs 2 (opening_program (single_dollar T) s.marker (names_in s) s.size) (rested s) T ok U
+    DoesAs 2 (opening_plan (single_dollar T) s.marker (names_in s) s.size) (rested s) T ok U
 
 abbrev pub between_ends : Tokenizer → Bool → Tokenizer → Type 0
 between_ends T ok U =
     let s : TokenizeState = T.tokenize_state in
-    DoesAs 1 (inside_program s.marker (names_in s) s.size) (rested s) T ok U
+    DoesAs 1 (inside_plan s.marker (names_in s) s.size) (rested s) T ok U
 
 abbrev pub data_ends : Tokenizer → Bool → Tokenizer → Type 0
 data_ends T ok U =
     let s : TokenizeState = T.tokenize_state in
-    DoesAs 2 (data_program s.marker (names_in s) s.size) (rested s) T ok U
+    DoesAs 2 (data_plan s.marker (names_in s) s.size) (rested s) T ok U
 
 abbrev pub sequence_close_ends : Tokenizer → Bool → Tokenizer → Type 0
 sequence_close_ends T ok U =

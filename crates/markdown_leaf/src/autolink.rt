@@ -7,10 +7,11 @@
 ghost use Rattle.std.specs.Prelude.{◌≡◌, IfOk, OnErr, IsTrue};
 ghost use Rattle.markdown_engine.specs.Ops.{HasCode, current_of};
 ghost use Rattle.markdown_engine.specs.declared.event.Name.TheVariants.{Autolink};
-ghost use Rattle.markdown_leaf.specs.RawText.{AreOpen};
-ghost use Rattle.markdown_leaf.specs.Autolink.{letter_value, alphanumeric_value, scheme_value, local_value, uri_value, refused, finished, start_step, open_step, scheme_or_step, scheme_inside_step, url_inside_step, email_atext_step, email_at_sign_or_dot_step, in_label_at, email_value_step, email_label_step, InsideReady, SchemeReady, LabelReady};
+ghost use Rattle.markdown_construct.specs.Scratch.{AreOpen};
+ghost use Rattle.markdown_leaf.specs.Autolink.{scheme_value, local_value, uri_value, refused, finished, start_step, open_step, scheme_or_step, scheme_inside_step, url_inside_step, email_atext_step, email_at_sign_or_dot_step, in_label_at, email_value_step, email_label_step, InsideReady, SchemeReady, LabelReady};
 
 use crate::renaming::rename_entered;
+use markdown_construct::bytes::{is_alphanumeric, is_letter};
 use markdown_engine::event::Name;
 use markdown_engine::state::{State, StateName};
 use markdown_engine::tokenizer::Tokenizer;
@@ -206,7 +207,7 @@ fn in_label(tokenizer: &mut Tokenizer) -> State
 /// In a label, after a letter or a digit: the label may end.
 ///
 /// The error comes where a growth is refused; then `failed` is true.
-#[tactic(auto, using(crate::proofs::RenamingLemmas::rename_rules), unfolding(markdown_engine::specs::Ops::scratched))]
+#[tactic(auto, using(markdown_construct::proofs::RenamingLemmas::rename_rules), unfolding(markdown_engine::specs::Ops::scratched))]
 pub fn email_label(tokenizer: &mut Tokenizer) -> Result<State, AllocError>
     requires { LabelReady tokenizer.old }
     ensures ok { IfOk result (λ s. email_label_step tokenizer.old ≡ record { state = s; left = tokenizer.new }) }
@@ -234,20 +235,6 @@ pub fn email_value(tokenizer: &mut Tokenizer) -> Result<State, AllocError>
     ensures err { OnErr result (IsTrue tokenizer.new.failed) }
 {
     Ok(in_label(tokenizer))
-}
-
-// Whether it is an ASCII letter.
-fn is_letter(code: u8) -> bool
-    ensures { result ≡ letter_value code }
-{
-    matches!(code, b'A'..=b'Z' | b'a'..=b'z')
-}
-
-// Whether it is an ASCII letter or digit.
-fn is_alphanumeric(code: u8) -> bool
-    ensures { result ≡ alphanumeric_value code }
-{
-    is_letter(code) || matches!(code, b'0'..=b'9')
 }
 
 // Whether a scheme may have it.

@@ -204,7 +204,7 @@ pub fn data(tokenizer: &mut Tokenizer) -> Result<State, AllocError>
 }
 
 // After a run of markers: the span ends where it is as long as the opening run; else the run is data.
-#[tactic(auto, using(crate::proofs::RenamingLemmas::rename_rules), unfolding(markdown_engine::specs::Ops::scratched))]
+#[tactic(auto, using(markdown_construct::proofs::RenamingLemmas::rename_rules), unfolding(markdown_engine::specs::Ops::scratched))]
 fn after_run(tokenizer: &mut Tokenizer) -> Result<State, AllocError>
     requires { SequenceCloseReady tokenizer.old }
     ensures ok { IfOk result (λ s. after_run tokenizer.old ≡ record { state = s; left = tokenizer.new }) }

@@ -1,8 +1,8 @@
 // Leaves whose name is settled only at their end.
-#![tactic(auto, using(markdown_engine::proofs::OpRules::op_rules), unfolding(crate::specs::Renaming::renamed))]
+#![tactic(auto, using(markdown_engine::proofs::OpRules::op_rules), unfolding(markdown_construct::specs::Renaming::renamed))]
 
 ghost use Rattle.std.specs.Prelude.{◌≡◌, OnOk, OnErr, IsTrue};
-ghost use Rattle.markdown_leaf.specs.Renaming.{HasEvent, renamed};
+ghost use Rattle.markdown_construct.specs.Renaming.{HasEvent, renamed};
 
 use markdown_engine::event::{Event, Name};
 use markdown_engine::tokenizer::Tokenizer;

@@ -17,11 +17,11 @@ use Rattle.markdown_engine.proofs.OpRules.{ahead-none, ahead-some, Begins, some-
 use Rattle.markdown_model.specs.CodeTests.{is_value, next_is}
 use Rattle.markdown_model.specs.Grammar.{with_first}
 use Rattle.markdown_model.specs.Resource.{DestinationNames, destination, raw_from}
-use Rattle.markdown_leaf.specs.Program.{Program, preceded, DoesAs, KeepsAs}
-use Rattle.markdown_leaf.specs.RawText.{with_size}
-use Rattle.markdown_leaf.proofs.ProgramLemmas.{GoesOn-map, Goes-on, Goes-kept, Goes-next, Goes-ok, Goes-yes, Goes-nok, Goes-no, no-codes}
-use Rattle.markdown_string.specs.Destination.{refused, raw_on, raw_plain, raw_opens, nested, finished, names_in, control_value, bars_value, stops_value, opening, raw_opening, text_opening, closing, ending, raw_ending, start_at, start_step, entering, enclosed_before_at, enclosed_before_step, enclosed_at, enclosed_step, escapes_enclosed, enclosed_escape_at, enclosed_escape_step, raw_at, raw_step, escapes_raw, raw_escape_at, raw_escape_step, StartReady, BeforeReady, EnclosedReady, RawReady, start_ends, text_then, enclosed_program, before_program, raw_program, enclosed_before_ends, enclosed_ends, enclosed_escape_ends, raw_ends, raw_escape_ends}
-use Rattle.markdown_string.specs.LinkedOps.{program_of}
+use Rattle.markdown_construct.specs.Plan.{Plan, preceded, DoesAs, KeepsAs}
+use Rattle.markdown_construct.specs.Scratch.{with_size}
+use Rattle.markdown_construct.proofs.PlanLemmas.{preceded-nil, GoesOn-map, Goes-on, Goes-kept, Goes-next, Goes-ok, Goes-yes, Goes-nok, Goes-no, no-codes}
+use Rattle.markdown_string.specs.Destination.{refused, raw_on, raw_plain, raw_opens, nested, finished, names_in, control_value, bars_value, stops_value, opening, raw_opening, text_opening, closing, ending, raw_ending, start_at, start_step, entering, enclosed_before_at, enclosed_before_step, enclosed_at, enclosed_step, escapes_enclosed, enclosed_escape_at, enclosed_escape_step, raw_at, raw_step, escapes_raw, raw_escape_at, raw_escape_step, StartReady, BeforeReady, EnclosedReady, RawReady, start_ends, text_then, enclosed_plan, before_plan, raw_plan, enclosed_before_ends, enclosed_ends, enclosed_escape_ends, raw_ends, raw_escape_ends}
+use Rattle.markdown_string.specs.LinkedOps.{plan_of}
 use Rattle.markdown_string.proofs.DestinationReadings.{enclosed-none, enclosed-close, enclosed-refused, enclosed-next, enclosed-taken, enclosed-bare, text-first, destination-bracket, raw-end, raw-open-end, raw-taken, raw-bare, stops, raw-stop, raw-space, raw-control, raw-open, raw-deep, raw-close, raw-next, destination-raw, destination-end, destination-stops, destination-control, destination-covers}
 use Rattle.markdown_string.proofs.LinkedLemmas.{EndsAs-linked}
 use Rattle.markdown_string.proofs.BoolLemmas.{same-value, or-left, or-right, or-first}
@@ -145,10 +145,6 @@ refused-by false max depth c cs e h k g =
       or-first false true h e = cc
       or-first false false h e = cc
 
-none-before : (o : Option (List Op)) → o ≡ preceded [] o
-none-before None = refl
-none-before (Some os) = refl
-
 module _ (ready : StateName → Tokenizer → Type 0) (ends : StateName → Tokenizer → Bool → Tokenizer → Type 0) (weight : StateName → Tokenizer → ℕ) (within : Within ready ends weight) where
   -- Between the brackets.
 
@@ -156,7 +152,7 @@ module _ (ready : StateName → Tokenizer → Type 0) (ends : StateName → Toke
   unfolding applied
   enclosed-law T alone k =
       let names : DestinationNames = names_in T.tokenize_state in
-      let p : Program = enclosed_program names false in
+      let p : Plan = enclosed_plan names false in
       let P : Stepped → Type 0 = GoesOn ready ends weight (weight_at 1 T) (enclosed_ends T) in
       code-step P (current_of T) (λ o. enclosed_at o T)
       (λ e. Goes-no ready ends weight 1 4 p T alone (ap p (ahead-none T e) ∙ enclosed-none names false))
@@ -169,7 +165,7 @@ module _ (ready : StateName → Tokenizer → Type 0) (ends : StateName → Toke
       (λ h. if-step P (c == 60 || c == 10) _ _
       (λ g. Goes-no ready ends weight 1 4 p T alone (ap p b.whole ∙ enclosed-refused names b.code cs (ap (λ v. v == 62) b.value ∙ h) (ap (λ v. v == 60 || v == 10) b.value ∙ g)))
       (λ g. if-step P (c == 92) _ _
-      (λ f. Goes-next ready ends weight 1 2 4 p (enclosed_program names true) (Consume ∷ []) T (Next DestinationEnclosedEscape) alone refl more (omega arith)
+      (λ f. Goes-next ready ends weight 1 2 4 p (enclosed_plan names true) (Consume ∷ []) T (Next DestinationEnclosedEscape) alone refl more (omega arith)
       (ap p b.whole ∙ enclosed-next names true b.code cs (ap (λ v. v == 62) b.value ∙ h) (ap (λ v. v == 60 || v == 10) b.value ∙ g) (ap (λ v. v == 92) b.value ∙ f))
       (within.enclosed_escape_ready _ (enclosed-past T k))
       (within.enclosed_escape_weight _)
@@ -181,11 +177,11 @@ module _ (ready : StateName → Tokenizer → Type 0) (ends : StateName → Toke
       (λ ok U x. within.enclosed_end _ ok U x)))))
 
   -- the backslash means itself
-  enclosed-goes : (T : Tokenizer) → T.attempts ≡ [] → EnclosedReady T → enclosed_program (names_in T.tokenize_state) true (ahead T) ≡ enclosed_program (names_in T.tokenize_state) false (ahead T) → GoesOn ready ends weight (weight_at 2 T) (enclosed_escape_ends T) (stepped (Retry DestinationEnclosed) T)
+  enclosed-goes : (T : Tokenizer) → T.attempts ≡ [] → EnclosedReady T → enclosed_plan (names_in T.tokenize_state) true (ahead T) ≡ enclosed_plan (names_in T.tokenize_state) false (ahead T) → GoesOn ready ends weight (weight_at 2 T) (enclosed_escape_ends T) (stepped (Retry DestinationEnclosed) T)
   enclosed-goes T alone k e =
       let names : DestinationNames = names_in T.tokenize_state in
-      Goes-next ready ends weight 2 1 4 (enclosed_program names true) (enclosed_program names false) [] T (Retry DestinationEnclosed) alone refl (no-codes T) (omega arith)
-      (e ∙ none-before (enclosed_program names false (ahead T)))
+      Goes-next ready ends weight 2 1 4 (enclosed_plan names true) (enclosed_plan names false) [] T (Retry DestinationEnclosed) alone refl (no-codes T) (omega arith)
+      (e ∙ preceded-nil (enclosed_plan names false (ahead T)))
       (within.enclosed_ready _ k)
       (within.enclosed_weight _)
       (λ ok U x. within.enclosed_end _ ok U x)
@@ -194,26 +190,26 @@ module _ (ready : StateName → Tokenizer → Type 0) (ends : StateName → Toke
   unfolding applied
   enclosed_escape-law T alone k =
       let names : DestinationNames = names_in T.tokenize_state in
-      let p : Program = enclosed_program names true in
+      let p : Plan = enclosed_plan names true in
       let P : Stepped → Type 0 = GoesOn ready ends weight (weight_at 2 T) (enclosed_escape_ends T) in
       code-step P (current_of T) (λ o. enclosed_escape_at o T)
-      (λ e. enclosed-goes T alone k (ap p (ahead-none T e) ∙ enclosed-none names true ∙ sym (enclosed-none names false) ∙ ap (enclosed_program names false) (sym (ahead-none T e))))
+      (λ e. enclosed-goes T alone k (ap p (ahead-none T e) ∙ enclosed-none names true ∙ sym (enclosed-none names false) ∙ ap (enclosed_plan names false) (sym (ahead-none T e))))
       (λ c e.
       let b : Begins c (ahead T) = ahead-some T c e in
       let cs : List Code = rest_of (ahead T) in
       if-step P (escapes_enclosed c) _ _
-      (λ h. Goes-next ready ends weight 2 1 4 p (enclosed_program names false) (Consume ∷ []) T (Next DestinationEnclosed) alone refl (some-codes T c e) (omega arith)
+      (λ h. Goes-next ready ends weight 2 1 4 p (enclosed_plan names false) (Consume ∷ []) T (Next DestinationEnclosed) alone refl (some-codes T c e) (omega arith)
       (ap p b.whole ∙ enclosed-taken names b.code cs (ap escapes_enclosed b.value ∙ h))
       (within.enclosed_ready _ (enclosed-past T k))
       (within.enclosed_weight _)
       (λ ok U x. within.enclosed_end _ ok U x))
-      (λ h. enclosed-goes T alone k (ap p b.whole ∙ enclosed-bare names b.code cs (ap escapes_enclosed b.value ∙ h) ∙ ap (enclosed_program names false) (sym b.whole))))
+      (λ h. enclosed-goes T alone k (ap p b.whole ∙ enclosed-bare names b.code cs (ap escapes_enclosed b.value ∙ h) ∙ ap (enclosed_plan names false) (sym b.whole))))
 
   before-enters : (T : Tokenizer) → T.attempts ≡ [] → BeforeReady T → next_is (is_value 62) (ahead T) ≡ false → GoesOn ready ends weight (weight_at 3 T) (enclosed_before_ends T) (entering T)
   unfolding applied
   before-enters T alone k h =
       let names : DestinationNames = names_in T.tokenize_state in
-      Goes-next ready ends weight 3 1 2 (before_program names) (enclosed_program names false) (text_opening names) T (Retry DestinationEnclosed) alone refl (no-codes T) (omega arith)
+      Goes-next ready ends weight 3 1 2 (before_plan names) (enclosed_plan names false) (text_opening names) T (Retry DestinationEnclosed) alone refl (no-codes T) (omega arith)
       (if-false _ _ _ h)
       (within.enclosed_ready _ (entered-text T k))
       (within.enclosed_weight _)
@@ -229,7 +225,7 @@ module _ (ready : StateName → Tokenizer → Type 0) (ends : StateName → Toke
       let b : Begins c (ahead T) = ahead-some T c e in
       let here : next_is (is_value 62) (ahead T) ≡ (c == 62) = ap (next_is (is_value 62)) b.whole ∙ ap (λ v. v == 62) b.value in
       if-step P (c == 62) _ _
-      (λ h. Goes-yes ready ends weight 3 2 (before_program names) (closing names) T alone (if-true _ _ _ (here ∙ h)))
+      (λ h. Goes-yes ready ends weight 3 2 (before_plan names) (closing names) T alone (if-true _ _ _ (here ∙ h)))
       (λ h. before-enters T alone k (here ∙ h)))
 
   -- Without brackets.
@@ -242,7 +238,7 @@ module _ (ready : StateName → Tokenizer → Type 0) (ends : StateName → Toke
       let names : DestinationNames = names_in s in
       let max : ℕ = s.size_b in
       let depth : ℕ = s.size in
-      let p : Program = raw_program names max false depth in
+      let p : Plan = raw_plan names max false depth in
       let at : Option (List Code × List Code) → Option (List Op) = text_then (raw_ending names) in
       let P : Stepped → Type 0 = GoesOn ready ends weight (weight_at 1 T) (raw_ends T) in
       let b : Begins c (ahead T) = ahead-some T c e in
@@ -258,18 +254,18 @@ module _ (ready : StateName → Tokenizer → Type 0) (ends : StateName → Toke
       let goes : stops max depth b.code ≡ false = or-false (white_value b.code.value) (is_value 41 b.code && depth == 0) (plain-value b.code.value plain) (ap (λ x. x && depth == 0) closer) in
       let next : raw_from max false depth (b.code ∷ cs) ≡ with_first b.code (raw_from max (b.code.value == 92) depth cs) =
       raw-next max depth b.code cs goes (or-left (control_value b.code.value) (b.code.value == 32) plain) (tested (λ v. v == 40) ∙ g) closer in
-      let reads : (x : Bool) → (c == 92) ≡ x → p (ahead T) ≡ preceded (Consume ∷ []) (raw_program names max x depth cs) =
-      λ x i. ap p b.whole ∙ ap at next ∙ text-first (raw_ending names) b.code (raw_from max (b.code.value == 92) depth cs) ∙ ap (λ y. preceded (Consume ∷ []) (raw_program names max y depth cs)) (tested (λ v. v == 92) ∙ i) in
+      let reads : (x : Bool) → (c == 92) ≡ x → p (ahead T) ≡ preceded (Consume ∷ []) (raw_plan names max x depth cs) =
+      λ x i. ap p b.whole ∙ ap at next ∙ text-first (raw_ending names) b.code (raw_from max (b.code.value == 92) depth cs) ∙ ap (λ y. preceded (Consume ∷ []) (raw_plan names max y depth cs)) (tested (λ v. v == 92) ∙ i) in
       if-step P (c == 92) (stepped (Next DestinationRawEscape) (done (Consume ∷ []) T)) (stepped (Next DestinationRaw) (done (Consume ∷ []) T))
-      (λ i. Goes-kept ready ends weight 1 2 4 p (raw_program names max true depth) (Consume ∷ []) (with_size 0 s) T (Next DestinationRawEscape) alone refl more (omega arith) (reads true i) (within.raw_escape_ready _ (raw-past T k)) (within.raw_escape_weight _) (λ ok U x. within.raw_escape_end _ ok U x))
+      (λ i. Goes-kept ready ends weight 1 2 4 p (raw_plan names max true depth) (Consume ∷ []) (with_size 0 s) T (Next DestinationRawEscape) alone refl more (omega arith) (reads true i) (within.raw_escape_ready _ (raw-past T k)) (within.raw_escape_weight _) (λ ok U x. within.raw_escape_end _ ok U x))
       (λ i. Goes-kept ready ends weight 1 1 4 p p (Consume ∷ []) (with_size 0 s) T (Next DestinationRaw) alone refl more (omega arith) (reads false i) (within.raw_ready _ (raw-past T k)) (within.raw_weight _) (λ ok U x. within.raw_end _ ok U x)))
 
   -- past a parenthesis, with so many open
-  nested-law : (n : ℕ) (T : Tokenizer) → T.attempts ≡ [] → RawReady T → 1 ≤ length (ahead T) → raw_program (names_in T.tokenize_state) T.tokenize_state.size_b false T.tokenize_state.size (ahead T) ≡ preceded (Consume ∷ []) (raw_program (names_in T.tokenize_state) T.tokenize_state.size_b false n (drop 1 (ahead T))) → GoesOn ready ends weight (weight_at 1 T) (raw_ends T) (nested n T)
+  nested-law : (n : ℕ) (T : Tokenizer) → T.attempts ≡ [] → RawReady T → 1 ≤ length (ahead T) → raw_plan (names_in T.tokenize_state) T.tokenize_state.size_b false T.tokenize_state.size (ahead T) ≡ preceded (Consume ∷ []) (raw_plan (names_in T.tokenize_state) T.tokenize_state.size_b false n (drop 1 (ahead T))) → GoesOn ready ends weight (weight_at 1 T) (raw_ends T) (nested n T)
   unfolding applied scratched
   nested-law n T alone k more reads =
       let s : TokenizeState = T.tokenize_state in
-      let q : ℕ → Program = raw_program (names_in s) s.size_b false in
+      let q : ℕ → Plan = raw_plan (names_in s) s.size_b false in
       Goes-on ready ends weight 1 1 4 (q s.size) (q n) (Consume ∷ []) (with_size 0 s) (with_size n s) T (Next DestinationRaw) alone refl more (omega arith) reads (within.raw_ready _ (nested-past n T k)) (within.raw_weight _) (λ ok U x. within.raw_end _ ok U x)
 
   -- a code that does not end the destination
@@ -280,7 +276,7 @@ module _ (ready : StateName → Tokenizer → Type 0) (ends : StateName → Toke
       let names : DestinationNames = names_in s in
       let max : ℕ = s.size_b in
       let depth : ℕ = s.size in
-      let p : Program = raw_program names max false depth in
+      let p : Plan = raw_plan names max false depth in
       let at : Option (List Code × List Code) → Option (List Op) = text_then (raw_ending names) in
       let P : Stepped → Type 0 = GoesOn ready ends weight (weight_at 1 T) (raw_ends T) in
       let b : Begins c (ahead T) = ahead-some T c e in
@@ -292,7 +288,7 @@ module _ (ready : StateName → Tokenizer → Type 0) (ends : StateName → Toke
       let goes : stops max depth b.code ≡ false = is (λ v. white_value v || (v == 41 && depth == 0)) in
       if-step P (nat_lt depth max) (nested (depth + 1) T) (refused T)
       (λ f. nested-law (depth + 1) T alone k more
-      (ap p b.whole ∙ ap at (raw-open max depth b.code cs goes (is control_value) (is (λ v. v == 40)) f) ∙ text-first (raw_ending names) b.code (raw_from max false (suc depth) cs) ∙ ap (λ n. preceded (Consume ∷ []) (raw_program names max false n cs)) (sym (add-one depth))))
+      (ap p b.whole ∙ ap at (raw-open max depth b.code cs goes (is control_value) (is (λ v. v == 40)) f) ∙ text-first (raw_ending names) b.code (raw_from max false (suc depth) cs) ∙ ap (λ n. preceded (Consume ∷ []) (raw_plan names max false n cs)) (sym (add-one depth))))
       (λ f. Goes-nok ready ends weight 1 4 p (with_size 0 s) T alone (ap p b.whole ∙ ap at (raw-deep max depth b.code cs goes (is control_value) (is (λ v. v == 40)) f))))
       (λ g. if-step P (c == 41) (nested (depth - 1) T) (raw_plain c T)
       (λ f.
@@ -310,7 +306,7 @@ module _ (ready : StateName → Tokenizer → Type 0) (ends : StateName → Toke
       let names : DestinationNames = names_in s in
       let max : ℕ = s.size_b in
       let depth : ℕ = s.size in
-      let p : Program = raw_program names max false depth in
+      let p : Plan = raw_plan names max false depth in
       let at : Option (List Code × List Code) → Option (List Op) = text_then (raw_ending names) in
       let P : Stepped → Type 0 = GoesOn ready ends weight (weight_at 1 T) (raw_ends T) in
       code-step P (current_of T) (λ o. raw_at o T)
@@ -324,12 +320,12 @@ module _ (ready : StateName → Tokenizer → Type 0) (ends : StateName → Toke
       (ap p b.whole ∙ ap at (raw-stop max depth b.code (rest_of (ahead T)) (stops-here b.code.value (depth == 0) (ap (λ v. depth == 0 && stops_value v) b.value ∙ h)) (both-of (depth == 0) (stops_value c) h))))
       (λ h. raw-on-law T alone k c e h))
 
-  raw-goes : (T : Tokenizer) → T.attempts ≡ [] → RawReady T → raw_program (names_in T.tokenize_state) T.tokenize_state.size_b true T.tokenize_state.size (ahead T) ≡ raw_program (names_in T.tokenize_state) T.tokenize_state.size_b false T.tokenize_state.size (ahead T) → GoesOn ready ends weight (weight_at 2 T) (raw_escape_ends T) (stepped (Retry DestinationRaw) T)
+  raw-goes : (T : Tokenizer) → T.attempts ≡ [] → RawReady T → raw_plan (names_in T.tokenize_state) T.tokenize_state.size_b true T.tokenize_state.size (ahead T) ≡ raw_plan (names_in T.tokenize_state) T.tokenize_state.size_b false T.tokenize_state.size (ahead T) → GoesOn ready ends weight (weight_at 2 T) (raw_escape_ends T) (stepped (Retry DestinationRaw) T)
   raw-goes T alone k e =
       let s : TokenizeState = T.tokenize_state in
       let names : DestinationNames = names_in s in
-      Goes-kept ready ends weight 2 1 4 (raw_program names s.size_b true s.size) (raw_program names s.size_b false s.size) [] (with_size 0 s) T (Retry DestinationRaw) alone refl (no-codes T) (omega arith)
-      (e ∙ none-before (raw_program names s.size_b false s.size (ahead T)))
+      Goes-kept ready ends weight 2 1 4 (raw_plan names s.size_b true s.size) (raw_plan names s.size_b false s.size) [] (with_size 0 s) T (Retry DestinationRaw) alone refl (no-codes T) (omega arith)
+      (e ∙ preceded-nil (raw_plan names s.size_b false s.size (ahead T)))
       (within.raw_ready _ k)
       (within.raw_weight _)
       (λ ok U x. within.raw_end _ ok U x)
@@ -339,8 +335,8 @@ module _ (ready : StateName → Tokenizer → Type 0) (ends : StateName → Toke
   raw_escape-law T alone k =
       let s : TokenizeState = T.tokenize_state in
       let names : DestinationNames = names_in s in
-      let p : Program = raw_program names s.size_b true s.size in
-      let q : Program = raw_program names s.size_b false s.size in
+      let p : Plan = raw_plan names s.size_b true s.size in
+      let q : Plan = raw_plan names s.size_b false s.size in
       let at : Option (List Code × List Code) → Option (List Op) = text_then (raw_ending names) in
       let P : Stepped → Type 0 = GoesOn ready ends weight (weight_at 2 T) (raw_escape_ends T) in
       code-step P (current_of T) (λ o. raw_escape_at o T)
@@ -356,7 +352,7 @@ module _ (ready : StateName → Tokenizer → Type 0) (ends : StateName → Toke
       (λ ok U x. within.raw_end _ ok U x))
       (λ h. raw-goes T alone k (ap p b.whole ∙ ap at (raw-bare s.size_b s.size b.code cs (ap escapes_raw b.value ∙ h)) ∙ ap q (sym b.whole))))
     where
-      same-end : (x : Bool) (names : DestinationNames) (max depth : ℕ) → (depth == 0) ≡ x → raw_program names max true depth [] ≡ raw_program names max false depth []
+      same-end : (x : Bool) (names : DestinationNames) (max depth : ℕ) → (depth == 0) ≡ x → raw_plan names max true depth [] ≡ raw_plan names max false depth []
       same-end true names max depth e = ap (text_then (raw_ending names)) (raw-end max true depth e ∙ sym (raw-end max false depth e))
       same-end false names max depth e = ap (text_then (raw_ending names)) (raw-open-end max true depth e ∙ sym (raw-open-end max false depth e))
 
@@ -365,16 +361,16 @@ module _ (ready : StateName → Tokenizer → Type 0) (ends : StateName → Toke
   rested : (s : TokenizeState) → s.size ≡ 0 → with_size 0 s ≡ s
   rested s e = let Q : ℕ → Type 0 = λ n. with_size n s ≡ s in subst Q e refl
 
-  raw-says : (T : Tokenizer) → StartReady T → (ok : Bool) (U : Tokenizer) → raw_ends (done (raw_opening (names_in T.tokenize_state)) T) ok U → DoesAs 4 (raw_program (names_in T.tokenize_state) T.tokenize_state.size_b false 0) T.tokenize_state (done (raw_opening (names_in T.tokenize_state)) T) ok U
+  raw-says : (T : Tokenizer) → StartReady T → (ok : Bool) (U : Tokenizer) → raw_ends (done (raw_opening (names_in T.tokenize_state)) T) ok U → DoesAs 4 (raw_plan (names_in T.tokenize_state) T.tokenize_state.size_b false 0) T.tokenize_state (done (raw_opening (names_in T.tokenize_state)) T) ok U
   unfolding applied
   raw-says T k ok U x =
       let s : TokenizeState = T.tokenize_state in
       let V : Tokenizer = done (raw_opening (names_in s)) T in
-      let Q : ℕ → Type 0 = λ n. DoesAs 4 (raw_program (names_in s) s.size_b false n) (with_size 0 s) V ok U in
-      let R : TokenizeState → Type 0 = λ q. DoesAs 4 (raw_program (names_in s) s.size_b false 0) q V ok U in
+      let Q : ℕ → Type 0 = λ n. DoesAs 4 (raw_plan (names_in s) s.size_b false n) (with_size 0 s) V ok U in
+      let R : TokenizeState → Type 0 = λ q. DoesAs 4 (raw_plan (names_in s) s.size_b false 0) q V ok U in
       subst R (rested s k) (subst Q k x)
 
-  none-by : (w : Bool) (max : ℕ) (names : DestinationNames) (c : Code) (cs : List Code) → stops max 0 c ≡ w → is_value 60 c ≡ false → bars_value c.value ≡ true → program_of (destination max names) (c ∷ cs) ≡ None
+  none-by : (w : Bool) (max : ℕ) (names : DestinationNames) (c : Code) (cs : List Code) → stops max 0 c ≡ w → is_value 60 c ≡ false → bars_value c.value ≡ true → plan_of (destination max names) (c ∷ cs) ≡ None
   none-by true max names c cs e h k = destination-stops max names c cs h e
   none-by false max names c cs e h k =
       destination-control max names c cs h e (control-left (control_value c.value) (c.value == 32) (c.value == 41) (c.value == 9) (c.value == 10) k e) where
@@ -392,7 +388,7 @@ module _ (ready : StateName → Tokenizer → Type 0) (ends : StateName → Toke
       let s : TokenizeState = T.tokenize_state in
       let names : DestinationNames = names_in s in
       let max : ℕ = s.size_b in
-      let p : Program = program_of (destination max names) in
+      let p : Plan = plan_of (destination max names) in
       let E : Bool → Tokenizer → Type 0 = KeepsAs 0 p T in
       let P : Stepped → Type 0 = GoesOn ready ends weight (weight_at 4 T) E in
       GoesOn-map ready ends weight (weight_at 4 T) E (start_ends T) (start_step T) (λ ok U x. EndsAs-linked (destination max names) (destination-covers max names) s T ok U x)
@@ -402,7 +398,7 @@ module _ (ready : StateName → Tokenizer → Type 0) (ends : StateName → Toke
       let b : Begins c (ahead T) = ahead-some T c e in
       let cs : List Code = rest_of (ahead T) in
       if-step P (c == 60) _ _
-      (λ h. Goes-next ready ends weight 4 3 0 p (before_program names) (opening names) T (Next DestinationEnclosedBefore) alone refl (some-codes T c e) (omega arith)
+      (λ h. Goes-next ready ends weight 4 3 0 p (before_plan names) (opening names) T (Next DestinationEnclosedBefore) alone refl (some-codes T c e) (omega arith)
       (ap p b.whole ∙ destination-bracket max names b.code cs (ap (λ v. v == 60) b.value ∙ h))
       (within.before_ready _ (opened-before T))
       (within.before_weight _)
@@ -417,8 +413,8 @@ module _ (ready : StateName → Tokenizer → Type 0) (ends : StateName → Toke
       let others : (v == 32 || v == 41) ≡ false = or-right (control_value v) (v == 32 || v == 41) bars in
       let closer : is_value 41 b.code ≡ false = or-right (v == 32) (v == 41) others in
       let white : white_value v ≡ false = plain-value v (or-false (control_value v) (v == 32) plain (or-left (v == 32) (v == 41) others)) in
-      Goes-kept ready ends weight 4 1 0 p (raw_program names max false 0) (raw_opening names) s T (Retry DestinationRaw) alone refl (no-codes T) (omega arith)
-      (ap p b.whole ∙ destination-raw max names b.code cs (ap (λ v. v == 60) b.value ∙ h) (or-false (white_value v) (is_value 41 b.code && true) white (ap (λ x. x && true) closer)) plain closer ∙ ap (λ xs. preceded (raw_opening names) (raw_program names max false 0 xs)) (sym b.whole))
+      Goes-kept ready ends weight 4 1 0 p (raw_plan names max false 0) (raw_opening names) s T (Retry DestinationRaw) alone refl (no-codes T) (omega arith)
+      (ap p b.whole ∙ destination-raw max names b.code cs (ap (λ v. v == 60) b.value ∙ h) (or-false (white_value v) (is_value 41 b.code && true) white (ap (λ x. x && true) closer)) plain closer ∙ ap (λ xs. preceded (raw_opening names) (raw_plan names max false 0 xs)) (sym b.whole))
       (within.raw_ready _ (opened-raw T))
       (within.raw_weight _)
       (λ ok U x. raw-says T k ok U (within.raw_end _ ok U x))))))

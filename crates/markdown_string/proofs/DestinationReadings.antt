@@ -9,10 +9,10 @@ use Rattle.markdown_engine.specs.declared.event.Name.TheVariants as N
 use Rattle.markdown_model.specs.CodeTests.{is_value, is_among, is_empty, is_whitespace_code, is_control, next_is}
 use Rattle.markdown_model.specs.Grammar.{Reading, ◌>>=◌, gives, provided, if_next, one, up_to, with_first}
 use Rattle.markdown_model.specs.Resource.{DestinationNames, destination, literal_destination, raw_destination, raw_from, string_group}
-use Rattle.markdown_leaf.specs.Program.{preceded}
-use Rattle.markdown_leaf.proofs.WholeReadings.{Gives, Read, IsSome, Gives-bind, Gives-after, Gives-provided, Gives-gives, Gives-one, some-first}
-use Rattle.markdown_string.specs.Destination.{opening, raw_opening, text_opening, closing, ending, raw_ending, text_then, bracketed, enclosed_program, before_program, raw_program}
-use Rattle.markdown_string.specs.LinkedOps.{linked_ops, tree_ops, program_of}
+use Rattle.markdown_construct.specs.Plan.{preceded}
+use Rattle.markdown_construct.proofs.WholeReadings.{Gives, Read, IsSome, Gives-bind, Gives-after, Gives-provided, Gives-gives, Gives-one, some-first}
+use Rattle.markdown_string.specs.Destination.{opening, raw_opening, text_opening, closing, ending, raw_ending, text_then, bracketed, enclosed_plan, before_plan, raw_plan}
+use Rattle.markdown_string.specs.LinkedOps.{linked_ops, tree_ops, plan_of}
 use Rattle.markdown_string.proofs.EscapeReadings.{Behind, first-some, Text, text-end, text-taken, text-stops, text-refused, text-next, text-bare, text, Gives-text}
 use Rattle.markdown_string.proofs.LinkedLemmas.{CoversRow, Row-leaf, Row-last, Row-linked, Row-string, Row-whole}
 use Rattle.markdown_model.proofs.ReadingSteps.{bind-some, bind-none, after-some, after-none, one-here, provided-true, provided-false}
@@ -29,25 +29,25 @@ takes c = is_among (codes "<>\\") c
 abbrev refuses : Code → Bool
 refuses c = is_value 60 c || is_line_ending c
 
-pub enclosed-none : (names : DestinationNames) (slash : Bool) → enclosed_program names slash [] ≡ None
+pub enclosed-none : (names : DestinationNames) (slash : Bool) → enclosed_plan names slash [] ≡ None
 enclosed-none names slash = ap (text_then (ending names)) (text-end (is_value 62) takes refuses slash)
 
-pub enclosed-close : (names : DestinationNames) (c : Code) (cs : List Code) → is_value 62 c ≡ true → enclosed_program names false (c ∷ cs) ≡ Some (ending names)
+pub enclosed-close : (names : DestinationNames) (c : Code) (cs : List Code) → is_value 62 c ≡ true → enclosed_plan names false (c ∷ cs) ≡ Some (ending names)
 enclosed-close names c cs h = ap (text_then (ending names)) (text-stops (is_value 62) takes refuses false c cs refl h)
 
-pub enclosed-refused : (names : DestinationNames) (c : Code) (cs : List Code) → is_value 62 c ≡ false → refuses c ≡ true → enclosed_program names false (c ∷ cs) ≡ None
+pub enclosed-refused : (names : DestinationNames) (c : Code) (cs : List Code) → is_value 62 c ≡ false → refuses c ≡ true → enclosed_plan names false (c ∷ cs) ≡ None
 enclosed-refused names c cs h k = ap (text_then (ending names)) (text-refused (is_value 62) takes refuses false c cs refl h k)
 
-pub enclosed-next : (names : DestinationNames) (slash : Bool) (c : Code) (cs : List Code) → is_value 62 c ≡ false → refuses c ≡ false → (c.value == 92) ≡ slash → enclosed_program names false (c ∷ cs) ≡ preceded (Consume ∷ []) (enclosed_program names slash cs)
+pub enclosed-next : (names : DestinationNames) (slash : Bool) (c : Code) (cs : List Code) → is_value 62 c ≡ false → refuses c ≡ false → (c.value == 92) ≡ slash → enclosed_plan names false (c ∷ cs) ≡ preceded (Consume ∷ []) (enclosed_plan names slash cs)
 enclosed-next names slash c cs h k e =
     ap (text_then (ending names)) (text-next (is_value 62) takes refuses false c cs refl h k)
     ∙ text-first (ending names) c (bracketed (c.value == 92) cs)
-    ∙ ap (λ b. preceded (Consume ∷ []) (enclosed_program names b cs)) e
+    ∙ ap (λ b. preceded (Consume ∷ []) (enclosed_plan names b cs)) e
 
-pub enclosed-taken : (names : DestinationNames) (c : Code) (cs : List Code) → takes c ≡ true → enclosed_program names true (c ∷ cs) ≡ preceded (Consume ∷ []) (enclosed_program names false cs)
+pub enclosed-taken : (names : DestinationNames) (c : Code) (cs : List Code) → takes c ≡ true → enclosed_plan names true (c ∷ cs) ≡ preceded (Consume ∷ []) (enclosed_plan names false cs)
 enclosed-taken names c cs h = ap (text_then (ending names)) (text-taken (is_value 62) takes refuses true c cs h) ∙ text-first (ending names) c (bracketed false cs)
 
-pub enclosed-bare : (names : DestinationNames) (c : Code) (cs : List Code) → takes c ≡ false → enclosed_program names true (c ∷ cs) ≡ enclosed_program names false (c ∷ cs)
+pub enclosed-bare : (names : DestinationNames) (c : Code) (cs : List Code) → takes c ≡ false → enclosed_plan names true (c ∷ cs) ≡ enclosed_plan names false (c ∷ cs)
 enclosed-bare names c cs h = ap (text_then (ending names)) (text-bare (is_value 62) takes refuses c cs h)
 
 -- From the opening bracket.
@@ -86,7 +86,7 @@ rest-by names c cs false (Some (t ∷ text1, d ∷ rest)) h e =
     ap tree_ops (bind-some _ _ cs (t ∷ text1) (d ∷ rest) _ e (bind-some _ _ (d ∷ rest) (d ∷ []) rest _ (one-here (is_value 62) d rest k) refl))
     ∙ ap (λ os. Some os) (literal-ops names c t d text1)
 
-literal-here : (names : DestinationNames) (c : Code) (cs : List Code) → is_value 60 c ≡ true → program_of (literal_destination names) (c ∷ cs) ≡ preceded (opening names) (before_program names cs)
+literal-here : (names : DestinationNames) (c : Code) (cs : List Code) → is_value 60 c ≡ true → plan_of (literal_destination names) (c ∷ cs) ≡ preceded (opening names) (before_plan names cs)
 unfolding literal_destination rest_of_literal literal_tree
 literal-here names c cs h =
     ap tree_ops (bind-some _ _ (c ∷ cs) (c ∷ []) cs _ (one-here (is_value 60) c cs h) refl) ∙ rest-by names c cs (next_is (is_value 62) cs) (bracketed false cs) refl refl
@@ -107,7 +107,7 @@ Gives-if : {A : Type 0} (p : Code → Bool) (x y : Reading A) (Q : A → List Co
 unfolding if_next
 Gives-if p x y Q g h cs z rest e = if-by (next_is p cs) x y cs Q g h z rest e
 
-pub destination-bracket : (max : ℕ) (names : DestinationNames) (c : Code) (cs : List Code) → is_value 60 c ≡ true → program_of (destination max names) (c ∷ cs) ≡ preceded (opening names) (before_program names cs)
+pub destination-bracket : (max : ℕ) (names : DestinationNames) (c : Code) (cs : List Code) → is_value 60 c ≡ true → plan_of (destination max names) (c ∷ cs) ≡ preceded (opening names) (before_plan names cs)
 unfolding destination
 destination-bracket max names c cs h = ap tree_ops (if-here (is_value 60) _ _ (c ∷ cs) h) ∙ literal-here names c cs h
 
@@ -184,19 +184,19 @@ raw-ops-by : (names : DestinationNames) (os : List Op) → (((os ++ Exit N.Data 
 raw-ops-by names [] = refl
 raw-ops-by names (o ∷ os) = ap (λ xs. o ∷ xs) (raw-ops-by names os)
 
-raw-by : (max : ℕ) (names : DestinationNames) (c : Code) (cs : List Code) (o : Option (List Code × List Code)) → raw_from max false 0 (c ∷ cs) ≡ with_first c o → program_of (raw_destination max names) (c ∷ cs) ≡ preceded (raw_opening names) (text_then (raw_ending names) (with_first c o))
+raw-by : (max : ℕ) (names : DestinationNames) (c : Code) (cs : List Code) (o : Option (List Code × List Code)) → raw_from max false 0 (c ∷ cs) ≡ with_first c o → plan_of (raw_destination max names) (c ∷ cs) ≡ preceded (raw_opening names) (text_then (raw_ending names) (with_first c o))
 unfolding raw_destination gives raw_tree
 raw-by max names c cs None e = ap tree_ops (bind-none _ _ (c ∷ cs) e)
 raw-by max names c cs (Some r) e =
     ap tree_ops (bind-some _ _ (c ∷ cs) (c ∷ r.0) r.1 _ e (after-some _ _ r.1 [] r.1 _ (provided-true true r.1 refl) refl))
     ∙ ap (λ os. Some (raw_opening names ++ Consume ∷ os)) (raw-ops-by names (consumes r.0))
 
-raw-here : (max : ℕ) (names : DestinationNames) (c : Code) (cs : List Code) → stops max 0 c ≡ false → is_control c ≡ false → is_value 41 c ≡ false → program_of (raw_destination max names) (c ∷ cs) ≡ preceded (raw_opening names) (raw_program names max false 0 (c ∷ cs))
+raw-here : (max : ℕ) (names : DestinationNames) (c : Code) (cs : List Code) → stops max 0 c ≡ false → is_control c ≡ false → is_value 41 c ≡ false → plan_of (raw_destination max names) (c ∷ cs) ≡ preceded (raw_opening names) (raw_plan names max false 0 (c ∷ cs))
 raw-here max names c cs e h l =
     let f = raw-first-by max c cs (is_value 40 c) (nat_lt 0 max) true e h l refl refl in
     raw-by max names c cs f.0 f.1 ∙ ap (λ o. preceded (raw_opening names) (text_then (raw_ending names) o)) (sym f.1)
 
-pub destination-raw : (max : ℕ) (names : DestinationNames) (c : Code) (cs : List Code) → is_value 60 c ≡ false → stops max 0 c ≡ false → is_control c ≡ false → is_value 41 c ≡ false → program_of (destination max names) (c ∷ cs) ≡ preceded (raw_opening names) (raw_program names max false 0 (c ∷ cs))
+pub destination-raw : (max : ℕ) (names : DestinationNames) (c : Code) (cs : List Code) → is_value 60 c ≡ false → stops max 0 c ≡ false → is_control c ≡ false → is_value 41 c ≡ false → plan_of (destination max names) (c ∷ cs) ≡ preceded (raw_opening names) (raw_plan names max false 0 (c ∷ cs))
 unfolding destination
 destination-raw max names c cs k e h l = ap tree_ops (if-other (is_value 60) _ _ (c ∷ cs) k) ∙ raw-here max names c cs e h l
 
@@ -210,15 +210,15 @@ raw-none : (max : ℕ) (names : DestinationNames) (cs : List Code) → raw_from 
 unfolding raw_destination
 raw-none max names cs e = bind-none _ _ cs e
 
-pub destination-end : (max : ℕ) (names : DestinationNames) → program_of (destination max names) [] ≡ None
+pub destination-end : (max : ℕ) (names : DestinationNames) → plan_of (destination max names) [] ≡ None
 unfolding destination
 destination-end max names = ap tree_ops (if-other (is_value 60) _ _ [] refl ∙ raw-nothing max names [] [] (raw-end max false 0 refl))
 
-pub destination-stops : (max : ℕ) (names : DestinationNames) (c : Code) (cs : List Code) → is_value 60 c ≡ false → stops max 0 c ≡ true → program_of (destination max names) (c ∷ cs) ≡ None
+pub destination-stops : (max : ℕ) (names : DestinationNames) (c : Code) (cs : List Code) → is_value 60 c ≡ false → stops max 0 c ≡ true → plan_of (destination max names) (c ∷ cs) ≡ None
 unfolding destination
 destination-stops max names c cs k e = ap tree_ops (if-other (is_value 60) _ _ (c ∷ cs) k ∙ raw-nothing max names (c ∷ cs) (c ∷ cs) (raw-stop max 0 c cs e refl))
 
-pub destination-control : (max : ℕ) (names : DestinationNames) (c : Code) (cs : List Code) → is_value 60 c ≡ false → stops max 0 c ≡ false → is_control c ≡ true → program_of (destination max names) (c ∷ cs) ≡ None
+pub destination-control : (max : ℕ) (names : DestinationNames) (c : Code) (cs : List Code) → is_value 60 c ≡ false → stops max 0 c ≡ false → is_control c ≡ true → plan_of (destination max names) (c ∷ cs) ≡ None
 unfolding destination
 destination-control max names c cs k e h = ap tree_ops (if-other (is_value 60) _ _ (c ∷ cs) k ∙ raw-none max names (c ∷ cs) (raw-control max 0 c cs e h))
 

@@ -3,7 +3,7 @@ use Rattle.std.proofs.Common.{◌≡◌, ◌==◌, ◌&&◌, Bool, true, false, 
 use Rattle.markdown_engine.specs.Codes.{Code}
 use Rattle.markdown_model.specs.CodeTests.{next_is}
 use Rattle.markdown_model.specs.Grammar.{with_first, escaped_from}
-use Rattle.markdown_leaf.proofs.WholeReadings.{Gives}
+use Rattle.markdown_construct.proofs.WholeReadings.{Gives}
 
 -- a reading that gives a first code gives the others
 pub record Behind (c : Code) (o : Option (List Code × List Code)) (r : List Code × List Code) : Type 0 where

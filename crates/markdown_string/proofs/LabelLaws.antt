@@ -18,18 +18,18 @@ use Rattle.markdown_engine.proofs.Laws.{Goes-plain, Follows, if-step, code-step}
 use Rattle.markdown_engine.proofs.OpRules.{ahead-none, ahead-some, Begins, attempts-scratched, some-codes}
 use Rattle.markdown_model.specs.CodeTests.{is_value, is_among}
 use Rattle.markdown_model.specs.Resource.{StringNames, label}
-use Rattle.markdown_leaf.specs.Program.{Program, preceded, DoesAs, KeepsAs}
-use Rattle.markdown_leaf.specs.RawText.{with_size}
-use Rattle.markdown_leaf.proofs.ProgramLemmas.{GoesOn-map, Goes-on, Goes-kept, Goes-ok, Goes-no, done-scratched, no-codes}
+use Rattle.markdown_construct.specs.Plan.{Plan, preceded, DoesAs, KeepsAs}
+use Rattle.markdown_construct.specs.Scratch.{with_size}
+use Rattle.markdown_construct.proofs.PlanLemmas.{preceded-nil, GoesOn-map, Goes-on, Goes-kept, Goes-ok, Goes-no, done-scratched, no-codes}
 use Rattle.markdown_partial.specs.EolSteps.{WhitespaceAtRest}
-use Rattle.markdown_string.specs.LinkedOps.{program_of}
+use Rattle.markdown_string.specs.LinkedOps.{plan_of}
 use Rattle.markdown_string.specs.Text.{ending, names_in, joined, enter_text, text_entered, TextReady, break_ops, inside_ops}
-use Rattle.markdown_string.specs.Label.{rested, sized, opening, start_at, start_step, closed, refused, next_state, passing, is_short, at_break_at, at_break_step, eol_after_step, nok_step, leaving, inside_at, inside_step, escapes, escape_at, escape_step, StartReady, BreakReady, EolAfterReady, InsideReady, EscapeReady, start_ends, text_from, fits, inside_program, break_program, at_break_ends, eol_after_ends, nok_ends, inside_ends, escape_ends}
+use Rattle.markdown_string.specs.Label.{rested, sized, opening, start_at, start_step, closed, refused, next_state, passing, is_short, at_break_at, at_break_step, eol_after_step, nok_step, leaving, inside_at, inside_step, escapes, escape_at, escape_step, StartReady, BreakReady, EolAfterReady, InsideReady, EscapeReady, start_ends, text_from, fits, inside_plan, break_plan, at_break_ends, eol_after_ends, nok_ends, inside_ends, escape_ends}
 use Rattle.markdown_string.proofs.LinkedLemmas.{EndsAs-linked}
 use Rattle.markdown_string.proofs.LabelReadings.{label-plain, fits-data, fits-ending, fits-none, fits-long, fits-seen, fits-unseen, label-here, label-none, label-covers}
 use Rattle.markdown_string.proofs.TextEnding.{EolWithin, Passed, DoesAs-ending, ending-law}
 use Rattle.markdown_string.proofs.TextReadings.{answer-none, breaks-end, breaks-stop, breaks-unfit, breaks-refused, breaks-data, breaks-ending, breaks-blank, insides-end, insides-next, insides-taken, insides-bare, leave-end, leave-stop, leave-refused, leave-ending}
-use Rattle.markdown_string.proofs.TextRuns.{open-append, open-closed, open-rest, text-after, text-same, text-kept, rest-joined, DoesAs-fails, state-by, stays-data, moves-data, depth-data, none-before}
+use Rattle.markdown_string.proofs.TextRuns.{open-append, open-closed, open-rest, text-after, text-same, text-kept, rest-joined, DoesAs-fails, state-by, stays-data, moves-data, depth-data}
 use Rattle.markdown_string.proofs.BoolLemmas.{or-left, or-right, or-by, or-true, not-true, not-false}
 use Rattle.markdown_model.proofs.ReadingSteps.{and-left, and-right}
 
@@ -148,14 +148,14 @@ abbrev takes : Code → Bool
 takes c = is_among (codes "[\\]") c
 
 -- a label with too many codes does not hold
-long-breaks : (names : StringNames) (size : ℕ) (seen connect : Bool) (cs : List Code) → nat_le size 999 ≡ false → break_program names size seen connect cs ≡ None
+long-breaks : (names : StringNames) (size : ℕ) (seen connect : Bool) (cs : List Code) → nat_le size 999 ≡ false → break_plan names size seen connect cs ≡ None
 long-breaks names size seen connect cs h = answer-none (fits size seen) (break_ops connect) (ending names) [] (text_from false cs) (λ r x. fits-long size seen r.0 h)
 
-long-insides : (names : StringNames) (size : ℕ) (seen slash : Bool) (cs : List Code) → nat_le size 999 ≡ false → inside_program names size seen slash cs ≡ None
+long-insides : (names : StringNames) (size : ℕ) (seen slash : Bool) (cs : List Code) → nat_le size 999 ≡ false → inside_plan names size seen slash cs ≡ None
 long-insides names size seen slash cs h = answer-none (fits size seen) inside_ops (ending names) [] (text_from slash cs) (λ r x. fits-long size seen r.0 h)
 
 -- data ends where a break is
-leaves-here : (names : StringNames) (size : ℕ) (seen : Bool) (c : Code) (cs : List Code) → (is_line_ending c || (is_value 91 c || is_value 93 c)) ≡ true → inside_program names size seen false (c ∷ cs) ≡ preceded (Exit N.Data ∷ []) (break_program names size seen true (c ∷ cs))
+leaves-here : (names : StringNames) (size : ℕ) (seen : Bool) (c : Code) (cs : List Code) → (is_line_ending c || (is_value 91 c || is_value 93 c)) ≡ true → inside_plan names size seen false (c ∷ cs) ≡ preceded (Exit N.Data ∷ []) (break_plan names size seen true (c ∷ cs))
 leaves-here names size seen c cs h =
     or-by (is_line_ending c) (is_value 91 c || is_value 93 c) h
     (λ g. leave-ending (is_value 93) takes (is_value 91) label-plain (ending names) (fits size seen) c cs g)
@@ -163,7 +163,7 @@ leaves-here names size seen c cs h =
     (λ f. leave-refused (is_value 93) takes (is_value 91) label-plain (ending names) (fits size seen) c cs (ap (λ v. v == 93) (eqb-true c.value 91 f)) f)
     (λ f. leave-stop (is_value 93) takes (is_value 91) label-plain (ending names) (fits size seen) c cs f))
 
-leaves-long : (names : StringNames) (size : ℕ) (seen : Bool) (cs : List Code) → nat_le size 999 ≡ false → inside_program names size seen false cs ≡ preceded (Exit N.Data ∷ []) (break_program names size seen true cs)
+leaves-long : (names : StringNames) (size : ℕ) (seen : Bool) (cs : List Code) → nat_le size 999 ≡ false → inside_plan names size seen false cs ≡ preceded (Exit N.Data ∷ []) (break_plan names size seen true cs)
 leaves-long names size seen cs h = long-insides names size seen false cs h ∙ ap (preceded (Exit N.Data ∷ [])) (sym (long-breaks names size seen true cs h))
 
 taken-line : (c : Code) → takes c ≡ true → is_line_ending c ≡ false
@@ -177,36 +177,36 @@ module _ (ready : StateName → Tokenizer → Type 0) (ends : StateName → Toke
   nok-law T alone =
       Goes-plain ready ends weight (weight_at 1 T) (nok_ends T) Nok (scratched (rested T.tokenize_state) T) (attempts-scratched _ T ∙ alone) tt (omega arith) (λ ok U k. k)
 
-  eol-says : (T : Tokenizer) (ok : Bool) (U : Tokenizer) → at_break_ends (scratched (joined T.tokenize_state) T) ok U → DoesAs 2 (break_program (names_in T.tokenize_state) T.tokenize_state.size T.tokenize_state.seen true) (rested T.tokenize_state) (scratched (joined T.tokenize_state) T) ok U
+  eol-says : (T : Tokenizer) (ok : Bool) (U : Tokenizer) → at_break_ends (scratched (joined T.tokenize_state) T) ok U → DoesAs 2 (break_plan (names_in T.tokenize_state) T.tokenize_state.size T.tokenize_state.seen true) (rested T.tokenize_state) (scratched (joined T.tokenize_state) T) ok U
   unfolding scratched
   eol-says T ok U k = k
 
   pub eol_after-law : (T : Tokenizer) → T.attempts ≡ [] → EolAfterReady T → GoesOn ready ends weight (weight_at 10 T) (eol_after_ends T) (eol_after_step T)
   eol_after-law T alone k =
       let s : TokenizeState = T.tokenize_state in
-      let q : Program = break_program (names_in s) s.size s.seen true in
+      let q : Plan = break_plan (names_in s) s.size s.seen true in
       Goes-on ready ends weight 10 9 2 q q [] (rested s) (joined s) T (Retry LabelAtBreak) alone refl (no-codes T) (omega arith)
-      (none-before (q (ahead T)))
+      (preceded-nil (q (ahead T)))
       (within.at_break_ready _ (joined-ready T k))
       (within.at_break_weight _)
       (λ ok U x. eol-says T ok U (within.at_break_end _ ok U x))
 
   -- In a stretch.
 
-  sized-inside : (c : ℕ) (T : Tokenizer) (ok : Bool) (U : Tokenizer) → inside_ends (scratched (sized c T.tokenize_state) (done (Consume ∷ []) T)) ok U → DoesAs 3 (inside_program (names_in T.tokenize_state) (T.tokenize_state.size + 1) (sized c T.tokenize_state).seen false) (rested T.tokenize_state) (scratched (sized c T.tokenize_state) (done (Consume ∷ []) T)) ok U
+  sized-inside : (c : ℕ) (T : Tokenizer) (ok : Bool) (U : Tokenizer) → inside_ends (scratched (sized c T.tokenize_state) (done (Consume ∷ []) T)) ok U → DoesAs 3 (inside_plan (names_in T.tokenize_state) (T.tokenize_state.size + 1) (sized c T.tokenize_state).seen false) (rested T.tokenize_state) (scratched (sized c T.tokenize_state) (done (Consume ∷ []) T)) ok U
   unfolding scratched
   sized-inside c T ok U k = k
 
-  sized-escape : (c : ℕ) (T : Tokenizer) (ok : Bool) (U : Tokenizer) → escape_ends (scratched (sized c T.tokenize_state) (done (Consume ∷ []) T)) ok U → DoesAs 3 (inside_program (names_in T.tokenize_state) (T.tokenize_state.size + 1) (sized c T.tokenize_state).seen true) (rested T.tokenize_state) (scratched (sized c T.tokenize_state) (done (Consume ∷ []) T)) ok U
+  sized-escape : (c : ℕ) (T : Tokenizer) (ok : Bool) (U : Tokenizer) → escape_ends (scratched (sized c T.tokenize_state) (done (Consume ∷ []) T)) ok U → DoesAs 3 (inside_plan (names_in T.tokenize_state) (T.tokenize_state.size + 1) (sized c T.tokenize_state).seen true) (rested T.tokenize_state) (scratched (sized c T.tokenize_state) (done (Consume ∷ []) T)) ok U
   unfolding scratched
   sized-escape c T ok U k = k
 
   -- on past a code that passes
-  goes-inside : (T : Tokenizer) → T.attempts ≡ [] → InsideReady T → T.tokenize_state.size + 1 ≤ 1000 → (c : ℕ) → current_of T ≡ Some c → inside_program (names_in T.tokenize_state) T.tokenize_state.size T.tokenize_state.seen false (ahead T) ≡ preceded (Consume ∷ []) (inside_program (names_in T.tokenize_state) (T.tokenize_state.size + 1) (sized c T.tokenize_state).seen (c == 92) (drop 1 (ahead T))) → GoesOn ready ends weight (weight_at 10 T) (inside_ends T) (passing c T)
+  goes-inside : (T : Tokenizer) → T.attempts ≡ [] → InsideReady T → T.tokenize_state.size + 1 ≤ 1000 → (c : ℕ) → current_of T ≡ Some c → inside_plan (names_in T.tokenize_state) T.tokenize_state.size T.tokenize_state.seen false (ahead T) ≡ preceded (Consume ∷ []) (inside_plan (names_in T.tokenize_state) (T.tokenize_state.size + 1) (sized c T.tokenize_state).seen (c == 92) (drop 1 (ahead T))) → GoesOn ready ends weight (weight_at 10 T) (inside_ends T) (passing c T)
   goes-inside T alone k small c h same =
       let s : TokenizeState = T.tokenize_state in
-      let p : Program = inside_program (names_in s) s.size s.seen false in
-      let q : Bool → Program = inside_program (names_in s) (s.size + 1) (sized c s).seen in
+      let p : Plan = inside_plan (names_in s) s.size s.seen false in
+      let q : Bool → Plan = inside_plan (names_in s) (s.size + 1) (sized c s).seen in
       let V : Tokenizer = scratched (sized c s) (done (Consume ∷ []) T) in
       let more : 1 ≤ length (ahead T) = some-codes T c h in
       state-by (λ st. GoesOn ready ends weight (weight_at 10 T) (inside_ends T) (stepped st V)) (c == 92) (Next LabelEscape) (Next LabelInside)
@@ -221,13 +221,13 @@ module _ (ready : StateName → Tokenizer → Type 0) (ends : StateName → Toke
       (within.inside_weight _)
       (λ ok U x. sized-inside c T ok U (within.inside_end _ ok U x)))
 
-  goes-leave : (T : Tokenizer) → T.attempts ≡ [] → InsideReady T → inside_program (names_in T.tokenize_state) T.tokenize_state.size T.tokenize_state.seen false (ahead T) ≡ preceded (Exit N.Data ∷ []) (break_program (names_in T.tokenize_state) T.tokenize_state.size T.tokenize_state.seen true (ahead T)) → GoesOn ready ends weight (weight_at 10 T) (inside_ends T) (leaving T)
+  goes-leave : (T : Tokenizer) → T.attempts ≡ [] → InsideReady T → inside_plan (names_in T.tokenize_state) T.tokenize_state.size T.tokenize_state.seen false (ahead T) ≡ preceded (Exit N.Data ∷ []) (break_plan (names_in T.tokenize_state) T.tokenize_state.size T.tokenize_state.seen true (ahead T)) → GoesOn ready ends weight (weight_at 10 T) (inside_ends T) (leaving T)
   unfolding applied
   goes-leave T alone k same =
       let s : TokenizeState = T.tokenize_state in
-      let q : Program = break_program (names_in s) s.size s.seen s.connect in
-      Goes-kept ready ends weight 10 9 3 (inside_program (names_in s) s.size s.seen false) q (Exit N.Data ∷ []) (rested s) T (Retry LabelAtBreak) alone refl (no-codes T) (omega arith)
-      (same ∙ ap (λ b. preceded (Exit N.Data ∷ []) (break_program (names_in s) s.size s.seen b (ahead T))) (sym k.connect))
+      let q : Plan = break_plan (names_in s) s.size s.seen s.connect in
+      Goes-kept ready ends weight 10 9 3 (inside_plan (names_in s) s.size s.seen false) q (Exit N.Data ∷ []) (rested s) T (Retry LabelAtBreak) alone refl (no-codes T) (omega arith)
+      (same ∙ ap (λ b. preceded (Exit N.Data ∷ []) (break_plan (names_in s) s.size s.seen b (ahead T))) (sym k.connect))
       (within.at_break_ready _ (left-ready T k))
       (within.at_break_weight _)
       (λ ok U x. within.at_break_end _ ok U x)
@@ -236,9 +236,9 @@ module _ (ready : StateName → Tokenizer → Type 0) (ends : StateName → Toke
   inside-law T alone k =
       let s : TokenizeState = T.tokenize_state in
       let names : StringNames = names_in s in
-      let p : Program = inside_program names s.size s.seen false in
+      let p : Plan = inside_plan names s.size s.seen false in
       let P : Stepped → Type 0 = GoesOn ready ends weight (weight_at 10 T) (inside_ends T) in
-      let here : List Code → Type 0 = λ xs. p xs ≡ preceded (Exit N.Data ∷ []) (break_program names s.size s.seen true xs) in
+      let here : List Code → Type 0 = λ xs. p xs ≡ preceded (Exit N.Data ∷ []) (break_plan names s.size s.seen true xs) in
       code-step P (current_of T) (λ o. inside_at o T)
       (λ e. goes-leave T alone k (subst here (sym (ahead-none T e)) (leave-end (is_value 93) takes (is_value 91) label-plain (ending names) (fits s.size s.seen))))
       (λ c e.
@@ -251,22 +251,22 @@ module _ (ready : StateName → Tokenizer → Type 0) (ends : StateName → Toke
       goes-inside T alone k (below s.size (and-right _ _ h)) c e
       (ap p b.whole
       ∙ insides-next (is_value 93) takes (is_value 91) label-plain (ending names) (fits s.size s.seen) (fits (s.size + 1) (s.seen || not (is_blank b.code))) (c == 92) b.code cs (ap (λ v. v == 93) b.value ∙ or-right _ _ (or-right _ _ goes)) (ap (λ v. v == 91) b.value ∙ or-left _ _ (or-right _ _ goes)) line (ap (λ v. v == 92) b.value) (λ text. fits-data s.size s.seen b.code text line)
-      ∙ ap (λ v. preceded (Consume ∷ []) (inside_program names (s.size + 1) (s.seen || not (v == 32 || v == 9)) (c == 92) cs)) b.value))
+      ∙ ap (λ v. preceded (Consume ∷ []) (inside_plan names (s.size + 1) (s.seen || not (v == 32 || v == 9)) (c == 92) cs)) b.value))
       (λ h. and-by (not (c == 10 || (c == 91 || c == 93))) (is_short T) h
       (λ g. goes-leave T alone k (subst here (sym b.whole) (leaves-here names s.size s.seen b.code cs (ap (λ v. v == 10 || (v == 91 || v == 93)) b.value ∙ not-false _ g))))
       (λ g. goes-leave T alone k (leaves-long names s.size s.seen (ahead T) g))))
 
-  escape-goes : (T : Tokenizer) → T.attempts ≡ [] → EscapeReady T → inside_program (names_in T.tokenize_state) T.tokenize_state.size T.tokenize_state.seen true (ahead T) ≡ inside_program (names_in T.tokenize_state) T.tokenize_state.size T.tokenize_state.seen false (ahead T) → GoesOn ready ends weight (weight_at 11 T) (escape_ends T) (stepped (Retry LabelInside) T)
+  escape-goes : (T : Tokenizer) → T.attempts ≡ [] → EscapeReady T → inside_plan (names_in T.tokenize_state) T.tokenize_state.size T.tokenize_state.seen true (ahead T) ≡ inside_plan (names_in T.tokenize_state) T.tokenize_state.size T.tokenize_state.seen false (ahead T) → GoesOn ready ends weight (weight_at 11 T) (escape_ends T) (stepped (Retry LabelInside) T)
   escape-goes T alone k same =
       let s : TokenizeState = T.tokenize_state in
-      let q : Bool → Program = inside_program (names_in s) s.size s.seen in
+      let q : Bool → Plan = inside_plan (names_in s) s.size s.seen in
       Goes-kept ready ends weight 11 10 3 (q true) (q false) [] (rested s) T (Retry LabelInside) alone refl (no-codes T) (omega arith)
-      (same ∙ none-before (q false (ahead T)))
+      (same ∙ preceded-nil (q false (ahead T)))
       (within.inside_ready _ k.inside)
       (within.inside_weight _)
       (λ ok U x. within.inside_end _ ok U x)
 
-  taken-says : (T : Tokenizer) (ok : Bool) (U : Tokenizer) → inside_ends (scratched (with_size (T.tokenize_state.size + 1) T.tokenize_state) (done (Consume ∷ []) T)) ok U → DoesAs 3 (inside_program (names_in T.tokenize_state) (T.tokenize_state.size + 1) T.tokenize_state.seen false) (rested T.tokenize_state) (scratched (with_size (T.tokenize_state.size + 1) T.tokenize_state) (done (Consume ∷ []) T)) ok U
+  taken-says : (T : Tokenizer) (ok : Bool) (U : Tokenizer) → inside_ends (scratched (with_size (T.tokenize_state.size + 1) T.tokenize_state) (done (Consume ∷ []) T)) ok U → DoesAs 3 (inside_plan (names_in T.tokenize_state) (T.tokenize_state.size + 1) T.tokenize_state.seen false) (rested T.tokenize_state) (scratched (with_size (T.tokenize_state.size + 1) T.tokenize_state) (done (Consume ∷ []) T)) ok U
   unfolding scratched
   taken-says T ok U k = k
 
@@ -274,10 +274,10 @@ module _ (ready : StateName → Tokenizer → Type 0) (ends : StateName → Toke
   escape-law T alone k =
       let s : TokenizeState = T.tokenize_state in
       let names : StringNames = names_in s in
-      let p : Program = inside_program names s.size s.seen true in
-      let q : Program = inside_program names (s.size + 1) s.seen false in
+      let p : Plan = inside_plan names s.size s.seen true in
+      let q : Plan = inside_plan names (s.size + 1) s.seen false in
       let P : Stepped → Type 0 = GoesOn ready ends weight (weight_at 11 T) (escape_ends T) in
-      let same : List Code → Type 0 = λ xs. p xs ≡ inside_program names s.size s.seen false xs in
+      let same : List Code → Type 0 = λ xs. p xs ≡ inside_plan names s.size s.seen false xs in
       code-step P (current_of T) (λ o. escape_at o T)
       (λ e. escape-goes T alone k (subst same (sym (ahead-none T e)) (insides-end (is_value 93) takes (is_value 91) label-plain (ending names) (fits s.size s.seen) true ∙ sym (insides-end (is_value 93) takes (is_value 91) label-plain (ending names) (fits s.size s.seen) false))))
       (λ c e.
@@ -297,22 +297,22 @@ module _ (ready : StateName → Tokenizer → Type 0) (ends : StateName → Toke
 
   -- Between two stretches.
 
-  nok-goes : (T : Tokenizer) → break_program (names_in T.tokenize_state) T.tokenize_state.size T.tokenize_state.seen T.tokenize_state.connect (ahead T) ≡ None → Follows ready ends weight (weight_at 9 T) (at_break_ends T) (Next LabelNok) T
+  nok-goes : (T : Tokenizer) → break_plan (names_in T.tokenize_state) T.tokenize_state.size T.tokenize_state.seen T.tokenize_state.connect (ahead T) ≡ None → Follows ready ends weight (weight_at 9 T) (at_break_ends T) (Next LabelNok) T
   nok-goes T e =
       record {
         goes_on = within.nok_ready T;
         falls = rw within.nok_weight (omega arith);
-        closed = λ ok U x. DoesAs-fails 2 (break_program (names_in T.tokenize_state) T.tokenize_state.size T.tokenize_state.seen T.tokenize_state.connect) (rested T.tokenize_state) T e ok U (within.nok_end T ok U x);
+        closed = λ ok U x. DoesAs-fails 2 (break_plan (names_in T.tokenize_state) T.tokenize_state.size T.tokenize_state.seen T.tokenize_state.connect) (rested T.tokenize_state) T e ok U (within.nok_end T ok U x);
       }
 
-  refuses-here : (T : Tokenizer) → T.attempts ≡ [] → break_program (names_in T.tokenize_state) T.tokenize_state.size T.tokenize_state.seen T.tokenize_state.connect (ahead T) ≡ None → GoesOn ready ends weight (weight_at 9 T) (at_break_ends T) (refused T)
+  refuses-here : (T : Tokenizer) → T.attempts ≡ [] → break_plan (names_in T.tokenize_state) T.tokenize_state.size T.tokenize_state.seen T.tokenize_state.connect (ahead T) ≡ None → GoesOn ready ends weight (weight_at 9 T) (at_break_ends T) (refused T)
   refuses-here T alone e = let f = nok-goes T e in Goes-plain ready ends weight (weight_at 9 T) (at_break_ends T) (Retry LabelNok) T alone f.goes_on f.falls f.closed
 
-  inside-says : (b : Bool) (c : ℕ) (T : Tokenizer) (ok : Bool) (U : Tokenizer) → inside_ends (scratched (sized c (joined T.tokenize_state)) (done (enter_text b ∷ Consume ∷ []) T)) ok U → DoesAs 3 (inside_program (names_in T.tokenize_state) (T.tokenize_state.size + 1) (sized c T.tokenize_state).seen false) (rested T.tokenize_state) (scratched (sized c (joined T.tokenize_state)) (done (enter_text b ∷ Consume ∷ []) T)) ok U
+  inside-says : (b : Bool) (c : ℕ) (T : Tokenizer) (ok : Bool) (U : Tokenizer) → inside_ends (scratched (sized c (joined T.tokenize_state)) (done (enter_text b ∷ Consume ∷ []) T)) ok U → DoesAs 3 (inside_plan (names_in T.tokenize_state) (T.tokenize_state.size + 1) (sized c T.tokenize_state).seen false) (rested T.tokenize_state) (scratched (sized c (joined T.tokenize_state)) (done (enter_text b ∷ Consume ∷ []) T)) ok U
   unfolding scratched
   inside-says b c T ok U k = k
 
-  escape-says : (b : Bool) (c : ℕ) (T : Tokenizer) (ok : Bool) (U : Tokenizer) → escape_ends (scratched (sized c (joined T.tokenize_state)) (done (enter_text b ∷ Consume ∷ []) T)) ok U → DoesAs 3 (inside_program (names_in T.tokenize_state) (T.tokenize_state.size + 1) (sized c T.tokenize_state).seen true) (rested T.tokenize_state) (scratched (sized c (joined T.tokenize_state)) (done (enter_text b ∷ Consume ∷ []) T)) ok U
+  escape-says : (b : Bool) (c : ℕ) (T : Tokenizer) (ok : Bool) (U : Tokenizer) → escape_ends (scratched (sized c (joined T.tokenize_state)) (done (enter_text b ∷ Consume ∷ []) T)) ok U → DoesAs 3 (inside_plan (names_in T.tokenize_state) (T.tokenize_state.size + 1) (sized c T.tokenize_state).seen true) (rested T.tokenize_state) (scratched (sized c (joined T.tokenize_state)) (done (enter_text b ∷ Consume ∷ []) T)) ok U
   unfolding scratched
   escape-says b c T ok U k = k
 
@@ -322,13 +322,13 @@ module _ (ready : StateName → Tokenizer → Type 0) (ends : StateName → Toke
       ap (λ (x : Tokenizer). scratched (sized c (joined T.tokenize_state)) x) (sym (done-scratched (Consume ∷ []) (joined T.tokenize_state) (done (enter_text T.tokenize_state.connect ∷ []) T)))
 
   -- data begins
-  data-goes : (T : Tokenizer) → T.attempts ≡ [] → BreakReady T → T.tokenize_state.size + 1 ≤ 1000 → (c : ℕ) → current_of T ≡ Some c → break_program (names_in T.tokenize_state) T.tokenize_state.size T.tokenize_state.seen T.tokenize_state.connect (ahead T) ≡ preceded (enter_text T.tokenize_state.connect ∷ Consume ∷ []) (inside_program (names_in T.tokenize_state) (T.tokenize_state.size + 1) (sized c T.tokenize_state).seen (c == 92) (drop 1 (ahead T))) → GoesOn ready ends weight (weight_at 9 T) (at_break_ends T) (passing c (text_entered T))
+  data-goes : (T : Tokenizer) → T.attempts ≡ [] → BreakReady T → T.tokenize_state.size + 1 ≤ 1000 → (c : ℕ) → current_of T ≡ Some c → break_plan (names_in T.tokenize_state) T.tokenize_state.size T.tokenize_state.seen T.tokenize_state.connect (ahead T) ≡ preceded (enter_text T.tokenize_state.connect ∷ Consume ∷ []) (inside_plan (names_in T.tokenize_state) (T.tokenize_state.size + 1) (sized c T.tokenize_state).seen (c == 92) (drop 1 (ahead T))) → GoesOn ready ends weight (weight_at 9 T) (at_break_ends T) (passing c (text_entered T))
   data-goes T alone k small c e same =
       let s : TokenizeState = T.tokenize_state in
       let connect : Bool = s.connect in
       let os : List Op = enter_text connect ∷ Consume ∷ [] in
-      let p : Program = break_program (names_in s) s.size s.seen connect in
-      let q : Bool → Program = inside_program (names_in s) (s.size + 1) (sized c s).seen in
+      let p : Plan = break_plan (names_in s) s.size s.seen connect in
+      let q : Bool → Plan = inside_plan (names_in s) (s.size + 1) (sized c s).seen in
       let more : 1 ≤ length (ahead T) = some-codes T c e in
       let r : TokenizeState = sized c (joined s) in
       let V : Tokenizer = scratched r (done os T) in
@@ -350,26 +350,26 @@ module _ (ready : StateName → Tokenizer → Type 0) (ends : StateName → Toke
   eol-goes T k c cs whole line U j =
       let s : TokenizeState = T.tokenize_state in
       let names : StringNames = names_in s in
-      let p : Program = break_program names s.size s.seen s.connect in
-      let q : Program = break_program names s.size s.seen true in
+      let p : Plan = break_plan names s.size s.seen s.connect in
+      let q : Plan = break_plan names s.size s.seen true in
       let reads : p (ahead T) ≡ _ =
       ap p whole ∙ breaks-ending (is_value 93) takes (is_value 91) label-plain (ending names) (fits s.size s.seen) s.connect c cs line j.filled (λ ws text w b. fits-ending s.size s.seen c ws text line w b) in
       record {
         goes_on = within.eol_after_ready U (eol-ready c cs T U k j);
         falls = rw within.eol_after_weight (omega (arith, j.fewer));
-        closed = λ ok V x. DoesAs-ending p q s.connect c cs (rested s) T U j reads ok V (subst (λ (r : TokenizeState). DoesAs 2 (break_program (names_in r) r.size r.seen true) (rested r) U ok V) j.scratch (within.eol_after_end U ok V x));
+        closed = λ ok V x. DoesAs-ending p q s.connect c cs (rested s) T U j reads ok V (subst (λ (r : TokenizeState). DoesAs 2 (break_plan (names_in r) r.size r.seen true) (rested r) U ok V) j.scratch (within.eol_after_end U ok V x));
       }
 
   -- at the closing bracket
   closes-by : (seen : Bool) (T : Tokenizer) → T.attempts ≡ [] → T.tokenize_state.seen ≡ seen → nat_le T.tokenize_state.size 999 ≡ true → (c : Code) (cs : List Code) → ahead T ≡ c ∷ cs → is_value 93 c ≡ true → GoesOn ready ends weight (weight_at 9 T) (at_break_ends T) (if seen then closed T else refused T)
   closes-by true T alone e short c cs whole h =
       let s : TokenizeState = T.tokenize_state in
-      let p : Program = break_program (names_in s) s.size s.seen s.connect in
+      let p : Plan = break_plan (names_in s) s.size s.seen s.connect in
       Goes-ok ready ends weight 9 2 p (ending (names_in s)) (rested s) T alone
       (ap p whole ∙ breaks-stop (is_value 93) takes (is_value 91) label-plain (ending (names_in s)) (fits s.size s.seen) s.connect c cs h (ap (λ x. fits s.size x []) e ∙ fits-seen s.size short))
   closes-by false T alone e short c cs whole h =
       let s : TokenizeState = T.tokenize_state in
-      refuses-here T alone (ap (break_program (names_in s) s.size s.seen s.connect) whole
+      refuses-here T alone (ap (break_plan (names_in s) s.size s.seen s.connect) whole
       ∙ breaks-unfit (is_value 93) takes (is_value 91) label-plain (ending (names_in s)) (fits s.size s.seen) s.connect c cs h (ap (λ x. fits s.size x []) e ∙ fits-unseen s.size))
 
   pub at_break-law : (T : Tokenizer) → T.attempts ≡ [] → BreakReady T → GoesOn ready ends weight (weight_at 9 T) (at_break_ends T) (at_break_step T)
@@ -377,7 +377,7 @@ module _ (ready : StateName → Tokenizer → Type 0) (ends : StateName → Toke
       let s : TokenizeState = T.tokenize_state in
       let names : StringNames = names_in s in
       let connect : Bool = s.connect in
-      let p : Program = break_program names s.size s.seen connect in
+      let p : Plan = break_plan names s.size s.seen connect in
       let P : Stepped → Type 0 = GoesOn ready ends weight (weight_at 9 T) (at_break_ends T) in
       code-step P (current_of T) (λ o. at_break_at o T)
       (λ e. refuses-here T alone (ap p (ahead-none T e) ∙ breaks-end (is_value 93) takes (is_value 91) label-plain (ending names) (fits s.size s.seen) connect))
@@ -402,7 +402,7 @@ module _ (ready : StateName → Tokenizer → Type 0) (ends : StateName → Toke
       data-goes T alone k (below s.size short) c e
       (ap p b.whole
       ∙ breaks-data (is_value 93) takes (is_value 91) label-plain (ending names) (fits s.size s.seen) (fits (s.size + 1) (s.seen || not (is_blank b.code))) connect (c == 92) b.code cs (ap (λ v. v == 93) b.value ∙ g) bare line (ap (λ v. v == 92) b.value) (λ text. fits-data s.size s.seen b.code text line)
-      ∙ ap (λ v. preceded (enter_text connect ∷ Consume ∷ []) (inside_program names (s.size + 1) (s.seen || not (v == 32 || v == 9)) (c == 92) cs)) b.value))))
+      ∙ ap (λ v. preceded (enter_text connect ∷ Consume ∷ []) (inside_plan names (s.size + 1) (s.seen || not (v == 32 || v == 9)) (c == 92) cs)) b.value))))
       (λ h. refuses-here T alone (and-by (not (c == 91)) (is_short T) h
       (λ g.
       let bare : is_value 91 b.code ≡ true = ap (λ v. v == 91) b.value ∙ not-false _ g in
@@ -411,20 +411,20 @@ module _ (ready : StateName → Tokenizer → Type 0) (ends : StateName → Toke
 
   -- From the start.
 
-  start-says : (T : Tokenizer) → StartReady T → (ok : Bool) (U : Tokenizer) → at_break_ends (done (opening (names_in T.tokenize_state)) T) ok U → DoesAs 2 (break_program (names_in T.tokenize_state) 0 false false) T.tokenize_state (done (opening (names_in T.tokenize_state)) T) ok U
+  start-says : (T : Tokenizer) → StartReady T → (ok : Bool) (U : Tokenizer) → at_break_ends (done (opening (names_in T.tokenize_state)) T) ok U → DoesAs 2 (break_plan (names_in T.tokenize_state) 0 false false) T.tokenize_state (done (opening (names_in T.tokenize_state)) T) ok U
   unfolding applied
   start-says T k ok U x =
       let s : TokenizeState = T.tokenize_state in
       let V : Tokenizer = done (opening (names_in s)) T in
-      let R : TokenizeState → Type 0 = λ q. DoesAs 2 (break_program (names_in s) q.size q.seen q.connect) (rested s) V ok U in
-      let S : TokenizeState → Type 0 = λ q. DoesAs 2 (break_program (names_in s) 0 false false) q V ok U in
+      let R : TokenizeState → Type 0 = λ q. DoesAs 2 (break_plan (names_in s) q.size q.seen q.connect) (rested s) V ok U in
+      let S : TokenizeState → Type 0 = λ q. DoesAs 2 (break_plan (names_in s) 0 false false) q V ok U in
       subst S k.rest (subst R (sym k.rest) x)
 
   pub start-law : (T : Tokenizer) → T.attempts ≡ [] → StartReady T → GoesOn ready ends weight (weight_at 11 T) (start_ends T) (start_step T)
   start-law T alone k =
       let s : TokenizeState = T.tokenize_state in
       let names : StringNames = names_in s in
-      let p : Program = program_of (label names) in
+      let p : Plan = plan_of (label names) in
       let E : Bool → Tokenizer → Type 0 = KeepsAs 0 p T in
       let P : Stepped → Type 0 = GoesOn ready ends weight (weight_at 11 T) E in
       GoesOn-map ready ends weight (weight_at 11 T) E (start_ends T) (start_step T) (λ ok U x. EndsAs-linked (label names) (label-covers names) s T ok U x)
@@ -435,7 +435,7 @@ module _ (ready : StateName → Tokenizer → Type 0) (ends : StateName → Toke
       let cs : List Code = rest_of (ahead T) in
       let more : 1 ≤ length (ahead T) = some-codes T c e in
       if-step P (c == 91) _ _
-      (λ h. Goes-kept ready ends weight 11 9 0 p (break_program names 0 false false) (opening names) s T (Next LabelAtBreak) alone refl more (omega arith)
+      (λ h. Goes-kept ready ends weight 11 9 0 p (break_plan names 0 false false) (opening names) s T (Next LabelAtBreak) alone refl more (omega arith)
       (ap p b.whole ∙ label-here names b.code cs (ap (λ v. v == 91) b.value ∙ h))
       (within.at_break_ready _ (opened-ready T more k))
       (within.at_break_weight _)

@@ -12,11 +12,11 @@ use Rattle.markdown_model.specs.CodeTests.{is_value, is_among, is_whitespace_cod
 use Rattle.markdown_model.specs.Grammar.{Reading, ◌>>=◌, ◌>>◌, gives, provided, one, up_to}
 use Rattle.markdown_model.specs.Lines.{lines}
 use Rattle.markdown_model.specs.Resource.{StringNames, counted, label, between_markers, string_group}
-use Rattle.markdown_leaf.specs.Program.{preceded}
-use Rattle.markdown_leaf.proofs.WholeReadings.{Gives, IsSome, IsNothing, Gives-bind, Gives-after, Gives-test, Gives-gives, Gives-one, some-first}
-use Rattle.markdown_string.specs.LinkedOps.{tree_ops, program_of}
+use Rattle.markdown_construct.specs.Plan.{preceded}
+use Rattle.markdown_construct.proofs.WholeReadings.{Gives, IsSome, IsNothing, Gives-bind, Gives-after, Gives-test, Gives-gives, Gives-one, some-first}
+use Rattle.markdown_string.specs.LinkedOps.{tree_ops, plan_of}
 use Rattle.markdown_string.specs.Text.{ending, string, break_ops, ends_filled, answer}
-use Rattle.markdown_string.specs.Label.{opening, text_from, fits, break_program}
+use Rattle.markdown_string.specs.Label.{opening, text_from, fits, break_plan}
 use Rattle.markdown_string.proofs.EscapeReadings.{text, Gives-text}
 use Rattle.markdown_string.proofs.LinkedLemmas.{CoversRow, Row-leaf, Row-last, Row-string, Row-whole}
 use Rattle.markdown_string.proofs.TextLines.{Begins, AreBlank, Row-lines}
@@ -183,11 +183,11 @@ module _ (names : StringNames) where
       ∙ tests-by (any_filled (t ∷ text1)) (nat_le (counted false (t ∷ text1)) 999) c t text1 d rest refl refl closes
       ∙ ap (λ n. preceded (opening names) (if any_filled (t ∷ text1) && (nat_le n 999 && ends_filled true (t ∷ text1)) then Some (break_ops false (t ∷ text1) ++ ending names) else None)) (none-more (counted false (t ∷ text1)))
 
-  pub label-here : (c : Code) (cs : List Code) → is_value 91 c ≡ true → program_of (label names) (c ∷ cs) ≡ preceded (opening names) (break_program names 0 false false cs)
+  pub label-here : (c : Code) (cs : List Code) → is_value 91 c ≡ true → plan_of (label names) (c ∷ cs) ≡ preceded (opening names) (break_plan names 0 false false cs)
   unfolding label rest_of_label tests_of back_of
   label-here c cs h = ap tree_ops (bind-some _ _ (c ∷ cs) (c ∷ []) cs _ (one-here (is_value 91) c cs h) refl) ∙ rest-by c cs (text_from false cs) refl
 
-  pub label-none : (cs : List Code) → next_is (is_value 91) cs ≡ false → program_of (label names) cs ≡ None
+  pub label-none : (cs : List Code) → next_is (is_value 91) cs ≡ false → plan_of (label names) cs ≡ None
   unfolding label
   label-none cs h = ap tree_ops (bind-none _ _ cs (one-not (is_value 91) cs h))
 

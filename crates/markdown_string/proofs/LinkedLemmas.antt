@@ -15,10 +15,11 @@ use Rattle.markdown_engine.proofs.OpRules.{ahead-applied}
 use Rattle.markdown_engine.proofs.PlaceLemmas.{stop-moved}
 use Rattle.markdown_engine.proofs.SolidLemmas.{stop_of-append}
 use Rattle.markdown_engine.proofs.TreeLemmas.{done-consumes, done-append, leaf-past, group-past, past-past, past-empty, ahead-past}
-use Rattle.markdown_leaf.specs.Program.{DoesAs}
-use Rattle.markdown_leaf.proofs.WholeReadings.{Gives}
+use Rattle.markdown_construct.specs.Plan.{DoesAs}
+use Rattle.markdown_construct.proofs.WholeReadings.{Gives}
 use Rattle.markdown_model.specs.Resource.{string_group}
-use Rattle.markdown_string.specs.LinkedOps.{enter_op, has_content, linked_ops, tree_ops, program_of, IsRow}
+use Rattle.markdown_construct.proofs.PlanLemmas.{ahead-scratched}
+use Rattle.markdown_string.specs.LinkedOps.{enter_op, has_content, linked_ops, tree_ops, plan_of, IsRow}
 use Rattle.markdown_engine.proofs.PlaceRules.{point_ahead}
 
 -- One leaf.
@@ -161,10 +162,6 @@ Row-whole n xs t some k =
 
 -- Whole constructs.
 
-ahead-scratched : (r : TokenizeState) (T : Tokenizer) → ahead (scratched r T) ≡ ahead T
-unfolding scratched
-ahead-scratched r T = refl
-
 ops-read : (o : Option (Forest × List Code)) (os : List Op) → tree_ops o ≡ Some os → (r : Forest × List Code) × ((o ≡ Some r) × (os ≡ linked_ops false r.0))
 ops-read None os e = cc
 ops-read (Some r) os e = (r, (refl, cc))
@@ -174,7 +171,7 @@ none-read None e = refl
 none-read (Some r) e = cc
 
 -- a run that does what the tree of a reading asks for ends as the reading
-pub EndsAs-linked : (r : TreeReading) → Gives CoversRow r → (s : TokenizeState) (T : Tokenizer) (ok : Bool) (U : Tokenizer) → DoesAs 0 (program_of r) s T ok U → EndsAs r None s T ok U
+pub EndsAs-linked : (r : TreeReading) → Gives CoversRow r → (s : TokenizeState) (T : Tokenizer) (ok : Bool) (U : Tokenizer) → DoesAs 0 (plan_of r) s T ok U → EndsAs r None s T ok U
 EndsAs-linked r whole s T true U k =
     let x = ops-read (r (ahead T)) k.ops k.holds in
     let w = whole (ahead T) x.0.0 x.0.1 x.1.0 in

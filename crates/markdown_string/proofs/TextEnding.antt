@@ -26,9 +26,9 @@ use Rattle.markdown_model.specs.CodeTests.{next_is}
 use Rattle.markdown_model.specs.Grammar.{span}
 use Rattle.markdown_model.specs.Lines.{linked_leaf}
 use Rattle.markdown_model.specs.Whitespace.{spacing, begins_filled_line}
-use Rattle.markdown_leaf.specs.Program.{Program, preceded, depth_after, DoesAs}
-use Rattle.markdown_leaf.proofs.ProgramLemmas.{DoesAs-then, kept}
-use Rattle.markdown_leaf.proofs.WholeReadings.{both-parts}
+use Rattle.markdown_construct.specs.Plan.{Plan, preceded, depth_after, DoesAs}
+use Rattle.markdown_construct.proofs.PlanLemmas.{DoesAs-then, kept}
+use Rattle.markdown_construct.proofs.WholeReadings.{both-parts}
 use Rattle.markdown_partial.specs.EolSteps as E
 use Rattle.markdown_partial.specs.EolSteps.{indent, at_ending, WhitespaceAtRest}
 use Rattle.markdown_partial.specs.SpaceSteps.{at_blank}
@@ -147,7 +147,7 @@ ending-depth true c (w ∷ ws) = depth-consumes 2 ws (Exit N.SpaceOrTab ∷ [])
 ending-depth false c (w ∷ ws) = depth-consumes 2 ws (Exit N.SpaceOrTab ∷ [])
 
 -- a run that goes on behind the line ending
-pub DoesAs-ending : (p q : Program) (connect : Bool) (c : Code) (cs : List Code) (s : TokenizeState) (T U : Tokenizer) → Passed connect c cs T U → p (ahead T) ≡ preceded (linked_ops connect (ending_leaves c (span is_blank cs).0)) (q (span is_blank cs).1) → (ok : Bool) (V : Tokenizer) → DoesAs 2 q s U ok V → DoesAs 2 p s T ok V
+pub DoesAs-ending : (p q : Plan) (connect : Bool) (c : Code) (cs : List Code) (s : TokenizeState) (T U : Tokenizer) → Passed connect c cs T U → p (ahead T) ≡ preceded (linked_ops connect (ending_leaves c (span is_blank cs).0)) (q (span is_blank cs).1) → (ok : Bool) (V : Tokenizer) → DoesAs 2 q s U ok V → DoesAs 2 p s T ok V
 DoesAs-ending p q connect c cs s T U j e ok V k =
     let os : List Op = linked_ops connect (ending_leaves c (span is_blank cs).0) in
     let rest : drop (moves os) (ahead T) ≡ (span is_blank cs).1 = sym (ahead-done os T) ∙ sym (ap ahead j.ops) ∙ j.after in

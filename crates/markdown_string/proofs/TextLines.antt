@@ -10,7 +10,7 @@ use Rattle.markdown_model.specs.CodeTests.{next_is}
 use Rattle.markdown_model.specs.Grammar.{span}
 use Rattle.markdown_model.specs.Lines.{joins, lines_of, linked_leaf, line_leaf, lines_from, lines}
 use Rattle.markdown_model.specs.Resource.{string_group}
-use Rattle.markdown_leaf.proofs.StretchLemmas.{stretch-span}
+use Rattle.markdown_construct.proofs.StretchLemmas.{stretch-span}
 use Rattle.markdown_model.proofs.Readings.{codes-lines}
 use Rattle.markdown_string.specs.LinkedOps.{enter_op, linked_ops, IsRow}
 use Rattle.markdown_string.specs.Text.{string, enter_text, break_ops, line_of, inside_ops}

@@ -6,7 +6,7 @@ use Rattle.markdown_engine.specs.declared.event.Name.TheVariants as N
 use Rattle.markdown_model.specs.CodeTests.{is_whitespace_code, next_is}
 use Rattle.markdown_model.specs.Grammar.{with_first, escaped_from, span}
 use Rattle.markdown_model.specs.Whitespace.{begins_filled_line}
-use Rattle.markdown_leaf.specs.Program.{preceded}
+use Rattle.markdown_construct.specs.Plan.{preceded}
 use Rattle.markdown_string.specs.LinkedOps.{linked_ops}
 use Rattle.markdown_string.specs.Text.{enter_text, break_ops, inside_ops, ends_filled, answer}
 use Rattle.markdown_string.proofs.EscapeReadings.{Behind, first-some, text-end, text-taken, text-stops, text-refused, text-next, text-bare, text}
@@ -102,7 +102,7 @@ filled-ending c ws text e k b = if-ending c _ _ true e ∙ filled-blank ws text 
 pub filled-none : (c : Code) (ws : List Code) (d : Code) (text : List Code) → is_line_ending c ≡ true → AreBlank ws → is_line_ending d ≡ true → ends_filled true (c ∷ ws ++ d ∷ text) ≡ false
 filled-none c ws d text e k h = if-ending c _ _ true e ∙ filled-blank ws (d ∷ text) k ∙ if-ending d _ _ true h
 
--- Programs in the middle of a text, by the next code.
+-- Plans in the middle of a text, by the next code.
 
 -- a text in which whitespace is neither stopped at, nor refused
 module _ (stop takes refuses : Code → Bool) (plain : (c : Code) → is_whitespace_code c ≡ true → (stop c ≡ false) × ((refuses c ≡ false) × ((c.value == 92) ≡ false))) (ending : List Op) where

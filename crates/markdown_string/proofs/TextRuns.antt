@@ -13,7 +13,7 @@ use Rattle.markdown_engine.specs.declared.tokenizer.Tokenizer.{Tokenizer}
 use Rattle.markdown_engine.proofs.Laws.{Grown-refl}
 use Rattle.markdown_engine.proofs.OpRules.{left-scratched}
 use Rattle.markdown_engine.proofs.OpsLemmas.{Grown-scratched, left-done}
-use Rattle.markdown_leaf.specs.Program.{Program, preceded, depth_after, DoesAs}
+use Rattle.markdown_construct.specs.Plan.{Plan, preceded, depth_after, DoesAs}
 use Rattle.markdown_partial.specs.EolSteps.{WhitespaceAtRest}
 use Rattle.markdown_string.specs.Text.{joined, enter_text, ends_open, TextReady}
 
@@ -88,7 +88,7 @@ scratch-same : (s : TokenizeState) (T U : Tokenizer) → U ≡ scratched s T →
 unfolding scratched
 scratch-same s T U e = ap (λ (x : Tokenizer). x.tokenize_state) e
 
-pub DoesAs-fails : (d : ℕ) (p : Program) (s : TokenizeState) (T : Tokenizer) → p (ahead T) ≡ None → (ok : Bool) (U : Tokenizer) → (ok ≡ false) × (U ≡ scratched s T) → DoesAs d p s T ok U
+pub DoesAs-fails : (d : ℕ) (p : Plan) (s : TokenizeState) (T : Tokenizer) → p (ahead T) ≡ None → (ok : Bool) (U : Tokenizer) → (ok ≡ false) × (U ≡ scratched s T) → DoesAs d p s T ok U
 DoesAs-fails d p s T e true U k = let no : true ≡ false = k.0 in cc
 DoesAs-fails d p s T e false U k = record { none = e; grown = fails-same d s T U k.1; scratch = scratch-same s T U k.1 }
 
@@ -96,8 +96,3 @@ DoesAs-fails d p s T e false U k = record { none = e; grown = fails-same d s T U
 pub state-by : (Q : State → Type 0) (b : Bool) (x y : State) → (b ≡ true → Q x) → (b ≡ false → Q y) → Q (if b then x else y)
 state-by Q true x y f g = f refl
 state-by Q false x y f g = g refl
-
--- no operations before a program
-pub none-before : (o : Option (List Op)) → o ≡ preceded [] o
-none-before None = refl
-none-before (Some os) = refl

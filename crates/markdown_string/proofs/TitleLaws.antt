@@ -16,16 +16,16 @@ use Rattle.markdown_engine.proofs.Laws.{Goes-plain, Follows, if-step, code-step}
 use Rattle.markdown_engine.proofs.OpRules.{ahead-none, ahead-some, Begins, attempts-scratched, some-codes}
 use Rattle.markdown_model.specs.CodeTests.{is_value, is_among, next_is}
 use Rattle.markdown_model.specs.Resource.{StringNames, title}
-use Rattle.markdown_leaf.specs.Program.{Program, preceded, DoesAs, KeepsAs}
-use Rattle.markdown_leaf.proofs.ProgramLemmas.{GoesOn-map, Goes-on, Goes-kept, Goes-ok, Goes-no, done-scratched, no-codes}
+use Rattle.markdown_construct.specs.Plan.{Plan, preceded, DoesAs, KeepsAs}
+use Rattle.markdown_construct.proofs.PlanLemmas.{preceded-nil, GoesOn-map, Goes-on, Goes-kept, Goes-ok, Goes-no, done-scratched, no-codes}
 use Rattle.markdown_partial.specs.EolSteps.{WhitespaceAtRest}
-use Rattle.markdown_string.specs.LinkedOps.{program_of}
+use Rattle.markdown_string.specs.LinkedOps.{plan_of}
 use Rattle.markdown_string.specs.Text.{closing, ending, names_in, joined, enter_text, text_entered, TextReady, ends_filled}
-use Rattle.markdown_string.specs.Title.{begun, rested, opening, opened, start_at, start_step, beginning, begin_at, begin_step, next_state, passing, at_break_at, at_break_step, after_eol_step, nok_step, leaving, inside_at, inside_step, escapes, escape_at, escape_step, is_closer, StartReady, BeginReady, BreakReady, AfterEolReady, InsideReady, start_ends, inside_program, break_program, begin_program, begin_ends, at_break_ends, after_eol_ends, nok_ends, inside_ends, escape_ends}
+use Rattle.markdown_string.specs.Title.{begun, rested, opening, opened, start_at, start_step, beginning, begin_at, begin_step, next_state, passing, at_break_at, at_break_step, after_eol_step, nok_step, leaving, inside_at, inside_step, escapes, escape_at, escape_step, is_closer, StartReady, BeginReady, BreakReady, AfterEolReady, InsideReady, start_ends, inside_plan, break_plan, begin_plan, begin_ends, at_break_ends, after_eol_ends, nok_ends, inside_ends, escape_ends}
 use Rattle.markdown_string.proofs.LinkedLemmas.{EndsAs-linked}
 use Rattle.markdown_string.proofs.TextEnding.{EolWithin, Passed, DoesAs-ending, ending-law}
 use Rattle.markdown_string.proofs.TextReadings.{filled-data, filled-ending, filled-none, breaks-end, breaks-stop, breaks-data, breaks-ending, breaks-blank, insides-end, insides-next, insides-taken, insides-bare, leave-end, leave-stop, leave-ending}
-use Rattle.markdown_string.proofs.TextRuns.{open-append, open-closed, open-rest, text-after, text-same, text-kept, rest-joined, DoesAs-fails, state-by, stays-data, moves-data, depth-data, none-before}
+use Rattle.markdown_string.proofs.TextRuns.{open-append, open-closed, open-rest, text-after, text-same, text-kept, rest-joined, DoesAs-fails, state-by, stays-data, moves-data, depth-data}
 use Rattle.markdown_string.proofs.TitleReadings.{title-plain, closer-line, title-none, title-double, title-single, title-paren, title-covers}
 use Rattle.markdown_string.proofs.BoolLemmas.{or-left, or-right, or-by}
 use Rattle.markdown_model.proofs.ReadingSteps.{if-true, if-false}
@@ -120,16 +120,16 @@ module _ (ready : StateName → Tokenizer → Type 0) (ends : StateName → Toke
   nok-law T alone =
       Goes-plain ready ends weight (weight_at 1 T) (nok_ends T) Nok (scratched (rested T.tokenize_state) T) (attempts-scratched _ T ∙ alone) tt (omega arith) (λ ok U k. k)
 
-  eol-says : (T : Tokenizer) (ok : Bool) (U : Tokenizer) → at_break_ends (scratched (joined T.tokenize_state) T) ok U → DoesAs 2 (break_program T.tokenize_state.marker (names_in T.tokenize_state) true) (rested T.tokenize_state) (scratched (joined T.tokenize_state) T) ok U
+  eol-says : (T : Tokenizer) (ok : Bool) (U : Tokenizer) → at_break_ends (scratched (joined T.tokenize_state) T) ok U → DoesAs 2 (break_plan T.tokenize_state.marker (names_in T.tokenize_state) true) (rested T.tokenize_state) (scratched (joined T.tokenize_state) T) ok U
   unfolding scratched
   eol-says T ok U k = k
 
   pub after_eol-law : (T : Tokenizer) → T.attempts ≡ [] → AfterEolReady T → GoesOn ready ends weight (weight_at 10 T) (after_eol_ends T) (after_eol_step T)
   after_eol-law T alone k =
       let s : TokenizeState = T.tokenize_state in
-      let q : Program = break_program s.marker (names_in s) true in
+      let q : Plan = break_plan s.marker (names_in s) true in
       Goes-on ready ends weight 10 9 2 q q [] (rested s) (joined s) T (Retry TitleAtBreak) alone refl (no-codes T) (omega arith)
-      (none-before (q (ahead T)))
+      (preceded-nil (q (ahead T)))
       (within.at_break_ready _ (joined-ready T k))
       (within.at_break_weight _)
       (λ ok U x. eol-says T ok U (within.at_break_end _ ok U x))
@@ -137,11 +137,11 @@ module _ (ready : StateName → Tokenizer → Type 0) (ends : StateName → Toke
   -- In a stretch.
 
   -- on past a code that passes
-  goes-inside : (T : Tokenizer) → T.attempts ≡ [] → InsideReady T → (c : ℕ) → current_of T ≡ Some c → inside_program T.tokenize_state.marker (names_in T.tokenize_state) false (ahead T) ≡ preceded (Consume ∷ []) (inside_program T.tokenize_state.marker (names_in T.tokenize_state) (c == 92) (drop 1 (ahead T))) → GoesOn ready ends weight (weight_at 10 T) (inside_ends T) (passing c T)
+  goes-inside : (T : Tokenizer) → T.attempts ≡ [] → InsideReady T → (c : ℕ) → current_of T ≡ Some c → inside_plan T.tokenize_state.marker (names_in T.tokenize_state) false (ahead T) ≡ preceded (Consume ∷ []) (inside_plan T.tokenize_state.marker (names_in T.tokenize_state) (c == 92) (drop 1 (ahead T))) → GoesOn ready ends weight (weight_at 10 T) (inside_ends T) (passing c T)
   unfolding applied
   goes-inside T alone k c h same =
       let s : TokenizeState = T.tokenize_state in
-      let q : Bool → Program = inside_program s.marker (names_in s) in
+      let q : Bool → Plan = inside_plan s.marker (names_in s) in
       let V : Tokenizer = done (Consume ∷ []) T in
       state-by (λ st. GoesOn ready ends weight (weight_at 10 T) (inside_ends T) (stepped st V)) (c == 92) (Next TitleEscape) (Next TitleInside)
       (λ f. Goes-kept ready ends weight 10 11 3 (q false) (q true) (Consume ∷ []) (rested s) T (Next TitleEscape) alone refl (some-codes T c h) (omega arith)
@@ -155,13 +155,13 @@ module _ (ready : StateName → Tokenizer → Type 0) (ends : StateName → Toke
       (within.inside_weight _)
       (λ ok U x. within.inside_end _ ok U x))
 
-  goes-leave : (T : Tokenizer) → T.attempts ≡ [] → InsideReady T → inside_program T.tokenize_state.marker (names_in T.tokenize_state) false (ahead T) ≡ preceded (Exit N.Data ∷ []) (break_program T.tokenize_state.marker (names_in T.tokenize_state) true (ahead T)) → GoesOn ready ends weight (weight_at 10 T) (inside_ends T) (leaving T)
+  goes-leave : (T : Tokenizer) → T.attempts ≡ [] → InsideReady T → inside_plan T.tokenize_state.marker (names_in T.tokenize_state) false (ahead T) ≡ preceded (Exit N.Data ∷ []) (break_plan T.tokenize_state.marker (names_in T.tokenize_state) true (ahead T)) → GoesOn ready ends weight (weight_at 10 T) (inside_ends T) (leaving T)
   unfolding applied
   goes-leave T alone k same =
       let s : TokenizeState = T.tokenize_state in
-      let q : Program = break_program s.marker (names_in s) s.connect in
-      Goes-kept ready ends weight 10 9 3 (inside_program s.marker (names_in s) false) q (Exit N.Data ∷ []) (rested s) T (Retry TitleAtBreak) alone refl (no-codes T) (omega arith)
-      (same ∙ ap (λ b. preceded (Exit N.Data ∷ []) (break_program s.marker (names_in s) b (ahead T))) (sym k.connect))
+      let q : Plan = break_plan s.marker (names_in s) s.connect in
+      Goes-kept ready ends weight 10 9 3 (inside_plan s.marker (names_in s) false) q (Exit N.Data ∷ []) (rested s) T (Retry TitleAtBreak) alone refl (no-codes T) (omega arith)
+      (same ∙ ap (λ b. preceded (Exit N.Data ∷ []) (break_plan s.marker (names_in s) b (ahead T))) (sym k.connect))
       (within.at_break_ready _ (left-ready T k))
       (within.at_break_weight _)
       (λ ok U x. within.at_break_end _ ok U x)
@@ -172,9 +172,9 @@ module _ (ready : StateName → Tokenizer → Type 0) (ends : StateName → Toke
       let m : ℕ = s.marker in
       let names : StringNames = names_in s in
       let takes : Code → Bool = is_among (92 ∷ m ∷ []) in
-      let p : Program = inside_program m names false in
+      let p : Plan = inside_plan m names false in
       let P : Stepped → Type 0 = GoesOn ready ends weight (weight_at 10 T) (inside_ends T) in
-      let here : List Code → Type 0 = λ xs. p xs ≡ preceded (Exit N.Data ∷ []) (break_program m names true xs) in
+      let here : List Code → Type 0 = λ xs. p xs ≡ preceded (Exit N.Data ∷ []) (break_plan m names true xs) in
       code-step P (current_of T) (λ o. inside_at o T)
       (λ e. goes-leave T alone k (subst here (sym (ahead-none T e)) (leave-end (is_value m) takes (λ x. false) (title-plain m k.closer) (ending names) (ends_filled true))))
       (λ c e.
@@ -189,12 +189,12 @@ module _ (ready : StateName → Tokenizer → Type 0) (ends : StateName → Toke
       goes-inside T alone k c e
       (ap p b.whole ∙ insides-next (is_value m) takes (λ x. false) (title-plain m k.closer) (ending names) (ends_filled true) (ends_filled true) (c == 92) b.code cs (ap (λ v. v == m) b.value ∙ or-right _ _ h) refl line (ap (λ v. v == 92) b.value) (λ text. filled-data b.code text line))))
 
-  escape-goes : (T : Tokenizer) → T.attempts ≡ [] → InsideReady T → inside_program T.tokenize_state.marker (names_in T.tokenize_state) true (ahead T) ≡ inside_program T.tokenize_state.marker (names_in T.tokenize_state) false (ahead T) → GoesOn ready ends weight (weight_at 11 T) (escape_ends T) (stepped (Retry TitleInside) T)
+  escape-goes : (T : Tokenizer) → T.attempts ≡ [] → InsideReady T → inside_plan T.tokenize_state.marker (names_in T.tokenize_state) true (ahead T) ≡ inside_plan T.tokenize_state.marker (names_in T.tokenize_state) false (ahead T) → GoesOn ready ends weight (weight_at 11 T) (escape_ends T) (stepped (Retry TitleInside) T)
   escape-goes T alone k same =
       let s : TokenizeState = T.tokenize_state in
-      let q : Bool → Program = inside_program s.marker (names_in s) in
+      let q : Bool → Plan = inside_plan s.marker (names_in s) in
       Goes-kept ready ends weight 11 10 3 (q true) (q false) [] (rested s) T (Retry TitleInside) alone refl (no-codes T) (omega arith)
-      (same ∙ none-before (q false (ahead T)))
+      (same ∙ preceded-nil (q false (ahead T)))
       (within.inside_ready _ k)
       (within.inside_weight _)
       (λ ok U x. within.inside_end _ ok U x)
@@ -206,7 +206,7 @@ module _ (ready : StateName → Tokenizer → Type 0) (ends : StateName → Toke
       let m : ℕ = s.marker in
       let names : StringNames = names_in s in
       let takes : Code → Bool = is_among (92 ∷ m ∷ []) in
-      let q : Bool → Program = inside_program m names in
+      let q : Bool → Plan = inside_plan m names in
       let P : Stepped → Type 0 = GoesOn ready ends weight (weight_at 11 T) (escape_ends T) in
       let same : List Code → Type 0 = λ xs. q true xs ≡ q false xs in
       code-step P (current_of T) (λ o. escape_at o T)
@@ -232,30 +232,30 @@ module _ (ready : StateName → Tokenizer → Type 0) (ends : StateName → Toke
 
   -- Between two stretches.
 
-  nok-goes : (T : Tokenizer) → T.attempts ≡ [] → break_program T.tokenize_state.marker (names_in T.tokenize_state) T.tokenize_state.connect (ahead T) ≡ None → Follows ready ends weight (weight_at 9 T) (at_break_ends T) (Next TitleNok) T
+  nok-goes : (T : Tokenizer) → T.attempts ≡ [] → break_plan T.tokenize_state.marker (names_in T.tokenize_state) T.tokenize_state.connect (ahead T) ≡ None → Follows ready ends weight (weight_at 9 T) (at_break_ends T) (Next TitleNok) T
   nok-goes T alone e =
       record {
         goes_on = within.nok_ready T;
         falls = rw within.nok_weight (omega arith);
-        closed = λ ok U x. DoesAs-fails 2 (break_program T.tokenize_state.marker (names_in T.tokenize_state) T.tokenize_state.connect) (rested T.tokenize_state) T e ok U (within.nok_end T ok U x);
+        closed = λ ok U x. DoesAs-fails 2 (break_plan T.tokenize_state.marker (names_in T.tokenize_state) T.tokenize_state.connect) (rested T.tokenize_state) T e ok U (within.nok_end T ok U x);
       }
 
-  inside-says : (b : Bool) (T : Tokenizer) (ok : Bool) (U : Tokenizer) → inside_ends (scratched (joined T.tokenize_state) (done (enter_text b ∷ Consume ∷ []) T)) ok U → DoesAs 3 (inside_program T.tokenize_state.marker (names_in T.tokenize_state) false) (rested T.tokenize_state) (scratched (joined T.tokenize_state) (done (enter_text b ∷ Consume ∷ []) T)) ok U
+  inside-says : (b : Bool) (T : Tokenizer) (ok : Bool) (U : Tokenizer) → inside_ends (scratched (joined T.tokenize_state) (done (enter_text b ∷ Consume ∷ []) T)) ok U → DoesAs 3 (inside_plan T.tokenize_state.marker (names_in T.tokenize_state) false) (rested T.tokenize_state) (scratched (joined T.tokenize_state) (done (enter_text b ∷ Consume ∷ []) T)) ok U
   unfolding scratched
   inside-says b T ok U k = k
 
-  escape-says : (b : Bool) (T : Tokenizer) (ok : Bool) (U : Tokenizer) → escape_ends (scratched (joined T.tokenize_state) (done (enter_text b ∷ Consume ∷ []) T)) ok U → DoesAs 3 (inside_program T.tokenize_state.marker (names_in T.tokenize_state) true) (rested T.tokenize_state) (scratched (joined T.tokenize_state) (done (enter_text b ∷ Consume ∷ []) T)) ok U
+  escape-says : (b : Bool) (T : Tokenizer) (ok : Bool) (U : Tokenizer) → escape_ends (scratched (joined T.tokenize_state) (done (enter_text b ∷ Consume ∷ []) T)) ok U → DoesAs 3 (inside_plan T.tokenize_state.marker (names_in T.tokenize_state) true) (rested T.tokenize_state) (scratched (joined T.tokenize_state) (done (enter_text b ∷ Consume ∷ []) T)) ok U
   unfolding scratched
   escape-says b T ok U k = k
 
   -- data begins
-  data-goes : (T : Tokenizer) → T.attempts ≡ [] → BreakReady T → (c : ℕ) → current_of T ≡ Some c → break_program T.tokenize_state.marker (names_in T.tokenize_state) T.tokenize_state.connect (ahead T) ≡ preceded (enter_text T.tokenize_state.connect ∷ Consume ∷ []) (inside_program T.tokenize_state.marker (names_in T.tokenize_state) (c == 92) (drop 1 (ahead T))) → GoesOn ready ends weight (weight_at 9 T) (at_break_ends T) (passing c (text_entered T))
+  data-goes : (T : Tokenizer) → T.attempts ≡ [] → BreakReady T → (c : ℕ) → current_of T ≡ Some c → break_plan T.tokenize_state.marker (names_in T.tokenize_state) T.tokenize_state.connect (ahead T) ≡ preceded (enter_text T.tokenize_state.connect ∷ Consume ∷ []) (inside_plan T.tokenize_state.marker (names_in T.tokenize_state) (c == 92) (drop 1 (ahead T))) → GoesOn ready ends weight (weight_at 9 T) (at_break_ends T) (passing c (text_entered T))
   data-goes T alone k c e same =
       let s : TokenizeState = T.tokenize_state in
       let connect : Bool = s.connect in
       let os : List Op = enter_text connect ∷ Consume ∷ [] in
-      let p : Program = break_program s.marker (names_in s) connect in
-      let q : Bool → Program = inside_program s.marker (names_in s) in
+      let p : Plan = break_plan s.marker (names_in s) connect in
+      let q : Bool → Plan = inside_plan s.marker (names_in s) in
       let more : 1 ≤ length (ahead T) = some-codes T c e in
       let V : Tokenizer = scratched (joined s) (done os T) in
       let there : V ≡ done (Consume ∷ []) (text_entered T) = sym (done-scratched (Consume ∷ []) (joined s) (done (enter_text connect ∷ []) T)) in
@@ -278,14 +278,14 @@ module _ (ready : StateName → Tokenizer → Type 0) (ends : StateName → Toke
       let s : TokenizeState = T.tokenize_state in
       let m : ℕ = s.marker in
       let names : StringNames = names_in s in
-      let p : Program = break_program m names s.connect in
-      let q : Program = break_program m names true in
+      let p : Plan = break_plan m names s.connect in
+      let q : Plan = break_plan m names true in
       let reads : p (ahead T) ≡ _ =
       ap p whole ∙ breaks-ending (is_value m) (is_among (92 ∷ m ∷ [])) (λ x. false) (title-plain m k.closer) (ending names) (ends_filled true) s.connect c cs line j.filled (λ ws text w b. filled-ending c ws text line w b) in
       record {
         goes_on = within.after_eol_ready U (eol-ready c cs T U k j);
         falls = rw within.after_eol_weight (omega (arith, j.fewer));
-        closed = λ ok V x. DoesAs-ending p q s.connect c cs (rested s) T U j reads ok V (subst (λ (r : TokenizeState). DoesAs 2 (break_program r.marker (names_in r) true) (rested r) U ok V) j.scratch (within.after_eol_end U ok V x));
+        closed = λ ok V x. DoesAs-ending p q s.connect c cs (rested s) T U j reads ok V (subst (λ (r : TokenizeState). DoesAs 2 (break_plan r.marker (names_in r) true) (rested r) U ok V) j.scratch (within.after_eol_end U ok V x));
       }
 
   pub at_break-law : (T : Tokenizer) → T.attempts ≡ [] → BreakReady T → GoesOn ready ends weight (weight_at 9 T) (at_break_ends T) (at_break_step T)
@@ -295,7 +295,7 @@ module _ (ready : StateName → Tokenizer → Type 0) (ends : StateName → Toke
       let names : StringNames = names_in s in
       let connect : Bool = s.connect in
       let takes : Code → Bool = is_among (92 ∷ m ∷ []) in
-      let p : Program = break_program m names connect in
+      let p : Plan = break_plan m names connect in
       let P : Stepped → Type 0 = GoesOn ready ends weight (weight_at 9 T) (at_break_ends T) in
       code-step P (current_of T) (λ o. at_break_at o T)
       (λ e.
@@ -326,8 +326,8 @@ module _ (ready : StateName → Tokenizer → Type 0) (ends : StateName → Toke
   begin-goes T alone k h =
       let s : TokenizeState = T.tokenize_state in
       let names : StringNames = names_in s in
-      Goes-kept ready ends weight 10 9 1 (begin_program s.marker names) (break_program s.marker names s.connect) (Enter names.text ∷ []) (rested s) T (Retry TitleAtBreak) alone refl (no-codes T) (omega arith)
-      (if-false _ _ _ h ∙ ap (λ b. preceded (Enter names.text ∷ []) (break_program s.marker names b (ahead T))) (sym k.first))
+      Goes-kept ready ends weight 10 9 1 (begin_plan s.marker names) (break_plan s.marker names s.connect) (Enter names.text ∷ []) (rested s) T (Retry TitleAtBreak) alone refl (no-codes T) (omega arith)
+      (if-false _ _ _ h ∙ ap (λ b. preceded (Enter names.text ∷ []) (break_plan s.marker names b (ahead T))) (sym k.first))
       (within.at_break_ready _ (entered-ready T k))
       (within.at_break_weight _)
       (λ ok U x. within.at_break_end _ ok U x)
@@ -344,18 +344,18 @@ module _ (ready : StateName → Tokenizer → Type 0) (ends : StateName → Toke
       let b : Begins c (ahead T) = ahead-some T c e in
       let here : next_is (is_value m) (ahead T) ≡ (c == m) = ap (next_is (is_value m)) b.whole ∙ ap (λ v. v == m) b.value in
       if-step P (c == m) _ _
-      (λ h. Goes-ok ready ends weight 10 1 (begin_program m names) (closing names) (rested s) T alone (if-true _ _ _ (here ∙ h)))
+      (λ h. Goes-ok ready ends weight 10 1 (begin_plan m names) (closing names) (rested s) T alone (if-true _ _ _ (here ∙ h)))
       (λ h. begin-goes T alone k (here ∙ h)))
 
-  begin-says : (m : ℕ) (T : Tokenizer) → rested T.tokenize_state ≡ T.tokenize_state → (ok : Bool) (U : Tokenizer) → begin_ends (scratched (begun m T.tokenize_state) (done (opening (names_in T.tokenize_state)) T)) ok U → DoesAs 1 (begin_program m (names_in T.tokenize_state)) T.tokenize_state (scratched (begun m T.tokenize_state) (done (opening (names_in T.tokenize_state)) T)) ok U
+  begin-says : (m : ℕ) (T : Tokenizer) → rested T.tokenize_state ≡ T.tokenize_state → (ok : Bool) (U : Tokenizer) → begin_ends (scratched (begun m T.tokenize_state) (done (opening (names_in T.tokenize_state)) T)) ok U → DoesAs 1 (begin_plan m (names_in T.tokenize_state)) T.tokenize_state (scratched (begun m T.tokenize_state) (done (opening (names_in T.tokenize_state)) T)) ok U
   unfolding scratched
-  begin-says m T e ok U k = subst (λ q. DoesAs 1 (begin_program m (names_in T.tokenize_state)) q (scratched (begun m T.tokenize_state) (done (opening (names_in T.tokenize_state)) T)) ok U) e k
+  begin-says m T e ok U k = subst (λ q. DoesAs 1 (begin_plan m (names_in T.tokenize_state)) q (scratched (begun m T.tokenize_state) (done (opening (names_in T.tokenize_state)) T)) ok U) e k
 
-  opens : (m : ℕ) (T : Tokenizer) → T.attempts ≡ [] → StartReady T → 1 ≤ length (ahead T) → is_closer m ≡ true → program_of (title (names_in T.tokenize_state)) (ahead T) ≡ preceded (opening (names_in T.tokenize_state)) (begin_program m (names_in T.tokenize_state) (drop 1 (ahead T))) → GoesOn ready ends weight (weight_at 11 T) (KeepsAs 0 (program_of (title (names_in T.tokenize_state))) T) (opened m T)
+  opens : (m : ℕ) (T : Tokenizer) → T.attempts ≡ [] → StartReady T → 1 ≤ length (ahead T) → is_closer m ≡ true → plan_of (title (names_in T.tokenize_state)) (ahead T) ≡ preceded (opening (names_in T.tokenize_state)) (begin_plan m (names_in T.tokenize_state) (drop 1 (ahead T))) → GoesOn ready ends weight (weight_at 11 T) (KeepsAs 0 (plan_of (title (names_in T.tokenize_state))) T) (opened m T)
   opens m T alone k more h same =
       let s : TokenizeState = T.tokenize_state in
       let names : StringNames = names_in s in
-      Goes-on ready ends weight 11 10 0 (program_of (title names)) (begin_program m names) (opening names) s (begun m s) T (Next TitleBegin) alone refl more (omega arith)
+      Goes-on ready ends weight 11 10 0 (plan_of (title names)) (begin_plan m names) (opening names) s (begun m s) T (Next TitleBegin) alone refl more (omega arith)
       same
       (within.begin_ready _ (begun-ready m T more h k))
       (within.begin_weight _)
@@ -365,7 +365,7 @@ module _ (ready : StateName → Tokenizer → Type 0) (ends : StateName → Toke
   start-law T alone k =
       let s : TokenizeState = T.tokenize_state in
       let names : StringNames = names_in s in
-      let p : Program = program_of (title names) in
+      let p : Plan = plan_of (title names) in
       let E : Bool → Tokenizer → Type 0 = KeepsAs 0 p T in
       let P : Stepped → Type 0 = GoesOn ready ends weight (weight_at 11 T) E in
       GoesOn-map ready ends weight (weight_at 11 T) E (start_ends T) (start_step T) (λ ok U x. EndsAs-linked (title names) (title-covers names) s T ok U x)

@@ -10,11 +10,11 @@ use Rattle.markdown_model.specs.CodeTests.{is_value, is_among, is_whitespace_cod
 use Rattle.markdown_model.specs.Grammar.{Reading, ◌>>=◌, ◌>>◌, gives, provided, one, up_to}
 use Rattle.markdown_model.specs.Lines.{lines}
 use Rattle.markdown_model.specs.Resource.{StringNames, title, title_between, between_markers, string_group}
-use Rattle.markdown_leaf.specs.Program.{preceded}
-use Rattle.markdown_leaf.proofs.WholeReadings.{Gives, IsSome, IsNothing, Gives-bind, Gives-after, Gives-either, Gives-test, Gives-gives, Gives-one, some-first}
-use Rattle.markdown_string.specs.LinkedOps.{linked_ops, tree_ops, program_of}
+use Rattle.markdown_construct.specs.Plan.{preceded}
+use Rattle.markdown_construct.proofs.WholeReadings.{Gives, IsSome, IsNothing, Gives-bind, Gives-after, Gives-either, Gives-test, Gives-gives, Gives-one, some-first}
+use Rattle.markdown_string.specs.LinkedOps.{linked_ops, tree_ops, plan_of}
 use Rattle.markdown_string.specs.Text.{closing, ending, string, break_ops, ends_filled, answer}
-use Rattle.markdown_string.specs.Title.{opening, is_closer, text_from, begin_program}
+use Rattle.markdown_string.specs.Title.{opening, is_closer, text_from, begin_plan}
 use Rattle.markdown_string.proofs.EscapeReadings.{Text, text-stops, text, Gives-text}
 use Rattle.markdown_string.proofs.LinkedLemmas.{CoversRow, Row-leaf, Row-last, Row-string, Row-whole}
 use Rattle.markdown_string.proofs.TextLines.{text-group, Row-lines}
@@ -111,7 +111,7 @@ module _ (m : ℕ) (names : StringNames) (k : is_closer m ≡ true) where
       let closes : is_value m d ≡ true = (text (is_value m) (is_among (92 ∷ m ∷ [])) (λ x. false) false cs (t ∷ text1, d ∷ rest) e).stops in
       ap tree_ops (bind-some _ _ cs (t ∷ text1) (d ∷ rest) _ e refl) ∙ back-by (ends_filled true (t ∷ text1)) c t text1 d rest refl closes
 
-  between-here : (opener : ℕ) (c : Code) (cs : List Code) → is_value opener c ≡ true → program_of (title_between opener m names) (c ∷ cs) ≡ preceded (opening names) (begin_program m names cs)
+  between-here : (opener : ℕ) (c : Code) (cs : List Code) → is_value opener c ≡ true → plan_of (title_between opener m names) (c ∷ cs) ≡ preceded (opening names) (begin_plan m names cs)
   unfolding title_between rest_of_title
   between-here opener c cs h =
       ap tree_ops (bind-some _ _ (c ∷ cs) (c ∷ []) cs _ (one-here (is_value opener) c cs h) refl) ∙ rest-by c cs (next_is (is_value m) cs) (text_from m names false cs) refl refl
@@ -138,25 +138,25 @@ between-none opener closer names cs h = bind-none _ _ cs (one-not (is_value open
 
 -- Whole titles.
 
-pub title-none : (names : StringNames) (cs : List Code) → next_is (is_value 34) cs ≡ false → next_is (is_value 39) cs ≡ false → next_is (is_value 40) cs ≡ false → program_of (title names) cs ≡ None
+pub title-none : (names : StringNames) (cs : List Code) → next_is (is_value 34) cs ≡ false → next_is (is_value 39) cs ≡ false → next_is (is_value 40) cs ≡ false → plan_of (title names) cs ≡ None
 unfolding title
 title-none names cs e h k =
     ap tree_ops (either-second _ _ cs (between-none 34 34 names cs e) ∙ either-second _ _ cs (between-none 39 39 names cs h) ∙ between-none 40 41 names cs k)
 
-pub title-double : (names : StringNames) (c : Code) (cs : List Code) → is_value 34 c ≡ true → program_of (title names) (c ∷ cs) ≡ preceded (opening names) (begin_program 34 names cs)
+pub title-double : (names : StringNames) (c : Code) (cs : List Code) → is_value 34 c ≡ true → plan_of (title names) (c ∷ cs) ≡ preceded (opening names) (begin_plan 34 names cs)
 unfolding title
 title-double names c cs h =
     ap tree_ops (either-first _ _ (c ∷ cs) (either-second _ _ (c ∷ cs) (between-none 39 39 names (c ∷ cs) (same-value c.value 34 h (λ v. v == 39))) ∙ between-none 40 41 names (c ∷ cs) (same-value c.value 34 h (λ v. v == 40))))
     ∙ between-here 34 names refl 34 c cs h
 
-pub title-single : (names : StringNames) (c : Code) (cs : List Code) → is_value 39 c ≡ true → program_of (title names) (c ∷ cs) ≡ preceded (opening names) (begin_program 39 names cs)
+pub title-single : (names : StringNames) (c : Code) (cs : List Code) → is_value 39 c ≡ true → plan_of (title names) (c ∷ cs) ≡ preceded (opening names) (begin_plan 39 names cs)
 unfolding title
 title-single names c cs h =
     ap tree_ops (either-second _ _ (c ∷ cs) (between-none 34 34 names (c ∷ cs) (same-value c.value 39 h (λ v. v == 34)))
     ∙ either-first _ _ (c ∷ cs) (between-none 40 41 names (c ∷ cs) (same-value c.value 39 h (λ v. v == 40))))
     ∙ between-here 39 names refl 39 c cs h
 
-pub title-paren : (names : StringNames) (c : Code) (cs : List Code) → is_value 40 c ≡ true → program_of (title names) (c ∷ cs) ≡ preceded (opening names) (begin_program 41 names cs)
+pub title-paren : (names : StringNames) (c : Code) (cs : List Code) → is_value 40 c ≡ true → plan_of (title names) (c ∷ cs) ≡ preceded (opening names) (begin_plan 41 names cs)
 unfolding title
 title-paren names c cs h =
     ap tree_ops (either-second _ _ (c ∷ cs) (between-none 34 34 names (c ∷ cs) (same-value c.value 40 h (λ v. v == 34)))

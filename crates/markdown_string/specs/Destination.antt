@@ -16,8 +16,8 @@ use Rattle.markdown_engine.specs.declared.tokenizer.Tokenizer.{Tokenizer}
 use Rattle.markdown_model.specs.CodeTests.{is_value, is_among, is_between, next_is}
 use Rattle.markdown_model.specs.Grammar.{escaped_from}
 use Rattle.markdown_model.specs.Resource.{DestinationNames, destination, raw_from}
-use Rattle.markdown_leaf.specs.Program.{Program, preceded, DoesAs, KeepsAs}
-use Rattle.markdown_leaf.specs.RawText.{AreOpen, with_size}
+use Rattle.markdown_construct.specs.Plan.{Plan, preceded, DoesAs, KeepsAs}
+use Rattle.markdown_construct.specs.Scratch.{AreOpen, with_size}
 
 abbrev pub names_in : TokenizeState → DestinationNames
 names_in s = record { whole = s.token_1; literal = s.token_2; marker = s.token_3; raw = s.token_4; text = s.token_5 }
@@ -179,31 +179,31 @@ text_then os (Some r) = Some (consumes r.0 ++ os)
 abbrev pub bracketed : Bool → List Code → Option (List Code × List Code)
 bracketed slash cs = escaped_from (is_value 62) (is_among (codes "<>\\")) (λ c. is_value 60 c || is_line_ending c) slash cs
 
-abbrev pub enclosed_program : DestinationNames → Bool → Program
-enclosed_program names slash cs = text_then (ending names) (bracketed slash cs)
+abbrev pub enclosed_plan : DestinationNames → Bool → Plan
+enclosed_plan names slash cs = text_then (ending names) (bracketed slash cs)
 
 -- after the opening bracket
-abbrev pub before_program : DestinationNames → Program
-before_program names cs = if next_is (is_value 62) cs then Some (closing names) else preceded (text_opening names) (enclosed_program names false cs)
+abbrev pub before_plan : DestinationNames → Plan
+before_plan names cs = if next_is (is_value 62) cs then Some (closing names) else preceded (text_opening names) (enclosed_plan names false cs)
 
-abbrev pub raw_program : DestinationNames → ℕ → Bool → ℕ → Program
-raw_program names max slash depth cs = text_then (raw_ending names) (raw_from max slash depth cs)
+abbrev pub raw_plan : DestinationNames → ℕ → Bool → ℕ → Plan
+raw_plan names max slash depth cs = text_then (raw_ending names) (raw_from max slash depth cs)
 
 abbrev pub enclosed_before_ends : Tokenizer → Bool → Tokenizer → Type 0
-enclosed_before_ends T ok U = KeepsAs 2 (before_program (names_in T.tokenize_state)) T ok U
+enclosed_before_ends T ok U = KeepsAs 2 (before_plan (names_in T.tokenize_state)) T ok U
 
 abbrev pub enclosed_ends : Tokenizer → Bool → Tokenizer → Type 0
-enclosed_ends T ok U = KeepsAs 4 (enclosed_program (names_in T.tokenize_state) false) T ok U
+enclosed_ends T ok U = KeepsAs 4 (enclosed_plan (names_in T.tokenize_state) false) T ok U
 
 abbrev pub enclosed_escape_ends : Tokenizer → Bool → Tokenizer → Type 0
-enclosed_escape_ends T ok U = KeepsAs 4 (enclosed_program (names_in T.tokenize_state) true) T ok U
+enclosed_escape_ends T ok U = KeepsAs 4 (enclosed_plan (names_in T.tokenize_state) true) T ok U
 
 abbrev pub raw_ends : Tokenizer → Bool → Tokenizer → Type 0
 raw_ends T ok U =
     let s : TokenizeState = T.tokenize_state in
-    DoesAs 4 (raw_program (names_in s) s.size_b false s.size) (with_size 0 s) T ok U
+    DoesAs 4 (raw_plan (names_in s) s.size_b false s.size) (with_size 0 s) T ok U
 
 abbrev pub raw_escape_ends : Tokenizer → Bool → Tokenizer → Type 0
 raw_escape_ends T ok U =
     let s : TokenizeState = T.tokenize_state in
-    DoesAs 4 (raw_program (names_in s) s.size_b true s.size) (with_size 0 s) T ok U
+    DoesAs 4 (raw_plan (names_in s) s.size_b true s.size) (with_size 0 s) T ok U

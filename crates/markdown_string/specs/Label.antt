@@ -14,8 +14,8 @@ use Rattle.markdown_engine.specs.declared.tokenizer.Tokenizer.{Tokenizer}
 use Rattle.markdown_model.specs.CodeTests.{is_value, is_among, is_whitespace_code}
 use Rattle.markdown_model.specs.Grammar.{escaped_from}
 use Rattle.markdown_model.specs.Resource.{StringNames, counted, label}
-use Rattle.markdown_leaf.specs.Program.{Program, DoesAs}
-use Rattle.markdown_leaf.specs.RawText.{AreOpen, with_size}
+use Rattle.markdown_construct.specs.Plan.{Plan, DoesAs}
+use Rattle.markdown_construct.specs.Scratch.{AreOpen, with_size}
 use Rattle.markdown_string.specs.Text.{names_in, joined, text_entered, ending, eol_asked_for, ends_open, TextReady, break_ops, inside_ops, ends_filled, answer}
 
 -- The scratch fields.
@@ -145,22 +145,22 @@ fits size seen text =
     (seen || list_any (λ c. not (is_whitespace_code c)) text) && (nat_le (size + counted false text) 999 && ends_filled true text)
 
 -- in a stretch; `slash` says that a backslash stands before
-abbrev pub inside_program : StringNames → ℕ → Bool → Bool → Program
-inside_program names size seen slash cs = answer (fits size seen) inside_ops (ending names) (text_from slash cs)
+abbrev pub inside_plan : StringNames → ℕ → Bool → Bool → Plan
+inside_plan names size seen slash cs = answer (fits size seen) inside_ops (ending names) (text_from slash cs)
 
 -- between two stretches
-abbrev pub break_program : StringNames → ℕ → Bool → Bool → Program
-break_program names size seen connect cs = answer (fits size seen) (break_ops connect) (ending names) (text_from false cs)
+abbrev pub break_plan : StringNames → ℕ → Bool → Bool → Plan
+break_plan names size seen connect cs = answer (fits size seen) (break_ops connect) (ending names) (text_from false cs)
 
 abbrev pub at_break_ends : Tokenizer → Bool → Tokenizer → Type 0
 at_break_ends T ok U =
     let s : TokenizeState = T.tokenize_state in
-    DoesAs 2 (break_program (names_in s) s.size s.seen s.connect) (rested s) T ok U
+    DoesAs 2 (break_plan (names_in s) s.size s.seen s.connect) (rested s) T ok U
 
 abbrev pub eol_after_ends : Tokenizer → Bool → Tokenizer → Type 0
 eol_after_ends T ok U =
     let s : TokenizeState = T.tokenize_state in
-    DoesAs 2 (break_program (names_in s) s.size s.seen true) (rested s) T ok U
+    DoesAs 2 (break_plan (names_in s) s.size s.seen true) (rested s) T ok U
 
 abbrev pub nok_ends : Tokenizer → Bool → Tokenizer → Type 0
 nok_ends T ok U = (ok ≡ false) × (U ≡ scratched (rested T.tokenize_state) T)
@@ -168,9 +168,9 @@ nok_ends T ok U = (ok ≡ false) × (U ≡ scratched (rested T.tokenize_state) T
 abbrev pub inside_ends : Tokenizer → Bool → Tokenizer → Type 0
 inside_ends T ok U =
     let s : TokenizeState = T.tokenize_state in
-    DoesAs 3 (inside_program (names_in s) s.size s.seen false) (rested s) T ok U
+    DoesAs 3 (inside_plan (names_in s) s.size s.seen false) (rested s) T ok U
 
 abbrev pub escape_ends : Tokenizer → Bool → Tokenizer → Type 0
 escape_ends T ok U =
     let s : TokenizeState = T.tokenize_state in
-    DoesAs 3 (inside_program (names_in s) s.size s.seen true) (rested s) T ok U
+    DoesAs 3 (inside_plan (names_in s) s.size s.seen true) (rested s) T ok U

@@ -7,7 +7,7 @@ use Rattle.markdown_engine.specs.Tree.{Forest, empty, leaf_then, group_then, lea
 use Rattle.markdown_engine.specs.TreeOps.{consumes}
 use Rattle.markdown_engine.specs.declared.event.Content.{Content}
 use Rattle.markdown_engine.specs.declared.event.Name.{Name}
-use Rattle.markdown_leaf.specs.Program.{Program}
+use Rattle.markdown_construct.specs.Plan.{Plan}
 
 -- the Enter of a leaf; `linked` says that a linked leaf of its row stands just before
 abbrev pub enter_op : Bool → Name → Option Content → Op
@@ -28,9 +28,9 @@ abbrev pub tree_ops : Option (Forest × List Code) → Option (List Op)
 tree_ops None = None
 tree_ops (Some r) = Some (linked_ops false r.0)
 
--- the program of the trees that a reading gives
-abbrev pub program_of : TreeReading → Program
-program_of reading cs = tree_ops (reading cs)
+-- the plan of the trees that a reading gives
+abbrev pub plan_of : TreeReading → Plan
+plan_of reading cs = tree_ops (reading cs)
 
 -- Behind a linked leaf of a row stand linked leaves alone; no leaf is empty, and each group reaches from its first code to its last.
 abbrev pub IsRow : Bool → Forest → Type 0

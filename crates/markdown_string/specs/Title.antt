@@ -13,8 +13,8 @@ use Rattle.markdown_engine.specs.declared.tokenizer.Tokenizer.{Tokenizer}
 use Rattle.markdown_model.specs.CodeTests.{is_value, is_among, next_is}
 use Rattle.markdown_model.specs.Grammar.{escaped_from}
 use Rattle.markdown_model.specs.Resource.{StringNames, title}
-use Rattle.markdown_leaf.specs.Program.{Program, preceded, DoesAs}
-use Rattle.markdown_leaf.specs.RawText.{AreOpen}
+use Rattle.markdown_construct.specs.Plan.{Plan, preceded, DoesAs}
+use Rattle.markdown_construct.specs.Scratch.{AreOpen}
 use Rattle.markdown_string.specs.Text.{names_in, joined, text_entered, closing, ending, eol_asked_for, ends_open, TextReady, break_ops, inside_ops, ends_filled, answer}
 
 -- The scratch fields.
@@ -151,31 +151,31 @@ module _ (marker : ℕ) (names : StringNames) where
   text_from slash cs = escaped_from (is_value marker) (is_among (92 ∷ marker ∷ [])) (λ c. false) slash cs
 
   -- in a stretch; `slash` says that a backslash stands before
-  abbrev pub inside_program : Bool → Program
-  inside_program slash cs = answer (ends_filled true) inside_ops (ending names) (text_from slash cs)
+  abbrev pub inside_plan : Bool → Plan
+  inside_plan slash cs = answer (ends_filled true) inside_ops (ending names) (text_from slash cs)
 
   -- between two stretches
-  abbrev pub break_program : Bool → Program
-  break_program connect cs = answer (ends_filled true) (break_ops connect) (ending names) (text_from false cs)
+  abbrev pub break_plan : Bool → Plan
+  break_plan connect cs = answer (ends_filled true) (break_ops connect) (ending names) (text_from false cs)
 
   -- after the opening marker
-  abbrev pub begin_program : Program
-  begin_program cs = if next_is (is_value marker) cs then Some (closing names) else preceded (Enter names.text ∷ []) (break_program false cs)
+  abbrev pub begin_plan : Plan
+  begin_plan cs = if next_is (is_value marker) cs then Some (closing names) else preceded (Enter names.text ∷ []) (break_plan false cs)
 
 abbrev pub begin_ends : Tokenizer → Bool → Tokenizer → Type 0
 begin_ends T ok U =
     let s : TokenizeState = T.tokenize_state in
-    DoesAs 1 (begin_program s.marker (names_in s)) (rested s) T ok U
+    DoesAs 1 (begin_plan s.marker (names_in s)) (rested s) T ok U
 
 abbrev pub at_break_ends : Tokenizer → Bool → Tokenizer → Type 0
 at_break_ends T ok U =
     let s : TokenizeState = T.tokenize_state in
-    DoesAs 2 (break_program s.marker (names_in s) s.connect) (rested s) T ok U
+    DoesAs 2 (break_plan s.marker (names_in s) s.connect) (rested s) T ok U
 
 abbrev pub after_eol_ends : Tokenizer → Bool → Tokenizer → Type 0
 after_eol_ends T ok U =
     let s : TokenizeState = T.tokenize_state in
-    DoesAs 2 (break_program s.marker (names_in s) true) (rested s) T ok U
+    DoesAs 2 (break_plan s.marker (names_in s) true) (rested s) T ok U
 
 abbrev pub nok_ends : Tokenizer → Bool → Tokenizer → Type 0
 nok_ends T ok U = (ok ≡ false) × (U ≡ scratched (rested T.tokenize_state) T)
@@ -183,9 +183,9 @@ nok_ends T ok U = (ok ≡ false) × (U ≡ scratched (rested T.tokenize_state) T
 abbrev pub inside_ends : Tokenizer → Bool → Tokenizer → Type 0
 inside_ends T ok U =
     let s : TokenizeState = T.tokenize_state in
-    DoesAs 3 (inside_program s.marker (names_in s) false) (rested s) T ok U
+    DoesAs 3 (inside_plan s.marker (names_in s) false) (rested s) T ok U
 
 abbrev pub escape_ends : Tokenizer → Bool → Tokenizer → Type 0
 escape_ends T ok U =
     let s : TokenizeState = T.tokenize_state in
-    DoesAs 3 (inside_program s.marker (names_in s) true) (rested s) T ok U
+    DoesAs 3 (inside_plan s.marker (names_in s) true) (rested s) T ok U

@@ -18,8 +18,8 @@ use Rattle.markdown_engine.proofs.EndsLemmas.{row-empty, scratched-same}
 use Rattle.markdown_engine.proofs.OpRules.{ahead-moved, ahead-none, current-ahead, first-drop, left-ahead}
 use Rattle.markdown_engine.proofs.TreeLemmas.{leaf_codes-row, past-empty, past-past}
 use Rattle.markdown_leaf.specs.RawText.{ends_escape, follows_escape, code_just_before, is_escape}
-use Rattle.markdown_leaf.proofs.StretchLemmas.{BeginsWith, stretches-begin}
-use Rattle.markdown_leaf.proofs.WholeReadings.{both-parts}
+use Rattle.markdown_construct.proofs.StretchLemmas.{BeginsWith, stretches-begin}
+use Rattle.markdown_construct.proofs.WholeReadings.{both-parts}
 use Rattle.markdown_model.specs.CodeTests.{is_among, next_is, last_code}
 use Rattle.markdown_model.specs.Element.{Choice, AreElementsFrom, code_before, ends_escaped}
 use Rattle.markdown_model.specs.Grammar.{span}

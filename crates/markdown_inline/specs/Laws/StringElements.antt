@@ -12,7 +12,7 @@ use Rattle.markdown_model.specs.Leaf.{escape, reference}
 use Rattle.markdown_model.specs.Setting.{Setting}
 use Rattle.markdown_model.proofs.DataLaws.{code_leaf}
 use Rattle.markdown_util.specs.Reference.{html_5_rows}
-use Rattle.markdown_leaf.specs.Program.{tree_ops}
+use Rattle.markdown_construct.specs.Plan.{tree_ops}
 use Rattle.markdown_leaf.proofs.CharacterReferenceReading.{no-reference}
 use Rattle.markdown_model.proofs.ReadingSteps.{and-false, bind-none, bind-some, one-here, one-other, switched-off, switched-on}
 use Rattle.markdown_inline.specs.Settings.{setting_of}

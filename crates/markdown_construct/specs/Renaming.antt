@@ -8,7 +8,7 @@ use Rattle.markdown_engine.specs.declared.event.Event.{Event}
 use Rattle.markdown_engine.specs.declared.event.Name.{Name}
 use Rattle.markdown_engine.specs.declared.tokenizer.TokenizeState.{TokenizeState}
 use Rattle.markdown_engine.specs.declared.tokenizer.Tokenizer.{Tokenizer}
-use Rattle.markdown_leaf.specs.Program.{Program}
+use Rattle.markdown_construct.specs.Plan.{Plan}
 
 -- the event under another name, and without a link
 abbrev pub named : Name → Event → Event
@@ -34,12 +34,12 @@ HasEvent T = 0 < length T.events
 abbrev pub Naming : Type 0
 Naming = List Code → Option (Name × List Op)
 
--- the program that enters the leaf under its name
+-- the plan that enters the leaf under its name
 abbrev pub opened : Option (Name × List Op) → Option (List Op)
 opened None = None
 opened (Some r) = Some (Enter r.0 ∷ r.1)
 
-abbrev pub opening_of : Naming → Program
+abbrev pub opening_of : Naming → Plan
 opening_of naming cs = opened (naming cs)
 
 -- under this name

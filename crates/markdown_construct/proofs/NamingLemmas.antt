@@ -17,10 +17,10 @@ use Rattle.markdown_engine.specs.declared.tokenizer.Tokenizer.{Tokenizer}
 use Rattle.markdown_engine.proofs.Laws.{Goes-plain}
 use Rattle.markdown_engine.proofs.OpRules.{attempts-scratched, left-scratched}
 use Rattle.markdown_engine.proofs.OpsLemmas.{Grown-scratched, attempts-done, left-done, drop-rest}
-use Rattle.markdown_leaf.proofs.ProgramLemmas.{kept, done-scratched, ahead-after, DoesAs-then, Grown-after, scratch-same}
-use Rattle.markdown_leaf.proofs.RenamingLemmas.{attempts-renamed}
-use Rattle.markdown_leaf.specs.Program.{Program, preceded, depth_after, DoesAs}
-use Rattle.markdown_leaf.specs.Renaming.{named, last_named, renamed, unopened, Naming, opened, under, preceded_by, NamesAs}
+use Rattle.markdown_construct.proofs.PlanLemmas.{kept, done-scratched, ahead-after, DoesAs-then, Grown-after, scratch-same}
+use Rattle.markdown_construct.proofs.RenamingLemmas.{attempts-renamed}
+use Rattle.markdown_construct.specs.Plan.{Plan, preceded, depth_after, DoesAs}
+use Rattle.markdown_construct.specs.Renaming.{named, last_named, renamed, unopened, Naming, opened, under, preceded_by, NamesAs}
 
 -- Lists whose last event is known.
 
@@ -121,7 +121,7 @@ NamesAs-next d p q s r T st e false U k =
     }
 
 -- right after the Enter
-pub DoesAs-entered : (d : ℕ) (p : Program) (q : Naming) (m : Name) (s : TokenizeState) (T : Tokenizer) → p (ahead T) ≡ opened (q (ahead T)) → (ok : Bool) (U : Tokenizer) → NamesAs d q s (applied (Enter m) T) ok U → DoesAs d p s T ok U
+pub DoesAs-entered : (d : ℕ) (p : Plan) (q : Naming) (m : Name) (s : TokenizeState) (T : Tokenizer) → p (ahead T) ≡ opened (q (ahead T)) → (ok : Bool) (U : Tokenizer) → NamesAs d q s (applied (Enter m) T) ok U → DoesAs d p s T ok U
 DoesAs-entered d p q m s T e true U k =
     record {
       ops = Enter k.name ∷ k.ops;
@@ -136,7 +136,7 @@ DoesAs-entered d p q m s T e false U k =
     }
 
 -- on with the name settled
-pub NamesAs-under : (d : ℕ) (p : Naming) (n : Name) (q : Program) (s : TokenizeState) (T : Tokenizer) → p (ahead T) ≡ under n (q (ahead T)) → (ok : Bool) (U : Tokenizer) → DoesAs (suc d) q s (renamed n T) ok U → NamesAs d p s T ok U
+pub NamesAs-under : (d : ℕ) (p : Naming) (n : Name) (q : Plan) (s : TokenizeState) (T : Tokenizer) → p (ahead T) ≡ under n (q (ahead T)) → (ok : Bool) (U : Tokenizer) → DoesAs (suc d) q s (renamed n T) ok U → NamesAs d p s T ok U
 NamesAs-under d p n q s T e true U k =
     record { name = n; ops = k.ops; holds = e ∙ ap (under n) (ap q (sym (ahead-renamed n T)) ∙ k.holds); left = k.left }
 NamesAs-under d p n q s T e false U k =
@@ -156,7 +156,7 @@ module _ (ready : StateName → Tokenizer → Type 0) (ends : StateName → Toke
       Goes-plain ready ends weight (weight_at k T) E st (scratched r (done os X)) (attempts-scratched r (done os X) ∙ attempts-done os X ∙ alone) on now closed
 
   -- on with a state past the Enter of a leaf and its first code
-  pub Goes-entered : (k j d : ℕ) (p : Program) (q : Naming) (m : Name) (s r : TokenizeState) (T : Tokenizer) (st : State) → T.attempts ≡ [] → stays d (Consume ∷ []) ≡ true → 1 ≤ length (ahead T) → j < 256 + k → p (ahead T) ≡ opened (preceded_by (Consume ∷ []) (q (drop 1 (ahead T)))) → ready_state ready st (scratched r (done (Enter m ∷ Consume ∷ []) T)) → weight_state weight st (scratched r (done (Enter m ∷ Consume ∷ []) T)) ≡ weight_at j (scratched r (done (Enter m ∷ Consume ∷ []) T)) → ((ok : Bool) (U : Tokenizer) → ends_state ends st (scratched r (done (Enter m ∷ Consume ∷ []) T)) ok U → NamesAs d q s (scratched r (done (Enter m ∷ Consume ∷ []) T)) ok U) → GoesOn ready ends weight (weight_at k T) (DoesAs d p s T) (stepped st (scratched r (done (Enter m ∷ Consume ∷ []) T)))
+  pub Goes-entered : (k j d : ℕ) (p : Plan) (q : Naming) (m : Name) (s r : TokenizeState) (T : Tokenizer) (st : State) → T.attempts ≡ [] → stays d (Consume ∷ []) ≡ true → 1 ≤ length (ahead T) → j < 256 + k → p (ahead T) ≡ opened (preceded_by (Consume ∷ []) (q (drop 1 (ahead T)))) → ready_state ready st (scratched r (done (Enter m ∷ Consume ∷ []) T)) → weight_state weight st (scratched r (done (Enter m ∷ Consume ∷ []) T)) ≡ weight_at j (scratched r (done (Enter m ∷ Consume ∷ []) T)) → ((ok : Bool) (U : Tokenizer) → ends_state ends st (scratched r (done (Enter m ∷ Consume ∷ []) T)) ok U → NamesAs d q s (scratched r (done (Enter m ∷ Consume ∷ []) T)) ok U) → GoesOn ready ends weight (weight_at k T) (DoesAs d p s T) (stepped st (scratched r (done (Enter m ∷ Consume ∷ []) T)))
   Goes-entered k j d p q m s r T st alone st_ok within less e on w closed =
       let one : Naming = λ cs. preceded_by (Consume ∷ []) (q (drop 1 cs)) in
       Goes-to k j (DoesAs d p s T) (Enter m ∷ Consume ∷ []) r T T st alone refl within (omega (arith, less)) on w
@@ -168,9 +168,9 @@ module _ (ready : StateName → Tokenizer → Type 0) (ends : StateName → Toke
       Goes-to k j (NamesAs d p s T) (Consume ∷ []) r T T st alone refl within (omega (arith, less)) on w (λ ok U x. NamesAs-next d p q s r T st_ok e ok U (closed ok U x))
 
   -- on with a state after the leaf, under this name
-  pub Goes-settled : (k j d : ℕ) (p : Naming) (n : Name) (q : Program) (os : List Op) (s r : TokenizeState) (T : Tokenizer) (st : State) → T.attempts ≡ [] → stays (suc d) os ≡ true → moves os ≤ length (ahead T) → j < 256 * moves os + k → p (ahead T) ≡ under n (preceded os (q (drop (moves os) (ahead T)))) → ready_state ready st (scratched r (done os (renamed n T))) → weight_state weight st (scratched r (done os (renamed n T))) ≡ weight_at j (scratched r (done os (renamed n T))) → ((ok : Bool) (U : Tokenizer) → ends_state ends st (scratched r (done os (renamed n T))) ok U → DoesAs (depth_after (suc d) os) q s (scratched r (done os (renamed n T))) ok U) → GoesOn ready ends weight (weight_at k T) (NamesAs d p s T) (stepped st (scratched r (done os (renamed n T))))
+  pub Goes-settled : (k j d : ℕ) (p : Naming) (n : Name) (q : Plan) (os : List Op) (s r : TokenizeState) (T : Tokenizer) (st : State) → T.attempts ≡ [] → stays (suc d) os ≡ true → moves os ≤ length (ahead T) → j < 256 * moves os + k → p (ahead T) ≡ under n (preceded os (q (drop (moves os) (ahead T)))) → ready_state ready st (scratched r (done os (renamed n T))) → weight_state weight st (scratched r (done os (renamed n T))) ≡ weight_at j (scratched r (done os (renamed n T))) → ((ok : Bool) (U : Tokenizer) → ends_state ends st (scratched r (done os (renamed n T))) ok U → DoesAs (depth_after (suc d) os) q s (scratched r (done os (renamed n T))) ok U) → GoesOn ready ends weight (weight_at k T) (NamesAs d p s T) (stepped st (scratched r (done os (renamed n T))))
   Goes-settled k j d p n q os s r T st alone st_ok within less e on w closed =
-      let both : Program = λ cs. preceded os (q (drop (moves os) cs)) in
+      let both : Plan = λ cs. preceded os (q (drop (moves os) cs)) in
       Goes-to k j (NamesAs d p s T) os r (renamed n T) T st (attempts-renamed n T ∙ alone) (left-renamed n T) (subst (λ (cs : List Code). moves os ≤ length cs) (sym (ahead-renamed n T)) within) less on w
       (λ ok U x. NamesAs-under d p n both s T e ok U (DoesAs-then (suc d) both q os s r (renamed n T) st_ok refl ok U (closed ok U x)))
 

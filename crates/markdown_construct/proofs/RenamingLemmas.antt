@@ -5,8 +5,8 @@ use Rattle.markdown_engine.specs.Ops.{current_of}
 use Rattle.markdown_engine.specs.declared.event.Name.{Name}
 use Rattle.markdown_engine.specs.declared.tokenizer.Tokenizer.{Tokenizer}
 use Rattle.markdown_engine.proofs.OpRules.{law_rules, left-consumed}
-use Rattle.markdown_leaf.specs.RawText.{Fits}
-use Rattle.markdown_leaf.specs.Renaming.{renamed}
+use Rattle.markdown_construct.specs.Scratch.{Fits}
+use Rattle.markdown_construct.specs.Renaming.{renamed}
 
 pub stack-renamed : (n : Name) (T : Tokenizer) → (renamed n T).stack ≡ n ∷ rest_of T.stack
 unfolding renamed

@@ -19,8 +19,8 @@ use Rattle.markdown_engine.proofs.Laws.{Goes-plain, Grown-refl}
 use Rattle.markdown_engine.proofs.OpRules.{attempts-scratched, left-scratched}
 use Rattle.markdown_engine.proofs.OpsLemmas.{Grown-applied, Grown-scratched, ahead-done, attempts-done, left-done, scratch-done, and-left, and-right}
 use Rattle.markdown_engine.proofs.TreeLemmas.{done-append, ops-past, ahead-past}
-use Rattle.markdown_leaf.proofs.WholeReadings.{Gives, Covers}
-use Rattle.markdown_leaf.specs.Program.{Program, preceded, tree_ops, program_of, depth_after, DoesAs, KeepsAs}
+use Rattle.markdown_construct.proofs.WholeReadings.{Gives, Covers}
+use Rattle.markdown_construct.specs.Plan.{Plan, preceded, tree_ops, plan_of, depth_after, DoesAs, KeepsAs}
 
 -- Operations do not read the scratch fields.
 
@@ -40,7 +40,7 @@ scratched-twice : (s r : TokenizeState) (T : Tokenizer) → scratched s (scratch
 unfolding scratched
 scratched-twice s r T = refl
 
-ahead-scratched : (r : TokenizeState) (T : Tokenizer) → ahead (scratched r T) ≡ ahead T
+pub ahead-scratched : (r : TokenizeState) (T : Tokenizer) → ahead (scratched r T) ≡ ahead T
 unfolding scratched
 ahead-scratched r T = refl
 
@@ -53,12 +53,12 @@ pub Grown-after : (d : ℕ) (os : List Op) (T U : Tokenizer) → stays d os ≡ 
 Grown-after d [] T U e g = g
 Grown-after d (o ∷ os) T U e g = Grown-applied d o T U (and-left (op_stays d o) _ e) (Grown-after (op_depth d o) os (applied o T) U (and-right (op_stays d o) _ e) g)
 
--- One part of a program, and then another.
+-- One part of a plan, and then another.
 
 none-preceded : (os : List Op) (o : Option (List Op)) → o ≡ None → preceded os o ≡ None
 none-preceded os o e = ap (preceded os) e
 
-pub DoesAs-then : (d : ℕ) (p q : Program) (os : List Op) (s r : TokenizeState) (T : Tokenizer) → stays d os ≡ true → p (ahead T) ≡ preceded os (q (drop (moves os) (ahead T))) → (ok : Bool) (U : Tokenizer) → DoesAs (depth_after d os) q s (scratched r (done os T)) ok U → DoesAs d p s T ok U
+pub DoesAs-then : (d : ℕ) (p q : Plan) (os : List Op) (s r : TokenizeState) (T : Tokenizer) → stays d os ≡ true → p (ahead T) ≡ preceded os (q (drop (moves os) (ahead T))) → (ok : Bool) (U : Tokenizer) → DoesAs (depth_after d os) q s (scratched r (done os T)) ok U → DoesAs d p s T ok U
 DoesAs-then d p q os s r T st e true U k =
     let there : q (drop (moves os) (ahead T)) ≡ Some k.ops = ap q (sym (ahead-after os r T)) ∙ k.holds in
     record {
@@ -72,6 +72,11 @@ DoesAs-then d p q os s r T st e false U k =
       grown = Grown-after d os T U st (Grown-scratched (depth_after d os) r (done os T) U k.grown);
       scratch = k.scratch;
     }
+
+-- no operations before a plan
+pub preceded-nil : (o : Option (List Op)) → o ≡ preceded [] o
+preceded-nil None = refl
+preceded-nil (Some more) = refl
 
 pub preceded-twice : (xs ys : List Op) (o : Option (List Op)) → preceded (xs ++ ys) o ≡ preceded xs (preceded ys o)
 preceded-twice xs ys None = refl
@@ -108,35 +113,35 @@ module _ (ready : StateName → Tokenizer → Type 0) (ends : StateName → Toke
   GoesOn-map n E F r f g = Goes-map n E F f r.left.attempts r.state (settled r.left) g
 
   -- on with a state, with these scratch fields
-  pub Goes-on : (k j d : ℕ) (p q : Program) (os : List Op) (s r : TokenizeState) (T : Tokenizer) (st : State) → T.attempts ≡ [] → stays d os ≡ true → moves os ≤ length (ahead T) → j < 256 * moves os + k → p (ahead T) ≡ preceded os (q (drop (moves os) (ahead T))) → ready_state ready st (scratched r (done os T)) → weight_state weight st (scratched r (done os T)) ≡ weight_at j (scratched r (done os T)) → ((ok : Bool) (U : Tokenizer) → ends_state ends st (scratched r (done os T)) ok U → DoesAs (depth_after d os) q s (scratched r (done os T)) ok U) → GoesOn ready ends weight (weight_at k T) (DoesAs d p s T) (stepped st (scratched r (done os T)))
+  pub Goes-on : (k j d : ℕ) (p q : Plan) (os : List Op) (s r : TokenizeState) (T : Tokenizer) (st : State) → T.attempts ≡ [] → stays d os ≡ true → moves os ≤ length (ahead T) → j < 256 * moves os + k → p (ahead T) ≡ preceded os (q (drop (moves os) (ahead T))) → ready_state ready st (scratched r (done os T)) → weight_state weight st (scratched r (done os T)) ≡ weight_at j (scratched r (done os T)) → ((ok : Bool) (U : Tokenizer) → ends_state ends st (scratched r (done os T)) ok U → DoesAs (depth_after d os) q s (scratched r (done os T)) ok U) → GoesOn ready ends weight (weight_at k T) (DoesAs d p s T) (stepped st (scratched r (done os T)))
   Goes-on k j d p q os s r T st alone stay within less e on w closed =
       let now : weight_state weight st (scratched r (done os T)) < weight_at k T = subst (λ n. n < weight_at k T) (sym w) (falls os r T j k within less) in
       Goes-plain ready ends weight (weight_at k T) (DoesAs d p s T) st (scratched r (done os T)) (attempts-scratched r (done os T) ∙ attempts-done os T ∙ alone) on now (λ ok U x. DoesAs-then d p q os s r T stay e ok U (closed ok U x))
 
   -- on with a state, the scratch fields left alone
-  pub Goes-kept : (k j d : ℕ) (p q : Program) (os : List Op) (s : TokenizeState) (T : Tokenizer) (st : State) → T.attempts ≡ [] → stays d os ≡ true → moves os ≤ length (ahead T) → j < 256 * moves os + k → p (ahead T) ≡ preceded os (q (drop (moves os) (ahead T))) → ready_state ready st (done os T) → weight_state weight st (done os T) ≡ weight_at j (done os T) → ((ok : Bool) (U : Tokenizer) → ends_state ends st (done os T) ok U → DoesAs (depth_after d os) q s (done os T) ok U) → GoesOn ready ends weight (weight_at k T) (DoesAs d p s T) (stepped st (done os T))
+  pub Goes-kept : (k j d : ℕ) (p q : Plan) (os : List Op) (s : TokenizeState) (T : Tokenizer) (st : State) → T.attempts ≡ [] → stays d os ≡ true → moves os ≤ length (ahead T) → j < 256 * moves os + k → p (ahead T) ≡ preceded os (q (drop (moves os) (ahead T))) → ready_state ready st (done os T) → weight_state weight st (done os T) ≡ weight_at j (done os T) → ((ok : Bool) (U : Tokenizer) → ends_state ends st (done os T) ok U → DoesAs (depth_after d os) q s (done os T) ok U) → GoesOn ready ends weight (weight_at k T) (DoesAs d p s T) (stepped st (done os T))
   Goes-kept k j d p q os s T st alone stay within less e =
       subst (λ (V : Tokenizer). ready_state ready st V → weight_state weight st V ≡ weight_at j V → ((ok : Bool) (U : Tokenizer) → ends_state ends st V ok U → DoesAs (depth_after d os) q s V ok U) → GoesOn ready ends weight (weight_at k T) (DoesAs d p s T) (stepped st V)) (kept os T) (Goes-on k j d p q os s T.tokenize_state T st alone stay within less e)
 
   -- the same, where all states leave them alone
-  pub Goes-next : (k j d : ℕ) (p q : Program) (os : List Op) (T : Tokenizer) (st : State) → T.attempts ≡ [] → stays d os ≡ true → moves os ≤ length (ahead T) → j < 256 * moves os + k → p (ahead T) ≡ preceded os (q (drop (moves os) (ahead T))) → ready_state ready st (done os T) → weight_state weight st (done os T) ≡ weight_at j (done os T) → ((ok : Bool) (U : Tokenizer) → ends_state ends st (done os T) ok U → KeepsAs (depth_after d os) q (done os T) ok U) → GoesOn ready ends weight (weight_at k T) (KeepsAs d p T) (stepped st (done os T))
+  pub Goes-next : (k j d : ℕ) (p q : Plan) (os : List Op) (T : Tokenizer) (st : State) → T.attempts ≡ [] → stays d os ≡ true → moves os ≤ length (ahead T) → j < 256 * moves os + k → p (ahead T) ≡ preceded os (q (drop (moves os) (ahead T))) → ready_state ready st (done os T) → weight_state weight st (done os T) ≡ weight_at j (done os T) → ((ok : Bool) (U : Tokenizer) → ends_state ends st (done os T) ok U → KeepsAs (depth_after d os) q (done os T) ok U) → GoesOn ready ends weight (weight_at k T) (KeepsAs d p T) (stepped st (done os T))
   Goes-next k j d p q os T st alone stay within less e on w closed =
       Goes-kept k j d p q os T.tokenize_state T st alone stay within less e on w (λ ok U x. subst (λ (s : TokenizeState). DoesAs (depth_after d os) q s (done os T) ok U) (scratch-done os T) (closed ok U x))
 
   -- all is done
-  pub Goes-ok : (k d : ℕ) (p : Program) (os : List Op) (s : TokenizeState) (T : Tokenizer) → T.attempts ≡ [] → p (ahead T) ≡ Some os → GoesOn ready ends weight (weight_at k T) (DoesAs d p s T) (stepped State.Ok (scratched s (done os T)))
+  pub Goes-ok : (k d : ℕ) (p : Plan) (os : List Op) (s : TokenizeState) (T : Tokenizer) → T.attempts ≡ [] → p (ahead T) ≡ Some os → GoesOn ready ends weight (weight_at k T) (DoesAs d p s T) (stepped State.Ok (scratched s (done os T)))
   Goes-ok k d p os s T alone e =
       Goes-plain ready ends weight (weight_at k T) (DoesAs d p s T) State.Ok (scratched s (done os T)) (attempts-scratched s (done os T) ∙ attempts-done os T ∙ alone) tt (omega arith) (λ ok U x. subst (λ b. DoesAs d p s T b U) (sym x.0) (record { ops = os; holds = e; left = x.1 ∙ sym (done-scratched os s T) }))
 
-  pub Goes-yes : (k d : ℕ) (p : Program) (os : List Op) (T : Tokenizer) → T.attempts ≡ [] → p (ahead T) ≡ Some os → GoesOn ready ends weight (weight_at k T) (KeepsAs d p T) (stepped State.Ok (done os T))
+  pub Goes-yes : (k d : ℕ) (p : Plan) (os : List Op) (T : Tokenizer) → T.attempts ≡ [] → p (ahead T) ≡ Some os → GoesOn ready ends weight (weight_at k T) (KeepsAs d p T) (stepped State.Ok (done os T))
   Goes-yes k d p os T alone e = subst (λ (V : Tokenizer). GoesOn ready ends weight (weight_at k T) (KeepsAs d p T) (stepped State.Ok V)) (kept os T) (Goes-ok k d p os T.tokenize_state T alone e)
 
   -- it does not hold
-  pub Goes-nok : (k d : ℕ) (p : Program) (s : TokenizeState) (T : Tokenizer) → T.attempts ≡ [] → p (ahead T) ≡ None → GoesOn ready ends weight (weight_at k T) (DoesAs d p s T) (stepped Nok (scratched s T))
+  pub Goes-nok : (k d : ℕ) (p : Plan) (s : TokenizeState) (T : Tokenizer) → T.attempts ≡ [] → p (ahead T) ≡ None → GoesOn ready ends weight (weight_at k T) (DoesAs d p s T) (stepped Nok (scratched s T))
   Goes-nok k d p s T alone e =
       Goes-plain ready ends weight (weight_at k T) (DoesAs d p s T) Nok (scratched s T) (attempts-scratched s T ∙ alone) tt (omega arith) (λ ok U x. subst (λ b. DoesAs d p s T b U) (sym x.0) (record { none = e; grown = Grown-same d s T U x.1; scratch = scratch-same s T U x.1 }))
 
-  pub Goes-no : (k d : ℕ) (p : Program) (T : Tokenizer) → T.attempts ≡ [] → p (ahead T) ≡ None → GoesOn ready ends weight (weight_at k T) (KeepsAs d p T) (stepped Nok T)
+  pub Goes-no : (k d : ℕ) (p : Plan) (T : Tokenizer) → T.attempts ≡ [] → p (ahead T) ≡ None → GoesOn ready ends weight (weight_at k T) (KeepsAs d p T) (stepped Nok T)
   Goes-no k d p T alone e = subst (λ (V : Tokenizer). GoesOn ready ends weight (weight_at k T) (KeepsAs d p T) (stepped Nok V)) (scratched-same T) (Goes-nok k d p T.tokenize_state T alone e)
 
 pub no-codes : (T : Tokenizer) → 0 ≤ length (ahead T)
@@ -153,12 +158,12 @@ none-read None e = refl
 none-read (Some r) e = cc
 
 -- a run that does what the tree of a reading asks for ends as the reading
-pub EndsAs-program : (r : TreeReading) → Gives Covers r → (s : TokenizeState) (T : Tokenizer) (ok : Bool) (U : Tokenizer) → DoesAs 0 (program_of r) s T ok U → EndsAs r None s T ok U
-EndsAs-program r whole s T true U k =
+pub EndsAs-plan : (r : TreeReading) → Gives Covers r → (s : TokenizeState) (T : Tokenizer) (ok : Bool) (U : Tokenizer) → DoesAs 0 (plan_of r) s T ok U → EndsAs r None s T ok U
+EndsAs-plan r whole s T true U k =
     let x = ops-read (r (ahead T)) k.ops k.holds in
     let w = whole (ahead T) x.0.0 x.0.1 x.1.0 in
     let codes : ahead T ≡ leaf_codes x.0.0 ++ x.0.1 = w.whole ∙ ap (λ ws. ws ++ x.0.1) (sym w.holds.1) in
     let same : ahead (scratched s T) ≡ leaf_codes x.0.0 ++ x.0.1 = ahead-scratched s T ∙ codes in
     let left : U ≡ _ = k.left ∙ ap (λ os. done os (scratched s T)) x.1.1 ∙ ops-past x.0.0 x.0.1 (scratched s T) w.holds.0 same in
     record { tree = x.0.0; rest = x.0.1; holds = x.1.0; left = left; whole = codes; after = ap ahead left ∙ ahead-past None x.0.0 (scratched s T) x.0.1 same }
-EndsAs-program r whole s T false U k = record { refused = none-read (r (ahead T)) k.none; fails = record { grown = k.grown; scratch = k.scratch } }
+EndsAs-plan r whole s T false U k = record { refused = none-read (r (ahead T)) k.none; fails = record { grown = k.grown; scratch = k.scratch } }

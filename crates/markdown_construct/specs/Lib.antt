@@ -1,0 +1,6 @@
+pub mod Plan
+pub mod Readings
+pub mod Renaming
+pub mod Scratch
+pub mod Values
+pub mod Within
