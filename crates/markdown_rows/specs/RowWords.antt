@@ -11,15 +11,30 @@ use Rattle.markdown_engine.specs.Content.{content_of}
 use Rattle.markdown_engine.specs.Tree.{Forest, empty, leaf_then, group_then, events_of}
 use Rattle.markdown_util.specs.Reference.{html_5_rows}
 use Rattle.markdown_model.specs.Grammar.{Reading}
+use Rattle.markdown_model.specs.Lines.{data_up_to}
 use Rattle.markdown_model.specs.Whitespace.{spacing, space_or_tab}
 use Rattle.markdown_model.specs.Resource.{label, reference_names, title, title_names, destination, resource_names}
 use Rattle.markdown_model.specs.Setting.{Setting}
-use Rattle.markdown_model.specs.Inline.{text_tree, string_tree, label_tree, run_count, pair_count, probe_bound}
+use Rattle.markdown_model.specs.Inline.{text_tree, string_tree, label_tree, run_count, pair_count, probe_bound, opener_count, closer_count, list_probe_bound}
 
--- what a row names of its setting
+-- what a row says of its setting: the switches, the options, and what is defined
 pub record RowSetting : Type 0 where
-  pub gfm : Bool
-  pub math : Bool
+  pub attention : Bool
+  pub autolink : Bool
+  pub character_escape : Bool
+  pub character_reference : Bool
+  pub code_text : Bool
+  pub gfm_autolink_literal : Bool
+  pub gfm_label_start_footnote : Bool
+  pub gfm_strikethrough : Bool
+  pub gfm_task_list_item : Bool
+  pub hard_break_escape : Bool
+  pub hard_break_trailing : Bool
+  pub html_text : Bool
+  pub label_end : Bool
+  pub label_start_image : Bool
+  pub label_start_link : Bool
+  pub math_text : Bool
   pub shortcut : Bool
   pub lengths : Bool
   pub single_tilde : Bool
@@ -28,31 +43,56 @@ pub record RowSetting : Type 0 where
   pub definitions : List (List ℕ)
   pub footnotes : List (List ℕ)
 
+-- CommonMark's constructs, and nothing defined
 abbrev pub default : RowSetting
-default = record { gfm = false; math = false; shortcut = false; lengths = false; single_tilde = true; single_dollar = true; first_of_item = false; definitions = []; footnotes = [] }
+default = record {
+  attention = true;
+  autolink = true;
+  character_escape = true;
+  character_reference = true;
+  code_text = true;
+  gfm_autolink_literal = false;
+  gfm_label_start_footnote = false;
+  gfm_strikethrough = false;
+  gfm_task_list_item = false;
+  hard_break_escape = true;
+  hard_break_trailing = true;
+  html_text = true;
+  label_end = true;
+  label_start_image = true;
+  label_start_link = true;
+  math_text = false;
+  shortcut = false;
+  lengths = false;
+  single_tilde = true;
+  single_dollar = true;
+  first_of_item = false;
+  definitions = [];
+  footnotes = [];
+}
 
--- the shipped table of references, and otherwise CommonMark's constructs
+-- the shipped table of references, with the switches and options of the row
 abbrev pub setting : RowSetting → List ℕ → Setting
 setting r bytes = record {
   bytes = bytes;
   options = record {
     constructs = record {
-      attention = true;
-      autolink = true;
-      character_escape = true;
-      character_reference = true;
-      code_text = true;
-      gfm_autolink_literal = r.gfm;
-      gfm_label_start_footnote = r.gfm;
-      gfm_strikethrough = r.gfm;
-      gfm_task_list_item = r.gfm;
-      hard_break_escape = true;
-      hard_break_trailing = true;
-      html_text = true;
-      label_end = true;
-      label_start_image = true;
-      label_start_link = true;
-      math_text = r.math;
+      attention = r.attention;
+      autolink = r.autolink;
+      character_escape = r.character_escape;
+      character_reference = r.character_reference;
+      code_text = r.code_text;
+      gfm_autolink_literal = r.gfm_autolink_literal;
+      gfm_label_start_footnote = r.gfm_label_start_footnote;
+      gfm_strikethrough = r.gfm_strikethrough;
+      gfm_task_list_item = r.gfm_task_list_item;
+      hard_break_escape = r.hard_break_escape;
+      hard_break_trailing = r.hard_break_trailing;
+      html_text = r.html_text;
+      label_end = r.label_end;
+      label_start_image = r.label_start_image;
+      label_start_link = r.label_start_link;
+      math_text = r.math_text;
     };
     gfm_strikethrough_single_tilde = r.single_tilde;
     math_text_single_dollar = r.single_dollar;
@@ -108,6 +148,13 @@ counts_answer r bytes pieces =
     let tree = label_tree s (content_of bytes pieces) in
     run_count s tree ∷ pair_count s tree ∷ probe_bound s tree ∷ []
 
+-- the runs of all containers that may open, those that may close, and the sharper bound on the probes
+abbrev pub looks_answer : RowSetting → List ℕ → List Piece → List ℕ
+looks_answer r bytes pieces =
+    let s = setting r bytes in
+    let tree = label_tree s (content_of bytes pieces) in
+    opener_count s tree ∷ closer_count s tree ∷ list_probe_bound s tree ∷ []
+
 -- One construct, read at the start of a document.
 
 abbrev pub read_at_start : Reading Forest → List ℕ → Option (List Event)
@@ -122,8 +169,11 @@ title_answer bytes = read_at_start (title title_names) bytes
 abbrev pub destination_answer : List ℕ → Option (List Event)
 destination_answer bytes = read_at_start (destination 32 resource_names) bytes
 
-abbrev pub spacing_answer : List ℕ → Option (List Event)
-spacing_answer bytes = read_at_start (spacing None) bytes
+abbrev pub spacing_answer : Option Content → List ℕ → Option (List Event)
+spacing_answer link bytes = read_at_start (spacing link) bytes
 
-abbrev pub bounded_answer : ℕ → ℕ → List ℕ → Option (List Event)
-bounded_answer min max bytes = read_at_start (space_or_tab Name.SpaceOrTab None min max) bytes
+abbrev pub bounded_answer : Option Content → ℕ → ℕ → List ℕ → Option (List Event)
+bounded_answer link min max bytes = read_at_start (space_or_tab Name.SpaceOrTab link min max) bytes
+
+abbrev pub data_answer : List ℕ → List ℕ → Option (List Event)
+data_answer markers bytes = read_at_start (data_up_to markers) bytes

@@ -1,12 +1,19 @@
 -- Worked rows, written by tools/rows.py from tools/rows.txt.
 pub mod Escapes
+pub mod Entities
 pub mod Whitespace
 pub mod Spans
+pub mod Autolinks
 pub mod Html
+pub mod Tags
+pub mod Checks
 pub mod Emphasis
 pub mod Links
+pub mod Labels
 pub mod References
 pub mod Footnotes
 pub mod Literals
+pub mod Emails
 pub mod Resources
+pub mod Switches
 pub mod Choices

@@ -6,14 +6,19 @@ import os, re
 
 HERE = os.path.dirname(os.path.dirname(os.path.abspath(__file__)))
 SYMBOLS = {'␊': '\n', '␍': '\r', '␉': '\t', '␀': '\0', '␠': ' ', '␋': '\v'}
-READINGS = {'label', 'title', 'destination', 'spacing', 'bounded'}
+READINGS = {'label', 'title', 'destination', 'spacing', 'bounded', 'data'}
 CHAINED = {'ReferenceString', 'ResourceTitleString', 'ResourceDestinationString'}
-WORDS = {'gfm': 'gfm = true', 'math': 'math = true', 'first': 'first_of_item = true', 'shortcut': 'shortcut = true',
-         'lengths': 'lengths = true', 'no-single-tilde': 'single_tilde = false', 'no-single-dollar': 'single_dollar = false'}
+SWITCHES = ['attention', 'autolink', 'character_escape', 'character_reference', 'code_text', 'gfm_autolink_literal',
+            'gfm_label_start_footnote', 'gfm_strikethrough', 'gfm_task_list_item', 'hard_break_escape',
+            'hard_break_trailing', 'html_text', 'label_end', 'label_start_image', 'label_start_link', 'math_text']
+WORDS = {'gfm': ['%s = true' % name for name in SWITCHES if name.startswith('gfm_')], 'math': ['math_text = true'],
+         'first': ['first_of_item = true'], 'shortcut': ['shortcut = true'], 'lengths': ['lengths = true'],
+         'no-single-tilde': ['single_tilde = false'], 'no-single-dollar': ['single_dollar = false']}
 
 
 def plain(text):
     text = re.sub(r'⟦(.*?)×(\d+)⟧', lambda m: m.group(1) * int(m.group(2)), text)
+    text = re.sub(r'⟦U\+([0-9A-F]+)⟧', lambda m: chr(int(m.group(1), 16)), text)
     return ''.join(SYMBOLS.get(c, c) for c in text)
 
 
@@ -109,10 +114,17 @@ def statement(line):
     kind, words, document, pieces, answer = re.fullmatch(r'([a-z]+) ?(.*?)«(.*)»(.*?):(.*)', line).groups()
     data = plain(document).encode()
     if kind in READINGS:
-        wanted = 'None' if answer == ' no' else 'Some (%s)' % listed(events(parsed(answer), points(data)))
-        limits = dict(word.split('=') for word in words.split())
-        bounds = ' %s %s' % (limits.get('min', 0), limits.get('max', 2 ** 64 - 1)) if kind == 'bounded' else ''
-        return '%s_answer%s (%s) ≡ %s' % (kind, bounds, literal(data), wanted)
+        link = 'linked' in words.split()
+        wanted = 'None' if answer == ' no' else 'Some (%s)' % listed(events(parsed(answer), points(data), 0, link))
+        given = dict(word.split('=', 1) for word in words.split() if '=' in word)
+        before = ''
+        if kind in ('spacing', 'bounded'):
+            before = ' (Some Content.String)' if link else ' None'
+        if kind == 'bounded':
+            before += ' %s %s' % (given.get('min', 0), given.get('max', 2 ** 64 - 1))
+        if kind == 'data':
+            before = ' (%s)' % literal(plain(given['upto']).encode())
+        return '%s_answer%s (%s) ≡ %s' % (kind, before, literal(data), wanted)
     fields, definitions, footnotes, outer = [], [], [], False
     for word in words.split():
         if word == 'outer':
@@ -121,16 +133,18 @@ def statement(line):
             definitions.append(plain(word[11:]).encode())
         elif word.startswith('footnote='):
             footnotes.append(plain(word[9:]).encode())
+        elif word[:3] == 'no-' and word[3:] in SWITCHES:
+            fields = [f for f in fields if not f.startswith(word[3:] + ' ')] + ['%s = false' % word[3:]]
         else:
-            fields.append(WORDS[word])
+            fields += WORDS[word]
     for field, names in (('definitions', definitions), ('footnotes', footnotes)):
         if names:
             fields.append('%s = %s' % (field, listed(['(%s)' % literal(n) for n in names])))
     row = 'record default { %s }' % '; '.join(fields) if fields else 'default'
     ends = [tuple(map(place, p.split('-'))) for p in pieces.split()] or [((0, 0), (len(data), 0))]
     content = listed(['piece %d %d %d %d' % (a + b) for a, b in ends])
-    if kind == 'counts':
-        return 'counts_answer (%s) (%s) (%s) ≡ (%s)' % (row, literal(data), content, ' ∷ '.join(answer.split() + ['[]']))
+    if kind in ('counts', 'looks'):
+        return '%s_answer (%s) (%s) (%s) ≡ (%s)' % (kind, row, literal(data), content, ' ∷ '.join(answer.split() + ['[]']))
     function = kind + ('_outline' if outer else '_answer')
     return '%s (%s) (%s) (%s) ≡ (%s)' % (function, row, literal(data), content, listed(events(parsed(answer), points(data))))
 
@@ -165,7 +179,8 @@ def main():
 SPEC_USES = [
     ('Rattle.std.specs.Prelude', ['◌≡◌', 'true', 'false', '[]', '◌∷◌', 'codes', 'Some', 'None']),
     ('Rattle.markdown_engine.specs.declared.event.Name', ['Name']),
-    ('Rattle.markdown_rows.specs.RowWords', ['default', 'piece', 'enter', 'exit', 'chained', 'text_answer', 'text_outline', 'string_answer', 'string_outline', 'label_answer', 'title_answer', 'destination_answer', 'spacing_answer', 'bounded_answer', 'counts_answer']),
+    ('Rattle.markdown_engine.specs.declared.event.Content', ['Content']),
+    ('Rattle.markdown_rows.specs.RowWords', ['default', 'piece', 'enter', 'exit', 'chained', 'text_answer', 'text_outline', 'string_answer', 'string_outline', 'label_answer', 'title_answer', 'destination_answer', 'spacing_answer', 'bounded_answer', 'data_answer', 'counts_answer', 'looks_answer']),
 ]
 
 

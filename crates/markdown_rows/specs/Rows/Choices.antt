@@ -45,7 +45,7 @@ row_10 = text_answer (default) (codes "&Abreve;") (piece 0 0 8 0 ∷ []) ≡ (en
 
 -- text outer gfm definition=^a «[^ a]»: Link 0-5
 abbrev pub row_11 : Type 0
-row_11 = text_outline (record default { gfm = true; definitions = (codes "^a") ∷ [] }) (codes "[^ a]") (piece 0 0 5 0 ∷ []) ≡ (enter Name.Link 1 1 0 0 ∷ exit Name.Link 1 6 5 0 ∷ [])
+row_11 = text_outline (record default { gfm_autolink_literal = true; gfm_label_start_footnote = true; gfm_strikethrough = true; gfm_task_list_item = true; definitions = (codes "^a") ∷ [] }) (codes "[^ a]") (piece 0 0 5 0 ∷ []) ≡ (enter Name.Link 1 1 0 0 ∷ exit Name.Link 1 6 5 0 ∷ [])
 
 -- text outer definition= «[]»: Link 0-2
 abbrev pub row_12 : Type 0
@@ -57,35 +57,35 @@ row_13 = text_outline (record default { definitions = (codes "") ∷ [] }) (code
 
 -- text gfm «http://a»: GfmAutolinkLiteralProtocol 0-8
 abbrev pub row_14 : Type 0
-row_14 = text_answer (record default { gfm = true }) (codes "http://a") (piece 0 0 8 0 ∷ []) ≡ (enter Name.GfmAutolinkLiteralProtocol 1 1 0 0 ∷ exit Name.GfmAutolinkLiteralProtocol 1 9 8 0 ∷ [])
+row_14 = text_answer (record default { gfm_autolink_literal = true; gfm_label_start_footnote = true; gfm_strikethrough = true; gfm_task_list_item = true }) (codes "http://a") (piece 0 0 8 0 ∷ []) ≡ (enter Name.GfmAutolinkLiteralProtocol 1 1 0 0 ∷ exit Name.GfmAutolinkLiteralProtocol 1 9 8 0 ∷ [])
 
 -- text gfm «HTTPS://a.b»: GfmAutolinkLiteralProtocol 0-11
 abbrev pub row_15 : Type 0
-row_15 = text_answer (record default { gfm = true }) (codes "HTTPS://a.b") (piece 0 0 11 0 ∷ []) ≡ (enter Name.GfmAutolinkLiteralProtocol 1 1 0 0 ∷ exit Name.GfmAutolinkLiteralProtocol 1 12 11 0 ∷ [])
+row_15 = text_answer (record default { gfm_autolink_literal = true; gfm_label_start_footnote = true; gfm_strikethrough = true; gfm_task_list_item = true }) (codes "HTTPS://a.b") (piece 0 0 11 0 ∷ []) ≡ (enter Name.GfmAutolinkLiteralProtocol 1 1 0 0 ∷ exit Name.GfmAutolinkLiteralProtocol 1 12 11 0 ∷ [])
 
 -- text gfm «www.a.b"»: GfmAutolinkLiteralWww 0-7, Data 7-8
 abbrev pub row_16 : Type 0
-row_16 = text_answer (record default { gfm = true }) (codes "www.a.b\"") (piece 0 0 8 0 ∷ []) ≡ (enter Name.GfmAutolinkLiteralWww 1 1 0 0 ∷ exit Name.GfmAutolinkLiteralWww 1 8 7 0 ∷ enter Name.Data 1 8 7 0 ∷ exit Name.Data 1 9 8 0 ∷ [])
+row_16 = text_answer (record default { gfm_autolink_literal = true; gfm_label_start_footnote = true; gfm_strikethrough = true; gfm_task_list_item = true }) (codes "www.a.b\"") (piece 0 0 8 0 ∷ []) ≡ (enter Name.GfmAutolinkLiteralWww 1 1 0 0 ∷ exit Name.GfmAutolinkLiteralWww 1 8 7 0 ∷ enter Name.Data 1 8 7 0 ∷ exit Name.Data 1 9 8 0 ∷ [])
 
 -- text gfm «www.)»: GfmAutolinkLiteralWww 0-3, Data 3-5
 abbrev pub row_17 : Type 0
-row_17 = text_answer (record default { gfm = true }) (codes "www.)") (piece 0 0 5 0 ∷ []) ≡ (enter Name.GfmAutolinkLiteralWww 1 1 0 0 ∷ exit Name.GfmAutolinkLiteralWww 1 4 3 0 ∷ enter Name.Data 1 4 3 0 ∷ exit Name.Data 1 6 5 0 ∷ [])
+row_17 = text_answer (record default { gfm_autolink_literal = true; gfm_label_start_footnote = true; gfm_strikethrough = true; gfm_task_list_item = true }) (codes "www.)") (piece 0 0 5 0 ∷ []) ≡ (enter Name.GfmAutolinkLiteralWww 1 1 0 0 ∷ exit Name.GfmAutolinkLiteralWww 1 4 3 0 ∷ enter Name.Data 1 4 3 0 ∷ exit Name.Data 1 6 5 0 ∷ [])
 
 -- text gfm «www. x»: GfmAutolinkLiteralWww 0-3, Data 3-6
 abbrev pub row_18 : Type 0
-row_18 = text_answer (record default { gfm = true }) (codes "www. x") (piece 0 0 6 0 ∷ []) ≡ (enter Name.GfmAutolinkLiteralWww 1 1 0 0 ∷ exit Name.GfmAutolinkLiteralWww 1 4 3 0 ∷ enter Name.Data 1 4 3 0 ∷ exit Name.Data 1 7 6 0 ∷ [])
+row_18 = text_answer (record default { gfm_autolink_literal = true; gfm_label_start_footnote = true; gfm_strikethrough = true; gfm_task_list_item = true }) (codes "www. x") (piece 0 0 6 0 ∷ []) ≡ (enter Name.GfmAutolinkLiteralWww 1 1 0 0 ∷ exit Name.GfmAutolinkLiteralWww 1 4 3 0 ∷ enter Name.Data 1 4 3 0 ∷ exit Name.Data 1 7 6 0 ∷ [])
 
 -- text gfm «www..»: GfmAutolinkLiteralWww 0-3, Data 3-5
 abbrev pub row_19 : Type 0
-row_19 = text_answer (record default { gfm = true }) (codes "www..") (piece 0 0 5 0 ∷ []) ≡ (enter Name.GfmAutolinkLiteralWww 1 1 0 0 ∷ exit Name.GfmAutolinkLiteralWww 1 4 3 0 ∷ enter Name.Data 1 4 3 0 ∷ exit Name.Data 1 6 5 0 ∷ [])
+row_19 = text_answer (record default { gfm_autolink_literal = true; gfm_label_start_footnote = true; gfm_strikethrough = true; gfm_task_list_item = true }) (codes "www..") (piece 0 0 5 0 ∷ []) ≡ (enter Name.GfmAutolinkLiteralWww 1 1 0 0 ∷ exit Name.GfmAutolinkLiteralWww 1 4 3 0 ∷ enter Name.Data 1 4 3 0 ∷ exit Name.Data 1 6 5 0 ∷ [])
 
 -- text gfm «a@b.1»: Data 0-5
 abbrev pub row_20 : Type 0
-row_20 = text_answer (record default { gfm = true }) (codes "a@b.1") (piece 0 0 5 0 ∷ []) ≡ (enter Name.Data 1 1 0 0 ∷ exit Name.Data 1 6 5 0 ∷ [])
+row_20 = text_answer (record default { gfm_autolink_literal = true; gfm_label_start_footnote = true; gfm_strikethrough = true; gfm_task_list_item = true }) (codes "a@b.1") (piece 0 0 5 0 ∷ []) ≡ (enter Name.Data 1 1 0 0 ∷ exit Name.Data 1 6 5 0 ∷ [])
 
 -- text gfm «[www.a.b](c)»: Link 0-12 [Label 0-9 [LabelLink 0-1, LabelText 1-8 [GfmAutolinkLiteralWww 1-8], LabelEnd 8-9], Resource 9-12 [ResourceMarker 9-10, Raw 10-11, ResourceMarker 11-12]]
 abbrev pub row_21 : Type 0
-row_21 = text_answer (record default { gfm = true }) (codes "[www.a.b](c)") (piece 0 0 12 0 ∷ []) ≡ (enter Name.Link 1 1 0 0 ∷ enter Name.Label 1 1 0 0 ∷ enter Name.LabelLink 1 1 0 0 ∷ enter Name.LabelMarker 1 1 0 0 ∷ exit Name.LabelMarker 1 2 1 0 ∷ exit Name.LabelLink 1 2 1 0 ∷ enter Name.LabelText 1 2 1 0 ∷ enter Name.GfmAutolinkLiteralWww 1 2 1 0 ∷ exit Name.GfmAutolinkLiteralWww 1 9 8 0 ∷ exit Name.LabelText 1 9 8 0 ∷ enter Name.LabelEnd 1 9 8 0 ∷ enter Name.LabelMarker 1 9 8 0 ∷ exit Name.LabelMarker 1 10 9 0 ∷ exit Name.LabelEnd 1 10 9 0 ∷ exit Name.Label 1 10 9 0 ∷ enter Name.Resource 1 10 9 0 ∷ enter Name.ResourceMarker 1 10 9 0 ∷ exit Name.ResourceMarker 1 11 10 0 ∷ enter Name.ResourceDestination 1 11 10 0 ∷ enter Name.ResourceDestinationRaw 1 11 10 0 ∷ enter Name.ResourceDestinationString 1 11 10 0 ∷ chained Name.Data 1 11 10 0 None None ∷ exit Name.Data 1 12 11 0 ∷ exit Name.ResourceDestinationString 1 12 11 0 ∷ exit Name.ResourceDestinationRaw 1 12 11 0 ∷ exit Name.ResourceDestination 1 12 11 0 ∷ enter Name.ResourceMarker 1 12 11 0 ∷ exit Name.ResourceMarker 1 13 12 0 ∷ exit Name.Resource 1 13 12 0 ∷ exit Name.Link 1 13 12 0 ∷ [])
+row_21 = text_answer (record default { gfm_autolink_literal = true; gfm_label_start_footnote = true; gfm_strikethrough = true; gfm_task_list_item = true }) (codes "[www.a.b](c)") (piece 0 0 12 0 ∷ []) ≡ (enter Name.Link 1 1 0 0 ∷ enter Name.Label 1 1 0 0 ∷ enter Name.LabelLink 1 1 0 0 ∷ enter Name.LabelMarker 1 1 0 0 ∷ exit Name.LabelMarker 1 2 1 0 ∷ exit Name.LabelLink 1 2 1 0 ∷ enter Name.LabelText 1 2 1 0 ∷ enter Name.GfmAutolinkLiteralWww 1 2 1 0 ∷ exit Name.GfmAutolinkLiteralWww 1 9 8 0 ∷ exit Name.LabelText 1 9 8 0 ∷ enter Name.LabelEnd 1 9 8 0 ∷ enter Name.LabelMarker 1 9 8 0 ∷ exit Name.LabelMarker 1 10 9 0 ∷ exit Name.LabelEnd 1 10 9 0 ∷ exit Name.Label 1 10 9 0 ∷ enter Name.Resource 1 10 9 0 ∷ enter Name.ResourceMarker 1 10 9 0 ∷ exit Name.ResourceMarker 1 11 10 0 ∷ enter Name.ResourceDestination 1 11 10 0 ∷ enter Name.ResourceDestinationRaw 1 11 10 0 ∷ enter Name.ResourceDestinationString 1 11 10 0 ∷ chained Name.Data 1 11 10 0 None None ∷ exit Name.Data 1 12 11 0 ∷ exit Name.ResourceDestinationString 1 12 11 0 ∷ exit Name.ResourceDestinationRaw 1 12 11 0 ∷ exit Name.ResourceDestination 1 12 11 0 ∷ enter Name.ResourceMarker 1 12 11 0 ∷ exit Name.ResourceMarker 1 13 12 0 ∷ exit Name.Resource 1 13 12 0 ∷ exit Name.Link 1 13 12 0 ∷ [])
 
 -- text outer «[a](b␊"c")»: Link 0-10
 abbrev pub row_22 : Type 0
@@ -97,7 +97,15 @@ row_23 = text_outline (default) (codes "**a*b*c**") (piece 0 0 9 0 ∷ []) ≡ (
 
 -- text gfm «"http://a.b»: Data 0-1, GfmAutolinkLiteralProtocol 1-11
 abbrev pub row_24 : Type 0
-row_24 = text_answer (record default { gfm = true }) (codes "\"http://a.b") (piece 0 0 11 0 ∷ []) ≡ (enter Name.Data 1 1 0 0 ∷ exit Name.Data 1 2 1 0 ∷ enter Name.GfmAutolinkLiteralProtocol 1 2 1 0 ∷ exit Name.GfmAutolinkLiteralProtocol 1 12 11 0 ∷ [])
+row_24 = text_answer (record default { gfm_autolink_literal = true; gfm_label_start_footnote = true; gfm_strikethrough = true; gfm_task_list_item = true }) (codes "\"http://a.b") (piece 0 0 11 0 ∷ []) ≡ (enter Name.Data 1 1 0 0 ∷ exit Name.Data 1 2 1 0 ∷ enter Name.GfmAutolinkLiteralProtocol 1 2 1 0 ∷ exit Name.GfmAutolinkLiteralProtocol 1 12 11 0 ∷ [])
+
+-- text outer definition=a[b] «[a[b]]»: Link 0-6
+abbrev pub row_25 : Type 0
+row_25 = text_outline (record default { definitions = (codes "a[b]") ∷ [] }) (codes "[a[b]]") (piece 0 0 6 0 ∷ []) ≡ (enter Name.Link 1 1 0 0 ∷ exit Name.Link 1 7 6 0 ∷ [])
+
+-- text outer gfm «xmpp:a@b.c/d/e»: GfmAutolinkLiteralXmpp 0-14
+abbrev pub row_26 : Type 0
+row_26 = text_outline (record default { gfm_autolink_literal = true; gfm_label_start_footnote = true; gfm_strikethrough = true; gfm_task_list_item = true }) (codes "xmpp:a@b.c/d/e") (piece 0 0 14 0 ∷ []) ≡ (enter Name.GfmAutolinkLiteralXmpp 1 1 0 0 ∷ exit Name.GfmAutolinkLiteralXmpp 1 15 14 0 ∷ [])
 
 abbrev pub Rows : Type 0
-Rows = row_1 × row_2 × row_3 × row_4 × row_5 × row_6 × row_7 × row_8 × row_9 × row_10 × row_11 × row_12 × row_13 × row_14 × row_15 × row_16 × row_17 × row_18 × row_19 × row_20 × row_21 × row_22 × row_23 × row_24
+Rows = row_1 × row_2 × row_3 × row_4 × row_5 × row_6 × row_7 × row_8 × row_9 × row_10 × row_11 × row_12 × row_13 × row_14 × row_15 × row_16 × row_17 × row_18 × row_19 × row_20 × row_21 × row_22 × row_23 × row_24 × row_25 × row_26

@@ -1,5 +1,5 @@
 -- Worked rows, written by tools/rows.py from tools/rows.txt.
-use Rattle.std.specs.Prelude.{◌≡◌, [], ◌∷◌, codes, None}
+use Rattle.std.specs.Prelude.{◌≡◌, [], ◌∷◌, codes, Some, None}
 use Rattle.markdown_engine.specs.declared.event.Name.{Name}
 use Rattle.markdown_rows.specs.RowWords.{default, piece, enter, exit, chained, text_answer, text_outline}
 
@@ -67,5 +67,97 @@ row_15 = text_outline (default) (codes "![![![![![![![![![![![![![![![![![![![![
 abbrev pub row_16 : Type 0
 row_16 = text_outline (record default { definitions = (codes "a") ∷ [] }) (codes "[[[[[[[[[[[[[[[[[[[[[[[[[[[[[[[[[[[[[[[[[[[[[[[[[[[[[[[[[[[[[[[[[[[[[[[[[[[[[[[[[[[[[[[[[[[[[[[[[[[[a]]]]]]]]]]]]]]]]]]]]]]]]]]]]]]]]]]]]]]]]]]]]]]]]]]]]]]]]]]]]]]]]]]]]]]]]]]]]]]]]]]]]]]]]]]]]]]]]]]]]") (piece 0 0 201 0 ∷ []) ≡ (enter Name.Data 1 1 0 0 ∷ exit Name.Data 1 100 99 0 ∷ enter Name.Link 1 100 99 0 ∷ exit Name.Link 1 103 102 0 ∷ enter Name.Data 1 103 102 0 ∷ exit Name.Data 1 202 201 0 ∷ [])
 
+-- text outer «[a [b](c)»: Data 0-3, Link 3-9
+abbrev pub row_17 : Type 0
+row_17 = text_outline (default) (codes "[a [b](c)") (piece 0 0 9 0 ∷ []) ≡ (enter Name.Data 1 1 0 0 ∷ exit Name.Data 1 4 3 0 ∷ enter Name.Link 1 4 3 0 ∷ exit Name.Link 1 10 9 0 ∷ [])
+
+-- text «[a](b "c" )»: Link 0-11 [Label 0-3 [LabelLink 0-1, LabelText 1-2 [Data 1-2], LabelEnd 2-3], Resource 3-11 [ResourceMarker 3-4, Raw 4-5, SpaceOrTab 5-6, ResourceTitle 6-9 [ResourceTitleMarker 6-7, ResourceTitleString 7-8 [Data 7-8], ResourceTitleMarker 8-9], SpaceOrTab 9-10, ResourceMarker 10-11]]
+abbrev pub row_18 : Type 0
+row_18 = text_answer (default) (codes "[a](b \"c\" )") (piece 0 0 11 0 ∷ []) ≡ (enter Name.Link 1 1 0 0 ∷ enter Name.Label 1 1 0 0 ∷ enter Name.LabelLink 1 1 0 0 ∷ enter Name.LabelMarker 1 1 0 0 ∷ exit Name.LabelMarker 1 2 1 0 ∷ exit Name.LabelLink 1 2 1 0 ∷ enter Name.LabelText 1 2 1 0 ∷ enter Name.Data 1 2 1 0 ∷ exit Name.Data 1 3 2 0 ∷ exit Name.LabelText 1 3 2 0 ∷ enter Name.LabelEnd 1 3 2 0 ∷ enter Name.LabelMarker 1 3 2 0 ∷ exit Name.LabelMarker 1 4 3 0 ∷ exit Name.LabelEnd 1 4 3 0 ∷ exit Name.Label 1 4 3 0 ∷ enter Name.Resource 1 4 3 0 ∷ enter Name.ResourceMarker 1 4 3 0 ∷ exit Name.ResourceMarker 1 5 4 0 ∷ enter Name.ResourceDestination 1 5 4 0 ∷ enter Name.ResourceDestinationRaw 1 5 4 0 ∷ enter Name.ResourceDestinationString 1 5 4 0 ∷ chained Name.Data 1 5 4 0 None None ∷ exit Name.Data 1 6 5 0 ∷ exit Name.ResourceDestinationString 1 6 5 0 ∷ exit Name.ResourceDestinationRaw 1 6 5 0 ∷ exit Name.ResourceDestination 1 6 5 0 ∷ enter Name.SpaceOrTab 1 6 5 0 ∷ exit Name.SpaceOrTab 1 7 6 0 ∷ enter Name.ResourceTitle 1 7 6 0 ∷ enter Name.ResourceTitleMarker 1 7 6 0 ∷ exit Name.ResourceTitleMarker 1 8 7 0 ∷ enter Name.ResourceTitleString 1 8 7 0 ∷ chained Name.Data 1 8 7 0 None None ∷ exit Name.Data 1 9 8 0 ∷ exit Name.ResourceTitleString 1 9 8 0 ∷ enter Name.ResourceTitleMarker 1 9 8 0 ∷ exit Name.ResourceTitleMarker 1 10 9 0 ∷ exit Name.ResourceTitle 1 10 9 0 ∷ enter Name.SpaceOrTab 1 10 9 0 ∷ exit Name.SpaceOrTab 1 11 10 0 ∷ enter Name.ResourceMarker 1 11 10 0 ∷ exit Name.ResourceMarker 1 12 11 0 ∷ exit Name.Resource 1 12 11 0 ∷ exit Name.Link 1 12 11 0 ∷ [])
+
+-- text «![a [b](c)](d)»: Image 0-14 [Label 0-11 [LabelImage 0-2 [LabelImageMarker 0-1, LabelMarker 1-2], LabelText 2-10 [Data 2-4, Link 4-10 [Label 4-7 [LabelLink 4-5, LabelText 5-6 [Data 5-6], LabelEnd 6-7], Resource 7-10 [ResourceMarker 7-8, Raw 8-9, ResourceMarker 9-10]]], LabelEnd 10-11], Resource 11-14 [ResourceMarker 11-12, Raw 12-13, ResourceMarker 13-14]]
+abbrev pub row_19 : Type 0
+row_19 = text_answer (default) (codes "![a [b](c)](d)") (piece 0 0 14 0 ∷ []) ≡ (enter Name.Image 1 1 0 0 ∷ enter Name.Label 1 1 0 0 ∷ enter Name.LabelImage 1 1 0 0 ∷ enter Name.LabelImageMarker 1 1 0 0 ∷ exit Name.LabelImageMarker 1 2 1 0 ∷ enter Name.LabelMarker 1 2 1 0 ∷ exit Name.LabelMarker 1 3 2 0 ∷ exit Name.LabelImage 1 3 2 0 ∷ enter Name.LabelText 1 3 2 0 ∷ enter Name.Data 1 3 2 0 ∷ exit Name.Data 1 5 4 0 ∷ enter Name.Link 1 5 4 0 ∷ enter Name.Label 1 5 4 0 ∷ enter Name.LabelLink 1 5 4 0 ∷ enter Name.LabelMarker 1 5 4 0 ∷ exit Name.LabelMarker 1 6 5 0 ∷ exit Name.LabelLink 1 6 5 0 ∷ enter Name.LabelText 1 6 5 0 ∷ enter Name.Data 1 6 5 0 ∷ exit Name.Data 1 7 6 0 ∷ exit Name.LabelText 1 7 6 0 ∷ enter Name.LabelEnd 1 7 6 0 ∷ enter Name.LabelMarker 1 7 6 0 ∷ exit Name.LabelMarker 1 8 7 0 ∷ exit Name.LabelEnd 1 8 7 0 ∷ exit Name.Label 1 8 7 0 ∷ enter Name.Resource 1 8 7 0 ∷ enter Name.ResourceMarker 1 8 7 0 ∷ exit Name.ResourceMarker 1 9 8 0 ∷ enter Name.ResourceDestination 1 9 8 0 ∷ enter Name.ResourceDestinationRaw 1 9 8 0 ∷ enter Name.ResourceDestinationString 1 9 8 0 ∷ chained Name.Data 1 9 8 0 None None ∷ exit Name.Data 1 10 9 0 ∷ exit Name.ResourceDestinationString 1 10 9 0 ∷ exit Name.ResourceDestinationRaw 1 10 9 0 ∷ exit Name.ResourceDestination 1 10 9 0 ∷ enter Name.ResourceMarker 1 10 9 0 ∷ exit Name.ResourceMarker 1 11 10 0 ∷ exit Name.Resource 1 11 10 0 ∷ exit Name.Link 1 11 10 0 ∷ exit Name.LabelText 1 11 10 0 ∷ enter Name.LabelEnd 1 11 10 0 ∷ enter Name.LabelMarker 1 11 10 0 ∷ exit Name.LabelMarker 1 12 11 0 ∷ exit Name.LabelEnd 1 12 11 0 ∷ exit Name.Label 1 12 11 0 ∷ enter Name.Resource 1 12 11 0 ∷ enter Name.ResourceMarker 1 12 11 0 ∷ exit Name.ResourceMarker 1 13 12 0 ∷ enter Name.ResourceDestination 1 13 12 0 ∷ enter Name.ResourceDestinationRaw 1 13 12 0 ∷ enter Name.ResourceDestinationString 1 13 12 0 ∷ chained Name.Data 1 13 12 0 None None ∷ exit Name.Data 1 14 13 0 ∷ exit Name.ResourceDestinationString 1 14 13 0 ∷ exit Name.ResourceDestinationRaw 1 14 13 0 ∷ exit Name.ResourceDestination 1 14 13 0 ∷ enter Name.ResourceMarker 1 14 13 0 ∷ exit Name.ResourceMarker 1 15 14 0 ∷ exit Name.Resource 1 15 14 0 ∷ exit Name.Image 1 15 14 0 ∷ [])
+
+-- text outer «[![a](b)](c)»: Link 0-12
+abbrev pub row_20 : Type 0
+row_20 = text_outline (default) (codes "[![a](b)](c)") (piece 0 0 12 0 ∷ []) ≡ (enter Name.Link 1 1 0 0 ∷ exit Name.Link 1 13 12 0 ∷ [])
+
+-- text outer «[![[a](b)](c)](d)»: Data 0-1, Image 1-13, Data 13-17
+abbrev pub row_21 : Type 0
+row_21 = text_outline (default) (codes "[![[a](b)](c)](d)") (piece 0 0 17 0 ∷ []) ≡ (enter Name.Data 1 1 0 0 ∷ exit Name.Data 1 2 1 0 ∷ enter Name.Image 1 2 1 0 ∷ exit Name.Image 1 14 13 0 ∷ enter Name.Data 1 14 13 0 ∷ exit Name.Data 1 18 17 0 ∷ [])
+
+-- text «[]](c)»: Data 0-6
+abbrev pub row_22 : Type 0
+row_22 = text_answer (default) (codes "[]](c)") (piece 0 0 6 0 ∷ []) ≡ (enter Name.Data 1 1 0 0 ∷ exit Name.Data 1 7 6 0 ∷ [])
+
+-- text outer «![a](b)](c)»: Image 0-7, Data 7-11
+abbrev pub row_23 : Type 0
+row_23 = text_outline (default) (codes "![a](b)](c)") (piece 0 0 11 0 ∷ []) ≡ (enter Name.Image 1 1 0 0 ∷ exit Name.Image 1 8 7 0 ∷ enter Name.Data 1 8 7 0 ∷ exit Name.Data 1 12 11 0 ∷ [])
+
+-- text outer «[a](b)](c)»: Link 0-6, Data 6-10
+abbrev pub row_24 : Type 0
+row_24 = text_outline (default) (codes "[a](b)](c)") (piece 0 0 10 0 ∷ []) ≡ (enter Name.Link 1 1 0 0 ∷ exit Name.Link 1 7 6 0 ∷ enter Name.Data 1 7 6 0 ∷ exit Name.Data 1 11 10 0 ∷ [])
+
+-- text outer «[a](b [c](d)»: Data 0-6, Link 6-12
+abbrev pub row_25 : Type 0
+row_25 = text_outline (default) (codes "[a](b [c](d)") (piece 0 0 12 0 ∷ []) ≡ (enter Name.Data 1 1 0 0 ∷ exit Name.Data 1 7 6 0 ∷ enter Name.Link 1 7 6 0 ∷ exit Name.Link 1 13 12 0 ∷ [])
+
+-- text outer «[a](<b>"c")»: Data 0-4, HtmlText 4-7, Data 7-11
+abbrev pub row_26 : Type 0
+row_26 = text_outline (default) (codes "[a](<b>\"c\")") (piece 0 0 11 0 ∷ []) ≡ (enter Name.Data 1 1 0 0 ∷ exit Name.Data 1 5 4 0 ∷ enter Name.HtmlText 1 5 4 0 ∷ exit Name.HtmlText 1 8 7 0 ∷ enter Name.Data 1 8 7 0 ∷ exit Name.Data 1 12 11 0 ∷ [])
+
+-- text outer «[a](b )[a]( b)[a]()[a]( )»: Link 0-7, Link 7-14, Link 14-19, Link 19-25
+abbrev pub row_27 : Type 0
+row_27 = text_outline (default) (codes "[a](b )[a]( b)[a]()[a]( )") (piece 0 0 25 0 ∷ []) ≡ (enter Name.Link 1 1 0 0 ∷ exit Name.Link 1 8 7 0 ∷ enter Name.Link 1 8 7 0 ∷ exit Name.Link 1 15 14 0 ∷ enter Name.Link 1 15 14 0 ∷ exit Name.Link 1 20 19 0 ∷ enter Name.Link 1 20 19 0 ∷ exit Name.Link 1 26 25 0 ∷ [])
+
+-- text «[a](b 'c')»: Link 0-10 [Label 0-3 [LabelLink 0-1, LabelText 1-2 [Data 1-2], LabelEnd 2-3], Resource 3-10 [ResourceMarker 3-4, Raw 4-5, SpaceOrTab 5-6, ResourceTitle 6-9 [ResourceTitleMarker 6-7, ResourceTitleString 7-8 [Data 7-8], ResourceTitleMarker 8-9], ResourceMarker 9-10]]
+abbrev pub row_28 : Type 0
+row_28 = text_answer (default) (codes "[a](b 'c')") (piece 0 0 10 0 ∷ []) ≡ (enter Name.Link 1 1 0 0 ∷ enter Name.Label 1 1 0 0 ∷ enter Name.LabelLink 1 1 0 0 ∷ enter Name.LabelMarker 1 1 0 0 ∷ exit Name.LabelMarker 1 2 1 0 ∷ exit Name.LabelLink 1 2 1 0 ∷ enter Name.LabelText 1 2 1 0 ∷ enter Name.Data 1 2 1 0 ∷ exit Name.Data 1 3 2 0 ∷ exit Name.LabelText 1 3 2 0 ∷ enter Name.LabelEnd 1 3 2 0 ∷ enter Name.LabelMarker 1 3 2 0 ∷ exit Name.LabelMarker 1 4 3 0 ∷ exit Name.LabelEnd 1 4 3 0 ∷ exit Name.Label 1 4 3 0 ∷ enter Name.Resource 1 4 3 0 ∷ enter Name.ResourceMarker 1 4 3 0 ∷ exit Name.ResourceMarker 1 5 4 0 ∷ enter Name.ResourceDestination 1 5 4 0 ∷ enter Name.ResourceDestinationRaw 1 5 4 0 ∷ enter Name.ResourceDestinationString 1 5 4 0 ∷ chained Name.Data 1 5 4 0 None None ∷ exit Name.Data 1 6 5 0 ∷ exit Name.ResourceDestinationString 1 6 5 0 ∷ exit Name.ResourceDestinationRaw 1 6 5 0 ∷ exit Name.ResourceDestination 1 6 5 0 ∷ enter Name.SpaceOrTab 1 6 5 0 ∷ exit Name.SpaceOrTab 1 7 6 0 ∷ enter Name.ResourceTitle 1 7 6 0 ∷ enter Name.ResourceTitleMarker 1 7 6 0 ∷ exit Name.ResourceTitleMarker 1 8 7 0 ∷ enter Name.ResourceTitleString 1 8 7 0 ∷ chained Name.Data 1 8 7 0 None None ∷ exit Name.Data 1 9 8 0 ∷ exit Name.ResourceTitleString 1 9 8 0 ∷ enter Name.ResourceTitleMarker 1 9 8 0 ∷ exit Name.ResourceTitleMarker 1 10 9 0 ∷ exit Name.ResourceTitle 1 10 9 0 ∷ enter Name.ResourceMarker 1 10 9 0 ∷ exit Name.ResourceMarker 1 11 10 0 ∷ exit Name.Resource 1 11 10 0 ∷ exit Name.Link 1 11 10 0 ∷ [])
+
+-- text outer «[a](b (c))[a](b "c")»: Link 0-10, Link 10-20
+abbrev pub row_29 : Type 0
+row_29 = text_outline (default) (codes "[a](b (c))[a](b \"c\")") (piece 0 0 20 0 ∷ []) ≡ (enter Name.Link 1 1 0 0 ∷ exit Name.Link 1 11 10 0 ∷ enter Name.Link 1 11 10 0 ∷ exit Name.Link 1 21 20 0 ∷ [])
+
+-- text «[a](b "c␠␊d")»: Link 0-13 [Label 0-3 [LabelLink 0-1, LabelText 1-2 [Data 1-2], LabelEnd 2-3], Resource 3-13 [ResourceMarker 3-4, Raw 4-5, SpaceOrTab 5-6, ResourceTitle 6-12 [ResourceTitleMarker 6-7, ResourceTitleString 7-11 [Data 7-9, LineEnding 9-10, Data 10-11], ResourceTitleMarker 11-12], ResourceMarker 12-13]]
+abbrev pub row_30 : Type 0
+row_30 = text_answer (default) (91 ∷ 97 ∷ 93 ∷ 40 ∷ 98 ∷ 32 ∷ 34 ∷ 99 ∷ 32 ∷ 10 ∷ 100 ∷ 34 ∷ 41 ∷ []) (piece 0 0 13 0 ∷ []) ≡ (enter Name.Link 1 1 0 0 ∷ enter Name.Label 1 1 0 0 ∷ enter Name.LabelLink 1 1 0 0 ∷ enter Name.LabelMarker 1 1 0 0 ∷ exit Name.LabelMarker 1 2 1 0 ∷ exit Name.LabelLink 1 2 1 0 ∷ enter Name.LabelText 1 2 1 0 ∷ enter Name.Data 1 2 1 0 ∷ exit Name.Data 1 3 2 0 ∷ exit Name.LabelText 1 3 2 0 ∷ enter Name.LabelEnd 1 3 2 0 ∷ enter Name.LabelMarker 1 3 2 0 ∷ exit Name.LabelMarker 1 4 3 0 ∷ exit Name.LabelEnd 1 4 3 0 ∷ exit Name.Label 1 4 3 0 ∷ enter Name.Resource 1 4 3 0 ∷ enter Name.ResourceMarker 1 4 3 0 ∷ exit Name.ResourceMarker 1 5 4 0 ∷ enter Name.ResourceDestination 1 5 4 0 ∷ enter Name.ResourceDestinationRaw 1 5 4 0 ∷ enter Name.ResourceDestinationString 1 5 4 0 ∷ chained Name.Data 1 5 4 0 None None ∷ exit Name.Data 1 6 5 0 ∷ exit Name.ResourceDestinationString 1 6 5 0 ∷ exit Name.ResourceDestinationRaw 1 6 5 0 ∷ exit Name.ResourceDestination 1 6 5 0 ∷ enter Name.SpaceOrTab 1 6 5 0 ∷ exit Name.SpaceOrTab 1 7 6 0 ∷ enter Name.ResourceTitle 1 7 6 0 ∷ enter Name.ResourceTitleMarker 1 7 6 0 ∷ exit Name.ResourceTitleMarker 1 8 7 0 ∷ enter Name.ResourceTitleString 1 8 7 0 ∷ chained Name.Data 1 8 7 0 None (Some 34) ∷ exit Name.Data 1 10 9 0 ∷ chained Name.LineEnding 1 10 9 0 (Some 32) (Some 36) ∷ exit Name.LineEnding 2 1 10 0 ∷ chained Name.Data 2 1 10 0 (Some 34) None ∷ exit Name.Data 2 2 11 0 ∷ exit Name.ResourceTitleString 2 2 11 0 ∷ enter Name.ResourceTitleMarker 2 2 11 0 ∷ exit Name.ResourceTitleMarker 2 3 12 0 ∷ exit Name.ResourceTitle 2 3 12 0 ∷ enter Name.ResourceMarker 2 3 12 0 ∷ exit Name.ResourceMarker 2 4 13 0 ∷ exit Name.Resource 2 4 13 0 ∷ exit Name.Link 2 4 13 0 ∷ [])
+
+-- text «[a](b "\"")»: Link 0-11 [Label 0-3 [LabelLink 0-1, LabelText 1-2 [Data 1-2], LabelEnd 2-3], Resource 3-11 [ResourceMarker 3-4, Raw 4-5, SpaceOrTab 5-6, ResourceTitle 6-10 [ResourceTitleMarker 6-7, ResourceTitleString 7-9 [Data 7-9], ResourceTitleMarker 9-10], ResourceMarker 10-11]]
+abbrev pub row_31 : Type 0
+row_31 = text_answer (default) (codes "[a](b \"\\\"\")") (piece 0 0 11 0 ∷ []) ≡ (enter Name.Link 1 1 0 0 ∷ enter Name.Label 1 1 0 0 ∷ enter Name.LabelLink 1 1 0 0 ∷ enter Name.LabelMarker 1 1 0 0 ∷ exit Name.LabelMarker 1 2 1 0 ∷ exit Name.LabelLink 1 2 1 0 ∷ enter Name.LabelText 1 2 1 0 ∷ enter Name.Data 1 2 1 0 ∷ exit Name.Data 1 3 2 0 ∷ exit Name.LabelText 1 3 2 0 ∷ enter Name.LabelEnd 1 3 2 0 ∷ enter Name.LabelMarker 1 3 2 0 ∷ exit Name.LabelMarker 1 4 3 0 ∷ exit Name.LabelEnd 1 4 3 0 ∷ exit Name.Label 1 4 3 0 ∷ enter Name.Resource 1 4 3 0 ∷ enter Name.ResourceMarker 1 4 3 0 ∷ exit Name.ResourceMarker 1 5 4 0 ∷ enter Name.ResourceDestination 1 5 4 0 ∷ enter Name.ResourceDestinationRaw 1 5 4 0 ∷ enter Name.ResourceDestinationString 1 5 4 0 ∷ chained Name.Data 1 5 4 0 None None ∷ exit Name.Data 1 6 5 0 ∷ exit Name.ResourceDestinationString 1 6 5 0 ∷ exit Name.ResourceDestinationRaw 1 6 5 0 ∷ exit Name.ResourceDestination 1 6 5 0 ∷ enter Name.SpaceOrTab 1 6 5 0 ∷ exit Name.SpaceOrTab 1 7 6 0 ∷ enter Name.ResourceTitle 1 7 6 0 ∷ enter Name.ResourceTitleMarker 1 7 6 0 ∷ exit Name.ResourceTitleMarker 1 8 7 0 ∷ enter Name.ResourceTitleString 1 8 7 0 ∷ chained Name.Data 1 8 7 0 None None ∷ exit Name.Data 1 10 9 0 ∷ exit Name.ResourceTitleString 1 10 9 0 ∷ enter Name.ResourceTitleMarker 1 10 9 0 ∷ exit Name.ResourceTitleMarker 1 11 10 0 ∷ exit Name.ResourceTitle 1 11 10 0 ∷ enter Name.ResourceMarker 1 11 10 0 ∷ exit Name.ResourceMarker 1 12 11 0 ∷ exit Name.Resource 1 12 11 0 ∷ exit Name.Link 1 12 11 0 ∷ [])
+
+-- text «[ a ](b)»: Link 0-8 [Label 0-5 [LabelLink 0-1, LabelText 1-4 [Data 1-4], LabelEnd 4-5], Resource 5-8 [ResourceMarker 5-6, Raw 6-7, ResourceMarker 7-8]]
+abbrev pub row_32 : Type 0
+row_32 = text_answer (default) (codes "[ a ](b)") (piece 0 0 8 0 ∷ []) ≡ (enter Name.Link 1 1 0 0 ∷ enter Name.Label 1 1 0 0 ∷ enter Name.LabelLink 1 1 0 0 ∷ enter Name.LabelMarker 1 1 0 0 ∷ exit Name.LabelMarker 1 2 1 0 ∷ exit Name.LabelLink 1 2 1 0 ∷ enter Name.LabelText 1 2 1 0 ∷ enter Name.Data 1 2 1 0 ∷ exit Name.Data 1 5 4 0 ∷ exit Name.LabelText 1 5 4 0 ∷ enter Name.LabelEnd 1 5 4 0 ∷ enter Name.LabelMarker 1 5 4 0 ∷ exit Name.LabelMarker 1 6 5 0 ∷ exit Name.LabelEnd 1 6 5 0 ∷ exit Name.Label 1 6 5 0 ∷ enter Name.Resource 1 6 5 0 ∷ enter Name.ResourceMarker 1 6 5 0 ∷ exit Name.ResourceMarker 1 7 6 0 ∷ enter Name.ResourceDestination 1 7 6 0 ∷ enter Name.ResourceDestinationRaw 1 7 6 0 ∷ enter Name.ResourceDestinationString 1 7 6 0 ∷ chained Name.Data 1 7 6 0 None None ∷ exit Name.Data 1 8 7 0 ∷ exit Name.ResourceDestinationString 1 8 7 0 ∷ exit Name.ResourceDestinationRaw 1 8 7 0 ∷ exit Name.ResourceDestination 1 8 7 0 ∷ enter Name.ResourceMarker 1 8 7 0 ∷ exit Name.ResourceMarker 1 9 8 0 ∷ exit Name.Resource 1 9 8 0 ∷ exit Name.Link 1 9 8 0 ∷ [])
+
+-- text «[a](<b␊c>)»: Data 0-4, HtmlText 4-9 [HtmlTextData 4-6, LineEnding 6-7, HtmlTextData 7-9], Data 9-10
+abbrev pub row_33 : Type 0
+row_33 = text_answer (default) (91 ∷ 97 ∷ 93 ∷ 40 ∷ 60 ∷ 98 ∷ 10 ∷ 99 ∷ 62 ∷ 41 ∷ []) (piece 0 0 10 0 ∷ []) ≡ (enter Name.Data 1 1 0 0 ∷ exit Name.Data 1 5 4 0 ∷ enter Name.HtmlText 1 5 4 0 ∷ enter Name.HtmlTextData 1 5 4 0 ∷ exit Name.HtmlTextData 1 7 6 0 ∷ enter Name.LineEnding 1 7 6 0 ∷ exit Name.LineEnding 2 1 7 0 ∷ enter Name.HtmlTextData 2 1 7 0 ∷ exit Name.HtmlTextData 2 3 9 0 ∷ exit Name.HtmlText 2 3 9 0 ∷ enter Name.Data 2 3 9 0 ∷ exit Name.Data 2 4 10 0 ∷ [])
+
+-- text «[a](<b<c>)»: Data 0-6, HtmlText 6-9 [HtmlTextData 6-9], Data 9-10
+abbrev pub row_34 : Type 0
+row_34 = text_answer (default) (codes "[a](<b<c>)") (piece 0 0 10 0 ∷ []) ≡ (enter Name.Data 1 1 0 0 ∷ exit Name.Data 1 7 6 0 ∷ enter Name.HtmlText 1 7 6 0 ∷ enter Name.HtmlTextData 1 7 6 0 ∷ exit Name.HtmlTextData 1 10 9 0 ∷ exit Name.HtmlText 1 10 9 0 ∷ enter Name.Data 1 10 9 0 ∷ exit Name.Data 1 11 10 0 ∷ [])
+
+-- text «[a»: Data 0-2
+abbrev pub row_35 : Type 0
+row_35 = text_answer (default) (codes "[a") (piece 0 0 2 0 ∷ []) ≡ (enter Name.Data 1 1 0 0 ∷ exit Name.Data 1 3 2 0 ∷ [])
+
+-- text «]a»: Data 0-2
+abbrev pub row_36 : Type 0
+row_36 = text_answer (default) (codes "]a") (piece 0 0 2 0 ∷ []) ≡ (enter Name.Data 1 1 0 0 ∷ exit Name.Data 1 3 2 0 ∷ [])
+
+-- text outer «*[a](b*c)»: Data 0-1, Link 1-9
+abbrev pub row_37 : Type 0
+row_37 = text_outline (default) (codes "*[a](b*c)") (piece 0 0 9 0 ∷ []) ≡ (enter Name.Data 1 1 0 0 ∷ exit Name.Data 1 2 1 0 ∷ enter Name.Link 1 2 1 0 ∷ exit Name.Link 1 10 9 0 ∷ [])
+
+-- text «![a]»: Data 0-4
+abbrev pub row_38 : Type 0
+row_38 = text_answer (default) (codes "![a]") (piece 0 0 4 0 ∷ []) ≡ (enter Name.Data 1 1 0 0 ∷ exit Name.Data 1 5 4 0 ∷ [])
+
+-- text «!a»: Data 0-2
+abbrev pub row_39 : Type 0
+row_39 = text_answer (default) (codes "!a") (piece 0 0 2 0 ∷ []) ≡ (enter Name.Data 1 1 0 0 ∷ exit Name.Data 1 3 2 0 ∷ [])
+
 abbrev pub Rows : Type 0
-Rows = row_1 × row_2 × row_3 × row_4 × row_5 × row_6 × row_7 × row_8 × row_9 × row_10 × row_11 × row_12 × row_13 × row_14 × row_15 × row_16
+Rows = row_1 × row_2 × row_3 × row_4 × row_5 × row_6 × row_7 × row_8 × row_9 × row_10 × row_11 × row_12 × row_13 × row_14 × row_15 × row_16 × row_17 × row_18 × row_19 × row_20 × row_21 × row_22 × row_23 × row_24 × row_25 × row_26 × row_27 × row_28 × row_29 × row_30 × row_31 × row_32 × row_33 × row_34 × row_35 × row_36 × row_37 × row_38 × row_39
