@@ -7,15 +7,17 @@ use Rattle.markdown_engine.specs.Codes.{Code, codes_of, document_start, is_line_
 use Rattle.markdown_engine.specs.Content.{IsContent, content_of, piece_codes, are_pieces, ends_line}
 use Rattle.markdown_engine.specs.Tree.{Forest, empty, leaf_then, group_then, leaf_codes}
 use Rattle.markdown_engine.specs.Walk.{codes_after}
+use Rattle.markdown_engine.specs.declared.event.Name.{Name}
 use Rattle.markdown_engine.specs.declared.event.Name.TheVariants as N
 use Rattle.markdown_engine.specs.declared.parser.Piece.{Piece}
 use Rattle.markdown_engine.proofs.Chain.{IsChain, before_in, from_in, chain-back, split-at}
 use Rattle.markdown_engine.proofs.Points.{chain-split, document-split}
 use Rattle.markdown_engine.proofs.Standings.{piece-codes-is, piece_row, followed_by}
 use Rattle.markdown_model.specs.Passes.{data_onto, merged}
-use Rattle.markdown_partial.specs.Merge.{HasData}
+use Rattle.markdown_cut.specs.CutData.{HasCodes}
+use Rattle.markdown_partial.specs.Merge.{HasData, is_data}
 use Rattle.markdown_partial.specs.TrimEvents.{IsPart, HasParts}
-use Rattle.markdown_inline.specs.Elements.{HasLines}
+use Rattle.markdown_inline.specs.Elements.{HasLines, makes_data}
 
 -- Two ways to cut a list.
 
@@ -129,12 +131,16 @@ part-of-content bytes (piece ∷ next ∷ more) xs order some none (a, b, e) =
 
 -- Trees over a content.
 
+data-makes : (n : Name) → is_data n ≡ true → makes_data n ≡ true
+data-makes N.Data e = refl
+data-makes _ e = cc
+
 module _ (bytes : List ℕ) (all : List Code) (part : (xs : List Code) → xs ≢ [] → list_any is_line_ending xs ≡ false → IsIn xs all → IsPart bytes xs) where
   parts-row : (t : Forest) (before after : List Code) → all ≡ before ++ (leaf_codes t ++ after) → HasLines t → HasParts bytes t
   parts-row empty before after e h = tt
   parts-row (leaf_then name link cs rest) before after e h =
       let apart : all ≡ before ++ (cs ++ (leaf_codes rest ++ after)) = e ∙ ap (λ x. before ++ x) (append_assoc cs (leaf_codes rest) after) in
-      (λ d l. part cs (h.0 d).0 (h.0 d).1 (before, leaf_codes rest ++ after, apart), parts-row rest (before ++ cs) after (apart ∙ sym (append_assoc before cs (leaf_codes rest ++ after))) h.1)
+      (λ d l. part cs (h.0 (data-makes name d)).0 (h.0 (data-makes name d)).1 (before, leaf_codes rest ++ after, apart), parts-row rest (before ++ cs) after (apart ∙ sym (append_assoc before cs (leaf_codes rest ++ after))) h.1)
   parts-row (group_then name enter exit inside rest) before after e h =
       let apart : all ≡ before ++ (leaf_codes inside ++ (leaf_codes rest ++ after)) = e ∙ ap (λ x. before ++ x) (append_assoc (leaf_codes inside) (leaf_codes rest) after) in
       (h.0, (parts-row inside before (leaf_codes rest ++ after) apart h.1.0, parts-row rest (before ++ leaf_codes inside) after (apart ∙ sym (append_assoc before (leaf_codes inside) (leaf_codes rest ++ after))) h.1.1))
@@ -164,5 +170,10 @@ HasLines-merged (group_then name enter exit inside rest) h = (h.0, (HasLines-mer
 
 pub HasLines-HasData : (t : Forest) → HasLines t → HasData t
 HasLines-HasData empty h = tt
-HasLines-HasData (leaf_then name link cs rest) h = (λ e. (h.0 e).0, HasLines-HasData rest h.1)
+HasLines-HasData (leaf_then name link cs rest) h = (λ e. (h.0 (data-makes name e)).0, HasLines-HasData rest h.1)
 HasLines-HasData (group_then name enter exit inside rest) h = (h.0.0, (HasLines-HasData inside h.1.0, HasLines-HasData rest h.1.1))
+
+pub HasLines-HasCodes : (t : Forest) → HasLines t → HasCodes t
+HasLines-HasCodes empty h = tt
+HasLines-HasCodes (leaf_then name link cs rest) h = (λ e. (h.0 (data-makes name e)).0, HasLines-HasCodes rest h.1)
+HasLines-HasCodes (group_then name enter exit inside rest) h = (HasLines-HasCodes inside h.1.0, HasLines-HasCodes rest h.1.1)

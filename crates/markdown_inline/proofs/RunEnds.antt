@@ -24,9 +24,9 @@ use Rattle.markdown_model.specs.Element.{Choice, AreElementsFrom}
 use Rattle.markdown_model.specs.LabelEnd.{Element}
 use Rattle.markdown_model.specs.Passes.{merged, trimmed}
 use Rattle.markdown_inline.specs.Elements.{AllElements, Finishes, StandsAfter}
-use Rattle.markdown_inline.specs.Onto.{merged_onto}
 use Rattle.markdown_inline.specs.Resolve.{may_resolve_of, resolves_of}
-use Rattle.markdown_inline.specs.Laws.MergeLemmas.{merged-row}
+use Rattle.markdown_cut.specs.CutData.{split}
+use Rattle.markdown_inline.specs.Elements.{HasLines}
 use Rattle.markdown_inline.proofs.PassesRun.{IsTrimming, IsStart, may-after, left-after, codes-ahead}
 
 -- T stands at the start of the content of these pieces, with no events and these scratch fields
@@ -61,10 +61,6 @@ start-stands p pieces s T k = record { escaped = ap follows_escape k.events; bef
 pub start-ahead : (p : ParseState) (pieces : List Piece) (s : TokenizeState) (T : Tokenizer) → Starts p pieces s T → ahead T ≡ content_of p.bytes.now pieces
 start-ahead p pieces s T k = codes-ahead p pieces T k.place
 
-merged-onto-nothing : (t : Forest) → merged t ≡ merged_onto t empty
-unfolding merged
-merged-onto-nothing t = ap merged (sym (row-empty t)) ∙ merged-row t empty
-
 module _ (last : ResolveName) (hard : ParseState → Bool) (whole : Bool) (trims : IsTrimming last hard whole) (choice : Choice) (given : Type 0) (p : ParseState) (pieces : List Piece) (content : IsContent p.bytes.now pieces) (s : TokenizeState) (T U : Tokenizer) (start : Starts p pieces s T) (k : Finishes choice given (λ X. registered last (registered R.Data X)) T U) where
   begins : IsStart p pieces T
   begins = record { content = content; place = start.place; input = start.input; events = start.events; map = start.map; resolvers = start.resolvers }
@@ -79,12 +75,8 @@ module _ (last : ResolveName) (hard : ParseState → Bool) (whole : Bool) (trims
   pub finished-fields : (V : Tokenizer) → Resolves resolves_of U.resolvers (unregistered U) V → V.tokenize_state ≡ s
   finished-fields V r = (left-after p pieces k.tree last hard whole T U V trims begins k.has_lines k.whole k.left r).1 ∙ start.fields
 
-  pub finished-elements : given → (es : List Element) × (AreElementsFrom choice [] None (content_of p.bytes.now pieces) es × (merged k.tree ≡ merged (row_of es)))
+  -- the tree is the row of the content's elements but for how data is cut
+  pub finished-elements : given → (es : List Element) × (AreElementsFrom choice [] None (content_of p.bytes.now pieces) es × (HasLines (row_of es) × (split k.tree ≡ split (row_of es))))
   finished-elements g =
-      let all : AllElements choice [] None k.tree (ahead T) = k.elements g [] None (start-stands p pieces s T start) in (
-        all.elements,
-        (
-          subst (λ cs. AreElementsFrom choice [] None cs all.elements) (start-ahead p pieces s T start) all.are,
-          merged-onto-nothing k.tree ∙ all.reads_as empty ∙ sym (merged-onto-nothing (row_of all.elements)),
-        ),
-      )
+      let all : AllElements choice [] None k.tree (ahead T) = k.elements g [] None (start-stands p pieces s T start) in
+      (all.elements, (subst (λ cs. AreElementsFrom choice [] None cs all.elements) (start-ahead p pieces s T start) all.are, (all.has_lines, all.alike)))

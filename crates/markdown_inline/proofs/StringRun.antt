@@ -21,6 +21,9 @@ use Rattle.markdown_inline.specs.StringSteps.{string_markers, string_marked, str
 use Rattle.markdown_inline.proofs.PassesRun.{string-trims}
 use Rattle.markdown_inline.proofs.RunEnds.{Starts, start-with, finished-may, finished-events, finished-fields, finished-elements}
 use Rattle.markdown_inline.proofs.StringTree.{string-finished}
+use Rattle.markdown_inline.proofs.ContentParts.{HasLines-HasCodes}
+use Rattle.markdown_cut.proofs.Splitting.{merged-same}
+use Rattle.markdown_model.proofs.DataLaws.{row_of}
 
 -- where data stops at the markers of a string
 marked-start : (p : ParseState) (pieces : List Piece) (T : Tokenizer) → Starts p pieces at_rest T → Starts p pieces (record at_rest { markers = string_markers }) (string_marked T)
@@ -56,5 +59,5 @@ module _ (p : ParseState) (pieces : List Piece) (content : IsContent p.bytes.now
       let found = finished-elements R.String (λ q. false) false string-trims (string_here M) (Unit {0}) p pieces content _ M U m e tt in
       let are : AreStringElements (setting_of p) (content_of p.bytes.now pieces) found.0 = subst (λ c. AreElementsFrom c [] None (content_of p.bytes.now pieces) found.0) choice-is found.1.0 in
       finished-events R.String (λ q. false) false string-trims (string_here M) (Unit {0}) p pieces content _ M U m e V r
-      ∙ ap (λ t. events_of (trimmed false false false t)) found.1.1
+      ∙ ap (λ t. events_of (trimmed false false false t)) (merged-same e.tree (row_of found.0) (HasLines-HasCodes e.tree e.has_lines) (HasLines-HasCodes (row_of found.0) found.1.1.0) found.1.1.1)
       ∙ ap events_of (sym (string-finished (setting_of p) (content_of p.bytes.now pieces) found.0 are))

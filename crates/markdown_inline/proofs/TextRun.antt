@@ -30,6 +30,9 @@ use Rattle.markdown_inline.proofs.PassesRun.{breaks_on, text-trims}
 use Rattle.markdown_inline.proofs.RunEnds.{Starts, start-with, finished-may, finished-events, finished-fields, finished-elements}
 use Rattle.markdown_inline.proofs.StartLemmas.{start-fits, unknown-runs}
 use Rattle.markdown_inline.proofs.TextTree.{text-finished}
+use Rattle.markdown_inline.proofs.ContentParts.{HasLines-HasCodes}
+use Rattle.markdown_cut.proofs.Splitting.{merged-same}
+use Rattle.markdown_model.proofs.DataLaws.{row_of}
 
 -- The constructs that are not built.
 
@@ -109,5 +112,5 @@ module _ (p : ParseState) (pieces : List Piece) (first : Bool) (content : IsCont
       let found = finished-elements R.Text breaks_on true text-trims (text_choice_of M) (Unit {0}) p pieces content _ M U m e tt in
       let are : AreElements (as_built (text_setting_of p first)) (content_of p.bytes.now pieces) found.0 = subst (λ c. AreElementsFrom c [] None (content_of p.bytes.now pieces) found.0) choice-is found.1.0 in
       finished-events R.Text breaks_on true text-trims (text_choice_of M) (Unit {0}) p pieces content _ M U m e V r
-      ∙ ap (λ t. events_of (trimmed (breaks_on p) true true t)) found.1.1
+      ∙ ap (λ t. events_of (trimmed (breaks_on p) true true t)) (merged-same e.tree (row_of found.0) (HasLines-HasCodes e.tree e.has_lines) (HasLines-HasCodes (row_of found.0) found.1.1.0) found.1.1.1)
       ∙ ap events_of (sym (text-finished (as_built (text_setting_of p first)) (content_of p.bytes.now pieces) found.0 (built-off (text_setting_of p first)) are))

@@ -15,14 +15,20 @@ use Rattle.markdown_model.specs.Element.{Choice, AreElementsFrom, ends_escaped}
 use Rattle.markdown_model.specs.LabelEnd.{Element}
 use Rattle.markdown_partial.specs.Merge.{is_data}
 use Rattle.markdown_partial.specs.TrimEvents.{is_ending}
-use Rattle.markdown_inline.specs.Onto.{merged_onto}
+use Rattle.markdown_cut.specs.CutData.{split}
 
 -- Trees.
 
--- no data is empty or holds a line ending, and no group has the name of data or of a line ending
+-- data, or a run of markers: what no pair takes of it is data
+abbrev pub makes_data : Name → Bool
+makes_data N.Data = true
+makes_data N.AttentionSequence = true
+makes_data _ = false
+
+-- no data and no run is empty or holds a line ending, and no group has the name of data or of a line ending
 abbrev pub HasLines : Forest → Type 0
 HasLines empty = Unit {0}
-HasLines (leaf_then name link cs rest) = (is_data name ≡ true → (cs ≢ []) × (list_any is_line_ending cs ≡ false)) × HasLines rest
+HasLines (leaf_then name link cs rest) = (makes_data name ≡ true → (cs ≢ []) × (list_any is_line_ending cs ≡ false)) × HasLines rest
 HasLines (group_then name enter exit inside rest) = ((is_data name ≡ false) × (is_ending name ≡ false)) × (HasLines inside × HasLines rest)
 
 abbrev pub is_run : Name → Bool
@@ -53,14 +59,15 @@ pub record StandsAfter (earlier : List Element) (previous : Option Code) (T : To
   pub escaped : follows_escape T.events ≡ ends_escaped earlier
   pub before : code_just_before T ≡ previous
 
--- the elements of the codes from T up to U, after these elements and this code; the tree merges as their row
+-- the elements of the codes from T up to U, after these elements and this code; the tree is their row but for how data is cut
 pub record Elements (choice : Choice) (earlier : List Element) (previous : Option Code) (tree : Forest) (T U : Tokenizer) : Type 0 where
   pub elements : List Element
   pub later : List Element
   pub last : Option Code
   pub stands : StandsAfter later last U
   pub follow : (es : List Element) → AreElementsFrom choice later last (ahead U) es → AreElementsFrom choice earlier previous (ahead T) (elements ++ es)
-  pub reads_as : (m : Forest) → merged_onto tree m ≡ merged_onto (row_of elements) m
+  pub has_lines : HasLines (row_of elements)
+  pub alike : split tree ≡ split (row_of elements)
 
 -- U is T past a tree that covers the codes between; where `given` holds, it is that of elements
 pub record Advances (choice : Choice) (given : Type 0) (T U : Tokenizer) : Type 0 where
@@ -72,11 +79,12 @@ pub record Advances (choice : Choice) (given : Type 0) (T U : Tokenizer) : Type 
   pub less : codes_left U < codes_left T
   pub elements : given → (earlier : List Element) (previous : Option Code) → StandsAfter earlier previous T → Elements choice earlier previous tree T U
 
--- all elements of these codes, after these elements and this code; the tree merges as their row
+-- all elements of these codes, after these elements and this code; the tree is their row but for how data is cut
 pub record AllElements (choice : Choice) (earlier : List Element) (previous : Option Code) (tree : Forest) (cs : List Code) : Type 0 where
   pub elements : List Element
   pub are : AreElementsFrom choice earlier previous cs elements
-  pub reads_as : (m : Forest) → merged_onto tree m ≡ merged_onto (row_of elements) m
+  pub has_lines : HasLines (row_of elements)
+  pub alike : split tree ≡ split (row_of elements)
 
 -- the codes from T on are those of a tree, and U is T past it, with its passes registered; where `given` holds, the tree is that of the
 -- elements of these codes

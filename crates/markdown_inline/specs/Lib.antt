@@ -1,4 +1,3 @@
-pub mod Onto
 pub mod Elements
 pub mod Settings
 pub mod StringSteps

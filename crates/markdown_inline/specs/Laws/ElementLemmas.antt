@@ -24,21 +24,17 @@ use Rattle.markdown_model.specs.CodeTests.{is_among, next_is, last_code}
 use Rattle.markdown_model.specs.Element.{Choice, AreElementsFrom, code_before, ends_escaped}
 use Rattle.markdown_model.specs.Grammar.{span}
 use Rattle.markdown_model.specs.LabelEnd.{Element, plain, starts, ends}
-use Rattle.markdown_model.specs.Lines.{data_up_to, line_leaf, line_leaves, lines_of, onto_stretch}
+use Rattle.markdown_model.specs.Lines.{linked_leaf, data_up_to, line_leaf, line_leaves, lines_of, onto_stretch}
 use Rattle.markdown_model.proofs.DataLaws.{code_leaf, code_leaves, row_of}
 use Rattle.markdown_model.proofs.ReadingLaws.{code_before-append}
 use Rattle.markdown_model.proofs.Leaves.{span-append}
 use Rattle.markdown_inline.specs.Elements.{HasLines, IsSingle, IsNode, StandsAfter, Elements, Advances, AllElements, Finishes}
-use Rattle.markdown_inline.specs.Onto.{merged_onto}
 use Rattle.markdown_inline.specs.Laws.NodeLemmas.{quiet-lines-of, quiet-node-unlinked}
-use Rattle.markdown_inline.specs.Laws.MergeLemmas.{onto-row, lines-codes, leaf_by, line-leaf}
+use Rattle.markdown_cut.specs.CutData.{split}
+use Rattle.markdown_cut.proofs.Splitting.{row-assoc, split-join}
+use Rattle.markdown_cut.proofs.SplitLines.{lines-cut}
 
 -- Rows.
-
-row-assoc : (t u v : Forest) → (t ⊕ u) ⊕ v ≡ t ⊕ (u ⊕ v)
-row-assoc empty u v = refl
-row-assoc (leaf_then n l cs rest) u v = ap (leaf_then n l cs) (row-assoc rest u v)
-row-assoc (group_then n a b inside rest) u v = ap (group_then n a b inside) (row-assoc rest u v)
 
 row_of-append : (es fs : List Element) → row_of (es ++ fs) ≡ row_of es ⊕ row_of fs
 row_of-append [] fs = refl
@@ -61,12 +57,8 @@ elements-all choice earlier previous t u T U k a =
     record {
       elements = k.elements ++ a.elements;
       are = k.follow a.elements a.are;
-      reads_as = λ m.
-          onto-row t u m
-          ∙ k.reads_as (merged_onto u m)
-          ∙ ap (merged_onto (row_of k.elements)) (a.reads_as m)
-          ∙ sym (onto-row (row_of k.elements) (row_of a.elements) m)
-          ∙ ap (λ x. merged_onto x m) (sym (row_of-append k.elements a.elements));
+      has_lines = subst HasLines (sym (row_of-append k.elements a.elements)) (HasLines-row (row_of k.elements) (row_of a.elements) k.has_lines a.has_lines);
+      alike = split-join t u ∙ (λ i. k.alike i ⊕ a.alike i) ∙ sym (split-join (row_of k.elements) (row_of a.elements)) ∙ ap split (sym (row_of-append k.elements a.elements));
     }
 
 -- what follows an advance, follows from before it
@@ -90,7 +82,7 @@ finishes-end choice given passed T U e left =
       has_lines = tt;
       whole = sym (ahead-none T e);
       left = left ∙ ap passed (sym (past-empty None T));
-      elements = λ g earlier previous s. record { elements = []; are = ahead-none T e; reads_as = λ m. refl };
+      elements = λ g earlier previous s. record { elements = []; are = ahead-none T e; has_lines = tt; alike = refl };
     }
 
 -- Places past a tree.
@@ -172,6 +164,15 @@ unescaped-leaves : (earlier : List Element) (cs : List Code) → ends_escaped ea
 unfolding past_leaves
 unescaped-leaves earlier [] e = e
 unescaped-leaves earlier (c ∷ cs) e = unescaped-leaves (plain (code_leaf c) ∷ earlier) cs (unescaped-leaf (is_line_ending c) c earlier)
+
+-- The leaf of a stretch, by what its first code is.
+
+leaf_by : Bool → List Code → Forest
+leaf_by b cs = elim b [ true ↦ linked_leaf N.LineEnding None cs | false ↦ linked_leaf N.Data None cs ]
+
+line-leaf : (b : Bool) (c : Code) (cs : List Code) → is_line_ending c ≡ b → line_leaf N.Data None (c ∷ cs) ≡ leaf_by b (c ∷ cs)
+unfolding leaf_by
+line-leaf b c cs e = ap (λ x. leaf_by x (c ∷ cs)) e
 
 -- The last event of data is not the end of an escape.
 
@@ -258,8 +259,17 @@ unfolding leaf_elements
 leaves-row [] = refl
 leaves-row (c ∷ cs) = ap (λ x. code_leaf c ⊕ x) (leaves-row cs)
 
-data-merges : (cs : List Code) (m : Forest) → merged_onto (line_leaves N.Data (lines_of cs)) m ≡ merged_onto (row_of (leaf_elements cs)) m
-data-merges cs m = lines-codes cs m ∙ ap (λ x. merged_onto x m) (leaves-row cs)
+-- data in lines is the row of its codes but for how it is cut
+data-alike : (cs : List Code) → split (line_leaves N.Data (lines_of cs)) ≡ split (row_of (leaf_elements cs))
+data-alike cs = lines-cut cs ∙ ap split (leaves-row cs)
+
+HasLines-code : (b : Bool) (c : Code) → is_line_ending c ≡ b → HasLines (elim b as (λ _. Forest) [ true ↦ leaf N.LineEnding (c ∷ []) | false ↦ leaf N.Data (c ∷ []) ])
+HasLines-code true c e = (λ d. cc, tt)
+HasLines-code false c e = (λ d. (λ k. cc, any-one c e), tt)
+
+HasLines-codes : (cs : List Code) → HasLines (code_leaves cs)
+HasLines-codes [] = tt
+HasLines-codes (c ∷ cs) = HasLines-row (code_leaf c) (code_leaves cs) (HasLines-code (is_line_ending c) c refl) (HasLines-codes cs)
 
 -- what data reads, and the codes after it
 data-reads : (markers : List ℕ) (cs : List Code) (c : Code) (xs : List Code) (t : Forest) (rest : List Code) → cs ≡ c ∷ xs → data_up_to markers cs ≡ Some (t, rest) → (line_leaves N.Data (lines_of (c ∷ (unmarked markers xs).0)) ≡ t) × ((unmarked markers xs).1 ≡ rest)
@@ -288,8 +298,8 @@ data-elements : (choice : Choice) (markers : List ℕ) (T U : Tokenizer) (c : Co
 unfolding leaf_elements past_leaves past_code
 data-elements choice markers T U c cs t rest whole is from left covers after others earlier previous here =
     let s : List Code × List Code = unmarked markers cs in
-    let split : ahead T ≡ (c ∷ s.0) ++ rest = whole ∙ ap (λ xs. c ∷ xs) (sym (span-append (λ d. not (is_among markers d)) cs)) ∙ ap (λ xs. (c ∷ s.0) ++ xs) from in
-    let some : 1 ≤ length (leaf_codes t) = omega (arith, ap length split, ap length covers, length-append (c ∷ s.0) rest, length-append (leaf_codes t) rest) in
+    let cut : ahead T ≡ (c ∷ s.0) ++ rest = whole ∙ ap (λ xs. c ∷ xs) (sym (span-append (λ d. not (is_among markers d)) cs)) ∙ ap (λ xs. (c ∷ s.0) ++ xs) from in
+    let some : 1 ≤ length (leaf_codes t) = omega (arith, ap length cut, ap length covers, length-append (c ∷ s.0) rest, length-append (leaf_codes t) rest) in
     let next : List Element = plain (code_leaf c) ∷ earlier in
     record {
       elements = leaf_elements (c ∷ s.0);
@@ -301,13 +311,14 @@ data-elements choice markers T U c cs t rest whole is from left covers after oth
             ∙ ap (λ x. follows_escape (T.events ++ appended_from (length T.events) None x)) (sym is)
             ∙ data-unescaped T.events (length T.events) c s.0
             ∙ sym (unescaped-leaves next s.0 (unescaped-leaf (is_line_ending c) c earlier));
-        before = before-past t rest T U some covers left ∙ same-last (ahead T) (leaf_codes t) (c ∷ s.0) rest covers split ∙ sym (past-last c s.0 previous);
+        before = before-past t rest T U some covers left ∙ same-last (ahead T) (leaf_codes t) (c ∷ s.0) rest covers cut ∙ sym (past-last c s.0 previous);
       };
       follow = λ es h.
           let at : AreElementsFrom choice (past_leaves next s.0) (past_code (Some c) s.0) s.1 es = subst (λ xs. AreElementsFrom choice (past_leaves next s.0) (past_code (Some c) s.0) xs es) (after ∙ sym from) h in
           subst (λ xs. AreElementsFrom choice earlier previous xs (leaf_elements (c ∷ s.0) ++ es)) (sym whole)
           (data-next choice earlier previous c cs (leaf_elements s.0 ++ es) here (data-others choice markers others next (Some c) cs es at));
-      reads_as = λ m. ap (λ x. merged_onto x m) (sym is) ∙ data-merges (c ∷ s.0) m;
+      has_lines = subst HasLines (leaves-row (c ∷ s.0)) (HasLines-codes (c ∷ s.0));
+      alike = ap split (sym is) ∙ data-alike (c ∷ s.0);
     }
 
 data-parts : (choice : Choice) (given : Type 0) (markers : List ℕ) (T U : Tokenizer) (c : Code) (cs : List Code) → ahead T ≡ c ∷ cs → (k : Reads (data_up_to T.tokenize_state.markers) None T.tokenize_state T U) → data_up_to markers (ahead T) ≡ Some (k.tree, k.rest) → (given → (earlier : List Element) (previous : Option Code) (d : Code) (ds : List Code) → StandsAfter earlier previous T → ahead T ≡ d ∷ ds → choice earlier previous (d ∷ ds) ≡ Some (plain (code_leaf d), ds)) → (given → (earlier : List Element) (previous : Option Code) (d : Code) (ds : List Code) → is_among markers d ≡ false → choice earlier previous (d ∷ ds) ≡ Some (plain (code_leaf d), ds)) → Advances choice given T U
@@ -315,14 +326,14 @@ data-parts choice given markers T U c cs whole k holds first others =
     let d = data-reads markers (ahead T) c cs k.tree k.rest whole holds in
     let s : List Code × List Code = unmarked markers cs in
     let left : U ≡ past None k.tree T = k.left ∙ ap (past None k.tree) (scratched-same T) in
-    let split : ahead T ≡ (c ∷ s.0) ++ ahead U = whole ∙ ap (λ xs. c ∷ xs) (sym (span-append (λ d. not (is_among markers d)) cs)) ∙ ap (λ xs. (c ∷ s.0) ++ xs) (d.1 ∙ sym k.after) in
+    let cut : ahead T ≡ (c ∷ s.0) ++ ahead U = whole ∙ ap (λ xs. c ∷ xs) (sym (span-append (λ d. not (is_among markers d)) cs)) ∙ ap (λ xs. (c ∷ s.0) ++ xs) (d.1 ∙ sym k.after) in
     record {
       tree = k.tree;
       has_lines = subst HasLines d.0 (HasLines-lines (c ∷ s.0));
       unlinked = ap (λ x. last_link (length T.events) None x) (sym d.0) ∙ unlinked-lines (length T.events) (lines_of (c ∷ s.0));
       left = left;
       whole = k.whole ∙ ap (λ xs. leaf_codes k.tree ++ xs) (sym k.after);
-      less = fewer-left T U (c ∷ s.0) (omega arith) split;
+      less = fewer-left T U (c ∷ s.0) (omega arith) cut;
       elements = λ g earlier previous stands. data-elements choice markers T U c cs k.tree k.rest whole d.0 d.1 left k.whole k.after (others g) earlier previous (first g earlier previous c cs stands whole);
     }
 
@@ -357,8 +368,8 @@ single-escaped es n (group_then name a b inside rest) earlier h =
     ∙ group-escaped es n name a b inside
     ∙ named-escape name a b inside rest earlier
 
-node-elements : (choice : Choice) (T U : Tokenizer) (t : Forest) (rest : List Code) → IsSingle t → 1 ≤ length (leaf_codes t) → U ≡ past None t T → ahead T ≡ leaf_codes t ++ rest → ahead U ≡ rest → (earlier : List Element) (previous : Option Code) → choice earlier previous (ahead T) ≡ Some (plain t, rest) → Elements choice earlier previous t T U
-node-elements choice T U t rest single some left covers after earlier previous here =
+node-elements : (choice : Choice) (T U : Tokenizer) (t : Forest) (rest : List Code) → IsSingle t → HasLines t → 1 ≤ length (leaf_codes t) → U ≡ past None t T → ahead T ≡ leaf_codes t ++ rest → ahead U ≡ rest → (earlier : List Element) (previous : Option Code) → choice earlier previous (ahead T) ≡ Some (plain t, rest) → Elements choice earlier previous t T U
+node-elements choice T U t rest single lines some left covers after earlier previous here =
     record {
       elements = plain t ∷ [];
       later = plain t ∷ earlier;
@@ -368,7 +379,8 @@ node-elements choice T U t rest single some left covers after earlier previous h
         before = before-past t rest T U some covers left ∙ sym (ap (λ xs. code_before xs rest) covers ∙ code_before-append (leaf_codes t) rest);
       };
       follow = λ es h. (rest, here, subst (λ xs. AreElementsFrom choice (plain t ∷ earlier) (code_before (ahead T) rest) xs es) after h);
-      reads_as = λ m. ap (λ x. merged_onto x m) (sym (row-empty t));
+      has_lines = subst HasLines (sym (row-empty t)) lines;
+      alike = ap split (sym (row-empty t));
     }
 
 -- past a construct that stands by itself
@@ -384,5 +396,5 @@ node-advances choice given reading T U k node more finds =
       left = left;
       whole = whole;
       less = fewer-left T U (leaf_codes k.tree) some whole;
-      elements = λ g earlier previous stands. node-elements choice T U k.tree k.rest node.single some left k.whole k.after earlier previous (finds g earlier previous stands);
+      elements = λ g earlier previous stands. node-elements choice T U k.tree k.rest node.single (quiet-lines-of k.tree node.quiet) some left k.whole k.after earlier previous (finds g earlier previous stands);
     }

@@ -19,7 +19,7 @@ use Rattle.markdown_model.proofs.LinkFree.{Passes, Yields, yields_bind, yields_g
 use Rattle.markdown_partial.specs.Merge.{is_data}
 use Rattle.markdown_partial.specs.TrimEvents.{is_ending}
 use Rattle.markdown_util.specs.Reference.{Table}
-use Rattle.markdown_inline.specs.Elements.{IsNode, IsQuiet, IsSingle, HasLines, is_run}
+use Rattle.markdown_inline.specs.Elements.{IsNode, IsQuiet, IsSingle, HasLines, makes_data, is_run}
 
 -- Quiet trees.
 
@@ -49,10 +49,12 @@ quiet-lines name (s ∷ ss) d r = quiet-row (line_leaf name None s) (line_leaves
 
 pub quiet-lines-of : (t : Forest) → IsQuiet t → HasLines t
 quiet-lines-of empty h = tt
-quiet-lines-of (leaf_then name link cs rest) h = (λ e. absurd (other (is_data name) e h.0), quiet-lines-of rest h.1.1)
+quiet-lines-of (leaf_then name link cs rest) h = (λ e. absurd (other name e h.0 h.1.0), quiet-lines-of rest h.1.1)
   where
-    other : (b : Bool) → b ≡ true → b ≡ false → ⊥
-    other b e f = cc
+    other : (n : Name) → makes_data n ≡ true → is_data n ≡ false → is_run n ≡ false → ⊥
+    other N.Data e d r = cc
+    other N.AttentionSequence e d r = cc
+    other _ e d r = cc
 quiet-lines-of (group_then name enter exit inside rest) h = (h.0, (quiet-lines-of inside h.1.0, quiet-lines-of rest h.1.1))
 
 pub quiet-node-unlinked : (t : Forest) → IsSingle t → (n : ℕ) → last_link n None t ≡ None

@@ -1,0 +1,4 @@
+pub mod Splitting
+pub mod SplitLines
+pub mod Pairing
+pub mod SplitRuns
