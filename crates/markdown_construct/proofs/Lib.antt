@@ -6,3 +6,6 @@ pub mod PlanLemmas
 pub mod RenamingLemmas
 pub mod NamingLemmas
 pub mod StateLaws
+pub mod ContentTexts
+pub mod TextPasses
+pub mod TextPlaces

@@ -4,3 +4,4 @@ pub mod Renaming
 pub mod Scratch
 pub mod Values
 pub mod Within
+pub mod Characters

@@ -8,4 +8,3 @@ pub mod LiteralWhole
 pub mod LiteralAttempts
 pub mod LiteralProtocolLaws
 pub mod LiteralWwwLaws
-pub mod LiteralTexts

@@ -22,9 +22,11 @@ use Rattle.markdown_util.specs.Neighbours.{class_of, after_index}
 use Rattle.markdown_construct.specs.Values.{among_values}
 use Rattle.markdown_construct.specs.Plan.{Plan, preceded, DoesAs}
 use Rattle.markdown_construct.proofs.PlanLemmas.{preceded-nil, Goes-on, Goes-kept, Goes-ok, Goes-nok, no-codes}
-use Rattle.markdown_gfm.specs.GfmAutolinkLiteral.{bytes_of, end_of, kind_here, later_value, at_later, mark_value, rested, sized, closed, saw, underscored, dotted, domain_rested, looked, domain_at, domain_step, domain_punctuation_at, domain_punctuation_step, is_well, domain_after_step, path_at, path_step, path_punctuation_at, path_punctuation_step, path_after_step, LiteralReady, CodeReady, LookReady, passed_code, path_plan, path_punctuation_plan, domain_plan, domain_after_plan, domain_punctuation_plan, nothing_more, domain_ends, domain_punctuation_ends, domain_after_ends, path_ends, path_punctuation_ends, path_after_ends}
+use Rattle.markdown_gfm.specs.GfmAutolinkLiteral.{end_of, kind_here, mark_value, rested, sized, closed, saw, underscored, dotted, domain_rested, looked, domain_at, domain_step, domain_punctuation_at, domain_punctuation_step, is_well, domain_after_step, path_at, path_step, path_punctuation_at, path_punctuation_step, path_after_step, LiteralReady, CodeReady, LookReady, passed_code, path_plan, path_punctuation_plan, domain_plan, domain_after_plan, domain_punctuation_plan, nothing_more, domain_ends, domain_punctuation_ends, domain_after_ends, path_ends, path_punctuation_ends, path_after_ends}
+use Rattle.markdown_construct.specs.Characters.{bytes_of, later_value, at_later}
 use Rattle.markdown_gfm.proofs.LiteralReadings.{domain-more, domain-stop, domain-end, path-more, path-stop}
-use Rattle.markdown_gfm.proofs.LiteralLooks.{text-consumed, text-passed, space-here, looked-back}
+use Rattle.markdown_gfm.proofs.LiteralLooks.{space-here, looked-back}
+use Rattle.markdown_construct.proofs.TextPasses.{text-consumed, text-passed}
 use Rattle.markdown_gfm.proofs.LiteralTrailLaws as T
 use Rattle.markdown_model.proofs.ReadingSteps.{if-true, if-false}
 

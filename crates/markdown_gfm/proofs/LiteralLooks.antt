@@ -21,7 +21,9 @@ use Rattle.markdown_engine.proofs.PlaceRules.{point_ahead, point_end}
 use Rattle.markdown_model.specs.CodeTests.{is_among, is_letter}
 use Rattle.markdown_model.specs.Literal.{is_space, trails_in}
 use Rattle.markdown_util.specs.Neighbours.{class_of, after_index}
-use Rattle.markdown_gfm.specs.GfmAutolinkLiteral.{bytes_of, end_of, kind_here, at_later, ended, IsText, ReadsText, MayClass, MayCount, TrailReady, LiteralReady, LookReady, Looks, trails_on}
+use Rattle.markdown_construct.proofs.TextPasses.{text-moved}
+use Rattle.markdown_gfm.specs.GfmAutolinkLiteral.{end_of, kind_here, ended, MayClass, MayCount, TrailReady, LiteralReady, LookReady, Looks, trails_on}
+use Rattle.markdown_construct.specs.Characters.{bytes_of, at_later, IsText, ReadsText}
 
 -- Characters.
 
@@ -38,22 +40,6 @@ may-class T k = record { text = k.text; begins = λ h. class-by _ T.cursor k h }
 
 pub trail-ready : (T : Tokenizer) → LookReady T → TrailReady T
 trail-ready T k = record { class = may-class T k.text; begins = k.begins }
-
-pub text-moved : (bytes : List ℕ) (p : Place) → IsText bytes p → IsText bytes (moved p)
-unfolding moved
-text-moved bytes p k = record { text = k.text; end = k.end; first = k.first; next = k.next }
-
-pub text-consumed : (r : TokenizeState) (T : Tokenizer) → ReadsText T → ReadsText (scratched r (done (Consume ∷ []) T))
-unfolding scratched applied
-text-consumed r T k = text-moved _ T.cursor k
-
-pub text-passed : (T : Tokenizer) → ReadsText T → ReadsText (done (Consume ∷ []) T)
-unfolding applied
-text-passed T k = text-moved _ T.cursor k
-
-pub text-scratched : (r : TokenizeState) (T : Tokenizer) → ReadsText T → ReadsText (scratched r T)
-unfolding scratched
-text-scratched r T k = k
 
 -- after an ASCII code no later byte stands
 begins-by : (bytes : List ℕ) (p : Place) (v : ℕ) → IsText bytes p → code_at p ≡ Some v → nat_lt v 128 ≡ true → at_later (code_at (moved p)) ≡ false

@@ -18,9 +18,10 @@ use Rattle.markdown_engine.proofs.OpRules.{ahead-none, ahead-some, attempts-appl
 use Rattle.markdown_model.specs.CodeTests.{is_letter, is_some_code, next_is}
 use Rattle.markdown_construct.specs.Plan.{Plan, plan_of, DoesAs}
 use Rattle.markdown_construct.proofs.PlanLemmas.{GoesOn-map, Goes-on, Goes-no, Goes-nok, EndsAs-plan}
-use Rattle.markdown_gfm.specs.GfmAutolinkLiteral.{bytes_of, end_of, before_of, is_on, may_begin, is_letter_before, scheme_letter, rested, sized, protocol_start_at, protocol_start_step, protocol_after_step, prefix_at, prefix_step, slashes_at, slashes_step, entered_literal, WordReady, LiteralReady, StartReady, pass_ops, prefix_reading, prefix_plan, slashes_plan, domain_plan, protocol_here, protocol_start_ends, protocol_after_ends, prefix_ends, slashes_ends}
+use Rattle.markdown_gfm.specs.GfmAutolinkLiteral.{end_of, before_of, is_on, may_begin, is_letter_before, scheme_letter, rested, sized, protocol_start_at, protocol_start_step, protocol_after_step, prefix_at, prefix_step, slashes_at, slashes_step, entered_literal, WordReady, LiteralReady, StartReady, pass_ops, prefix_reading, prefix_plan, slashes_plan, domain_plan, protocol_here, protocol_start_ends, protocol_after_ends, prefix_ends, slashes_ends}
+use Rattle.markdown_construct.specs.Characters.{bytes_of}
 use Rattle.markdown_gfm.proofs.LiteralReadings.{prefix-more, prefix-colon, prefix-none, slashes-more, slashes-last, slashes-none}
-use Rattle.markdown_gfm.proofs.LiteralLooks.{text-consumed}
+use Rattle.markdown_construct.proofs.TextPasses.{text-consumed}
 use Rattle.markdown_gfm.proofs.LiteralWhole.{leaf_ops, protocol-is, whole-protocol}
 use Rattle.markdown_gfm.proofs.LiteralAttempts.{Begins, begins-first, literal-law}
 use Rattle.markdown_gfm.proofs.LiteralAddressLaws as A

@@ -17,8 +17,10 @@ use Rattle.markdown_engine.proofs.OpRules.{ahead-none, ahead-some, ahead-consume
 use Rattle.markdown_model.specs.CodeTests.{is_among, is_empty, next_is, is_whitespace_code}
 use Rattle.markdown_model.specs.Literal.{is_space, trails_in}
 use Rattle.markdown_construct.specs.Values.{letter_value}
-use Rattle.markdown_gfm.specs.GfmAutolinkLiteral.{bytes_of, end_of, kind_here, trail_value, trail_at, trail_step, ends_bracket, bracket_after_step, reference_start_at, reference_start_step, reference_at, reference_step, ReadsText, LookReady, trails_on, trail_ends, bracket_after_ends, reference_start_ends, reference_ends}
-use Rattle.markdown_gfm.proofs.LiteralLooks.{text-passed, look-passed, space-here, space-end, trails-mark, trails-and, trails-angle, trails-bracket, trails-else, trails-end, name-letter, name-closed, name-other, name-none, name-end, look-ended, look-next, look-retry}
+use Rattle.markdown_gfm.specs.GfmAutolinkLiteral.{end_of, kind_here, trail_value, trail_at, trail_step, ends_bracket, bracket_after_step, reference_start_at, reference_start_step, reference_at, reference_step, LookReady, trails_on, trail_ends, bracket_after_ends, reference_start_ends, reference_ends}
+use Rattle.markdown_construct.specs.Characters.{bytes_of, ReadsText}
+use Rattle.markdown_gfm.proofs.LiteralLooks.{look-passed, space-here, space-end, trails-mark, trails-and, trails-angle, trails-bracket, trails-else, trails-end, name-letter, name-closed, name-other, name-none, name-end, look-ended, look-next, look-retry}
+use Rattle.markdown_construct.proofs.TextPasses.{text-passed}
 
 -- what the layer says of these states
 pub record Within (ready : StateName → Tokenizer → Type 0) (ends : StateName → Tokenizer → Bool → Tokenizer → Type 0) (weight : StateName → Tokenizer → ℕ) : Type 0 where

@@ -25,7 +25,8 @@ use Rattle.markdown_model.specs.CodeTests.{is_empty}
 use Rattle.markdown_model.specs.Literal.{domain_from, path_from, may_precede_www, begins_with_www, www_from_here}
 use Rattle.markdown_construct.specs.Plan.{Plan, plan_of, DoesAs}
 use Rattle.markdown_construct.proofs.PlanLemmas.{GoesOn-map, Goes-no, EndsAs-plan}
-use Rattle.markdown_gfm.specs.GfmAutolinkLiteral.{bytes_of, end_of, before_of, is_on, rested, sized, refused, precedes_www, www_letter, may_begin_www, www_start_at, www_start_step, www_prefix_at, www_prefix_step, www_prefix_after_step, www_after_step, entered_literal, StartReady, LiteralReady, WwwReady, Tries, is_well, fields_after, domain_plan, address, pass_ops, domain_ends, www_test, www_prefix_ends, www_prefix_after_ends, www_after_ends, www_here, www_start_ends}
+use Rattle.markdown_gfm.specs.GfmAutolinkLiteral.{end_of, before_of, is_on, rested, sized, refused, precedes_www, www_letter, may_begin_www, www_start_at, www_start_step, www_prefix_at, www_prefix_step, www_prefix_after_step, www_after_step, entered_literal, StartReady, LiteralReady, WwwReady, Tries, is_well, fields_after, domain_plan, address, pass_ops, domain_ends, www_test, www_prefix_ends, www_prefix_after_ends, www_after_ends, www_here, www_start_ends}
+use Rattle.markdown_construct.specs.Characters.{bytes_of}
 use Rattle.markdown_gfm.proofs.LiteralReadings.{address-is, www-more, www-other, www-left}
 use Rattle.markdown_gfm.proofs.LiteralWhole.{from-here-is, whole-www, www-is, www-none}
 use Rattle.markdown_gfm.proofs.LiteralAttempts.{Begins, literal-law}

@@ -15,6 +15,7 @@ use Rattle.markdown_model.specs.Literal.{letters, is_other, is_space, trails_in,
 use Rattle.markdown_util.specs.Neighbours.{class_of, after_index}
 use Rattle.markdown_util.specs.declared.util.char.Kind.{Kind}
 use Rattle.markdown_construct.specs.Values.{letter_value, among_values}
+use Rattle.markdown_construct.specs.Characters.{bytes_of, later_value, at_later, ReadsText}
 use Rattle.markdown_construct.specs.Plan.{Plan, preceded, plan_of, DoesAs, KeepsAs}
 use Rattle.markdown_partial.specs.SpaceSteps.{most}
 use Rattle.markdown_engine.specs.declared.event.Name.{Name}
@@ -28,9 +29,6 @@ use Rattle.markdown_engine.specs.declared.tokenizer.Tokenizer.{Tokenizer}
 
 -- What is looked at.
 
-abbrev pub bytes_of : Tokenizer → List ℕ
-bytes_of T = T.parse_state.now.bytes.now
-
 -- the index where the content ends
 abbrev pub end_of : Tokenizer → ℕ
 end_of T = T.cursor.end.index
@@ -38,14 +36,6 @@ end_of T = T.cursor.end.index
 -- the class of the document's character at the place
 abbrev pub kind_here : Tokenizer → Kind
 kind_here T = class_of (after_index (bytes_of T) (point_of T.cursor).index)
-
-abbrev pub later_value : ℕ → Bool
-later_value v = is_between 128 191 v
-
--- a later byte of a character is at hand
-abbrev pub at_later : Option ℕ → Bool
-at_later None = false
-at_later (Some v) = later_value v
 
 -- the letter of this number of `https` in either case
 abbrev pub scheme_letter : ℕ → ℕ → Bool
@@ -301,17 +291,6 @@ pub record TrailReady (T : Tokenizer) : Type 0 where
 pub record MayCount (T : Tokenizer) : Type 0 where
   pub opened : HasCode T → T.tokenize_state.size < most
   pub closed : HasCode T → T.tokenize_state.size_b < most
-
--- The document is a text, and the codes of the content are those of its bytes: each but a later byte of a character begins where
--- one does, no later byte follows an ASCII code, and the content ends between characters.
-pub record IsText (bytes : List ℕ) (p : Place) : Type 0 where
-  pub text : IsUtf8 bytes
-  pub end : IsCharBoundary bytes p.end.index
-  pub first : (n : ℕ) (c : Code) → slice_get p.codes n ≡ Some c → is_later_byte c ≡ false → IsCharBoundary bytes c.start.index
-  pub next : (n : ℕ) (c d : Code) → slice_get p.codes n ≡ Some c → slice_get p.codes (suc n) ≡ Some d → nat_lt c.value 128 ≡ true → is_later_byte d ≡ false
-
-abbrev pub ReadsText : Tokenizer → Type 0
-ReadsText T = IsText (bytes_of T) T.cursor
 
 -- in the word that a literal begins with
 pub record WordReady (T : Tokenizer) : Type 0 where

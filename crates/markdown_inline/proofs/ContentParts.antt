@@ -170,7 +170,7 @@ HasLines-merged (group_then name enter exit inside rest) h = (h.0, (HasLines-mer
 
 pub HasLines-HasData : (t : Forest) → HasLines t → HasData t
 HasLines-HasData empty h = tt
-HasLines-HasData (leaf_then name link cs rest) h = (λ e. (h.0 (data-makes name e)).0, HasLines-HasData rest h.1)
+HasLines-HasData (leaf_then name link cs rest) h = (λ e l. (h.0 (data-makes name e)).0, HasLines-HasData rest h.1)
 HasLines-HasData (group_then name enter exit inside rest) h = (h.0.0, (HasLines-HasData inside h.1.0, HasLines-HasData rest h.1.1))
 
 pub HasLines-HasCodes : (t : Forest) → HasLines t → HasCodes t

@@ -13,3 +13,4 @@ pub mod TrimWalks
 pub mod TrimRows
 pub mod TrimMarks
 pub mod TrimLaws
+pub mod DataRows

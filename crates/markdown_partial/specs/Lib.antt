@@ -4,3 +4,4 @@ pub mod EolSteps
 pub mod Merge
 pub mod Trim
 pub mod TrimEvents
+pub mod DataLines

@@ -1,5 +1,5 @@
--- A content is a text as literals ask for it.
-use Rattle.std.proofs.Common.{◌≡◌, ℕ, zero, suc, ◌+◌, ◌<◌, ◌≤◌, ◌==◌, ◌&&◌, nat_lt, Bool, true, false, if◌then◌else◌, Option, Some, None, List, [], ◌∷◌, length, drop, get_or, slice_get, add-one, refl, sym, ap, subst, ◌∙◌, arith}
+-- A content is read as characters.
+use Rattle.std.proofs.Common.{◌≡◌, ℕ, zero, suc, ◌+◌, ◌<◌, ◌≤◌, ◌==◌, ◌&&◌, not, nat_lt, Bool, true, false, if◌then◌else◌, Option, Some, None, List, [], ◌∷◌, length, drop, get_or, slice_get, add-one, refl, sym, ap, subst, ◌∙◌, arith}
 use Rattle.std.specs.List.{All}
 use Rattle.std.specs.Str.{IsUtf8, IsCharBoundary}
 use Rattle.std.proofs.lemmas.Bool.Decides.{nat_tests}
@@ -10,7 +10,7 @@ use Rattle.markdown_engine.specs.Codes.{Code, is_line_ending_byte, line_ending_l
 use Rattle.markdown_engine.specs.Content.{IsContent, IsBetweenCharacters, are_pieces, is_place, content_of, content_end}
 use Rattle.markdown_engine.specs.Ops.{scratched}
 use Rattle.markdown_engine.specs.Past.{past, moved_by}
-use Rattle.markdown_engine.specs.Place.{Place, moved, start_of_content}
+use Rattle.markdown_engine.specs.Place.{Place, moved, start_of_content, value_of}
 use Rattle.markdown_engine.specs.Standing.{IsStanding, is_open, first_point, followed, content_place}
 use Rattle.markdown_engine.specs.Tree.{Forest, leaf_codes}
 use Rattle.markdown_engine.specs.declared.event.Point.{Point}
@@ -22,8 +22,8 @@ use Rattle.markdown_engine.proofs.Points.{there}
 use Rattle.markdown_engine.proofs.Standings.{piece_row}
 use Rattle.markdown_engine.proofs.Steps.{tab_left, value_at, stop_at, code_here}
 use Rattle.markdown_model.specs.CodeTests.{is_later_byte}
-use Rattle.markdown_gfm.specs.GfmAutolinkLiteral.{later_value, IsText, ReadsText}
-use Rattle.markdown_gfm.proofs.LiteralLooks.{text-moved}
+use Rattle.markdown_construct.specs.Characters.{later_value, at_later, IsText, ReadsText}
+use Rattle.markdown_construct.proofs.TextPasses.{text-moved}
 
 -- Values and bytes.
 
@@ -184,7 +184,48 @@ first-at bytes pieces n c content e h =
     let same : code_here bytes r.point ≡ c = same-code _ _ _ here.code e in
     subst (λ (x : Code). IsCharBoundary bytes x.start.index) same (begins-at bytes r.point here.in_bytes (ap (λ (x : Code). is_later_byte x) same ∙ h))
 
--- at each place of a content the text is as literals ask for it
+-- where the next code goes on in the same piece
+follow-open : (bytes : List ℕ) (k : ℕ) (q : Point) (left : List Piece) → is_open (place_of q) left ≡ true → followed bytes k q left ≡ (k, q)
+follow-open bytes k q [] o = refl
+follow-open bytes k q (piece ∷ []) o = refl
+follow-open bytes k q (piece ∷ next ∷ more) o = ap (λ b. if b then (k, q) else (k + 1, point_at bytes next.start)) o
+
+-- where a piece ends
+piece-ends : (bytes : List ℕ) (q : Point) (left : List Piece) (p : ℕ × ℕ) → Between bytes left → is_open p left ≡ true → is_open (place_of q) left ≡ false → IsCharBoundary bytes q.index
+unfolding Between
+piece-ends bytes q [] p h o e = absurd (never o)
+  where
+    never : false ≡ true → ⊥
+    never x = cc
+piece-ends bytes q (piece ∷ more) p h o e =
+    let same : q.index ≡ piece.end.0 = eqb-true q.index piece.end.0 (and_parts (q.index == piece.end.0) (q.vs == piece.end.1) (not-false _ e)).0 in
+    subst (λ i. IsCharBoundary bytes i) (sym same) h.0.1
+  where
+    not-false : (b : Bool) → not b ≡ false → b ≡ true
+    not-false true x = refl
+    not-false false x = cc
+
+-- a code ends between characters, unless a later byte follows
+ends-at : (bytes : List ℕ) (pieces : List Piece) (n : ℕ) (c : Code) → IsContent bytes pieces → slice_get (content_of bytes pieces) n ≡ Some c → at_later (value_of (slice_get (content_of bytes pieces) (suc n))) ≡ false → IsCharBoundary bytes c.stop.index
+ends-at bytes pieces n c content e h =
+    let r : Reached bytes pieces n = reached bytes pieces content n c e in
+    let here : IsOpenStanding bytes pieces r.point n = open-standing bytes pieces (drop r.piece pieces) r.point n r.standing r.opens in
+    let same : code_here bytes r.point ≡ c = same-code _ _ _ here.code e in
+    let q : Point = stop_at bytes r.point in
+    let left : List Piece = drop r.piece pieces in
+    let f : ℕ × Point = followed bytes r.piece q left in
+    let s : IsStanding bytes pieces (drop f.0 pieces) f.1 (suc n) = subst (λ m. IsStanding bytes pieces (drop f.0 pieces) f.1 m) (add-one n) (standing-next bytes pieces r.point n r.piece r.standing r.opens) in
+    subst (λ (x : Code). IsCharBoundary bytes x.stop.index) same (by-open r.piece q (is_open (place_of q) left) (place_of r.point) s (between-drop bytes r.piece pieces (between-all bytes pieces content.between_characters)) r.opens refl)
+  where
+    by-open : (k : ℕ) (q : Point) (b : Bool) (p : ℕ × ℕ) → (let f : ℕ × Point = followed bytes k q (drop k pieces) in IsStanding bytes pieces (drop f.0 pieces) f.1 (suc n)) → Between bytes (drop k pieces) → is_open p (drop k pieces) ≡ true → is_open (place_of q) (drop k pieces) ≡ b → IsCharBoundary bytes q.index
+    by-open k q true p s w o g =
+        let f : ℕ × Point = followed bytes k q (drop k pieces) in
+        let on : IsStanding bytes pieces (drop k pieces) q (suc n) = subst (λ (x : ℕ × Point). IsStanding bytes pieces (drop x.0 pieces) x.1 (suc n)) (follow-open bytes k q (drop k pieces) g) s in
+        let there : IsOpenStanding bytes pieces q (suc n) = open-standing bytes pieces (drop k pieces) q (suc n) on g in
+        begins-at bytes q there.in_bytes (ap (λ (x : Option Code). at_later (value_of x)) (sym there.code) ∙ h)
+    by-open k q false p s w o g = piece-ends bytes q (drop k pieces) p w o g
+
+-- at each place of a content the text is read as characters
 pub content-text : (bytes : List ℕ) (pieces : List Piece) (n : ℕ) → IsContent bytes pieces → IsText bytes (content_place bytes pieces n)
 unfolding start_of_content
 content-text bytes pieces n content = record {
@@ -192,6 +233,7 @@ content-text bytes pieces n content = record {
   end = end-at bytes pieces content.is_text (between-all bytes pieces content.between_characters) content.in_order;
   first = λ k c e h. first-at bytes pieces k c content e h;
   next = λ k c d e f h. after-at bytes pieces k c d content e f h;
+  stop = λ k c e h. ends-at bytes pieces k c content e h;
 }
 
 text-moved_by : (bytes : List ℕ) (cs : List Code) (p : Place) → IsText bytes p → IsText bytes (moved_by cs p)

@@ -1,0 +1,275 @@
+-- The laws of the states of a label's end.
+use Rattle.std.proofs.Common.{◌≡◌, ◌≢◌, ℕ, ◌+◌, ◌*◌, ◌<◌, ◌≤◌, ◌==◌, Bool, true, false, ◌&&◌, not, if◌then◌else◌, Option, Some, None, List, [], ◌∷◌, ◌++◌, length, slice_get, refl, sym, ap, subst, ◌∙◌, arith, length-append, append-nil}
+use Rattle.std.specs.Prelude.{is_some}
+use Rattle.std.proofs.lemmas.Bool.{eqb-true}
+use Rattle.markdown_engine.specs.Codes.{Code}
+use Rattle.markdown_engine.specs.Grown.{Grown, Fails}
+use Rattle.markdown_engine.specs.Lists.{first_of, rest_of}
+use Rattle.markdown_engine.specs.Ops.{IsOpen, ahead, applied, current_of, done, scratched}
+use Rattle.markdown_engine.specs.Past.{TreeReading, Reads, EndsAs, past}
+use Rattle.markdown_engine.specs.Place.{value_of}
+use Rattle.markdown_engine.specs.Runs.{Stepped, stepped, GoesOn}
+use Rattle.markdown_engine.specs.Tree.{Forest, empty, leaf_codes, start_of}
+use Rattle.markdown_engine.specs.TreeOps.{ops_of}
+use Rattle.markdown_engine.specs.Weights.{codes_left, weight_at}
+use Rattle.markdown_engine.specs.declared.event.Event.{Event}
+use Rattle.markdown_engine.specs.declared.event.Name.TheVariants as N
+use Rattle.markdown_engine.specs.declared.state.State.TheVariants.{Next, Retry, Ok, Nok}
+use Rattle.markdown_engine.specs.declared.state.StateName.{StateName}
+use Rattle.markdown_engine.specs.declared.state.StateName.TheVariants.{LabelEndAfter, LabelEndOk, LabelEndNok, LabelEndResourceStart, LabelEndReferenceFull, LabelEndReferenceNotFull, LabelEndReferenceCollapsed, LabelEndReferenceCollapsedOpen}
+use Rattle.markdown_engine.specs.declared.tokenizer.LabelKind.{LabelKind}
+use Rattle.markdown_engine.specs.declared.tokenizer.LabelStart as Kept
+use Rattle.markdown_engine.specs.declared.tokenizer.TokenizeState.{TokenizeState}
+use Rattle.markdown_engine.specs.declared.tokenizer.Tokenizer.{Tokenizer}
+use Rattle.markdown_engine.proofs.EndsLemmas.{scratched-same}
+use Rattle.markdown_engine.proofs.Laws.{Follows, Goes-plain, Grown-refl, if-step, code-step}
+use Rattle.markdown_engine.proofs.OpRules.{Begins, ahead-none, ahead-some, attempts-scratched, left-scratched, some-codes}
+use Rattle.markdown_engine.proofs.OpsLemmas.{Grown-scratched, and-left, and-right}
+use Rattle.markdown_engine.proofs.TreeLemmas.{past-empty}
+use Rattle.markdown_construct.specs.Plan.{Plan, preceded, plan_of, KeepsAs}
+use Rattle.markdown_construct.proofs.PlanLemmas.{GoesOn-map, Goes-next, Goes-yes, Goes-no, EndsAs-plan}
+use Rattle.markdown_model.specs.CodeTests.{is_value, next_is}
+use Rattle.markdown_model.specs.Grammar.{either, provided}
+use Rattle.markdown_model.specs.LabelEnd.{is_footnote, full_reference, collapsed_reference, shortcut, reference_after_label, after_label, link_kind, link_identifier}
+use Rattle.markdown_model.specs.Resource.{resource, label, reference_names}
+use Rattle.markdown_model.specs.Setting.{Setting, is_defined}
+use Rattle.markdown_model.proofs.ReadingSteps.{either-some, either-second, if-true, if-false}
+use Rattle.markdown_resource.specs.Parts.{rested, PartReady}
+use Rattle.markdown_resource.specs.Resource.{resource_ends}
+use Rattle.markdown_resource.proofs.NextCodes.{at-value, at-none}
+use Rattle.markdown_label.specs.Fields.{with_kind, tried, labelled, loosened}
+use Rattle.markdown_label.specs.LabelEnd.{identifier_between, outcome, is_on, by_definition, not_full, tail_at, link_tried, after_as, after_by, after_step, made_here, ok_step, lost_here, nok_step, label_seen, may_be_shortcut, reference_not_full_step, collapsed_front, collapsed_back, collapsed_at, reference_collapsed_step, collapsed_open_at, reference_collapsed_open_step, AfterReady, FullReady, tail_ends, MakesTail, LosesTail, kind_set, made, MadeReading, Makes, Loses, after_reading_of, after_reading, after_ends, ok_ends, nok_ends, FullFails, reference_full_ends, not_full_reading, reference_not_full_ends, reference_collapsed_ends, collapsed_open_plan, reference_collapsed_open_ends, starts_set}
+use Rattle.markdown_label.specs.Settings.{setting_in}
+use Rattle.markdown_label.proofs.LabelEndLemmas.{attempts-made, ahead-made, Meets, on-ok, on-nok, on-definition, goes-definition, goes-tried, tail-same, loses-here}
+use Rattle.markdown_label.proofs.LabelEndReadings.{after-paren, after-bracket, after-other, full-first, undefined-none, defined-either, collapsed-whole, collapsed-here, collapsed-none, outcome-call, outcome-tail, outcome-none, footnote-kind}
+
+-- what the layer says of these states, and of the parts that they try
+pub record Within (ready : StateName → Tokenizer → Type 0) (ends : StateName → Tokenizer → Bool → Tokenizer → Type 0) (weight : StateName → Tokenizer → ℕ) : Type 0 where
+  pub meets : Meets ready ends weight
+  pub resource_ready : (T : Tokenizer) → PartReady T → current_of T ≡ Some 40 → ready LabelEndResourceStart T
+  pub resource_end : (T : Tokenizer) (ok : Bool) (U : Tokenizer) → ends LabelEndResourceStart T ok U → resource_ends T ok U
+  pub resource_weight : (T : Tokenizer) → weight LabelEndResourceStart T ≡ weight_at 12 T
+  pub full_ready : (T : Tokenizer) → FullReady T → current_of T ≡ Some 91 → ready LabelEndReferenceFull T
+  pub full_end : (T : Tokenizer) (ok : Bool) (U : Tokenizer) → ends LabelEndReferenceFull T ok U → reference_full_ends T ok U
+  pub full_weight : (T : Tokenizer) → weight LabelEndReferenceFull T ≡ weight_at 12 T
+  pub not_full_ready : (T : Tokenizer) → ready LabelEndReferenceNotFull T
+  pub not_full_end : (T : Tokenizer) (ok : Bool) (U : Tokenizer) → ends LabelEndReferenceNotFull T ok U → reference_not_full_ends T ok U
+  pub not_full_weight : (T : Tokenizer) → weight LabelEndReferenceNotFull T ≡ weight_at 3 T
+  pub collapsed_ready : (T : Tokenizer) → ready LabelEndReferenceCollapsed T
+  pub collapsed_end : (T : Tokenizer) (ok : Bool) (U : Tokenizer) → ends LabelEndReferenceCollapsed T ok U → reference_collapsed_ends T ok U
+  pub collapsed_weight : (T : Tokenizer) → weight LabelEndReferenceCollapsed T ≡ weight_at 2 T
+  pub open_ready : (T : Tokenizer) → IsOpen N.Reference T → ready LabelEndReferenceCollapsedOpen T
+  pub open_end : (T : Tokenizer) (ok : Bool) (U : Tokenizer) → ends LabelEndReferenceCollapsedOpen T ok U → reference_collapsed_open_ends T ok U
+  pub open_weight : (T : Tokenizer) → weight LabelEndReferenceCollapsedOpen T ≡ weight_at 1 T
+
+-- The scratch fields.
+
+seen-rested : (s : TokenizeState) → rested s ≡ s → s.seen ≡ false
+seen-rested s e = ap (λ (q : TokenizeState). q.seen) (sym e)
+
+-- seen or not, the fields are as before once that is put to rest
+seen-back : (b : Bool) (T : Tokenizer) → T.tokenize_state.seen ≡ false → scratched (label_seen false (label_seen b T.tokenize_state)) (scratched (label_seen b T.tokenize_state) T) ≡ T
+unfolding scratched
+seen-back b T e = ap (λ x. record T { tokenize_state = record T.tokenize_state { seen = x } }) (sym e)
+
+-- a lost start puts it to rest
+lost-seen : (b : Bool) (T : Tokenizer) → lost_here (scratched (label_seen b T.tokenize_state) T) ≡ lost_here T
+unfolding scratched
+lost-seen b T = refl
+
+module _ (ready : StateName → Tokenizer → Type 0) (ends : StateName → Tokenizer → Bool → Tokenizer → Type 0) (weight : StateName → Tokenizer → ℕ) (within : Within ready ends weight) where
+  -- Where all ends meet.
+
+  pub ok-law : (T : Tokenizer) → T.attempts ≡ [] → GoesOn ready ends weight (weight_at 1 T) (ok_ends T) (ok_step T)
+  ok-law T alone = Goes-plain ready ends weight (weight_at 1 T) (ok_ends T) Ok (made_here T) (attempts-made T alone) tt (omega arith) (λ ok U h. h)
+
+  pub nok-law : (T : Tokenizer) → T.attempts ≡ [] → GoesOn ready ends weight (weight_at 1 T) (nok_ends T) (nok_step T)
+  nok-law T alone = Goes-plain ready ends weight (weight_at 1 T) (nok_ends T) Nok (lost_here T) (attempts-scratched _ T ∙ alone) tt (omega arith) (λ ok U h. h)
+
+  -- Collapsed references.
+
+  pub collapsed-law : (T : Tokenizer) → T.attempts ≡ [] → GoesOn ready ends weight (weight_at 2 T) (reference_collapsed_ends T) (reference_collapsed_step T)
+  unfolding applied
+  collapsed-law T alone =
+      let p : Plan = plan_of collapsed_reference in
+      let P : Stepped → Type 0 = GoesOn ready ends weight (weight_at 2 T) (KeepsAs 0 p T) in
+      GoesOn-map ready ends weight (weight_at 2 T) (KeepsAs 0 p T) (reference_collapsed_ends T) (reference_collapsed_step T) (λ ok U x. EndsAs-plan collapsed_reference collapsed-whole T.tokenize_state T ok U x)
+      (code-step P (current_of T) (λ o. collapsed_at o T)
+      (λ e. Goes-no ready ends weight 2 0 p T alone (collapsed-none (ahead T) (at-none T 91 e)))
+      (λ c e.
+      let b : Begins c (ahead T) = ahead-some T c e in
+      if-step P (c == 91) _ _
+      (λ h. Goes-next ready ends weight 2 1 0 p collapsed_open_plan collapsed_front T (Next LabelEndReferenceCollapsedOpen) alone refl (some-codes T c e) (omega arith)
+      (ap p b.whole ∙ collapsed-here b.code (rest_of (ahead T)) (ap (λ v. v == 91) b.value ∙ h))
+      (within.open_ready (done collapsed_front T) refl)
+      (within.open_weight (done collapsed_front T))
+      (within.open_end (done collapsed_front T)))
+      (λ h. Goes-no ready ends weight 2 0 p T alone (collapsed-none (ahead T) (at-value T c 91 false e h)))))
+
+  pub collapsed-open-law : (T : Tokenizer) → T.attempts ≡ [] → GoesOn ready ends weight (weight_at 1 T) (reference_collapsed_open_ends T) (reference_collapsed_open_step T)
+  collapsed-open-law T alone =
+      let P : Stepped → Type 0 = GoesOn ready ends weight (weight_at 1 T) (reference_collapsed_open_ends T) in
+      code-step P (current_of T) (λ o. collapsed_open_at o T)
+      (λ e. Goes-no ready ends weight 1 1 collapsed_open_plan T alone (if-false _ _ _ (at-none T 93 e)))
+      (λ c e. if-step P (c == 93) _ _
+      (λ h. Goes-yes ready ends weight 1 1 collapsed_open_plan collapsed_back T alone (if-true _ _ _ (at-value T c 93 true e h)))
+      (λ h. Goes-no ready ends weight 1 1 collapsed_open_plan T alone (if-false _ _ _ (at-value T c 93 false e h))))
+
+  pub not_full-law : (T : Tokenizer) → T.attempts ≡ [] → GoesOn ready ends weight (weight_at 3 T) (reference_not_full_ends T) (reference_not_full_step T)
+  not_full-law T alone =
+      let M : Tokenizer = scratched (label_seen false T.tokenize_state) T in
+      let n : ℕ = weight_at 3 T in
+      let may : Bool = may_be_shortcut T in
+      let same : codes_left M ≡ codes_left T = left-scratched _ T in
+      goes-tried ready ends weight within.meets n (not_full_reading T) LabelEndReferenceCollapsed (by_definition may) collapsed_reference M.tokenize_state M (attempts-scratched _ T ∙ alone)
+      (within.collapsed_ready M)
+      (rw within.collapsed_weight (omega (arith, same)))
+      (omega (arith, same))
+      (λ U h. within.collapsed_end M true U h)
+      (λ U h. let k = within.collapsed_end M false U h in (k.refused, k.fails))
+      (λ tree rest h. either-some collapsed_reference (shortcut may) (ahead M) (tree, rest) h)
+      (λ h. subst (λ (x : Tokenizer). Follows ready ends weight n (tail_ends (not_full_reading T) M) (Next (by_definition may)) x) (sym (scratched-same M))
+      (on-definition ready ends weight within.meets n (not_full_reading T) may M (omega (arith, same)) (either-second collapsed_reference (shortcut may) (ahead M) h)))
+
+  -- Behind the `]`.
+
+  -- where a `[` follows that begins no full reference
+  not-full-goes : (n : ℕ) (defined : Bool) (M : Tokenizer) → weight_at 3 M < n → M.tokenize_state.seen ≡ false → after_label (setting_in M) defined (ahead M) ≡ reference_after_label (setting_in M) defined (ahead M) → full_reference (setting_in M) (ahead M) ≡ None
+      → Follows ready ends weight n (tail_ends (after_label (setting_in M) defined) M) (Next (not_full defined)) (scratched (label_seen (is_some (label reference_names (ahead M))) M.tokenize_state) M)
+  unfolding scratched
+  not-full-goes n true M room rest is none =
+      let b : Bool = is_some (label reference_names (ahead M)) in
+      let V : Tokenizer = scratched (label_seen b M.tokenize_state) M in
+      record {
+        goes_on = within.not_full_ready V;
+        falls = rw within.not_full_weight room;
+        closed = λ ok U h.
+            let back : tail_ends (not_full_reading V) M ok U = subst (λ (x : Tokenizer). tail_ends (not_full_reading V) x ok U) (seen-back b M rest) (within.not_full_end V ok U h) in
+            tail-same (not_full_reading V) (after_label (setting_in M) true) M (sym (is ∙ defined-either (setting_in M) (ahead M) none)) ok U back;
+      }
+  not-full-goes n false M room rest is none =
+      let b : Bool = is_some (label reference_names (ahead M)) in
+      let V : Tokenizer = scratched (label_seen b M.tokenize_state) M in
+      record {
+        goes_on = within.meets.nok_ready V;
+        falls = rw within.meets.nok_weight (omega (arith, room));
+        closed = λ ok U h.
+            let k = within.meets.nok_end V ok U h in
+            loses-here (after_label (setting_in M) false) M (is ∙ undefined-none (setting_in M) (ahead M) none) ok U (k.0, k.1 ∙ lost-seen b M);
+      }
+
+  pub tail-law : (n : ℕ) (defined : Bool) (M : Tokenizer) → M.attempts ≡ [] → FullReady M → weight_at 12 M < n → GoesOn ready ends weight n (tail_ends (after_label (setting_in M) defined) M) (tail_at defined (current_of M) M)
+  tail-law n defined M alone k room =
+      let s : Setting = setting_in M in
+      let big : TreeReading = after_label s defined in
+      let P : Stepped → Type 0 = GoesOn ready ends weight n (tail_ends big M) in
+      code-step P (current_of M) (λ o. tail_at defined o M)
+      (λ e. goes-definition ready ends weight within.meets n big defined M alone (omega (arith, room)) (after-other s defined (ahead M) (at-none M 40 e) (at-none M 91 e)))
+      (λ c e. if-step P (c == 40) _ _
+      (λ h.
+      let is : big (ahead M) ≡ either resource (shortcut defined) (ahead M) = after-paren s defined (ahead M) (at-value M c 40 true e h) in
+      goes-tried ready ends weight within.meets n big LabelEndResourceStart (by_definition defined) resource M.tokenize_state M alone
+      (within.resource_ready M k.part (e ∙ ap (λ v. Some v) (eqb-true c 40 h)))
+      (rw within.resource_weight room)
+      (omega (arith, room))
+      (λ U x. within.resource_end M true U x)
+      (λ U x. let f = within.resource_end M false U x in (f.refused, f.fails))
+      (λ tree rest x. is ∙ either-some resource (shortcut defined) (ahead M) (tree, rest) x)
+      (λ x. subst (λ (y : Tokenizer). Follows ready ends weight n (tail_ends big M) (Next (by_definition defined)) y) (sym (scratched-same M))
+      (on-definition ready ends weight within.meets n big defined M (omega (arith, room)) (is ∙ either-second resource (shortcut defined) (ahead M) x))))
+      (λ g. if-step P (c == 91) _ _
+      (λ h.
+      let is : big (ahead M) ≡ reference_after_label s defined (ahead M) = after-bracket s defined (ahead M) (at-value M c 40 false e g) (at-value M c 91 true e h) in
+      goes-tried ready ends weight within.meets n big LabelEndReferenceFull (not_full defined) (full_reference s) (label_seen (is_some (label reference_names (ahead M))) M.tokenize_state) M alone
+      (within.full_ready M k (e ∙ ap (λ v. Some v) (eqb-true c 91 h)))
+      (rw within.full_weight room)
+      (omega (arith, room))
+      (λ U x. within.full_end M true U x)
+      (λ U x. let f = within.full_end M false U x in (f.refused, f.fails))
+      (λ tree rest x. is ∙ full-first s defined (ahead M) (tree, rest) x)
+      (λ x. not-full-goes n defined M (omega (arith, room)) (seen-rested M.tokenize_state k.part.rest) is x))
+      (λ h. goes-definition ready ends weight within.meets n big defined M alone (omega (arith, room)) (after-other s defined (ahead M) (at-value M c 40 false e g) (at-value M c 91 false e h)))))
+
+  -- with the start tried as a link's
+  tried-ready : (T : Tokenizer) → AfterReady T → FullReady (link_tried T)
+  unfolding scratched
+  tried-ready T k =
+      let f : TokenizeState → TokenizeState = starts_set (tried T.tokenize_state.label_starts) in
+      record {
+        part = record {
+          short = k.part.short;
+          spaces = record { space = ap f k.part.spaces.space; eol = ap f k.part.spaces.eol };
+          rest = ap f k.part.rest;
+        };
+        text = k.text;
+        end = k.end;
+      }
+
+  first-kind : (l : Kept.LabelStart) (ls : List Kept.LabelStart) (T : Tokenizer) → T.tokenize_state.label_starts ≡ l ∷ ls → link_tried T ≡ kind_set (link_kind l.kind) T
+  first-kind l ls T e = ap (λ x. scratched (starts_set x T.tokenize_state) T) (ap tried e ∙ sym (ap (with_kind (link_kind l.kind)) e))
+
+  reads-as : (l : Kept.LabelStart) (ls : List Kept.LabelStart) (T : Tokenizer) → T.tokenize_state.label_starts ≡ l ∷ ls → after_reading T (ahead T) ≡ outcome (setting_in T) l.kind (identifier_between T l.start.1 T.tokenize_state.end) (ahead T)
+  reads-as l ls T e = ap (λ x. after_reading_of x T (ahead T)) e
+
+  -- a tail that makes the label or not, of a start tried as a link's
+  tail-after : (l : Kept.LabelStart) (ls : List Kept.LabelStart) (T : Tokenizer) → T.tokenize_state.label_starts ≡ l ∷ ls → (name : List ℕ) → name ≡ identifier_between T l.start.1 T.tokenize_state.end → is_footnote l.kind && is_defined (setting_in T).footnotes name ≡ false → (ok : Bool) (U : Tokenizer) → tail_ends (after_label (setting_in T) (is_defined (setting_in T).definitions (link_identifier l.kind name))) (link_tried T) ok U → after_ends T ok U
+  unfolding made scratched
+  tail-after l ls T e name named other true U k =
+      record {
+        kind = link_kind l.kind;
+        tail = k.tail;
+        rest = k.rest;
+        holds = reads-as l ls T e ∙ ap (λ x. outcome (setting_in T) l.kind x (ahead T)) (sym named) ∙ outcome-tail (setting_in T) l.kind name (ahead T) k.tail k.rest other k.holds;
+        left = k.left ∙ ap (λ (x : Tokenizer). made_here (past None k.tail x)) (first-kind l ls T e);
+        whole = k.whole;
+        after = k.after;
+      }
+  tail-after l ls T e name named other false U k =
+      record {
+        refused = reads-as l ls T e ∙ ap (λ x. outcome (setting_in T) l.kind x (ahead T)) (sym named) ∙ outcome-none (setting_in T) l.kind name (ahead T) other k.refused;
+        fails = record { grown = Grown-scratched 0 _ T U k.fails.grown; scratch = k.fails.scratch };
+      }
+
+  -- a call, with nothing behind it
+  call-kept : (l : Kept.LabelStart) (ls : List Kept.LabelStart) (T : Tokenizer) → T.tokenize_state.label_starts ≡ l ∷ ls → l.kind ≡ LabelKind.GfmFootnote → kind_set LabelKind.GfmFootnote T ≡ T
+  call-kept l ls T e h =
+      ap (λ x. scratched (starts_set x T.tokenize_state) T) (ap (with_kind LabelKind.GfmFootnote) e ∙ ap (λ x. record l { kind = x } ∷ ls) (sym h) ∙ sym e) ∙ scratched-same T
+
+  call-after : (l : Kept.LabelStart) (ls : List Kept.LabelStart) (T : Tokenizer) → T.tokenize_state.label_starts ≡ l ∷ ls → is_footnote l.kind && is_defined (setting_in T).footnotes (identifier_between T l.start.1 T.tokenize_state.end) ≡ true → (ok : Bool) (U : Tokenizer) → ok_ends T ok U → after_ends T ok U
+  unfolding made
+  call-after l ls T e called true U k =
+      let name : List ℕ = identifier_between T l.start.1 T.tokenize_state.end in
+      record {
+        kind = LabelKind.GfmFootnote;
+        tail = empty;
+        rest = ahead T;
+        holds = reads-as l ls T e ∙ outcome-call (setting_in T) l.kind name (ahead T) called;
+        left = k.1 ∙ ap made_here (sym (past-empty None T)) ∙ ap (λ (x : Tokenizer). made_here (past None empty x)) (sym (call-kept l ls T e (footnote-kind l.kind (and-left _ _ called))));
+        whole = refl;
+        after = ap ahead k.1 ∙ ahead-made T;
+      }
+  call-after l ls T e called false U k = cc
+
+  tail-there : (n : ℕ) (defined : Bool) (T : Tokenizer) → T.attempts ≡ [] → FullReady (link_tried T) → weight_at 12 T < n → GoesOn ready ends weight n (tail_ends (after_label (setting_in T) defined) (link_tried T)) (tail_at defined (current_of T) (link_tried T))
+  unfolding scratched
+  tail-there n defined T alone k room = tail-law n defined (link_tried T) alone k room
+
+  after-goes : (l : Kept.LabelStart) (ls : List Kept.LabelStart) (T : Tokenizer) → T.attempts ≡ [] → AfterReady T → T.tokenize_state.label_starts ≡ l ∷ ls → GoesOn ready ends weight (weight_at 13 T) (after_ends T) (after_by (l ∷ ls) T)
+  after-goes l ls T alone k e =
+      let n : ℕ = weight_at 13 T in
+      let s : Setting = setting_in T in
+      let name : List ℕ = identifier_between T l.start.1 T.tokenize_state.end in
+      let defined : Bool = is_defined s.definitions (link_identifier l.kind name) in
+      let P : Stepped → Type 0 = GoesOn ready ends weight n (after_ends T) in
+      if-step P (is_footnote l.kind && is_defined s.footnotes name) _ _
+      (λ h. Goes-plain ready ends weight n (after_ends T) (Retry LabelEndOk) T alone (within.meets.ok_ready T) (rw within.meets.ok_weight (omega arith))
+      (λ ok U x. call-after l ls T e h ok U (within.meets.ok_end T ok U x)))
+      (λ h. GoesOn-map ready ends weight n (tail_ends (after_label s defined) (link_tried T)) (after_ends T) (tail_at defined (current_of T) (link_tried T)) (λ ok U x. tail-after l ls T e name refl h ok U x)
+      (tail-there n defined T alone (tried-ready T k) (omega arith)))
+
+  pub after-law : (T : Tokenizer) → T.attempts ≡ [] → AfterReady T → GoesOn ready ends weight (weight_at 13 T) (after_ends T) (after_step T)
+  after-law T alone k = by-starts T.tokenize_state.label_starts refl
+    where
+      by-starts : (ls : List Kept.LabelStart) → T.tokenize_state.label_starts ≡ ls → GoesOn ready ends weight (weight_at 13 T) (after_ends T) (after_by ls T)
+      by-starts [] e = absurd (k.some e)
+      by-starts (l ∷ ls) e = after-goes l ls T alone k e

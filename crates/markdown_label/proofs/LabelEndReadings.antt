@@ -1,0 +1,147 @@
+-- What follows a label, by the codes at hand.
+use Rattle.std.proofs.Common.{◌≡◌, ◌≢◌, ℕ, ◌==◌, Bool, true, false, ◌&&◌, not, if◌then◌else◌, Option, Some, None, List, [], ◌∷◌, ◌++◌, refl, sym, ap, subst, ◌∙◌, append-nil}
+use Rattle.std.specs.Prelude.{is_some}
+use Rattle.markdown_engine.specs.Codes.{Code}
+use Rattle.markdown_engine.specs.Ops.{Op}
+use Rattle.markdown_engine.specs.Tree.{Forest, empty, leaf, group, ◌⊕◌}
+use Rattle.markdown_engine.specs.declared.event.Name.TheVariants as N
+use Rattle.markdown_engine.specs.declared.tokenizer.LabelKind.{LabelKind}
+use Rattle.markdown_construct.specs.Plan.{preceded, plan_of, tree_ops}
+use Rattle.markdown_construct.proofs.WholeReadings.{Gives, Covers, IsSome, Gives-bind, Gives-one, Gives-gives, Covers-group, Covers-row, Covers-leaf, some-first}
+use Rattle.markdown_model.specs.CodeTests.{is_value, next_is}
+use Rattle.markdown_model.specs.Grammar.{Reading, ◌>>=◌, ◌>>◌, gives, either, unless, if_next, provided, one}
+use Rattle.markdown_model.specs.LabelEnd.{is_footnote, full_reference, collapsed_reference, shortcut, shortcut_before_bracket, reference_after_label, after_label, link_kind, link_identifier}
+use Rattle.markdown_model.specs.Resource.{resource, label, reference_names}
+use Rattle.markdown_model.specs.Setting.{Setting, is_defined}
+use Rattle.markdown_model.proofs.ReadingSteps.{bind-some, bind-none, one-here, one-not, either-some, either-second, either-first, switched-on, switched-off, if-true, if-false, and-false}
+use Rattle.markdown_resource.proofs.NextCodes.{next-takes, next-leaves}
+use Rattle.markdown_label.specs.LabelEnd.{outcome, collapsed_front, collapsed_back, collapsed_open_plan}
+
+-- at a `(`, at a `[`, and elsewhere
+
+pub after-paren : (s : Setting) (defined : Bool) (cs : List Code) → next_is (is_value 40) cs ≡ true → after_label s defined cs ≡ either resource (shortcut defined) cs
+unfolding after_label
+after-paren s defined cs e = next-takes (is_value 40) _ _ cs e
+
+pub after-bracket : (s : Setting) (defined : Bool) (cs : List Code) → next_is (is_value 40) cs ≡ false → next_is (is_value 91) cs ≡ true → after_label s defined cs ≡ reference_after_label s defined cs
+unfolding after_label
+after-bracket s defined cs e h = next-leaves (is_value 40) _ _ cs e ∙ next-takes (is_value 91) _ _ cs h
+
+pub after-other : (s : Setting) (defined : Bool) (cs : List Code) → next_is (is_value 40) cs ≡ false → next_is (is_value 91) cs ≡ false → after_label s defined cs ≡ shortcut defined cs
+unfolding after_label
+after-other s defined cs e h = next-leaves (is_value 40) _ _ cs e ∙ next-leaves (is_value 91) _ _ cs h
+
+-- References.
+
+pub full-first : (s : Setting) (defined : Bool) (cs : List Code) (r : Forest × List Code) → full_reference s cs ≡ Some r → reference_after_label s defined cs ≡ Some r
+unfolding reference_after_label
+full-first s defined cs r e = either-some (full_reference s) _ cs r e
+
+unless-none : {A B : Type 0} (a : Reading A) (b : Reading B) (cs : List Code) → a cs ≡ None → unless a b cs ≡ b cs
+unfolding unless
+unless-none a b cs e = rw (e, unless) refl
+
+unless-some : {A B : Type 0} (a : Reading A) (b : Reading B) (cs : List Code) (r : A × List Code) → ◌≡◌ {A = Option (A × List Code)} (a cs) (Some r) → unless a b cs ≡ None
+unfolding unless
+unless-some a b cs r e = rw (e, unless) refl
+
+-- the label itself is not defined, and no full reference stands there
+pub undefined-none : (s : Setting) (cs : List Code) → full_reference s cs ≡ None → reference_after_label s false cs ≡ None
+unfolding reference_after_label shortcut_before_bracket shortcut
+undefined-none s cs e =
+    either-second (full_reference s) _ cs e
+    ∙ either-second _ _ cs (switched-off collapsed_reference false cs refl)
+    ∙ elim (either collapsed_reference (label reference_names) cs) as (λ o. either collapsed_reference (label reference_names) cs ≡ o → unless (either collapsed_reference (label reference_names)) (shortcut (false && s.options.label_shortcut_before_bracket)) cs ≡ None) [
+      | None ↦ λ h. unless-none _ _ cs h ∙ shortcut-off cs
+      | Some r ↦ λ h. unless-some _ _ cs r h
+    ] refl
+  where
+    shortcut-off : (cs : List Code) → shortcut false cs ≡ None
+    shortcut-off cs = switched-off (gives empty) false cs refl
+
+-- it is defined: `[]`, or the shortcut that an option allows where no label stands
+pub defined-either : (s : Setting) (cs : List Code) → full_reference s cs ≡ None → reference_after_label s true cs ≡ either collapsed_reference (shortcut (s.options.label_shortcut_before_bracket && not (is_some (label reference_names cs)))) cs
+unfolding reference_after_label shortcut_before_bracket shortcut
+defined-either s cs e =
+    either-second (full_reference s) _ cs e
+    ∙ by-collapsed (collapsed_reference cs) refl (label reference_names cs) refl
+  where
+    option : Bool
+    option = s.options.label_shortcut_before_bracket
+
+    and-on : (b : Bool) → b && true ≡ b
+    and-on true = refl
+    and-on false = refl
+
+    off : (b : Bool) → b ≡ false → shortcut b cs ≡ None
+    off b h = switched-off (gives empty) b cs h
+
+    by-collapsed : (o : Option (Forest × List Code)) → collapsed_reference cs ≡ o → (l : Option (Forest × List Code)) → label reference_names cs ≡ l
+        → either (provided true >> collapsed_reference) (unless (either collapsed_reference (label reference_names)) (shortcut (true && option))) cs
+        ≡ either collapsed_reference (shortcut (option && not (is_some (label reference_names cs)))) cs
+    by-collapsed (Some r) h l k =
+        either-some _ _ cs r (switched-on collapsed_reference true cs refl ∙ h) ∙ sym (either-some _ _ cs r h)
+    by-collapsed None h None k =
+        either-second _ _ cs (switched-on collapsed_reference true cs refl ∙ h)
+        ∙ unless-none _ _ cs (either-second _ _ cs h ∙ k)
+        ∙ ap (λ b. shortcut b cs) (sym (ap (λ x. option && not (is_some x)) k ∙ and-on option))
+        ∙ sym (either-second _ _ cs h)
+    by-collapsed None h (Some r) k =
+        either-second _ _ cs (switched-on collapsed_reference true cs refl ∙ h)
+        ∙ unless-some _ _ cs r (either-second _ _ cs h ∙ k)
+        ∙ sym (off _ (ap (λ x. option && not (is_some x)) k ∙ and-false option))
+        ∙ sym (either-second _ _ cs h)
+
+-- `[]`
+
+pub collapsed-whole : Gives Covers collapsed_reference
+unfolding collapsed_reference
+collapsed-whole =
+    Gives-bind _ _ IsSome Covers (Gives-one (is_value 91)) (λ front ws p.
+    Gives-bind _ _ IsSome _ (Gives-one (is_value 93)) (λ back us r.
+    Gives-gives (group N.Reference (leaf N.ReferenceMarker front ⊕ leaf N.ReferenceMarker back)) _
+    (Covers-group N.Reference _ _ (some-first ws _ (λ e. p.1 (p.0 ∙ e)))
+    (Covers-row _ _ ws (us ++ []) (Covers-leaf _ front ws p.0) (Covers-leaf _ back (us ++ []) (r.0 ∙ sym (append-nil us)))))))
+
+abbrev closes : List Code → Reading Forest
+closes front = one (is_value 93) >>= λ back. gives (group N.Reference (leaf N.ReferenceMarker front ⊕ leaf N.ReferenceMarker back))
+
+closes-by : (a : Code) (cs : List Code) → tree_ops (closes (a ∷ []) cs) ≡ preceded collapsed_front (collapsed_open_plan cs)
+unfolding gives
+closes-by a [] = ap tree_ops (bind-none _ _ _ (one-not (is_value 93) [] refl))
+closes-by a (c ∷ cs) =
+    elim (c.value == 93) as (λ b. (c.value == 93) ≡ b → tree_ops (closes (a ∷ []) (c ∷ cs)) ≡ preceded collapsed_front (if b then Some collapsed_back else None)) [
+      | true ↦ λ e. ap tree_ops (bind-some _ _ _ _ _ _ (one-here (is_value 93) c cs e) refl)
+      | false ↦ λ e. ap tree_ops (bind-none _ _ _ (one-not (is_value 93) (c ∷ cs) e))
+    ] refl
+
+pub collapsed-here : (c : Code) (cs : List Code) → is_value 91 c ≡ true → plan_of collapsed_reference (c ∷ cs) ≡ preceded collapsed_front (collapsed_open_plan cs)
+unfolding collapsed_reference
+collapsed-here c cs e = ap tree_ops (bind-some _ _ _ (c ∷ []) cs _ (one-here (is_value 91) c cs e) refl) ∙ closes-by c cs
+
+pub collapsed-none : (cs : List Code) → next_is (is_value 91) cs ≡ false → plan_of collapsed_reference cs ≡ None
+unfolding collapsed_reference
+collapsed-none cs e = ap tree_ops (bind-none _ _ cs (one-not (is_value 91) cs e))
+
+-- Outcomes.
+
+pub outcome-call : (s : Setting) (kind : LabelKind) (name : List ℕ) (cs : List Code) → is_footnote kind && is_defined s.footnotes name ≡ true → outcome s kind name cs ≡ Some ((LabelKind.GfmFootnote, empty), cs)
+unfolding outcome gives
+outcome-call s kind name cs e = either-some _ _ cs ((LabelKind.GfmFootnote, empty), cs) (switched-on (gives (LabelKind.GfmFootnote, empty)) _ cs e)
+
+abbrev tail_of : Setting → LabelKind → List ℕ → Reading Forest
+tail_of s kind name = after_label s (is_defined s.definitions (link_identifier kind name))
+
+pub outcome-tail : (s : Setting) (kind : LabelKind) (name : List ℕ) (cs : List Code) (tree : Forest) (rest : List Code) → is_footnote kind && is_defined s.footnotes name ≡ false → after_label s (is_defined s.definitions (link_identifier kind name)) cs ≡ Some (tree, rest) → outcome s kind name cs ≡ Some ((link_kind kind, tree), rest)
+unfolding outcome gives
+outcome-tail s kind name cs tree rest e h =
+    either-second _ _ cs (switched-off (gives (LabelKind.GfmFootnote, empty)) _ cs e) ∙ bind-some (tail_of s kind name) (λ t. gives (link_kind kind, t)) cs tree rest _ h refl
+
+pub outcome-none : (s : Setting) (kind : LabelKind) (name : List ℕ) (cs : List Code) → is_footnote kind && is_defined s.footnotes name ≡ false → after_label s (is_defined s.definitions (link_identifier kind name)) cs ≡ None → outcome s kind name cs ≡ None
+unfolding outcome gives
+outcome-none s kind name cs e h =
+    either-second _ _ cs (switched-off (gives (LabelKind.GfmFootnote, empty)) _ cs e) ∙ bind-none (tail_of s kind name) (λ t. gives (link_kind kind, t)) cs h
+
+pub footnote-kind : (kind : LabelKind) → is_footnote kind ≡ true → kind ≡ LabelKind.GfmFootnote
+footnote-kind LabelKind.GfmFootnote e = refl
+footnote-kind _ e = cc

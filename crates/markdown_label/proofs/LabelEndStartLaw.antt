@@ -1,0 +1,243 @@
+-- The law of the start of a label's end.
+use Rattle.std.proofs.Common.{◌≡◌, ◌≢◌, ℕ, zero, suc, ◌+◌, ◌*◌, ◌<◌, ◌≤◌, ◌==◌, Bool, true, false, ◌&&◌, not, if◌then◌else◌, Option, Some, None, List, [], ◌∷◌, ◌++◌, length, slice_get, refl, sym, ap, subst, ◌∙◌, arith, length-append, append-nil}
+use Rattle.markdown_engine.specs.Codes.{Code}
+use Rattle.markdown_engine.specs.Grown.{Fails}
+use Rattle.markdown_engine.specs.Lists.{rest_of}
+use Rattle.markdown_engine.specs.Ops.{ahead, current_of, done, scratched}
+use Rattle.markdown_engine.specs.Past.{past, appended_from}
+use Rattle.markdown_engine.specs.Runs.{Stepped, stepped, GoesOn}
+use Rattle.markdown_engine.specs.Tree.{Forest, leaf, leaf_codes, start_of}
+use Rattle.markdown_engine.specs.Weights.{codes_left, weight_at}
+use Rattle.markdown_engine.specs.declared.event.Event.{Event}
+use Rattle.markdown_engine.specs.declared.event.Name.TheVariants as N
+use Rattle.markdown_engine.specs.declared.state.State.TheVariants.{Next, Retry, Nok}
+use Rattle.markdown_engine.specs.declared.state.StateName.{StateName}
+use Rattle.markdown_engine.specs.declared.state.StateName.TheVariants.{LabelEndAfter, LabelEndNok}
+use Rattle.markdown_engine.specs.declared.tokenizer.LabelKind.{LabelKind}
+use Rattle.markdown_engine.specs.declared.tokenizer.LabelStart as Kept
+use Rattle.markdown_engine.specs.declared.tokenizer.TokenizeState.{TokenizeState}
+use Rattle.markdown_engine.specs.declared.tokenizer.Tokenizer.{Tokenizer}
+use Rattle.markdown_engine.proofs.EndsLemmas.{then-fails}
+use Rattle.markdown_engine.proofs.Laws.{Goes-plain, Grown-refl, if-step, code-step}
+use Rattle.markdown_engine.proofs.OpRules.{Begins, ahead-none, ahead-some, left-ahead}
+use Rattle.markdown_engine.proofs.OpsLemmas.{Grown-scratched, and-left, and-right}
+use Rattle.markdown_engine.proofs.SolidLemmas.{IsSolid-group, IsSolid-leaf}
+use Rattle.markdown_engine.proofs.TreeLemmas.{ahead-past, ops-past}
+use Rattle.markdown_construct.specs.Characters.{bytes_of, later_value}
+use Rattle.markdown_construct.proofs.ContentTexts.{text-past}
+use Rattle.markdown_construct.proofs.TextPlaces.{code-begins}
+use Rattle.markdown_model.specs.CodeTests.{is_value, is_later_byte, next_is}
+use Rattle.markdown_model.specs.Grammar.{Reading, ◌>>=◌, ◌>>◌, gives, provided, one}
+use Rattle.markdown_model.specs.LabelEnd.{bytes_between}
+use Rattle.markdown_model.proofs.ReadingSteps.{bind-some, bind-none, one-here, one-not, switched-on, switched-off, if-true, if-false}
+use Rattle.markdown_util.specs.Identifier.{identifier_of}
+use Rattle.markdown_resource.specs.Parts.{rested, PartReady}
+use Rattle.markdown_label.specs.Fields.{bars, tried, loosened}
+use Rattle.std.specs.Str.{IsCharBoundary}
+use Rattle.std.proofs.lemmas.Bool.{eqb-true}
+use Rattle.markdown_engine.specs.declared.event.Point.{Point}
+use Rattle.markdown_label.specs.LabelEnd.{AreAround, EndsBetween, point_or, place_at, identifier_between, outcome, end_ops, ended_at, ended, start_by, is_on, start_at, start_step, AreWithin, StartReady, AfterReady, Makes, Loses, after_reading_of, after_reading, after_ends, nok_ends, lost_here, end_tree, outcome_by, end_reading, lost_starts, lost_by, lost_fields, end_made, made, Ends, EndFails, start_ends}
+use Rattle.markdown_label.specs.Settings.{setting_in}
+use Rattle.markdown_label.proofs.LabelEndLemmas.{Meets, Fails-lost}
+use Rattle.markdown_resource.proofs.NextCodes.{at-value, at-none}
+use Rattle.markdown_label.proofs.StartStack.{place-front}
+
+pub record StartWithin (ready : StateName → Tokenizer → Type 0) (ends : StateName → Tokenizer → Bool → Tokenizer → Type 0) (weight : StateName → Tokenizer → ℕ) : Type 0 where
+  pub meets : Meets ready ends weight
+  pub after_ready : (T : Tokenizer) → AfterReady T → ready LabelEndAfter T
+  pub after_end : (T : Tokenizer) (ok : Bool) (U : Tokenizer) → ends LabelEndAfter T ok U → after_ends T ok U
+  pub after_weight : (T : Tokenizer) → weight LabelEndAfter T ≡ weight_at 13 T
+
+-- Where events stand.
+
+get-there : {A : Type 0} → (xs ys : List A) (y : A) → slice_get (xs ++ y ∷ ys) (length xs) ≡ Some y
+get-there [] ys y = refl
+get-there (x ∷ xs) ys y = get-there xs ys y
+
+place-there : (xs ys : List Event) (y : Event) → place_at (xs ++ y ∷ ys) (length xs) ≡ y.point
+place-there xs ys y = ap point_or (get-there xs ys y)
+
+-- The reading, by what stands there.
+
+abbrev makes : List Kept.LabelStart → Tokenizer → List Code → Reading (List Code × (LabelKind × Forest))
+makes ls T back = outcome_by ls T back >>= λ o. gives (back, o)
+
+pub reading-at : (T : Tokenizer) (x : Code) (cs : List Code) → is_on T ≡ true → ahead T ≡ x ∷ cs → is_value 93 x ≡ true → end_reading T (ahead T) ≡ makes T.tokenize_state.label_starts T (x ∷ []) cs
+reading-at T x cs on whole e =
+    ap (end_reading T) whole
+    ∙ switched-on (one (is_value 93) >>= λ back. makes T.tokenize_state.label_starts T back) (is_on T) (x ∷ cs) on
+    ∙ bind-some (one (is_value 93)) (makes T.tokenize_state.label_starts T) (x ∷ cs) (x ∷ []) cs _ (one-here (is_value 93) x cs e) refl
+
+reading-off : (T : Tokenizer) → is_on T ≡ false → end_reading T (ahead T) ≡ None
+reading-off T off = switched-off _ (is_on T) (ahead T) off
+
+reading-other : (T : Tokenizer) (b : Bool) → is_on T ≡ b → next_is (is_value 93) (ahead T) ≡ false → end_reading T (ahead T) ≡ None
+reading-other T true on e = switched-on _ (is_on T) (ahead T) on ∙ bind-none (one (is_value 93)) _ (ahead T) (one-not (is_value 93) (ahead T) e)
+reading-other T false off e = reading-off T off
+
+-- The end's own events.
+
+end-past : (T : Tokenizer) (x : Code) (cs : List Code) → ahead T ≡ x ∷ cs → done end_ops (ended T) ≡ past None (end_tree (x ∷ [])) (ended T)
+unfolding scratched
+end-past T x cs whole =
+    ops-past (end_tree (x ∷ [])) cs (ended T) (IsSolid-group N.LabelEnd (leaf N.LabelMarker (x ∷ [])) (λ e. cc) (IsSolid-leaf N.LabelMarker (x ∷ []))) whole
+
+module _ (T : Tokenizer) (x : Code) (cs : List Code) (whole : ahead T ≡ x ∷ cs) where
+  -- past the end's own events
+  abbrev P : Tokenizer
+  P = past None (end_tree (x ∷ [])) (ended T)
+
+  ahead-there : ahead P ≡ cs
+  unfolding scratched
+  ahead-there = ahead-past None (end_tree (x ∷ [])) (ended T) cs whole
+
+  left-there : codes_left P + 1 ≡ codes_left T
+  left-there = omega (arith, left-ahead P, left-ahead T, ap length ahead-there, ap length whole)
+
+  name-there : (l : Kept.LabelStart) → l.start.1 < length T.events → identifier_between P l.start.1 P.tokenize_state.end ≡ identifier_of (bytes_between (setting_in T) (place_at T.events l.start.1) x.start)
+  unfolding past scratched
+  name-there l within =
+      let front : place_at P.events l.start.1 ≡ place_at T.events l.start.1 = place-front T.events (appended_from (length T.events) None (end_tree (x ∷ []))) l.start.1 within in
+      let back : place_at P.events (length T.events) ≡ x.start = place-there T.events _ _ in
+      λ i. identifier_of (bytes_between (setting_in T) (front i) (back i))
+
+  reads-there : (l : Kept.LabelStart) (ls : List Kept.LabelStart) → T.tokenize_state.label_starts ≡ l ∷ ls → l.start.1 < length T.events → bars l ≡ false → after_reading P (ahead P) ≡ outcome_by T.tokenize_state.label_starts T (x ∷ []) cs
+  unfolding past scratched
+  reads-there l ls e within active =
+      let s = setting_in T in
+      ap (λ y. after_reading_of y P (ahead P)) e
+      ∙ ap (λ y. outcome s l.kind y (ahead P)) (name-there l within)
+      ∙ ap (outcome s l.kind (identifier_of (bytes_between s (place_at T.events l.start.1) x.start))) ahead-there
+      ∙ sym (ap (λ y. outcome_by y T (x ∷ []) cs) e ∙ switched-on (outcome s l.kind (identifier_of (bytes_between s (place_at T.events l.start.1) x.start))) (not (bars l)) cs (ap not active))
+
+  first-within : (ls : List Kept.LabelStart) → AreWithin T ls → (m : Kept.LabelStart) (ms : List Kept.LabelStart) → ls ≡ m ∷ ms → EndsBetween T m
+  first-within ls w m ms e = (subst (AreWithin T) e w).0
+
+  -- what stands between the start and the end is whole characters
+  around-there : (m : Kept.LabelStart) (ms : List Kept.LabelStart) → P.tokenize_state.label_starts ≡ m ∷ ms → StartReady T → is_value 93 x ≡ true → AreAround P m.start.1 P.tokenize_state.end
+  unfolding past scratched
+  around-there m ms e k here =
+      let w : EndsBetween T m = first-within T.tokenize_state.label_starts k.within m ms e in
+      let more : List Event = appended_from (length T.events) None (end_tree (x ∷ [])) in
+      let front : place_at P.events m.start.1 ≡ place_at T.events m.start.1 = place-front T.events more m.start.1 w.within in
+      let back : place_at P.events (length T.events) ≡ x.start = place-there T.events _ _ in
+      let first : is_later_byte x ≡ false = ap later_value (eqb-true x.value 93 here) in
+      record {
+        text = k.text.text;
+        first = omega (arith, w.within, length-append T.events more);
+        last = omega (arith, length-append T.events more);
+        from = subst (λ (p : Point). IsCharBoundary (bytes_of T) p.index) (sym front) w.between;
+        to = subst (λ (q : Point). IsCharBoundary (bytes_of T) q.index) (sym back) (code-begins (bytes_of T) T.cursor x cs k.text whole first);
+      }
+
+  after-there : (l : Kept.LabelStart) (ls : List Kept.LabelStart) → T.tokenize_state.label_starts ≡ l ∷ ls → StartReady T → is_value 93 x ≡ true → AfterReady P
+  unfolding past scratched
+  after-there l ls e k here =
+      let f : TokenizeState → TokenizeState = ended_at (length T.events) in
+      record {
+        part = record {
+          short = omega (arith, left-there, k.part.short);
+          spaces = record { space = ap f k.part.spaces.space; eol = ap f k.part.spaces.eol };
+          rest = ap f k.part.rest;
+        };
+        some = λ h. none-some l ls (sym e ∙ h);
+        text = text-past None (end_tree (x ∷ [])) (ended_at (length T.events) T.tokenize_state) T k.text;
+        around = λ m ms h. around-there m ms h k here;
+        end = length-append T.events (appended_from (length T.events) None (end_tree (x ∷ [])));
+      }
+    where
+      none-some : (l : Kept.LabelStart) (ls : List Kept.LabelStart) → l ∷ ls ≡ [] → ⊥
+      none-some l ls h = cc
+
+  lost-there : (l : Kept.LabelStart) (ls : List Kept.LabelStart) → T.tokenize_state.label_starts ≡ l ∷ ls → is_on T ≡ true → is_value 93 x ≡ true → lost_fields T ≡ loosened (lost_starts (l ∷ ls)) T.tokenize_state
+  lost-there l ls e on here =
+      if-true _ _ _ (ap (λ b. b && next_is (is_value 93) (ahead T)) on ∙ ap (next_is (is_value 93)) whole ∙ here)
+      ∙ ap (λ y. lost_by y T.tokenize_state) e
+
+  active-fields : (l : Kept.LabelStart) (ls : List Kept.LabelStart) → T.tokenize_state.label_starts ≡ l ∷ ls → bars l ≡ false → loosened (tried P.tokenize_state.label_starts) P.tokenize_state ≡ loosened (lost_starts (l ∷ ls)) T.tokenize_state
+  unfolding past scratched
+  active-fields l ls e active = ap (λ ys. loosened (tried ys) T.tokenize_state) e ∙ ap (λ ys. loosened ys T.tokenize_state) (sym (if-false _ _ _ active))
+
+  barred-fields : (l : Kept.LabelStart) (ls : List Kept.LabelStart) → T.tokenize_state.label_starts ≡ l ∷ ls → bars l ≡ true → loosened (ended T).tokenize_state.label_starts (ended T).tokenize_state ≡ loosened (lost_starts (l ∷ ls)) T.tokenize_state
+  unfolding scratched
+  barred-fields l ls e barred = ap (λ ys. loosened ys T.tokenize_state) (e ∙ sym (if-true _ _ _ barred))
+
+  lost-ended : Fails (loosened (ended T).tokenize_state.label_starts (ended T).tokenize_state) T (lost_here (ended T))
+  lost-ended = let f = Fails-lost (ended T) in record { grown = Grown-scratched 0 _ T _ f.grown; scratch = f.scratch }
+
+  ends-there : (l : Kept.LabelStart) (ls : List Kept.LabelStart) → T.tokenize_state.label_starts ≡ l ∷ ls → l.start.1 < length T.events → bars l ≡ false → is_on T ≡ true → is_value 93 x ≡ true → (ok : Bool) (U : Tokenizer) → after_ends P ok U → start_ends T ok U
+  unfolding end_made gives
+  ends-there l ls e within active on here true U k =
+      record {
+        back = x ∷ [];
+        kind = k.kind;
+        tail = k.tail;
+        rest = k.rest;
+        holds = reading-at T x cs on whole here ∙ bind-some (outcome_by T.tokenize_state.label_starts T (x ∷ [])) _ cs (k.kind, k.tail) k.rest _ (sym (reads-there l ls e within active) ∙ k.holds) refl;
+        left = k.left;
+        whole = whole ∙ ap (λ ys. x ∷ ys) (sym ahead-there ∙ k.whole);
+        after = k.after;
+      }
+  ends-there l ls e within active on here false U k =
+      record {
+        refused = reading-at T x cs on whole here ∙ bind-none (outcome_by T.tokenize_state.label_starts T (x ∷ [])) _ cs (sym (reads-there l ls e within active) ∙ k.refused);
+        fails = subst (λ s. Fails s T U) (active-fields l ls e active ∙ sym (lost-there l ls e on here)) (then-fails None (end_tree (x ∷ [])) _ _ T P U refl k.fails);
+      }
+
+  barred-there : (l : Kept.LabelStart) (ls : List Kept.LabelStart) → T.tokenize_state.label_starts ≡ l ∷ ls → bars l ≡ true → is_on T ≡ true → is_value 93 x ≡ true → (ok : Bool) (U : Tokenizer) → nok_ends (ended T) ok U → start_ends T ok U
+  barred-there l ls e barred on here true U k = cc
+  barred-there l ls e barred on here false U k =
+      record {
+        refused = reading-at T x cs on whole here ∙ bind-none (outcome_by T.tokenize_state.label_starts T (x ∷ [])) _ cs (ap (λ y. outcome_by y T (x ∷ []) cs) e ∙ switched-off _ (not (bars l)) cs (ap not barred));
+        fails = subst (λ s. Fails s T U) (barred-fields l ls e barred ∙ sym (lost-there l ls e on here)) (subst (λ y. Fails (loosened (ended T).tokenize_state.label_starts (ended T).tokenize_state) T y) (sym k.1) lost-ended);
+      }
+
+module _ (ready : StateName → Tokenizer → Type 0) (ends : StateName → Tokenizer → Bool → Tokenizer → Type 0) (weight : StateName → Tokenizer → ℕ) (within : StartWithin ready ends weight) where
+  nok-here : (T : Tokenizer) → T.attempts ≡ [] → end_reading T (ahead T) ≡ None → lost_fields T ≡ T.tokenize_state → GoesOn ready ends weight (weight_at 3 T) (start_ends T) (stepped Nok T)
+  nok-here T alone none same = Goes-plain ready ends weight (weight_at 3 T) (start_ends T) Nok T alone tt (omega arith) (λ ok U h. fails ok U h)
+    where
+      fails : (ok : Bool) (U : Tokenizer) → (ok ≡ false) × (U ≡ T) → start_ends T ok U
+      fails true U h = cc
+      fails false U h =
+          record { refused = none; fails = subst (λ s. Fails s T U) (sym same) (subst (λ y. Fails T.tokenize_state T y) (sym h.1) (record { grown = Grown-refl 0 T; scratch = refl })) }
+
+  other-here : (T : Tokenizer) → T.attempts ≡ [] → is_on T && next_is (is_value 93) (ahead T) ≡ false → end_reading T (ahead T) ≡ None → GoesOn ready ends weight (weight_at 3 T) (start_ends T) (stepped Nok T)
+  other-here T alone h none = nok-here T alone none (if-false _ _ _ h)
+
+  by-switch : (T : Tokenizer) (b : Bool) → is_on T ≡ b → is_on T && next_is (is_value 93) (ahead T) ≡ false → end_reading T (ahead T) ≡ None
+  by-switch T true on h = reading-other T true on (sym (ap (λ y. y && next_is (is_value 93) (ahead T)) on) ∙ h)
+  by-switch T false off h = reading-off T off
+
+  goes-after : (T : Tokenizer) → T.attempts ≡ [] → StartReady T → is_on T ≡ true → (x : Code) (cs : List Code) → (whole : ahead T ≡ x ∷ cs) → is_value 93 x ≡ true → (l : Kept.LabelStart) (ls : List Kept.LabelStart) → T.tokenize_state.label_starts ≡ l ∷ ls → l.start.1 < length T.events → bars l ≡ false → GoesOn ready ends weight (weight_at 3 T) (start_ends T) (stepped (Next LabelEndAfter) (past None (end_tree (x ∷ [])) (ended T)))
+  unfolding past scratched
+  goes-after T alone k on x cs whole here l ls e w h =
+      let P : Tokenizer = past None (end_tree (x ∷ [])) (ended T) in
+      Goes-plain ready ends weight (weight_at 3 T) (start_ends T) (Next LabelEndAfter) P alone (within.after_ready P (after-there T x cs whole l ls e k here)) (rw within.after_weight (omega (arith, left-there T x cs whole)))
+      (λ ok U g. ends-there T x cs whole l ls e w h on here ok U (within.after_end P ok U g))
+
+  takes-start : (T : Tokenizer) → T.attempts ≡ [] → StartReady T → is_on T ≡ true → (x : Code) (cs : List Code) → ahead T ≡ x ∷ cs → is_value 93 x ≡ true → (ls : List Kept.LabelStart) → T.tokenize_state.label_starts ≡ ls → AreWithin T ls → GoesOn ready ends weight (weight_at 3 T) (start_ends T) (start_by ls T)
+  unfolding scratched
+  takes-start T alone k on x cs whole here [] e w =
+      nok-here T alone (reading-at T x cs on whole here ∙ bind-none (outcome_by T.tokenize_state.label_starts T (x ∷ [])) _ cs (ap (λ y. outcome_by y T (x ∷ []) cs) e))
+      (if-true _ _ _ (ap (λ b. b && next_is (is_value 93) (ahead T)) on ∙ ap (next_is (is_value 93)) whole ∙ here) ∙ ap (λ y. lost_by y T.tokenize_state) e)
+  takes-start T alone k on x cs whole here (l ∷ ls) e w =
+      let n : ℕ = weight_at 3 T in
+      if-step (GoesOn ready ends weight n (start_ends T)) (bars l) _ _
+      (λ h. Goes-plain ready ends weight n (start_ends T) (Retry LabelEndNok) (ended T) alone (within.meets.nok_ready (ended T)) (rw within.meets.nok_weight (omega arith))
+      (λ ok U g. barred-there T x cs whole l ls e h on here ok U (within.meets.nok_end (ended T) ok U g)))
+      (λ h. subst (λ (y : Tokenizer). GoesOn ready ends weight n (start_ends T) (stepped (Next LabelEndAfter) y)) (sym (end-past T x cs whole)) (goes-after T alone k on x cs whole here l ls e w.0.within h))
+
+  pub start-law : (T : Tokenizer) → T.attempts ≡ [] → StartReady T → GoesOn ready ends weight (weight_at 3 T) (start_ends T) (start_step T)
+  start-law T alone k =
+      let P : Stepped → Type 0 = GoesOn ready ends weight (weight_at 3 T) (start_ends T) in
+      code-step P (current_of T) (λ o. start_at o T)
+      (λ e. let h : is_on T && next_is (is_value 93) (ahead T) ≡ false = ap (λ b. is_on T && b) (at-none T 93 e) ∙ and-off (is_on T) in other-here T alone h (by-switch T (is_on T) refl h))
+      (λ c e.
+      let b : Begins c (ahead T) = ahead-some T c e in
+      if-step P (is_on T && (c == 93)) _ _
+      (λ h. takes-start T alone k (and-left _ _ h) b.code (rest_of (ahead T)) b.whole (ap (λ v. v == 93) b.value ∙ and-right _ _ h) T.tokenize_state.label_starts refl k.within)
+      (λ h. let g : is_on T && next_is (is_value 93) (ahead T) ≡ false = ap (λ y. is_on T && y) (at-value T c 93 (c == 93) e refl) ∙ h in other-here T alone g (by-switch T (is_on T) refl g)))
+    where
+      and-off : (b : Bool) → b && false ≡ false
+      and-off true = refl
+      and-off false = refl

@@ -1,0 +1,226 @@
+-- The laws of the states of a full reference.
+use Rattle.std.proofs.Common.{◌≡◌, ◌≢◌, ℕ, ◌+◌, ◌-◌, ◌*◌, ◌<◌, ◌≤◌, ◌==◌, Bool, true, false, ◌&&◌, not, if◌then◌else◌, Option, Some, None, List, [], ◌∷◌, ◌++◌, length, nat_lt, refl, sym, ap, subst, ◌∙◌, arith, append_assoc}
+use Rattle.std.specs.Prelude.{is_some, IsUtf8}
+use Rattle.std.specs.Str.{IsCharBoundary}
+use Rattle.markdown_engine.specs.Codes.{Code, stop_of, document_start}
+use Rattle.markdown_engine.specs.Grown.{Fails}
+use Rattle.markdown_engine.specs.Ops.{ahead, current_of, scratched}
+use Rattle.markdown_engine.specs.Past.{TreeReading, Reads, Refuses, EndsAs, past, appended_from}
+use Rattle.markdown_engine.specs.Runs.{Stepped, stepped, GoesOn}
+use Rattle.markdown_engine.specs.Tree.{Forest, leaf_codes}
+use Rattle.markdown_engine.specs.Weights.{codes_left, weight_at}
+use Rattle.markdown_engine.specs.declared.event.Name.TheVariants as N
+use Rattle.markdown_engine.specs.declared.state.State.TheVariants.{Next, Retry, Ok, Nok}
+use Rattle.markdown_engine.specs.declared.state.StateName.{StateName}
+use Rattle.markdown_engine.specs.declared.state.StateName.TheVariants.{LabelEndReferenceFullAfter, LabelEndReferenceFullMissing, LabelStart}
+use Rattle.markdown_engine.specs.declared.tokenizer.TokenizeState.{TokenizeState}
+use Rattle.markdown_engine.specs.declared.tokenizer.Tokenizer.{Tokenizer}
+use Rattle.markdown_engine.proofs.EndsLemmas.{left-read, scratched-same}
+use Rattle.markdown_engine.proofs.Laws.{Follows, Goes-plain, Goes-attempt, Grown-refl, if-step, restored-fails}
+use Rattle.markdown_engine.proofs.OpRules.{attempts-scratched, left-scratched}
+use Rattle.markdown_engine.proofs.TreeLemmas.{Fails-past}
+use Rattle.markdown_construct.specs.Characters.{bytes_of, later_value}
+use Rattle.markdown_construct.proofs.TextPlaces.{text-places}
+use Rattle.markdown_model.specs.Grammar.{◌>>=◌, ◌>>◌, gives, provided}
+use Rattle.markdown_model.specs.LabelEnd.{full_reference, reference_identifier}
+use Rattle.markdown_model.specs.Resource.{label, reference_names}
+use Rattle.markdown_model.specs.Setting.{Setting, is_defined}
+use Rattle.markdown_model.proofs.LinkFree.{Passes}
+use Rattle.markdown_model.proofs.ReadingSteps.{bind-some, bind-none, switched-on, switched-off}
+use Rattle.markdown_partial.specs.EolSteps.{WhitespaceAtRest}
+use Rattle.markdown_string.specs.Label as SL
+use Rattle.markdown_string.specs.Text.{names_in}
+use Rattle.markdown_label.specs.LabelEnd.{place_at, names_set, label_seen, reference_full_step, reference_name, reference_full_after_step, reference_full_missing_step, ReferenceIsAround, FullReady, FullFails, reference_full_ends, reference_full_after_ends, reference_full_missing_ends}
+use Rattle.markdown_resource.specs.Parts.{names_rested, rested, PartReady}
+use Rattle.markdown_label.specs.Settings.{setting_in}
+use Rattle.markdown_label.proofs.ReferenceAround.{reference-around}
+use Rattle.markdown_label.proofs.ReferencePlaces.{HasText, label-text}
+use Rattle.markdown_label.proofs.ReferenceShape.{IsReference, label-shape, name-there}
+
+pub record FullWithin (ready : StateName → Tokenizer → Type 0) (ends : StateName → Tokenizer → Bool → Tokenizer → Type 0) (weight : StateName → Tokenizer → ℕ) : Type 0 where
+  pub label_ready : (T : Tokenizer) → SL.StartReady T → ready LabelStart T
+  pub label_end : (T : Tokenizer) (ok : Bool) (U : Tokenizer) → ends LabelStart T ok U → SL.start_ends T ok U
+  pub label_weight : (T : Tokenizer) → weight LabelStart T ≡ weight_at 11 T
+  pub after_ready : (T : Tokenizer) → ReferenceIsAround T → ready LabelEndReferenceFullAfter T
+  pub after_end : (T : Tokenizer) (ok : Bool) (U : Tokenizer) → ends LabelEndReferenceFullAfter T ok U → reference_full_after_ends T ok U
+  pub after_weight : (T : Tokenizer) → weight LabelEndReferenceFullAfter T ≡ weight_at 1 T
+  pub missing_ready : (T : Tokenizer) → ready LabelEndReferenceFullMissing T
+  pub missing_end : (T : Tokenizer) (ok : Bool) (U : Tokenizer) → ends LabelEndReferenceFullMissing T ok U → reference_full_missing_ends T ok U
+  pub missing_weight : (T : Tokenizer) → weight LabelEndReferenceFullMissing T ≡ weight_at 1 T
+
+-- The scratch fields.
+
+names-back : (s : TokenizeState) → rested s ≡ s → names_rested (names_set s) ≡ s
+names-back s e = ap names_rested (sym e) ∙ e
+
+seen-rest : (s : TokenizeState) → rested s ≡ s → label_seen false s ≡ s
+seen-rest s e = ap (label_seen false) (sym e) ∙ e
+
+label-rest : (s : TokenizeState) → rested s ≡ s → SL.rested (names_set s) ≡ names_set s
+label-rest s e = ap (λ q. SL.rested (names_set q)) (sym e) ∙ ap names_set e
+
+label-ready : (T : Tokenizer) → PartReady T → SL.StartReady (scratched (names_set T.tokenize_state) T)
+unfolding scratched
+label-ready T k =
+    record {
+      text = record { short = k.short; resting = record { space = ap names_set k.spaces.space; eol = ap names_set k.spaces.eol } };
+      rest = label-rest T.tokenize_state k.rest;
+    }
+
+shape-of : (cs : List Code) (t : Forest) (rest : List Code) → label reference_names cs ≡ Some (t, rest) → IsReference t
+shape-of cs t rest e = subst (λ o. Passes IsReference o) e (label-shape.at cs)
+
+-- What is read.
+
+full-defined : (s : Setting) (cs : List Code) (t : Forest) (rest : List Code) → label reference_names cs ≡ Some (t, rest) → is_defined s.definitions (reference_identifier s t) ≡ true → full_reference s cs ≡ Some (t, rest)
+unfolding full_reference gives
+full-defined s cs t rest e h = bind-some (label reference_names) _ cs t rest _ e (switched-on (gives t) _ rest h)
+
+full-undefined : (s : Setting) (cs : List Code) (t : Forest) (rest : List Code) → label reference_names cs ≡ Some (t, rest) → is_defined s.definitions (reference_identifier s t) ≡ false → full_reference s cs ≡ None
+unfolding full_reference gives
+full-undefined s cs t rest e h = bind-some (label reference_names) _ cs t rest _ e (switched-off (gives t) _ rest h)
+
+full-missing : (s : Setting) (cs : List Code) → label reference_names cs ≡ None → full_reference s cs ≡ None
+unfolding full_reference
+full-missing s cs e = bind-none (label reference_names) _ cs e
+
+-- the label as it is read with the names set
+LabelRead : Tokenizer → Tokenizer → Type 0
+LabelRead T U = Reads (label reference_names) None (names_set T.tokenize_state) (scratched (names_set T.tokenize_state) T) U
+
+label-read : (T U : Tokenizer) → SL.start_ends (scratched (names_set T.tokenize_state) T) true U → Reads (label reference_names) None (names_set T.tokenize_state) (scratched (names_set T.tokenize_state) T) U
+unfolding scratched
+label-read T U k = k
+
+label-refused : (T U : Tokenizer) → SL.start_ends (scratched (names_set T.tokenize_state) T) false U → (label reference_names (ahead T) ≡ None) × Fails (names_set T.tokenize_state) (scratched (names_set T.tokenize_state) T) U
+unfolding scratched
+label-refused T U k = (k.refused, k.fails)
+
+-- past the label, with the names put to rest
+past-back : (t : Forest) (T U : Tokenizer) (b : Bool) → rested T.tokenize_state ≡ T.tokenize_state → U ≡ past None t (scratched (names_set T.tokenize_state) (scratched (names_set T.tokenize_state) T)) → (V : Tokenizer) → V ≡ scratched (label_seen b (names_rested U.tokenize_state)) U → V ≡ past None t (scratched (label_seen b T.tokenize_state) T)
+unfolding past scratched
+past-back t T U b rest left V e =
+    e
+    ∙ ap (λ (x : Tokenizer). scratched (label_seen b (names_rested x.tokenize_state)) x) left
+    ∙ ap (λ q. past None t (scratched (label_seen b q) T)) (names-back T.tokenize_state rest)
+
+kept-back : (t : Forest) (T U : Tokenizer) → rested T.tokenize_state ≡ T.tokenize_state → U ≡ past None t (scratched (names_set T.tokenize_state) (scratched (names_set T.tokenize_state) T)) → (V : Tokenizer) → V ≡ scratched (names_rested U.tokenize_state) U → V ≡ past None t (scratched T.tokenize_state T)
+unfolding past scratched
+kept-back t T U rest left V e =
+    e
+    ∙ ap (λ (x : Tokenizer). scratched (names_rested x.tokenize_state) x) left
+    ∙ ap (λ q. past None t (scratched q T)) (names-back T.tokenize_state rest)
+
+name-is : (t : Forest) (T U : Tokenizer) → IsReference t → length T.events ≡ T.tokenize_state.end + 4 → U ≡ past None t (scratched (names_set T.tokenize_state) (scratched (names_set T.tokenize_state) T)) → reference_name U ≡ reference_identifier (setting_in T) t
+unfolding past scratched
+name-is t T U k end left =
+    ap reference_name left ∙ name-there (setting_in T) T.events t (T.tokenize_state.end + 7) _ k (omega (arith, end)) refl
+
+setting-past : (t : Forest) (T U : Tokenizer) → U ≡ past None t (scratched (names_set T.tokenize_state) (scratched (names_set T.tokenize_state) T)) → setting_in U ≡ setting_in T
+unfolding past scratched
+setting-past t T U left = ap setting_in left
+
+as-label : (T U : Tokenizer) → Reads (label reference_names) None (names_set T.tokenize_state) (scratched (names_set T.tokenize_state) T) U → LabelRead T U
+unfolding LabelRead
+as-label T U k = k
+
+-- what stands between its brackets is whole characters
+text-around : (T U : Tokenizer) → FullReady T → (r : Reads (label reference_names) None (names_set T.tokenize_state) (scratched (names_set T.tokenize_state) T) U) → ReferenceIsAround U
+unfolding past scratched
+text-around T U f r =
+    let k : HasText r.tree = subst (λ o. Passes HasText o) r.holds (label-text.at (ahead T)) in
+    let codes : ahead T ≡ k.c ∷ k.x ∷ (k.xs ++ k.d ∷ r.rest) = r.whole ∙ ap (λ cs. cs ++ r.rest) k.whole ∙ ap (λ cs. k.c ∷ k.x ∷ cs) (append_assoc k.xs (k.d ∷ []) r.rest) in
+    let places = text-places (bytes_of T) T.cursor k.c k.x k.xs k.d r.rest f.text codes (ap (λ v. nat_lt v 128) k.opens) (ap later_value k.closes) in
+    let same : bytes_of U ≡ bytes_of T = ap bytes_of r.left in
+    reference-around T U r.tree k (subst IsUtf8 (sym same) f.text.text) (ap (λ (x : Tokenizer). x.events) r.left) (f.end ∙ ap (λ (x : Tokenizer). x.tokenize_state.end + 4) (sym r.left))
+    (subst (λ bs. IsCharBoundary bs k.x.start.index) (sym same) places.0)
+    (subst (λ bs. IsCharBoundary bs (stop_of document_start (k.x ∷ k.xs)).index) (sym same) places.1)
+
+whole-read : (T U V : Tokenizer) → FullReady T → (r : Reads (label reference_names) None (names_set T.tokenize_state) (scratched (names_set T.tokenize_state) T) U) → is_defined (setting_in T).definitions (reference_identifier (setting_in T) r.tree) ≡ true → V ≡ scratched (names_rested U.tokenize_state) U → EndsAs (full_reference (setting_in T)) None T.tokenize_state T true V
+unfolding scratched
+whole-read T U V k r found e =
+    record {
+      tree = r.tree;
+      rest = r.rest;
+      holds = full-defined (setting_in T) (ahead T) r.tree r.rest r.holds found;
+      left = kept-back r.tree T U k.part.rest r.left V e;
+      whole = r.whole;
+      after = ap ahead e ∙ r.after;
+    }
+
+whole-refused : (T U V : Tokenizer) → FullReady T → (r : Reads (label reference_names) None (names_set T.tokenize_state) (scratched (names_set T.tokenize_state) T) U) → is_defined (setting_in T).definitions (reference_identifier (setting_in T) r.tree) ≡ false → V ≡ scratched (label_seen true (names_rested U.tokenize_state)) U → FullFails T V
+unfolding scratched
+whole-refused T U V k r found e =
+    record {
+      refused = full-undefined (setting_in T) (ahead T) r.tree r.rest r.holds found;
+      fails = subst (λ b. Fails (label_seen b T.tokenize_state) T V) (sym (ap is_some r.holds)) (Fails-past None r.tree (label_seen true T.tokenize_state) T V (past-back r.tree T U true k.part.rest r.left V e));
+    }
+
+-- no label stands there
+none-there : (T V : Tokenizer) → FullReady T → label reference_names (ahead T) ≡ None → V ≡ scratched (names_rested (names_set T.tokenize_state)) T → FullFails T V
+none-there T V k none e =
+    let same : V ≡ T = e ∙ ap (λ q. scratched q T) (names-back T.tokenize_state k.part.rest) ∙ scratched-same T in
+    record {
+      refused = full-missing (setting_in T) (ahead T) none;
+      fails = subst (λ s. Fails s T V) (sym (ap (λ o. label_seen (is_some o) T.tokenize_state) none ∙ seen-rest T.tokenize_state k.part.rest)) (subst (λ x. Fails T.tokenize_state T x) (sym same) (record { grown = Grown-refl 0 T; scratch = refl }));
+    }
+
+missing-ends : (T : Tokenizer) → FullReady T → label reference_names (ahead T) ≡ None → (ok : Bool) (V : Tokenizer) → reference_full_missing_ends (scratched (names_set T.tokenize_state) (scratched (names_set T.tokenize_state) T)) ok V → reference_full_ends T ok V
+unfolding scratched
+missing-ends T k none true V h = cc
+missing-ends T k none false V h = none-there T V k none h.1
+
+module _ (ready : StateName → Tokenizer → Type 0) (ends : StateName → Tokenizer → Bool → Tokenizer → Type 0) (weight : StateName → Tokenizer → ℕ) (within : FullWithin ready ends weight) where
+  pub missing-law : (T : Tokenizer) → T.attempts ≡ [] → GoesOn ready ends weight (weight_at 1 T) (reference_full_missing_ends T) (reference_full_missing_step T)
+  missing-law T alone = Goes-plain ready ends weight (weight_at 1 T) (reference_full_missing_ends T) Nok (scratched (names_rested T.tokenize_state) T) (attempts-scratched _ T ∙ alone) tt (omega arith) (λ ok U h. h)
+
+  pub full-after-law : (T : Tokenizer) → T.attempts ≡ [] → GoesOn ready ends weight (weight_at 1 T) (reference_full_after_ends T) (reference_full_after_step T)
+  full-after-law T alone =
+      let s : TokenizeState = names_rested T.tokenize_state in
+      let b : Bool = is_defined (setting_in T).definitions (reference_name T) in
+      let left : Bool → Tokenizer = λ ok. scratched (if ok then s else label_seen true s) T in
+      if-step (GoesOn ready ends weight (weight_at 1 T) (reference_full_after_ends T)) b _ _
+      (λ h. Goes-plain ready ends weight (weight_at 1 T) (reference_full_after_ends T) Ok (scratched s T) (attempts-scratched _ T ∙ alone) tt (omega arith) (λ ok U x. (x.0 ∙ sym h, x.1 ∙ ap left (sym x.0))))
+      (λ h. Goes-plain ready ends weight (weight_at 1 T) (reference_full_after_ends T) Nok (scratched (label_seen true s) T) (attempts-scratched _ T ∙ alone) tt (omega arith) (λ ok U x. (x.0 ∙ sym h, x.1 ∙ ap left (sym x.0))))
+
+  -- behind a label
+  defined-ends : (T U : Tokenizer) → FullReady T → LabelRead T U → (ok : Bool) (V : Tokenizer) → reference_full_after_ends U ok V → reference_full_ends T ok V
+  unfolding LabelRead
+  defined-ends T U k r true V h =
+      let found : is_defined (setting_in T).definitions (reference_identifier (setting_in T) r.tree) ≡ true =
+      sym (h.0 ∙ (λ i. is_defined (setting-past r.tree T U r.left i).definitions (name-is r.tree T U (shape-of _ r.tree r.rest r.holds) k.end r.left i))) in
+      whole-read T U V k r found h.1
+  defined-ends T U k r false V h =
+      let found : is_defined (setting_in T).definitions (reference_identifier (setting_in T) r.tree) ≡ false =
+      sym (h.0 ∙ (λ i. is_defined (setting-past r.tree T U r.left i).definitions (name-is r.tree T U (shape-of _ r.tree r.rest r.holds) k.end r.left i))) in
+      whole-refused T U V k r found h.1
+
+  missing-goes : (T : Tokenizer) → FullReady T → label reference_names (ahead T) ≡ None → Follows ready ends weight (weight_at 12 T) (reference_full_ends T) (Next LabelEndReferenceFullMissing) (scratched (names_set T.tokenize_state) (scratched (names_set T.tokenize_state) T))
+  missing-goes T k none =
+      let V : Tokenizer = scratched (names_set T.tokenize_state) (scratched (names_set T.tokenize_state) T) in
+      record {
+        goes_on = within.missing_ready V;
+        falls = rw within.missing_weight (omega (arith, left-scratched (names_set T.tokenize_state) (scratched (names_set T.tokenize_state) T), left-scratched (names_set T.tokenize_state) T));
+        closed = λ ok U x. missing-ends T k none ok U (within.missing_end V ok U x);
+      }
+
+  pub full-law : (T : Tokenizer) → T.attempts ≡ [] → FullReady T → GoesOn ready ends weight (weight_at 12 T) (reference_full_ends T) (reference_full_step T)
+  full-law T alone k =
+      let s : TokenizeState = T.tokenize_state in
+      let M : Tokenizer = scratched (names_set s) T in
+      let n : ℕ = weight_at 12 T in
+      let same : codes_left M ≡ codes_left T = left-scratched _ T in
+      Goes-attempt ready ends weight n (reference_full_ends T) (Retry LabelStart) (Next LabelEndReferenceFullAfter) (Next LabelEndReferenceFullMissing) M (attempts-scratched _ T ∙ alone)
+      (within.label_ready M (label-ready T k.part))
+      (rw within.label_weight (omega (arith, same)))
+      (λ U now h.
+      let r = label-read T U (within.label_end M true U h) in
+      record {
+        goes_on = within.after_ready U (text-around T U k r);
+        falls = rw within.after_weight (omega (arith, same, left-read _ _ _ M U r));
+        closed = λ ok V x. defined-ends T U k (as-label T U r) ok V (within.after_end U ok V x);
+      })
+      (λ U now h.
+      let r = label-refused T U (within.label_end M false U h) in
+      subst (λ (y : Tokenizer). Follows ready ends weight n (reference_full_ends T) (Next LabelEndReferenceFullMissing) y) (sym (restored-fails false (Next LabelEndReferenceFullAfter) (Next LabelEndReferenceFullMissing) (names_set s) M U r.1))
+      (missing-goes T k r.0))

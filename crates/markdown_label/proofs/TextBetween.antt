@@ -1,0 +1,94 @@
+-- The bytes of a text between two places at which it may be cut.
+use Rattle.std.proofs.Common.{◌≡◌, ℕ, zero, suc, ◌+◌, ◌-◌, ◌<◌, ◌≤◌, Option, Some, None, List, [], ◌∷◌, length, get_or, slice_get, take, drop, ◌||◌, refl, sym, ap, subst, ◌∙◌, arith}
+use Rattle.std.specs.Prelude.{IsUtf8, Bool, map, max}
+use Rattle.std.specs.List.{list_any}
+use Rattle.markdown_engine.specs.declared.event.Point.{Point}
+use Rattle.markdown_util.specs.Identifier.{identifier_of}
+use Rattle.std.specs.List.{slice_range, slice_index_or}
+use Rattle.std.specs.Str.{IsCharBoundary}
+use Rattle.std.proofs.Math.Nat.{le-max_right, sub-add-eq-max}
+use Rattle.std.proofs.lemmas.Str.{IsUtf8-between, IsCharBoundary-after_ascii, IsCharBoundary-before_ascii, IsCharBoundary-start, IsCharBoundary-end}
+use Rattle.markdown_engine.specs.Chain.{chained}
+use Rattle.markdown_engine.specs.declared.event.Event.{Event}
+use Rattle.markdown_engine.specs.declared.tokenizer.Tokenizer.{Tokenizer}
+use Rattle.markdown_engine.proofs.ChainLemmas.{chained-point}
+use Rattle.markdown_construct.specs.Characters.{bytes_of}
+use Rattle.markdown_label.specs.LabelEnd.{AreAround}
+use Rattle.markdown_label.specs.LabelEnd.{place_at, identifier_between}
+
+-- behind an ASCII byte, up to an ASCII byte
+pub between-ascii : (bs : List ℕ) (i j : ℕ) → IsUtf8 bs → i < j → get_or bs i 0 < 128 → j < length bs → get_or bs j 0 < 128 → IsUtf8 (take (j - (i + 1)) (drop (i + 1) bs))
+between-ascii bs i j u order low within high =
+    IsUtf8-between bs (i + 1) j u (omega (arith, order)) (IsCharBoundary-after_ascii bs i u (omega (arith, order, within)) low) (IsCharBoundary-before_ascii bs j within high)
+
+-- from the text's start, and up to its end
+pub from-start : (bs : List ℕ) (j : ℕ) → IsUtf8 bs → j < length bs → get_or bs j 0 < 128 → IsUtf8 (take (j - 0) (drop 0 bs))
+from-start bs j u within high = IsUtf8-between bs 0 j u (omega arith) (IsCharBoundary-start bs u) (IsCharBoundary-before_ascii bs j within high)
+
+pub up-to-end : (bs : List ℕ) (i : ℕ) → IsUtf8 bs → i < length bs → get_or bs i 0 < 128 → IsUtf8 (take (length bs - (i + 1)) (drop (i + 1) bs))
+up-to-end bs i u within low = IsUtf8-between bs (i + 1) (length bs) u (omega (arith, within)) (IsCharBoundary-after_ascii bs i u within low) (IsCharBoundary-end bs)
+
+-- what is lent for an event stands where the event does
+place-get : (es : List Event) (i : ℕ) (d : Event) → i < length es → (get_or es i d).point ≡ place_at es i
+place-get [] i d h = absurd (omega arith)
+place-get (x ∷ es) zero d h = refl
+place-get (x ∷ es) (suc i) d h = place-get es i d (omega (arith, h))
+
+pub place-lent : (es : List Event) (i : ℕ) (e : Event) → i < length es → e ≡ slice_index_or (chained es) i e → e.point ≡ place_at es i
+place-lent es i e h same = ap (λ (x : Event). x.point) same ∙ chained-point 0 i es e ∙ place-get es i e h
+
+-- from a place to another, which need not be behind it: then there is nothing between
+max-between : (bs : List ℕ) (i j : ℕ) → IsCharBoundary bs i → IsCharBoundary bs j → IsCharBoundary bs (max j i)
+max-between bs i j from to =
+    by-size (j - i) refl
+  where
+    by-size : (d : ℕ) → j - i ≡ d → IsCharBoundary bs (max j i)
+    by-size zero e =
+        let is : i ≡ max j i = omega (arith, e, sub-add-eq-max j i) in
+        subst (λ n. IsCharBoundary bs n) is from
+    by-size (suc d) e =
+        let is : j ≡ max j i = omega (arith, e, sub-add-eq-max j i) in
+        subst (λ n. IsCharBoundary bs n) is to
+
+max-size : (i j : ℕ) → max j i - i ≡ j - i
+max-size i j = omega (arith, sub-add-eq-max j i)
+
+pub text-from : (bs : List ℕ) (i j : ℕ) → IsUtf8 bs → IsCharBoundary bs i → IsCharBoundary bs j → IsUtf8 (slice_range bs i (max j i))
+text-from bs i j u from to = IsUtf8-between bs i (max j i) u (le-max_right j i) from (max-between bs i j from to)
+
+pub bytes-from : (bs : List ℕ) (i j : ℕ) → slice_range bs i (max j i) ≡ take (j - i) (drop i bs)
+bytes-from bs i j = ap (λ n. take n (drop i bs)) (max-size i j)
+
+-- what is lent for two such events
+
+module _ (T : Tokenizer) (m n : ℕ) (a b : Event) (k : AreAround T m n) (front : a ≡ slice_index_or (chained T.events) m a) (back : b ≡ slice_index_or (chained T.events) n b) where
+  first : a.point ≡ place_at T.events m
+  first = place-lent T.events m a k.first front
+
+  last : b.point ≡ place_at T.events n
+  last = place-lent T.events n b k.last back
+
+  from-between : IsCharBoundary (bytes_of T) a.point.index
+  from-between = subst (λ (p : Point). IsCharBoundary (bytes_of T) p.index) (sym first) k.from
+
+  to-between : IsCharBoundary (bytes_of T) b.point.index
+  to-between = subst (λ (p : Point). IsCharBoundary (bytes_of T) p.index) (sym last) k.to
+
+  pub lent-order : a.point.index ≤ max b.point.index a.point.index
+  lent-order = le-max_right b.point.index a.point.index
+
+  pub lent-within : max b.point.index a.point.index ≤ length (bytes_of T)
+  lent-within = (max-between (bytes_of T) a.point.index b.point.index from-between to-between).0
+
+  pub lent-text : (bs : List ℕ) → bs ≡ slice_range (bytes_of T) a.point.index (max b.point.index a.point.index) → IsUtf8 bs
+  lent-text bs e = subst IsUtf8 (sym e) (text-from (bytes_of T) a.point.index b.point.index k.text from-between to-between)
+
+  pub lent-name : (bs : List ℕ) → bs ≡ slice_range (bytes_of T) a.point.index (max b.point.index a.point.index) → identifier_of bs ≡ identifier_between T m n
+  lent-name bs e =
+      ap identifier_of (e ∙ bytes-from (bytes_of T) a.point.index b.point.index)
+      ∙ (λ i. identifier_of (take ((last i).index - (first i).index) (drop (first i).index (bytes_of T))))
+
+-- a test of what is made of the items
+pub any_map : {A B : Type 0} → (p : B → Bool) (f : A → B) (xs : List A) → list_any p (map f xs) ≡ list_any (λ x. p (f x)) xs
+any_map p f [] = refl
+any_map p f (x ∷ xs) = ap (λ b. p (f x) || b) (any_map p f xs)

@@ -1,0 +1,372 @@
+-- What the states of the end of a label do, and how runs from them end.
+use Rattle.std.specs.Prelude.{◌≡◌, ◌≢◌, ◌≤◌, ◌<◌, ℕ, ◌+◌, ◌-◌, Bool, true, false, ◌==◌, ◌&&◌, ◌||◌, not, is_some, if◌then◌else◌, List, [], ◌∷◌, ◌++◌, length, slice_get, Option, Some, None}
+use Rattle.std.specs.List.{list_any}
+use Rattle.std.specs.Prelude.{IsUtf8}
+use Rattle.std.specs.Str.{IsCharBoundary}
+use Rattle.markdown_engine.specs.Codes.{Code, document_start}
+use Rattle.markdown_engine.specs.Grown.{Fails}
+use Rattle.markdown_engine.specs.Lists.{rest_of}
+use Rattle.markdown_engine.specs.Ops.{Op, Enter, Exit, Consume, IsOpen, ahead, attempted, current_of, done, registered_before, scratched}
+use Rattle.markdown_engine.specs.Past.{EndsAs, TreeReading, past}
+use Rattle.markdown_engine.specs.Runs.{Stepped, stepped}
+use Rattle.markdown_engine.specs.Tree.{Forest, empty, ◌⊕◌, leaf, group, leaf_codes, start_of}
+use Rattle.markdown_engine.specs.declared.event.Event.{Event}
+use Rattle.markdown_engine.specs.declared.event.Name.TheVariants as N
+use Rattle.markdown_engine.specs.declared.event.Point.{Point}
+use Rattle.markdown_engine.specs.declared.resolve.ResolveName.TheVariants as R
+use Rattle.markdown_engine.specs.declared.state.State.TheVariants.{Next, Retry, Ok, Nok}
+use Rattle.markdown_engine.specs.declared.state.StateName.{StateName}
+use Rattle.markdown_engine.specs.declared.state.StateName.TheVariants.{LabelEndAfter, LabelEndOk, LabelEndNok, LabelEndResourceStart, LabelEndReferenceFull, LabelEndReferenceFullAfter, LabelEndReferenceFullMissing, LabelEndReferenceNotFull, LabelEndReferenceCollapsed, LabelEndReferenceCollapsedOpen, LabelStart}
+use Rattle.markdown_engine.specs.declared.tokenizer.LabelKind.{LabelKind}
+use Rattle.markdown_engine.specs.declared.tokenizer.LabelStart as Kept
+use Rattle.markdown_engine.specs.declared.tokenizer.TokenizeState.{TokenizeState}
+use Rattle.markdown_engine.specs.declared.tokenizer.Tokenizer.{Tokenizer}
+use Rattle.markdown_construct.specs.Characters.{bytes_of, ReadsText}
+use Rattle.markdown_construct.specs.Plan.{Plan, KeepsAs}
+use Rattle.markdown_model.specs.CodeTests.{is_value, next_is}
+use Rattle.markdown_model.specs.Grammar.{Reading, ◌>>=◌, ◌>>◌, gives, either, provided, one}
+use Rattle.markdown_model.specs.LabelEnd.{is_footnote, bytes_between, full_reference, collapsed_reference, shortcut, after_label, link_kind, link_identifier}
+use Rattle.markdown_model.specs.Resource.{label, reference_names}
+use Rattle.markdown_model.specs.Setting.{Setting, is_defined}
+use Rattle.markdown_resource.specs.Parts.{names_rested, PartReady}
+use Rattle.markdown_util.specs.Identifier.{identifier_of}
+use Rattle.markdown_label.specs.Fields.{bars, with_kind, tried, labelled, loosened}
+use Rattle.markdown_label.specs.Settings.{setting_in}
+
+-- Identifiers.
+
+abbrev pub point_or : Option Event → Point
+point_or None = document_start
+point_or (Some e) = e.point
+
+-- where an event stands, by its number
+abbrev pub place_at : List Event → ℕ → Point
+place_at es n = point_or (slice_get es n)
+
+-- the identifier of the document's bytes between two events
+abbrev pub identifier_between : Tokenizer → ℕ → ℕ → List ℕ
+identifier_between T m n = identifier_of (bytes_between (setting_in T) (place_at T.events m) (place_at T.events n))
+
+-- When the bytes between two events are whole characters.
+
+-- both events are there, and each stands between characters of the text
+pub record AreAround (T : Tokenizer) (m n : ℕ) : Type 0 where
+  pub text : IsUtf8 (bytes_of T)
+  pub first : m < length T.events
+  pub last : n < length T.events
+  pub from : IsCharBoundary (bytes_of T) (place_at T.events m).index
+  pub to : IsCharBoundary (bytes_of T) (place_at T.events n).index
+
+-- the label whose end is passed: from the last event of its start to the first one of its end
+abbrev pub LabelIsAround : Tokenizer → Type 0
+LabelIsAround T = (l : Kept.LabelStart) (ls : List Kept.LabelStart) → T.tokenize_state.label_starts ≡ l ∷ ls → AreAround T l.start.1 T.tokenize_state.end
+
+-- the text of the reference behind it
+abbrev pub ReferenceIsAround : Tokenizer → Type 0
+ReferenceIsAround T = (4 ≤ length T.events) × AreAround T (T.tokenize_state.end + 7) (length T.events - 4)
+
+-- What an end makes, by the kind of its start and the identifier of its label, if the start is not barred.
+unfoldable pub outcome : Setting → LabelKind → List ℕ → Reading (LabelKind × Forest)
+outcome s kind name =
+    either
+    (provided (is_footnote kind && is_defined s.footnotes name) >> gives (LabelKind.GfmFootnote, empty))
+    (after_label s (is_defined s.definitions (link_identifier kind name)) >>= λ tail. gives (link_kind kind, tail))
+
+-- What the states do.
+
+abbrev pub end_ops : List Op
+end_ops = Enter N.LabelEnd ∷ Enter N.LabelMarker ∷ Consume ∷ Exit N.LabelMarker ∷ Exit N.LabelEnd ∷ []
+
+-- with the end's first Enter kept
+abbrev pub ended_at : ℕ → TokenizeState → TokenizeState
+ended_at n s = record s { end = n }
+
+abbrev pub ended : Tokenizer → Tokenizer
+ended T = scratched (ended_at (length T.events) T.tokenize_state) T
+
+-- by the last start
+abbrev pub start_by : List Kept.LabelStart → Tokenizer → Stepped
+start_by [] T = stepped Nok T
+start_by (l ∷ ls) T = if bars l then stepped (Retry LabelEndNok) (ended T) else stepped (Next LabelEndAfter) (done end_ops (ended T))
+
+-- ends are switched on
+abbrev pub is_on : Tokenizer → Bool
+is_on T = T.parse_state.now.options.now.constructs.label_end
+
+abbrev pub start_at : Option ℕ → Tokenizer → Stepped
+start_at None T = stepped Nok T
+start_at (Some c) T = if is_on T && (c == 93) then start_by T.tokenize_state.label_starts T else stepped Nok T
+
+abbrev pub start_step : Tokenizer → Stepped
+start_step T = start_at (current_of T) T
+
+-- where nothing follows that makes a label
+abbrev pub by_definition : Bool → StateName
+by_definition defined = if defined then LabelEndOk else LabelEndNok
+
+abbrev pub not_full : Bool → StateName
+not_full defined = if defined then LabelEndReferenceNotFull else LabelEndNok
+
+abbrev pub tail_at : Bool → Option ℕ → Tokenizer → Stepped
+tail_at defined None T = stepped (Retry (by_definition defined)) T
+tail_at defined (Some c) T =
+    if c == 40 then stepped (Retry LabelEndResourceStart) (attempted false (Next LabelEndOk) (Next (by_definition defined)) T)
+    else (if c == 91 then stepped (Retry LabelEndReferenceFull) (attempted false (Next LabelEndOk) (Next (not_full defined)) T)
+    else stepped (Retry (by_definition defined)) T)
+
+abbrev pub starts_set : List Kept.LabelStart → TokenizeState → TokenizeState
+starts_set ls s = record s { label_starts = ls }
+
+abbrev pub link_tried : Tokenizer → Tokenizer
+link_tried T = scratched (starts_set (tried T.tokenize_state.label_starts) T.tokenize_state) T
+
+abbrev pub after_as : LabelKind → List ℕ → Tokenizer → Stepped
+after_as kind name T =
+    if is_footnote kind && is_defined (setting_in T).footnotes name then stepped (Retry LabelEndOk) T
+    else tail_at (is_defined (setting_in T).definitions (link_identifier kind name)) (current_of T) (link_tried T)
+
+abbrev pub after_by : List Kept.LabelStart → Tokenizer → Stepped
+after_by [] T = stepped Nok T
+after_by (l ∷ ls) T = after_as l.kind (identifier_between T l.start.1 T.tokenize_state.end) T
+
+abbrev pub after_step : Tokenizer → Stepped
+after_step T = after_by T.tokenize_state.label_starts T
+
+-- as a label leaves it
+abbrev pub made_here : Tokenizer → Tokenizer
+made_here T = registered_before R.Label (scratched (labelled T.tokenize_state.label_starts (length T.events - 1) T.tokenize_state) T)
+
+abbrev pub ok_step : Tokenizer → Stepped
+ok_step T = stepped Ok (made_here T)
+
+abbrev pub lost_here : Tokenizer → Tokenizer
+lost_here T = scratched (loosened T.tokenize_state.label_starts T.tokenize_state) T
+
+abbrev pub nok_step : Tokenizer → Stepped
+nok_step T = stepped Nok (lost_here T)
+
+-- References.
+
+abbrev pub names_set : TokenizeState → TokenizeState
+names_set s = record s { token_1 = N.Reference; token_2 = N.ReferenceMarker; token_3 = N.ReferenceString }
+
+-- with a label seen that is not defined
+abbrev pub label_seen : Bool → TokenizeState → TokenizeState
+label_seen b s = record s { seen = b }
+
+abbrev pub reference_full_step : Tokenizer → Stepped
+reference_full_step T = stepped (Retry LabelStart) (attempted false (Next LabelEndReferenceFullAfter) (Next LabelEndReferenceFullMissing) (scratched (names_set T.tokenize_state) T))
+
+-- the reference's text stands behind the end's own four events and its first marker, up to its last marker
+abbrev pub reference_name : Tokenizer → List ℕ
+reference_name T = identifier_between T (T.tokenize_state.end + 7) (length T.events - 4)
+
+abbrev pub reference_full_after_step : Tokenizer → Stepped
+reference_full_after_step T =
+    if is_defined (setting_in T).definitions (reference_name T)
+    then stepped Ok (scratched (names_rested T.tokenize_state) T)
+    else stepped Nok (scratched (label_seen true (names_rested T.tokenize_state)) T)
+
+abbrev pub reference_full_missing_step : Tokenizer → Stepped
+reference_full_missing_step T = stepped Nok (scratched (names_rested T.tokenize_state) T)
+
+-- a shortcut may stand before a `[` that begins neither `[]` nor a label
+abbrev pub may_be_shortcut : Tokenizer → Bool
+may_be_shortcut T = T.parse_state.now.options.now.label_shortcut_before_bracket && not T.tokenize_state.seen
+
+abbrev pub reference_not_full_step : Tokenizer → Stepped
+reference_not_full_step T =
+    stepped (Retry LabelEndReferenceCollapsed) (attempted false (Next LabelEndOk) (Next (by_definition (may_be_shortcut T))) (scratched (label_seen false T.tokenize_state) T))
+
+abbrev pub collapsed_front : List Op
+collapsed_front = Enter N.Reference ∷ Enter N.ReferenceMarker ∷ Consume ∷ Exit N.ReferenceMarker ∷ []
+
+abbrev pub collapsed_back : List Op
+collapsed_back = Enter N.ReferenceMarker ∷ Consume ∷ Exit N.ReferenceMarker ∷ Exit N.Reference ∷ []
+
+abbrev pub collapsed_at : Option ℕ → Tokenizer → Stepped
+collapsed_at None T = stepped Nok T
+collapsed_at (Some c) T = if c == 91 then stepped (Next LabelEndReferenceCollapsedOpen) (done collapsed_front T) else stepped Nok T
+
+abbrev pub reference_collapsed_step : Tokenizer → Stepped
+reference_collapsed_step T = collapsed_at (current_of T) T
+
+abbrev pub collapsed_open_at : Option ℕ → Tokenizer → Stepped
+collapsed_open_at None T = stepped Nok T
+collapsed_open_at (Some c) T = if c == 93 then stepped Ok (done collapsed_back T) else stepped Nok T
+
+abbrev pub reference_collapsed_open_step : Tokenizer → Stepped
+reference_collapsed_open_step T = collapsed_open_at (current_of T) T
+
+-- When they may be called.
+
+-- a start's events are among those there are, and it ends between characters
+pub record EndsBetween (T : Tokenizer) (l : Kept.LabelStart) : Type 0 where
+  pub within : l.start.1 < length T.events
+  pub between : IsCharBoundary (bytes_of T) (place_at T.events l.start.1).index
+
+abbrev pub AreWithin : Tokenizer → List Kept.LabelStart → Type 0
+AreWithin T [] = Unit {0}
+AreWithin T (l ∷ ls) = EndsBetween T l × AreWithin T ls
+
+pub record StartReady (T : Tokenizer) : Type 0 where
+  pub part : PartReady T
+  pub text : ReadsText T
+  pub within : AreWithin T T.tokenize_state.label_starts
+  pub resting : T.tokenize_state.end ≡ 0
+
+-- the end's four events are the last ones
+pub record AfterReady (T : Tokenizer) : Type 0 where
+  pub part : PartReady T
+  pub some : T.tokenize_state.label_starts ≢ []
+  pub text : ReadsText T
+  pub around : LabelIsAround T
+  pub end : length T.events ≡ T.tokenize_state.end + 4
+
+pub record FullReady (T : Tokenizer) : Type 0 where
+  pub part : PartReady T
+  pub text : ReadsText T
+  pub end : length T.events ≡ T.tokenize_state.end + 4
+
+-- How runs end.
+
+-- A tail follows, and the last start makes a label.
+
+pub record MakesTail (reading : TreeReading) (T U : Tokenizer) : Type 0 where
+  pub tail : Forest
+  pub rest : List Code
+  pub holds : reading (ahead T) ≡ Some (tail, rest)
+  pub left : U ≡ made_here (past None tail T)
+  pub whole : ahead T ≡ leaf_codes tail ++ rest
+  pub after : ahead U ≡ rest
+
+pub record LosesTail (reading : TreeReading) (T U : Tokenizer) : Type 0 where
+  pub refused : reading (ahead T) ≡ None
+  pub fails : Fails (loosened T.tokenize_state.label_starts T.tokenize_state) T U
+
+abbrev pub tail_ends : TreeReading → Tokenizer → Bool → Tokenizer → Type 0
+tail_ends reading T true U = MakesTail reading T U
+tail_ends reading T false U = LosesTail reading T U
+
+-- The label whose end is passed is made, as this kind and with this tail.
+
+abbrev pub kind_set : LabelKind → Tokenizer → Tokenizer
+kind_set kind T = scratched (starts_set (with_kind kind T.tokenize_state.label_starts) T.tokenize_state) T
+
+unfoldable pub made : LabelKind → Forest → Tokenizer → Tokenizer
+made kind tail T = made_here (past None tail (kind_set kind T))
+
+abbrev pub MadeReading : Type 0
+MadeReading = Reading (LabelKind × Forest)
+
+pub record Makes (reading : MadeReading) (T U : Tokenizer) : Type 0 where
+  pub kind : LabelKind
+  pub tail : Forest
+  pub rest : List Code
+  pub holds : reading (ahead T) ≡ Some ((kind, tail), rest)
+  pub left : U ≡ made kind tail T
+  pub whole : ahead T ≡ leaf_codes tail ++ rest
+  pub after : ahead U ≡ rest
+
+pub record Loses (reading : MadeReading) (s : TokenizeState) (T U : Tokenizer) : Type 0 where
+  pub refused : reading (ahead T) ≡ None
+  pub fails : Fails s T U
+
+-- what the end makes whose `]` is passed
+abbrev pub after_reading_of : List Kept.LabelStart → Tokenizer → MadeReading
+after_reading_of [] T cs = None
+after_reading_of (l ∷ ls) T cs = outcome (setting_in T) l.kind (identifier_between T l.start.1 T.tokenize_state.end) cs
+
+abbrev pub after_reading : Tokenizer → MadeReading
+after_reading T = after_reading_of T.tokenize_state.label_starts T
+
+abbrev pub after_ends : Tokenizer → Bool → Tokenizer → Type 0
+after_ends T true U = Makes (after_reading T) T U
+after_ends T false U = Loses (after_reading T) (loosened (tried T.tokenize_state.label_starts) T.tokenize_state) T U
+
+abbrev pub ok_ends : Tokenizer → Bool → Tokenizer → Type 0
+ok_ends T ok U = (ok ≡ true) × (U ≡ made_here T)
+
+abbrev pub nok_ends : Tokenizer → Bool → Tokenizer → Type 0
+nok_ends T ok U = (ok ≡ false) × (U ≡ lost_here T)
+
+-- the end of a label: the start that it takes, and what it makes
+abbrev pub end_tree : List Code → Forest
+end_tree back = group N.LabelEnd (leaf N.LabelMarker back)
+
+-- what an end makes whose `]` this is
+abbrev pub outcome_by : List Kept.LabelStart → Tokenizer → List Code → MadeReading
+outcome_by [] T back cs = None
+outcome_by (l ∷ ls) T back cs = (provided (not (bars l)) >> outcome (setting_in T) l.kind (identifier_of (bytes_between (setting_in T) (place_at T.events l.start.1) (start_of back)))) cs
+
+abbrev pub end_reading : Tokenizer → Reading (List Code × (LabelKind × Forest))
+end_reading T = provided (is_on T) >> (one (is_value 93) >>= λ back. outcome_by T.tokenize_state.label_starts T back >>= λ o. gives (back, o))
+
+-- the fields that a failed end leaves: its start is used up, tried as a link's unless it is barred
+abbrev pub lost_starts : List Kept.LabelStart → List Kept.LabelStart
+lost_starts [] = []
+lost_starts (l ∷ ls) = if bars l then l ∷ ls else tried (l ∷ ls)
+
+abbrev pub lost_by : List Kept.LabelStart → TokenizeState → TokenizeState
+lost_by [] s = s
+lost_by (l ∷ ls) s = loosened (lost_starts (l ∷ ls)) s
+
+abbrev pub lost_fields : Tokenizer → TokenizeState
+lost_fields T =
+    let s : TokenizeState = T.tokenize_state in
+    if is_on T && next_is (is_value 93) (ahead T) then lost_by s.label_starts s else s
+
+-- the end is made: its own events, and what follows
+unfoldable pub end_made : List Code → LabelKind → Forest → Tokenizer → Tokenizer
+end_made back kind tail T = made kind tail (past None (end_tree back) (ended T))
+
+pub record Ends (T U : Tokenizer) : Type 0 where
+  pub back : List Code
+  pub kind : LabelKind
+  pub tail : Forest
+  pub rest : List Code
+  pub holds : end_reading T (ahead T) ≡ Some ((back, (kind, tail)), rest)
+  pub left : U ≡ end_made back kind tail T
+  pub whole : ahead T ≡ back ++ (leaf_codes tail ++ rest)
+  pub after : ahead U ≡ rest
+
+pub record EndFails (T U : Tokenizer) : Type 0 where
+  pub refused : end_reading T (ahead T) ≡ None
+  pub fails : Fails (lost_fields T) T U
+
+abbrev pub start_ends : Tokenizer → Bool → Tokenizer → Type 0
+start_ends T true U = Ends T U
+start_ends T false U = EndFails T U
+
+-- a full reference, or not; then it shows whether a label stands there
+pub record FullFails (T U : Tokenizer) : Type 0 where
+  pub refused : full_reference (setting_in T) (ahead T) ≡ None
+  pub fails : Fails (label_seen (is_some (label reference_names (ahead T))) T.tokenize_state) T U
+
+abbrev pub reference_full_ends : Tokenizer → Bool → Tokenizer → Type 0
+reference_full_ends T true U = EndsAs (full_reference (setting_in T)) None T.tokenize_state T true U
+reference_full_ends T false U = FullFails T U
+
+abbrev pub reference_full_after_ends : Tokenizer → Bool → Tokenizer → Type 0
+reference_full_after_ends T ok U =
+    (ok ≡ is_defined (setting_in T).definitions (reference_name T))
+    × (U ≡ scratched (if ok then names_rested T.tokenize_state else label_seen true (names_rested T.tokenize_state)) T)
+
+abbrev pub reference_full_missing_ends : Tokenizer → Bool → Tokenizer → Type 0
+reference_full_missing_ends T ok U = (ok ≡ false) × (U ≡ scratched (names_rested T.tokenize_state) T)
+
+-- where no full reference stands
+abbrev pub not_full_reading : Tokenizer → TreeReading
+not_full_reading T = either collapsed_reference (shortcut (may_be_shortcut T))
+
+abbrev pub reference_not_full_ends : Tokenizer → Bool → Tokenizer → Type 0
+reference_not_full_ends T ok U = tail_ends (not_full_reading T) (scratched (label_seen false T.tokenize_state) T) ok U
+
+abbrev pub reference_collapsed_ends : Tokenizer → Bool → Tokenizer → Type 0
+reference_collapsed_ends T ok U = EndsAs collapsed_reference None T.tokenize_state T ok U
+
+abbrev pub collapsed_open_plan : Plan
+collapsed_open_plan cs = if next_is (is_value 93) cs then Some collapsed_back else None
+
+abbrev pub reference_collapsed_open_ends : Tokenizer → Bool → Tokenizer → Type 0
+reference_collapsed_open_ends T ok U = KeepsAs 1 collapsed_open_plan T ok U

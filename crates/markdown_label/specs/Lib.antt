@@ -1,0 +1,5 @@
+pub mod Settings
+pub mod Fields
+pub mod LabelEnd
+pub mod Starts
+pub mod LabelStarts

@@ -1,0 +1,58 @@
+// Starts of footnote calls.
+//
+// GFM footnotes: a call begins with an opening bracket and a caret.
+#![tactic(auto, using(markdown_engine::proofs::OpRules::law_rules), unfolding(markdown_engine::specs::Ops::scratched))]
+
+ghost use Rattle.std.specs.Prelude.{◌≡◌, IfOk, OnErr, IsTrue};
+ghost use Rattle.markdown_label.specs.LabelStarts.{footnote_step, footnote_open_step, FootnoteOpenReady};
+
+use crate::starts::keep_start;
+use markdown_engine::event::Name;
+use markdown_engine::state::{State, StateName};
+use markdown_engine::tokenizer::{LabelKind, Tokenizer};
+use std::alloc::AllocError;
+
+/// At the start of a footnote call's label: its bracket.
+///
+/// The error comes where a growth is refused; then `failed` is true.
+pub fn start(tokenizer: &mut Tokenizer) -> Result<State, AllocError>
+    ensures ok { IfOk result (λ s. footnote_step tokenizer.old ≡ record { state = s; left = tokenizer.new }) }
+    ensures err { OnErr result (IsTrue tokenizer.new.failed) }
+{
+    if tokenizer
+        .parse_state
+        .options
+        .constructs
+        .gfm_label_start_footnote
+        && tokenizer.current() == Some(b'[')
+    {
+        tokenizer.enter(Name::GfmFootnoteCallLabel)?;
+        tokenizer.enter(Name::LabelMarker)?;
+        tokenizer.consume();
+        tokenizer.exit(Name::LabelMarker)?;
+        Ok(State::Next(StateName::GfmLabelStartFootnoteOpen))
+    } else {
+        Ok(State::Nok)
+    }
+}
+
+/// After the bracket: the caret.
+///
+/// The error comes where a growth is refused; then `failed` is true.
+pub fn open(tokenizer: &mut Tokenizer) -> Result<State, AllocError>
+    requires { FootnoteOpenReady tokenizer.old }
+    ensures ok { IfOk result (λ s. footnote_open_step tokenizer.old ≡ record { state = s; left = tokenizer.new }) }
+    ensures err { OnErr result (IsTrue tokenizer.new.failed) }
+{
+    match tokenizer.current() {
+        Some(b'^') => {
+            tokenizer.enter(Name::GfmFootnoteCallMarker)?;
+            tokenizer.consume();
+            tokenizer.exit(Name::GfmFootnoteCallMarker)?;
+            tokenizer.exit(Name::GfmFootnoteCallLabel)?;
+            keep_start(tokenizer, LabelKind::GfmFootnote, 6)?;
+            Ok(State::Ok)
+        }
+        _ => Ok(State::Nok),
+    }
+}

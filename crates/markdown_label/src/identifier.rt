@@ -1,0 +1,121 @@
+// Identifiers of labels.
+#![tactic(auto)]
+
+ghost use Rattle.std.specs.Prelude.{◌≡◌, ◌∷◌, map, ◌&&◌, string_bytes, IfOk, OnOk, OnErr, IsTrue};
+ghost use Rattle.std.specs.List.{list_any};
+ghost use Rattle.std.specs.Str.{bytes_eq};
+ghost use Rattle.markdown_label.specs.LabelEnd.{AreAround};
+ghost use Rattle.markdown_label.specs.LabelEnd.{identifier_between};
+ghost use Rattle.markdown_label.specs.Settings.{setting_in};
+ghost use Rattle.markdown_model.specs.LabelEnd.{is_footnote, link_identifier};
+ghost use Rattle.markdown_model.specs.Setting.{is_defined};
+
+use markdown_engine::tokenizer::{LabelKind, Tokenizer};
+use markdown_engine::util::slice::Slice;
+use markdown_util::util::normalize_identifier::normalize_identifier;
+use std::alloc::{AllocError, Global};
+
+// The identifier of the document's bytes between two events, given by their numbers.
+fn identifier_between(tokenizer: &Tokenizer, from: usize, to: usize) -> Result<String, AllocError>
+    requires { AreAround tokenizer.now from to }
+    ensures { IfOk result (λ name. string_bytes name ≡ identifier_between tokenizer.now from to) }
+{
+    let start = tokenizer.events.at(from).point.index;
+    let end = tokenizer.events.at(to).point.index;
+    // events are in order, so the second one is not before the first; with `max` no caller has to show it
+    let between = Slice::from_indices(tokenizer.parse_state.bytes, start, end.max(start));
+    normalize_identifier(tokenizer.alloc, between.as_str())
+}
+
+// Whether the identifier is one of these.
+fn has(definitions: &[String], name: &str) -> bool
+    ensures { result ≡ list_any (λ definition. bytes_eq name.now (string_bytes definition)) definitions.now }
+{
+    definitions
+        .iter()
+        .any(|definition| name == definition.as_str())
+}
+
+// Whether the identifier is defined, where these are.
+fn is_defined(definitions: &[String], name: &str) -> bool
+    ensures { result ≡ is_defined (map string_bytes definitions.now) name.now }
+{
+    has(definitions, name)
+}
+
+// Whether a label of this kind is a footnote call's.
+fn is_footnote(kind: LabelKind) -> bool
+    ensures { result ≡ is_footnote kind }
+{
+    matches!(kind, LabelKind::GfmFootnote)
+}
+
+// The identifier of a label of this kind as a link's: with the caret of a footnote's start before it.
+fn link_identifier(alloc: Global, kind: LabelKind, name: &str) -> Result<String, AllocError>
+    ensures { IfOk result (λ text. string_bytes text ≡ link_identifier kind name.now) }
+{
+    let mut text = String::new(alloc);
+    if is_footnote(kind) {
+        text.push('^')?;
+    }
+    text.push_str(name)?;
+    Ok(text)
+}
+
+// Whether a label of this kind with this identifier is a footnote call.
+pub(crate) fn is_call(tokenizer: &Tokenizer, kind: LabelKind, name: &str) -> bool
+    ensures { result ≡ (is_footnote kind && is_defined (setting_in tokenizer.now).footnotes name.now) }
+{
+    let calls = tokenizer.parse_state.gfm_footnote_definitions.as_slice();
+    is_footnote(kind) && is_defined(calls, name)
+}
+
+// Whether the identifier is that of a definition.
+pub(crate) fn names_definition(tokenizer: &Tokenizer, name: &str) -> bool
+    ensures { result ≡ is_defined (setting_in tokenizer.now).definitions name.now }
+{
+    is_defined(tokenizer.parse_state.definitions.as_slice(), name)
+}
+
+// Whether the identifier of a label of this kind is defined, as a link's.
+fn is_link_defined(tokenizer: &Tokenizer, kind: LabelKind, name: &str) -> Result<bool, AllocError>
+    ensures { IfOk result (λ defined. defined ≡ is_defined (setting_in tokenizer.now).definitions (link_identifier kind name.now)) }
+{
+    let text = link_identifier(tokenizer.alloc, kind, name)?;
+    Ok(names_definition(tokenizer, text.as_str()))
+}
+
+// As `identifier_between`; refused memory is kept in mind.
+pub(crate) fn name_between(
+    tokenizer: &mut Tokenizer,
+    from: usize,
+    to: usize,
+) -> Result<String, AllocError>
+    requires { AreAround tokenizer.old from to }
+    ensures name { IfOk result (λ name. string_bytes name ≡ identifier_between tokenizer.old from to) }
+    ensures same { OnOk result (tokenizer.new ≡ tokenizer.old) }
+    ensures err { OnErr result (IsTrue tokenizer.new.failed) }
+{
+    let name = identifier_between(tokenizer, from, to);
+    if name.is_err() {
+        tokenizer.fail();
+    }
+    name
+}
+
+// As `is_link_defined`; refused memory is kept in mind.
+pub(crate) fn is_link(
+    tokenizer: &mut Tokenizer,
+    kind: LabelKind,
+    name: &str,
+) -> Result<bool, AllocError>
+    ensures defined { IfOk result (λ defined. defined ≡ is_defined (setting_in tokenizer.old).definitions (link_identifier kind name.now)) }
+    ensures same { OnOk result (tokenizer.new ≡ tokenizer.old) }
+    ensures err { OnErr result (IsTrue tokenizer.new.failed) }
+{
+    let defined = is_link_defined(tokenizer, kind, name);
+    if defined.is_err() {
+        tokenizer.fail();
+    }
+    defined
+}

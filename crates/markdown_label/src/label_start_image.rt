@@ -1,0 +1,76 @@
+// Starts of images.
+//
+// CommonMark 6.4: the description of an image begins with an exclamation mark and an opening bracket. Where footnotes are on and a caret
+// follows, the mark is data, and a footnote call begins at the bracket.
+#![tactic(auto, using(markdown_engine::proofs::OpRules::law_rules), unfolding(markdown_engine::specs::Ops::scratched))]
+
+ghost use Rattle.std.specs.Prelude.{◌≡◌, IfOk, OnErr, IsTrue};
+ghost use Rattle.markdown_label.specs.LabelStarts.{image_step, image_open_step, image_after_step, ImageOpenReady, ImageAfterReady};
+
+use crate::starts::keep_start;
+use markdown_engine::event::Name;
+use markdown_engine::state::{State, StateName};
+use markdown_engine::tokenizer::{LabelKind, Tokenizer};
+use std::alloc::AllocError;
+
+/// At the start of an image's label: its exclamation mark.
+///
+/// The error comes where a growth is refused; then `failed` is true.
+pub fn start(tokenizer: &mut Tokenizer) -> Result<State, AllocError>
+    ensures ok { IfOk result (λ s. image_step tokenizer.old ≡ record { state = s; left = tokenizer.new }) }
+    ensures err { OnErr result (IsTrue tokenizer.new.failed) }
+{
+    if tokenizer.parse_state.options.constructs.label_start_image
+        && tokenizer.current() == Some(b'!')
+    {
+        tokenizer.enter(Name::LabelImage)?;
+        tokenizer.enter(Name::LabelImageMarker)?;
+        tokenizer.consume();
+        tokenizer.exit(Name::LabelImageMarker)?;
+        Ok(State::Next(StateName::LabelStartImageOpen))
+    } else {
+        Ok(State::Nok)
+    }
+}
+
+/// After the exclamation mark: the bracket.
+///
+/// The error comes where a growth is refused; then `failed` is true.
+pub fn open(tokenizer: &mut Tokenizer) -> Result<State, AllocError>
+    requires { ImageOpenReady tokenizer.old }
+    ensures ok { IfOk result (λ s. image_open_step tokenizer.old ≡ record { state = s; left = tokenizer.new }) }
+    ensures err { OnErr result (IsTrue tokenizer.new.failed) }
+{
+    match tokenizer.current() {
+        Some(b'[') => {
+            tokenizer.enter(Name::LabelMarker)?;
+            tokenizer.consume();
+            tokenizer.exit(Name::LabelMarker)?;
+            tokenizer.exit(Name::LabelImage)?;
+            Ok(State::Next(StateName::LabelStartImageAfter))
+        }
+        _ => Ok(State::Nok),
+    }
+}
+
+/// After the bracket: a caret may make it the start of a footnote call.
+///
+/// The error comes where a growth is refused; then `failed` is true.
+pub fn after(tokenizer: &mut Tokenizer) -> Result<State, AllocError>
+    requires { ImageAfterReady tokenizer.old }
+    ensures ok { IfOk result (λ s. image_after_step tokenizer.old ≡ record { state = s; left = tokenizer.new }) }
+    ensures err { OnErr result (IsTrue tokenizer.new.failed) }
+{
+    if tokenizer
+        .parse_state
+        .options
+        .constructs
+        .gfm_label_start_footnote
+        && tokenizer.current() == Some(b'^')
+    {
+        Ok(State::Nok)
+    } else {
+        keep_start(tokenizer, LabelKind::Image, 6)?;
+        Ok(State::Ok)
+    }
+}

@@ -1,0 +1,35 @@
+// Starts of links.
+//
+// CommonMark 6.3: the text of a link begins with an opening bracket.
+#![tactic(auto, using(markdown_engine::proofs::OpRules::law_rules), unfolding(markdown_engine::specs::Ops::scratched))]
+
+ghost use Rattle.std.specs.Prelude.{◌≡◌, IfOk, OnErr, IsTrue};
+ghost use Rattle.markdown_label.specs.LabelStarts.{link_step};
+
+use crate::starts::keep_start;
+use markdown_engine::event::Name;
+use markdown_engine::state::State;
+use markdown_engine::tokenizer::{LabelKind, Tokenizer};
+use std::alloc::AllocError;
+
+/// At the start of a link's label: its bracket.
+///
+/// The error comes where a growth is refused; then `failed` is true.
+pub fn start(tokenizer: &mut Tokenizer) -> Result<State, AllocError>
+    ensures ok { IfOk result (λ s. link_step tokenizer.old ≡ record { state = s; left = tokenizer.new }) }
+    ensures err { OnErr result (IsTrue tokenizer.new.failed) }
+{
+    if tokenizer.parse_state.options.constructs.label_start_link
+        && tokenizer.current() == Some(b'[')
+    {
+        tokenizer.enter(Name::LabelLink)?;
+        tokenizer.enter(Name::LabelMarker)?;
+        tokenizer.consume();
+        tokenizer.exit(Name::LabelMarker)?;
+        tokenizer.exit(Name::LabelLink)?;
+        keep_start(tokenizer, LabelKind::Link, 4)?;
+        Ok(State::Ok)
+    } else {
+        Ok(State::Nok)
+    }
+}

@@ -1,0 +1,33 @@
+// What all starts of labels share.
+ghost use Rattle.std.specs.Prelude.{◌≡◌, ◌≤◌, length, OnOk, OnErr, IsTrue};
+ghost use Rattle.markdown_label.specs.LabelStarts.{kept_start};
+
+use markdown_engine::resolve::ResolveName;
+use markdown_engine::tokenizer::{LabelKind, LabelStart, Tokenizer};
+use std::alloc::AllocError;
+
+// Keeps a start of this kind whose last events these are, so many, and registers the pass of labels before all others.
+#[tactic(auto, using(markdown_engine::proofs::OpRules::law_rules), unfolding(markdown_engine::specs::Ops::scratched))]
+pub(crate) fn keep_start(
+    tokenizer: &mut Tokenizer,
+    kind: LabelKind,
+    size: usize,
+) -> Result<(), AllocError>
+    requires some { 1 ≤ size }
+    requires within { size ≤ length tokenizer.old.events }
+    ensures ok { OnOk result (kept_start kind size tokenizer.old ≡ tokenizer.new) }
+    ensures err { OnErr result (IsTrue tokenizer.new.failed) }
+{
+    let end = tokenizer.events.len();
+    let start = LabelStart {
+        kind,
+        start: (end - size, end - 1),
+        inactive: false,
+    };
+    let kept = tokenizer.tokenize_state.label_starts.push(start);
+    if kept.is_err() {
+        tokenizer.fail();
+    }
+    kept?;
+    tokenizer.register_resolver_before(ResolveName::Label)
+}

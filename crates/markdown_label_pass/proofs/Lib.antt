@@ -1,0 +1,11 @@
+pub mod BracketRows
+pub mod BracketEdits
+pub mod BracketReads
+pub mod Grouping
+pub mod Handing
+pub mod Nesting
+pub mod BracketJoins
+pub mod ModelBrackets
+pub mod Splitting
+pub mod Pairing
+pub mod PairingCodes

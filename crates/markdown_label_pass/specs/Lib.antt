@@ -1,0 +1,3 @@
+pub mod Brackets
+pub mod Joins
+pub mod Handover

@@ -1,0 +1,6 @@
+pub mod NextCodes
+pub mod ResourceReadings
+pub mod ResourceLaws
+pub mod ResourceParts
+pub mod ResourceStartLaw
+pub mod TailLaws

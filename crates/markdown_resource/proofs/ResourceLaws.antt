@@ -1,0 +1,209 @@
+-- The laws of the states of a resource.
+use Rattle.std.proofs.Common.{◌≡◌, ◌≢◌, ℕ, ◌+◌, ◌-◌, ◌*◌, ◌<◌, ◌≤◌, ◌==◌, Bool, true, false, ◌&&◌, ◌||◌, not, if◌then◌else◌, Option, Some, None, List, [], ◌∷◌, ◌++◌, length, inl, inr, refl, sym, ap, subst, ◌∙◌, arith, append_assoc}
+use Rattle.markdown_engine.specs.Codes.{Code, is_blank, is_line_ending}
+use Rattle.markdown_engine.specs.Grown.{Grown, Fails}
+use Rattle.markdown_engine.specs.Lists.{first_of, rest_of}
+use Rattle.markdown_engine.specs.Ops.{Op, Enter, Exit, Consume, IsOpen, ahead, applied, attempted, current_of, done, frame_of, scratched}
+use Rattle.markdown_engine.specs.Past.{TreeReading, EndsAs, Reads, Refuses, past, last_link, behind}
+use Rattle.markdown_engine.specs.Runs.{Stepped, stepped, GoesOn, restored}
+use Rattle.markdown_engine.specs.Tree.{Forest, empty, leaf_then, group_then, leaf, ◌⊕◌, group, leaf_codes, event_count}
+use Rattle.markdown_engine.specs.Weights.{codes_left, weight_at}
+use Rattle.markdown_engine.specs.declared.event.Name.{Name}
+use Rattle.markdown_engine.specs.declared.event.Name.TheVariants as N
+use Rattle.markdown_engine.specs.declared.state.State.{State}
+use Rattle.markdown_engine.specs.declared.state.State.TheVariants.{Next, Retry, Ok, Nok}
+use Rattle.markdown_engine.specs.declared.state.StateName.{StateName}
+use Rattle.markdown_engine.specs.declared.state.StateName.TheVariants.{DestinationStart, LabelEndResourceBefore, LabelEndResourceBetween, LabelEndResourceDestinationAfter, LabelEndResourceDestinationMissing, LabelEndResourceEnd, LabelEndResourceOpen, LabelEndResourceTitleAfter, SpaceOrTabEolStart, TitleStart}
+use Rattle.markdown_engine.specs.declared.tokenizer.TokenizeState.{TokenizeState}
+use Rattle.markdown_engine.specs.declared.tokenizer.Tokenizer.{Tokenizer}
+use Rattle.markdown_engine.proofs.EndsLemmas.{left-read, scratched-same}
+use Rattle.markdown_engine.proofs.Laws.{Follows, Goes-plain, Goes-attempt, Grown-refl, if-step, restored-fails}
+use Rattle.markdown_engine.proofs.OpRules.{Begins, ahead-none, ahead-some, attempts-scratched, left-scratched}
+use Rattle.markdown_engine.proofs.OpsLemmas.{Grown-scratched}
+use Rattle.markdown_engine.proofs.TreeLemmas.{Grown-past, leaf_codes-row, past-past}
+use Rattle.markdown_model.specs.CodeTests.{is_value, is_among, next_is}
+use Rattle.markdown_model.specs.Resource.{begins_title, destination, resource_names, title, title_names}
+use Rattle.markdown_model.specs.Whitespace.{spacing, spaces_across, spaces_on_line}
+use Rattle.markdown_model.specs.Lines.{linked_leaf}
+use Rattle.markdown_model.proofs.LinkFree.{Passes, Yields, yields_either, yields_gives, then_any}
+use Rattle.markdown_model.proofs.ReadingSteps.{if-true, if-false}
+use Rattle.markdown_partial.specs.EolSteps as E
+use Rattle.markdown_partial.specs.EolSteps.{WhitespaceAtRest, eol_asked, at_ending}
+use Rattle.markdown_partial.proofs.AskedLaws.{eol-asked-ready, eol-asked-ends}
+use Rattle.markdown_partial.proofs.SpacingLemmas.{spacing-none}
+use Rattle.markdown_resource.specs.Parts.{PartReady, rested, names_rested}
+use Rattle.markdown_resource.specs.Resource.{at_space, at_close, spaced, before_step, closes, or_without, and_then, opened, inside, InReady, RowReads, RowRefuses, RowEnds, before_ends, open_ends}
+
+-- Rows.
+
+-- no leaf of the row itself is linked
+abbrev pub NoLinks : Forest → Type 0
+NoLinks empty = Unit {0}
+NoLinks (leaf_then n link cs rest) = (link ≡ None) × NoLinks rest
+NoLinks (group_then n a b i rest) = NoLinks rest
+
+unlinked : (n : ℕ) (t : Forest) → NoLinks t → last_link n None t ≡ None
+unlinked n empty h = refl
+unlinked n (leaf_then name None cs rest) h = unlinked (n + 2) rest h.1
+unlinked n (leaf_then name (Some c) cs rest) h = cc
+unlinked n (group_then name a b i rest) h = unlinked (n + 2 + event_count i) rest h
+
+pub past-then : (t u : Forest) (s1 s2 : TokenizeState) (T U : Tokenizer) → NoLinks t → U ≡ past None t (scratched s1 T) → past None u (scratched s2 U) ≡ past None (t ⊕ u) (scratched s2 T)
+unfolding past scratched
+past-then t u s1 s2 T U none e =
+    ap (λ (x : Tokenizer). past None u (scratched s2 x)) e
+    ∙ ap (λ q. past q u (past None t (scratched s2 T))) (sym (unlinked (length T.events) t none))
+    ∙ past-past None t u (scratched s2 T)
+
+-- a part is read, and then the rest of the row
+pub row-then : (r1 r2 : TreeReading) (t : Forest) (s1 s2 : TokenizeState) (T U : Tokenizer) → NoLinks t → U ≡ past None t (scratched s1 T) → ahead T ≡ leaf_codes t ++ ahead U → r1 (ahead T) ≡ behind t (r2 (ahead U)) → (ok : Bool) (V : Tokenizer) → RowEnds r2 s2 U ok V → RowEnds r1 s2 T ok V
+row-then r1 r2 t s1 s2 T U none e w h true V k =
+    record {
+      tree = t ⊕ k.tree;
+      rest = k.rest;
+      holds = h ∙ ap (behind t) k.holds;
+      left = k.left ∙ ap (applied (Exit N.Resource)) (past-then t k.tree s1 s2 T U none e);
+      whole = w ∙ ap (λ x. leaf_codes t ++ x) k.whole ∙ sym (append_assoc (leaf_codes t) (leaf_codes k.tree) k.rest) ∙ ap (λ x. x ++ k.rest) (sym (leaf_codes-row t k.tree));
+      after = k.after;
+    }
+row-then r1 r2 t s1 s2 T U none e w h false V k =
+    record {
+      refused = h ∙ ap (behind t) k.refused;
+      grown = Grown-scratched 1 s1 T V (Grown-past 1 None t (scratched s1 T) V (subst (λ (x : Tokenizer). Grown 1 x V) e k.grown));
+      scratch = k.scratch;
+    }
+
+pub row-scratched : (r : TreeReading) (s q : TokenizeState) (T : Tokenizer) (ok : Bool) (V : Tokenizer) → RowEnds r s (scratched q T) ok V → RowEnds r s T ok V
+unfolding scratched
+row-scratched r s q T true V k = record { tree = k.tree; rest = k.rest; holds = k.holds; left = k.left; whole = k.whole; after = k.after }
+row-scratched r s q T false V k = record { refused = k.refused; grown = Grown-scratched 1 q T V k.grown; scratch = k.scratch }
+
+pub row-same : (r1 r2 : TreeReading) (s : TokenizeState) (T : Tokenizer) → r1 (ahead T) ≡ r2 (ahead T) → (ok : Bool) (V : Tokenizer) → RowEnds r1 s T ok V → RowEnds r2 s T ok V
+row-same r1 r2 s T e true V k = record { tree = k.tree; rest = k.rest; holds = sym e ∙ k.holds; left = k.left; whole = k.whole; after = k.after }
+row-same r1 r2 s T e false V k = record { refused = sym e ∙ k.refused; grown = k.grown; scratch = k.scratch }
+
+-- The next code.
+
+-- no whitespace begins where none of its codes stands
+no-ending : (cs : List Code) → next_is is_line_ending cs ≡ false → at_ending None false cs ≡ None
+no-ending [] e = refl
+no-ending (c ∷ cs) e = if-false _ _ _ e
+
+or-parts : (a b : Bool) → (a || b) ≡ false → (a ≡ false) × (b ≡ false)
+or-parts true b e = cc
+or-parts false b e = (refl, e)
+
+pub no-space : (T : Tokenizer) (o : Option ℕ) → current_of T ≡ o → at_space o ≡ false → spacing None (ahead T) ≡ None
+no-space T None e h =
+    let none : ahead T ≡ [] = ahead-none T e in
+    spacing-none None (ahead T) (ap (next_is is_blank) none) ∙ no-ending (ahead T) (ap (next_is is_line_ending) none)
+no-space T (Some v) e h =
+    let b : Begins v (ahead T) = ahead-some T v e in
+    let tab = or-parts (v == 9) (v == 10 || v == 32) h in
+    let rest = or-parts (v == 10) (v == 32) tab.1 in
+    spacing-none None (ahead T) (ap (next_is is_blank) b.whole ∙ ap (λ x. x == 32 || x == 9) b.value ∙ (λ i. rest.1 i || tab.0 i))
+    ∙ no-ending (ahead T) (ap (next_is is_line_ending) b.whole ∙ ap (λ x. x == 10) b.value ∙ rest.0)
+
+pub closes-here : (T : Tokenizer) (o : Option ℕ) → current_of T ≡ o → at_close o ≡ next_is (is_value 41) (ahead T)
+closes-here T None e = sym (ap (next_is (is_value 41)) (ahead-none T e))
+closes-here T (Some v) e = let b : Begins v (ahead T) = ahead-some T v e in sym (ap (next_is (is_value 41)) b.whole ∙ ap (λ x. x == 41) b.value)
+
+-- Past a part with the fields as before.
+
+pub fields-read : (r : TreeReading) (T U : Tokenizer) → (k : Reads r None T.tokenize_state T U) → U.tokenize_state ≡ T.tokenize_state
+unfolding past scratched
+fields-read r T U k = ap (λ (x : Tokenizer). x.tokenize_state) k.left
+
+stack-read : (r : TreeReading) (T U : Tokenizer) → (k : Reads r None T.tokenize_state T U) → U.stack ≡ T.stack
+unfolding past scratched
+stack-read r T U k = ap (λ (x : Tokenizer). x.stack) k.left
+
+pub part-read : (r : TreeReading) (T U : Tokenizer) → Reads r None T.tokenize_state T U → PartReady T → PartReady U
+part-read r T U k p =
+    let same : U.tokenize_state ≡ T.tokenize_state = fields-read r T U k in
+    record {
+      short = omega (arith, left-read r None T.tokenize_state T U k, p.short);
+      spaces = subst WhitespaceAtRest (sym same) p.spaces;
+      rest = subst (λ (s : TokenizeState). rested s ≡ s) (sym same) p.rest;
+    }
+
+pub in-read : (r : TreeReading) (T U : Tokenizer) → Reads r None T.tokenize_state T U → InReady T → InReady U
+in-read r T U k p = record { part = part-read r T U k p.part; whole = subst (λ ns. ns ≡ N.Resource ∷ rest_of ns) (sym (stack-read r T U k)) p.whole }
+
+-- whitespace by itself is not linked
+
+leaf-unlinked : (name : Name) (cs : List Code) → NoLinks (linked_leaf name None cs)
+leaf-unlinked name [] = tt
+leaf-unlinked name (c ∷ cs) = (refl, tt)
+
+row-unlinked : (t u : Forest) → NoLinks t → NoLinks u → NoLinks (t ⊕ u)
+row-unlinked empty u h k = k
+row-unlinked (leaf_then n link cs rest) u h k = (h.0, row-unlinked rest u h.1 k)
+row-unlinked (group_then n a b i rest) u h k = row-unlinked rest u h k
+
+spacing-yields : Yields NoLinks (spacing None)
+unfolding spacing spaces_across spaces_on_line
+spacing-yields =
+    yields_either _ _ _
+    (then_any _ _ _ λ front. then_any _ _ _ λ ending. then_any _ _ _ λ back. yields_gives _ _
+    (row-unlinked (linked_leaf N.SpaceOrTab None front) _ (leaf-unlinked N.SpaceOrTab front) (row-unlinked (linked_leaf N.LineEnding None ending) _ (leaf-unlinked N.LineEnding ending) (leaf-unlinked N.SpaceOrTab back))))
+    (then_any _ _ _ λ blank. yields_gives _ _ (leaf-unlinked N.SpaceOrTab blank))
+
+pub spacing-unlinked : (cs : List Code) (t : Forest) (rest : List Code) → spacing None cs ≡ Some (t, rest) → NoLinks t
+spacing-unlinked cs t rest e = subst (λ o. Passes NoLinks o) e (spacing-yields.at cs)
+
+-- What the layer says of the parts.
+pub record SpaceWithin (ready : StateName → Tokenizer → Type 0) (ends : StateName → Tokenizer → Bool → Tokenizer → Type 0) (weight : StateName → Tokenizer → ℕ) : Type 0 where
+  pub eol_ready : (T : Tokenizer) → E.StartReady T → ready SpaceOrTabEolStart T
+  pub eol_end : (T : Tokenizer) (ok : Bool) (U : Tokenizer) → ends SpaceOrTabEolStart T ok U → E.start_ends T ok U
+  pub eol_weight : (T : Tokenizer) → weight SpaceOrTabEolStart T ≡ weight_at 8 T
+  pub open_ready : (T : Tokenizer) → InReady T → ready LabelEndResourceOpen T
+  pub open_end : (T : Tokenizer) (ok : Bool) (U : Tokenizer) → ends LabelEndResourceOpen T ok U → open_ends T ok U
+  pub open_weight : (T : Tokenizer) → weight LabelEndResourceOpen T ≡ weight_at 14 T
+
+same-frame : (r : Bool) (ok nok : State) (s : TokenizeState) (T : Tokenizer) → frame_of r ok nok (scratched s T) ≡ frame_of r ok nok T
+unfolding frame_of scratched
+same-frame r ok nok s T = refl
+
+module _ (ready : StateName → Tokenizer → Type 0) (ends : StateName → Tokenizer → Bool → Tokenizer → Type 0) (weight : StateName → Tokenizer → ℕ) (within : SpaceWithin ready ends weight) where
+  -- whitespace is tried
+  pub spaced-law : (n : ℕ) (End : Bool → Tokenizer → Type 0) (ok nok : StateName) (T : Tokenizer) → T.attempts ≡ [] → PartReady T → weight_at 8 T < n
+      → ((U : Tokenizer) → Reads (spacing None) None T.tokenize_state T U → Follows ready ends weight n End (Next ok) U)
+      → (spacing None (ahead T) ≡ None → Follows ready ends weight n End (Next nok) T)
+      → GoesOn ready ends weight n End (spaced ok nok T)
+  spaced-law n End ok nok T alone p room some none =
+      let s : TokenizeState = eol_asked false None T.tokenize_state in
+      let M : Tokenizer = scratched s T in
+      Goes-attempt ready ends weight n End (Retry SpaceOrTabEolStart) (Next ok) (Next nok) M (attempts-scratched s T ∙ alone)
+      (within.eol_ready M (eol-asked-ready false None T p.short p.spaces (λ e. cc) (λ e. cc) (λ e. refl)))
+      (rw within.eol_weight (omega (arith, left-scratched s T, room)))
+      (λ U now h. some U (eol-asked-ends false None T p.spaces true U (within.eol_end M true U h)))
+      (λ U now h.
+      let k : Refuses (spacing None) T.tokenize_state T U = eol-asked-ends false None T p.spaces false U (within.eol_end M false U h) in
+      subst (λ (x : Tokenizer). Follows ready ends weight n End (Next nok) x) (sym (ap (λ f. restored f U) (same-frame false (Next ok) (Next nok) s T) ∙ restored-fails false (Next ok) (Next nok) T.tokenize_state T U k.fails ∙ scratched-same T)) (none k.refused))
+
+  -- behind the opening marker
+  before-open : (T U : Tokenizer) → InReady T → Reads (spacing None) None T.tokenize_state T U → Follows ready ends weight (weight_at 15 T) (before_ends T) (Next LabelEndResourceOpen) U
+  before-open T U p k =
+      record {
+        goes_on = within.open_ready U (in-read (spacing None) T U k p);
+        falls = rw within.open_weight (omega (arith, left-read (spacing None) None T.tokenize_state T U k));
+        closed = λ ok V h.
+            row-then inside opened k.tree T.tokenize_state T.tokenize_state T U (spacing-unlinked (ahead T) k.tree k.rest k.holds) k.left (k.whole ∙ ap (λ xs. leaf_codes k.tree ++ xs) (sym k.after))
+            (ap (λ o. or_without o opened (ahead T)) k.holds ∙ ap (λ xs. behind k.tree (opened xs)) (sym k.after)) ok V
+            (subst (λ (s : TokenizeState). RowEnds opened s U ok V) (fields-read (spacing None) T U k) (within.open_end U ok V h));
+      }
+
+  open-there : (T : Tokenizer) → InReady T → spacing None (ahead T) ≡ None → Follows ready ends weight (weight_at 15 T) (before_ends T) (Next LabelEndResourceOpen) T
+  open-there T p none =
+      record {
+        goes_on = within.open_ready T p;
+        falls = rw within.open_weight (omega arith);
+        closed = λ ok V h. row-same opened inside T.tokenize_state T (sym (ap (λ o. or_without o opened (ahead T)) none)) ok V (within.open_end T ok V h);
+      }
+
+  pub before-law : (T : Tokenizer) → T.attempts ≡ [] → InReady T → GoesOn ready ends weight (weight_at 15 T) (before_ends T) (before_step T)
+  before-law T alone p =
+      if-step (GoesOn ready ends weight (weight_at 15 T) (before_ends T)) (at_space (current_of T)) _ _
+      (λ h. spaced-law (weight_at 15 T) (before_ends T) LabelEndResourceOpen LabelEndResourceOpen T alone p.part (omega arith) (λ U k. before-open T U p k) (λ none. open-there T p none))
+      (λ h. let f = open-there T p (no-space T (current_of T) refl h) in Goes-plain ready ends weight (weight_at 15 T) (before_ends T) (Retry LabelEndResourceOpen) T alone f.goes_on f.falls f.closed)

@@ -1,0 +1,6 @@
+//! Resources: what stands in parentheses behind the label of a link or an image.
+#![tactic(auto)]
+
+pub mod resource;
+#[cfg(test)]
+mod tests;
