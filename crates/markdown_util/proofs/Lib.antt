@@ -5,5 +5,6 @@ pub mod Numbers
 pub mod ParsedLemmas
 pub mod Spaces
 pub mod Semicolon
+pub mod SortedTable
 pub mod Tables
 pub mod WholeReference

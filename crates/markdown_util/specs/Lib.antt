@@ -3,3 +3,4 @@ pub mod Laws
 pub mod Neighbours
 pub mod Parts
 pub mod Reference
+pub mod TableParts

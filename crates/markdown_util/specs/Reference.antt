@@ -1,6 +1,8 @@
 -- Character references, and what they stand for (CommonMark 0.31, section 2.5).
 use Rattle.std.specs.Prelude.{◌≡◌, ◌⊎◌, ℕ, zero, suc, ◌+◌, ◌^◌, ◌<◌, ◌%◌, Bool, true, false, not, ◌&&◌, ◌||◌, ◌==◌, nat_lt, nat_le, List, [], ◌∷◌, ◌++◌, length, map, Option, Some, None, IsTrue, encode_utf8, if◌then◌else◌}
 use Rattle.std.specs.Borrow.{Bor}
+use Rattle.std.specs.Cmp.Lexicographic.{slice_cmp}
+use Rattle.std.specs.Ordering.{is_lt, nat_cmp}
 use Rattle.std.specs.Char.{is_control, is_ascii_alphanumeric, is_ascii_digit, is_ascii_hexdigit}
 use Rattle.std.specs.Int.{is_in_range}
 use Rattle.std.specs.List.{list_all, list_any, position_or_len, before_first}
@@ -54,6 +56,18 @@ has_name rows name = list_any (λ row. bytes_eq row.0 name) rows
 abbrev pub has_distinct_names : Table → Bool
 has_distinct_names [] = true
 has_distinct_names (row ∷ rows) = not (has_name rows row.0) && has_distinct_names rows
+
+-- the names stand in the order of their bytes, each of them once
+abbrev pub is_below : List ℕ → List ℕ → Bool
+is_below xs ys = is_lt (slice_cmp nat_cmp xs ys)
+
+abbrev pub is_below_first : List ℕ → Table → Bool
+is_below_first name [] = true
+is_below_first name (row ∷ rows) = is_below name row.0
+
+abbrev pub is_sorted : Table → Bool
+is_sorted [] = true
+is_sorted (row ∷ rows) = is_below_first row.0 rows && is_sorted rows
 
 -- what holds of a table of names, whichever rows it has
 pub record IsTable (rows : Table) : Type 0 where

@@ -1,16 +1,19 @@
 //! The text that a character reference stands for.
 
-ghost use Rattle.std.specs.Prelude.{◌≡◌, ◌≢◌, ◌⊎◌, IfOk, MatchOption, encode_utf8, option_map, string_bytes, take};
+ghost use Rattle.std.specs.Prelude.{◌≡◌, ◌≢◌, ◌⊎◌, IfOk, IsTrue, MatchOption, encode_utf8, option_map, string_bytes, take};
 ghost use Rattle.std.specs.List.{after_first, prefix_len};
 ghost use Rattle.markdown_util.specs.Parts.{IsMarked};
 ghost use Rattle.std.specs.Option.{option_copied};
 ghost use Rattle.std.specs.Str.{byte};
 ghost use Rattle.std.specs.Str.Parse.{digits_value};
-ghost use Rattle.markdown_util.specs.Reference.{named_value, rows_of, rows_for, html_4_rows, html_5_rows, IsTable, character_of, is_replaced, IsNumber, IsMarker, radix_of, value_size_max, is_value_byte, decoded, reference_text, is_semicolon, parsed};
+ghost use Rattle.markdown_util.specs.Reference.{named_value, rows_of, rows_for, html_4_rows, html_5_rows, is_sorted, character_of, is_replaced, IsNumber, IsMarker, radix_of, value_size_max, is_value_byte, decoded, reference_text, is_semicolon, parsed};
+ghost use Rattle.markdown_util.specs.TableParts.{IsPart, html_5_capitals, html_5_a_to_d, html_5_e_to_l, html_5_m_to_r, html_5_s_to_z, html_4_capitals, html_4_a_to_d, html_4_e_to_l, html_4_m_to_r, html_4_s_to_z};
 
 use crate::util::constant::{
     CHARACTER_REFERENCE_DECIMAL_SIZE_MAX, CHARACTER_REFERENCE_HEXADECIMAL_SIZE_MAX,
-    CHARACTER_REFERENCE_NAMED_SIZE_MAX, CHARACTER_REFERENCES, CHARACTER_REFERENCES_HTML_4,
+    CHARACTER_REFERENCE_NAMED_SIZE_MAX, HTML_4_A_TO_D, HTML_4_CAPITALS, HTML_4_E_TO_L,
+    HTML_4_M_TO_R, HTML_4_S_TO_Z, HTML_5_A_TO_D, HTML_5_CAPITALS, HTML_5_E_TO_L, HTML_5_M_TO_R,
+    HTML_5_S_TO_Z,
 };
 use std::alloc::{AllocError, Global};
 
@@ -21,7 +24,7 @@ use std::alloc::{AllocError, Global};
 pub fn decode_named(value: &str, html5: bool) -> Option<&'static str>
     ensures { option_copied result ≡ named_value (rows_for html5) value.now }
 {
-    let rows = if html5 { html_5() } else { html_4() };
+    let rows = if html5 { html_5(value) } else { html_4(value) };
     text_of(rows, value)
 }
 
@@ -161,32 +164,119 @@ fn value_len(text: &str, marker: u8) -> usize
         .count()
 }
 
-/// The text in the first row with this name.
+/// The text in the row with this name, of rows in the order of their names.
 fn text_of(rows: &'static [(&'static str, &'static str)], name: &str) -> Option<&'static str>
+    requires { IsTrue (is_sorted (rows_of rows.now)) }
     ensures { option_copied result ≡ named_value (rows_of rows.now) name.now }
 {
-    for row in rows {
-        if row.0 == name {
-            return Some(row.1);
-        }
+    match rows.binary_search_by(|row| row.0.cmp(name)) {
+        Ok(at) => Some(rows[at].1),
+        Err(_) => None,
     }
-    None
 }
 
-/// The rows of HTML 5.
-fn html_5() -> &'static [(&'static str, &'static str)]
-    ensures rows { rows_of result.now ≡ html_5_rows }
-    ensures sound { IsTable html_5_rows }
+/// The rows of HTML 5 among which a name would stand.
+fn html_5(name: &str) -> &'static [(&'static str, &'static str)]
+    ensures { IsPart html_5_rows (rows_of result.now) name.now }
 {
-    &CHARACTER_REFERENCES
+    if name < "a" {
+        html_5_capitals()
+    } else if name < "e" {
+        html_5_a_to_d()
+    } else if name < "m" {
+        html_5_e_to_l()
+    } else if name < "s" {
+        html_5_m_to_r()
+    } else {
+        html_5_s_to_z()
+    }
 }
 
-/// The rows of HTML 4.
-fn html_4() -> &'static [(&'static str, &'static str)]
-    ensures rows { rows_of result.now ≡ html_4_rows }
-    ensures sound { IsTable html_4_rows }
+#[tactic(auto, unfolding(crate::specs::TableParts::html_5_capitals))]
+fn html_5_capitals() -> &'static [(&'static str, &'static str)]
+    ensures { rows_of result.now ≡ html_5_capitals }
 {
-    &CHARACTER_REFERENCES_HTML_4
+    &HTML_5_CAPITALS
+}
+
+#[tactic(auto, unfolding(crate::specs::TableParts::html_5_a_to_d))]
+fn html_5_a_to_d() -> &'static [(&'static str, &'static str)]
+    ensures { rows_of result.now ≡ html_5_a_to_d }
+{
+    &HTML_5_A_TO_D
+}
+
+#[tactic(auto, unfolding(crate::specs::TableParts::html_5_e_to_l))]
+fn html_5_e_to_l() -> &'static [(&'static str, &'static str)]
+    ensures { rows_of result.now ≡ html_5_e_to_l }
+{
+    &HTML_5_E_TO_L
+}
+
+#[tactic(auto, unfolding(crate::specs::TableParts::html_5_m_to_r))]
+fn html_5_m_to_r() -> &'static [(&'static str, &'static str)]
+    ensures { rows_of result.now ≡ html_5_m_to_r }
+{
+    &HTML_5_M_TO_R
+}
+
+#[tactic(auto, unfolding(crate::specs::TableParts::html_5_s_to_z))]
+fn html_5_s_to_z() -> &'static [(&'static str, &'static str)]
+    ensures { rows_of result.now ≡ html_5_s_to_z }
+{
+    &HTML_5_S_TO_Z
+}
+
+/// The rows of HTML 4 among which a name would stand.
+fn html_4(name: &str) -> &'static [(&'static str, &'static str)]
+    ensures { IsPart html_4_rows (rows_of result.now) name.now }
+{
+    if name < "a" {
+        html_4_capitals()
+    } else if name < "e" {
+        html_4_a_to_d()
+    } else if name < "m" {
+        html_4_e_to_l()
+    } else if name < "s" {
+        html_4_m_to_r()
+    } else {
+        html_4_s_to_z()
+    }
+}
+
+#[tactic(auto, unfolding(crate::specs::TableParts::html_4_capitals))]
+fn html_4_capitals() -> &'static [(&'static str, &'static str)]
+    ensures { rows_of result.now ≡ html_4_capitals }
+{
+    &HTML_4_CAPITALS
+}
+
+#[tactic(auto, unfolding(crate::specs::TableParts::html_4_a_to_d))]
+fn html_4_a_to_d() -> &'static [(&'static str, &'static str)]
+    ensures { rows_of result.now ≡ html_4_a_to_d }
+{
+    &HTML_4_A_TO_D
+}
+
+#[tactic(auto, unfolding(crate::specs::TableParts::html_4_e_to_l))]
+fn html_4_e_to_l() -> &'static [(&'static str, &'static str)]
+    ensures { rows_of result.now ≡ html_4_e_to_l }
+{
+    &HTML_4_E_TO_L
+}
+
+#[tactic(auto, unfolding(crate::specs::TableParts::html_4_m_to_r))]
+fn html_4_m_to_r() -> &'static [(&'static str, &'static str)]
+    ensures { rows_of result.now ≡ html_4_m_to_r }
+{
+    &HTML_4_M_TO_R
+}
+
+#[tactic(auto, unfolding(crate::specs::TableParts::html_4_s_to_z))]
+fn html_4_s_to_z() -> &'static [(&'static str, &'static str)]
+    ensures { rows_of result.now ≡ html_4_s_to_z }
+{
+    &HTML_4_S_TO_Z
 }
 
 /// Whether a number that is the code of this character stands for U+FFFD all the same.
@@ -206,5 +296,7 @@ fn string_of(alloc: Global, c: char) -> Result<String, AllocError>
     Ok(text)
 }
 
+#[cfg(test)]
+mod row_tests;
 #[cfg(test)]
 mod tests;

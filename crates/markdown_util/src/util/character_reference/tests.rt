@@ -1,6 +1,5 @@
-// Tests of character references: outside values, and every row of both tables.
+// Tests of character references: outside values.
 use super::*;
-use std::process::Abort;
 use std::test::Fail;
 
 #[test]
@@ -14,58 +13,6 @@ fn named(rt: HostRuntime) {
     assert_eq!(rt; decode_named("lang", true), Some("\u{27E8}"));
     assert_eq!(rt; decode_named("lang", false), Some("\u{2329}"));
     assert_eq!(rt; decode_named("apos", false), None);
-}
-
-#[test]
-fn rows_of_html_4(rt: HostRuntime) -> Result<(), Fail> {
-    assert_eq!(rt; html_4().len(), 252);
-    for row in html_4() {
-        look_up(&rt, rt.alloc(), html_4(), row.0, row.1, false)?;
-    }
-    Ok(())
-}
-
-#[test]
-fn rows_of_html_5(rt: HostRuntime) -> Result<(), Fail> {
-    assert_eq!(rt; html_5().len(), 294);
-    for row in html_5() {
-        look_up(&rt, rt.alloc(), html_5(), row.0, row.1, true)?;
-    }
-    Ok(())
-}
-
-/// Looks up the name of a row, the name without its last byte, and the name with a digit more.
-fn look_up(
-    rt: &impl Abort,
-    alloc: Global,
-    rows: &'static [(&'static str, &'static str)],
-    name: &str,
-    text: &str,
-    html5: bool,
-) -> Result<(), Fail> {
-    assert_eq!(rt; decode_named(name, html5), Some(text), "at {name}");
-    let mut letters = name.chars();
-    assert!(rt; letters.next_back().is_some());
-    let shorter = letters.as_str();
-    assert_eq!(rt;
-        decode_named(shorter, html5),
-        answer_of(rows, shorter),
-        "at {shorter}"
-    );
-    let longer = format!(in alloc; "{name}0")?;
-    assert_eq!(rt; decode_named(longer.as_str(), html5), None, "at {longer}");
-    Ok(())
-}
-
-/// The text of the last row with this name, where rows and bytes are compared one by one.
-fn answer_of(rows: &'static [(&'static str, &'static str)], name: &str) -> Option<&'static str> {
-    let mut answer = None;
-    for row in rows {
-        if row.0.as_bytes() == name.as_bytes() {
-            answer = Some(row.1);
-        }
-    }
-    answer
 }
 
 #[test]
