@@ -20,3 +20,5 @@ pub mod LinkPasses
 pub mod LinkLaws
 pub mod MergeLaws
 pub mod DataLaws
+pub mod MergedData
+pub mod NoRuns

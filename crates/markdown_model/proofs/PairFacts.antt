@@ -11,7 +11,7 @@ use Rattle.std.specs.Str.{byte}
 use Rattle.markdown_model.specs.Setting.{Setting}
 use Rattle.markdown_model.specs.Runs.{Run, marker_of}
 use Rattle.markdown_model.specs.Pairs.{Pair, run_at, taken_by, remaining, is_strictly_within, ruled_size, is_refused_by_three, is_refused_as_tilde, IsEligible, IsNextPair, ArePairsFrom}
-use Rattle.markdown_model.specs.Laws.{Cross, PairsAreSound, Shape, shape_of, PairsAreLocal}
+use Rattle.markdown_model.specs.Laws.{Cross, PairsAreSound, Shape, shape_of, ReadsPairsAlike, PairsAreLocal}
 
 -- What a pair takes of a run.
 
@@ -208,7 +208,10 @@ shape_at-map [] i = refl
 shape_at-map (r ∷ rs) zero = refl
 shape_at-map (r ∷ rs) (suc i) = shape_at-map rs i
 
-module _ (s : Setting) (runs others : List Run) (alike : map shape_of runs ≡ map shape_of others) where
+read_back : (s other : Setting) → ReadsPairsAlike s other → ReadsPairsAlike other s
+read_back s other reads = record { lengths = sym reads.lengths; tildes = sym reads.tildes }
+
+module _ (s other : Setting) (reads : ReadsPairsAlike s other) (runs others : List Run) (alike : map shape_of runs ≡ map shape_of others) where
   same_shape : (i : ℕ) → shape_of (run_at runs i) ≡ shape_of (run_at others i)
   same_shape i = shape_at-map runs i ∙ ap (λ x. shape_at x i) alike ∙ sym (shape_at-map others i)
 
@@ -230,20 +233,20 @@ module _ (s : Setting) (runs others : List Run) (alike : map shape_of runs ≡ m
   same_remaining : (earlier : List Pair) (i : ℕ) → remaining runs earlier i ≡ remaining others earlier i
   same_remaining earlier i = ap (λ x. x - sum_by (taken_by i) earlier) (same_size i)
 
-  same_ruled : (earlier : List Pair) (i : ℕ) → ruled_size s runs earlier i ≡ ruled_size s others earlier i
-  same_ruled earlier i = λ k. if s.options.attention_first_lengths then same_size i k else same_remaining earlier i k
+  same_ruled : (earlier : List Pair) (i : ℕ) → ruled_size s runs earlier i ≡ ruled_size other others earlier i
+  same_ruled earlier i = λ k. if reads.lengths k then same_size i k else same_remaining earlier i k
 
-  same_three : (earlier : List Pair) (o c : ℕ) → is_refused_by_three s runs earlier o c ≡ is_refused_by_three s others earlier o c
+  same_three : (earlier : List Pair) (o c : ℕ) → is_refused_by_three s runs earlier o c ≡ is_refused_by_three other others earlier o c
   same_three earlier o c = λ k.
       (same_close o k || same_open c k) && (not (same_ruled earlier c k % 3 == 0) && (same_ruled earlier o k + same_ruled earlier c k) % 3 == 0)
 
-  same_tilde : (earlier : List Pair) (o c : ℕ) → is_refused_as_tilde s runs earlier o c ≡ is_refused_as_tilde s others earlier o c
+  same_tilde : (earlier : List Pair) (o c : ℕ) → is_refused_as_tilde s runs earlier o c ≡ is_refused_as_tilde other others earlier o c
   same_tilde earlier o c = λ k.
       same_marker o k == byte "~"
       && not (same_remaining earlier o k == same_remaining earlier c k
-      && (same_remaining earlier o k == 2 || (same_remaining earlier o k == 1 && s.options.gfm_strikethrough_single_tilde)))
+      && (same_remaining earlier o k == 2 || (same_remaining earlier o k == 1 && reads.tildes k)))
 
-  moved : (earlier : List Pair) (o c : ℕ) → IsEligible s runs earlier o c → IsEligible s others earlier o c
+  moved : (earlier : List Pair) (o c : ℕ) → IsEligible s runs earlier o c → IsEligible other others earlier o c
   moved earlier o c h = record {
     in_order = h.in_order;
     in_container = subst (λ x. c < x) same_length h.in_container;
@@ -257,21 +260,21 @@ module _ (s : Setting) (runs others : List Run) (alike : map shape_of runs ≡ m
     tilde = sym (same_tilde earlier o c) ∙ h.tilde;
   }
 
-moved_next : (s : Setting) (runs others : List Run) → map shape_of runs ≡ map shape_of others → (earlier : List Pair) (last : ℕ) (p : Pair)
-    → IsNextPair s runs earlier last p → IsNextPair s others earlier last p
-moved_next s runs others alike earlier last p h = record {
-  eligible = moved s runs others alike earlier p.opener p.closer h.eligible;
-  size = h.size ∙ (λ k. min 2 (min (same_remaining s runs others alike earlier p.opener k) (same_remaining s runs others alike earlier p.closer k)));
+moved_next : (s other : Setting) → ReadsPairsAlike s other → (runs others : List Run) → map shape_of runs ≡ map shape_of others → (earlier : List Pair) (last : ℕ) (p : Pair)
+    → IsNextPair s runs earlier last p → IsNextPair other others earlier last p
+moved_next s other reads runs others alike earlier last p h = record {
+  eligible = moved s other reads runs others alike earlier p.opener p.closer h.eligible;
+  size = h.size ∙ (λ k. min 2 (min (same_remaining s other reads runs others alike earlier p.opener k) (same_remaining s other reads runs others alike earlier p.closer k)));
   forward = h.forward;
-  leftmost = λ o c from to fits. h.leftmost o c from to (moved s others runs (sym alike) earlier o c fits);
-  nearest = λ o after fits. h.nearest o after (moved s others runs (sym alike) earlier o p.closer fits);
+  leftmost = λ o c from to fits. h.leftmost o c from to (moved other s (read_back s other reads) others runs (sym alike) earlier o c fits);
+  nearest = λ o after fits. h.nearest o after (moved other s (read_back s other reads) others runs (sym alike) earlier o p.closer fits);
 }
 
-moved_pairs : (s : Setting) (runs others : List Run) → map shape_of runs ≡ map shape_of others → (end : ℕ) (earlier : List Pair) (last : ℕ) (ps : List Pair)
-    → ArePairsFrom s runs end earlier last ps → ArePairsFrom s others end earlier last ps
-moved_pairs s runs others alike end earlier last [] h = λ o c from to fits. h o c from to (moved s others runs (sym alike) earlier o c fits)
-moved_pairs s runs others alike end earlier last (p ∷ ps) h = (moved_next s runs others alike earlier last p h.0, moved_pairs s runs others alike end (earlier ++ p ∷ []) p.closer ps h.1)
+moved_pairs : (s other : Setting) → ReadsPairsAlike s other → (runs others : List Run) → map shape_of runs ≡ map shape_of others → (end : ℕ) (earlier : List Pair) (last : ℕ) (ps : List Pair)
+    → ArePairsFrom s runs end earlier last ps → ArePairsFrom other others end earlier last ps
+moved_pairs s other reads runs others alike end earlier last [] h = λ o c from to fits. h o c from to (moved other s (read_back s other reads) others runs (sym alike) earlier o c fits)
+moved_pairs s other reads runs others alike end earlier last (p ∷ ps) h = (moved_next s other reads runs others alike earlier last p h.0, moved_pairs s other reads runs others alike end (earlier ++ p ∷ []) p.closer ps h.1)
 
 pub pairs_are_local : PairsAreLocal
-pairs_are_local s runs others pairs alike h =
-    subst (λ x. ArePairsFrom s others x [] 0 pairs) (same_length s runs others alike) (moved_pairs s runs others alike (length runs) [] 0 pairs h)
+pairs_are_local s other runs others pairs reads alike h =
+    subst (λ x. ArePairsFrom other others x [] 0 pairs) (same_length s other reads runs others alike) (moved_pairs s other reads runs others alike (length runs) [] 0 pairs h)

@@ -13,6 +13,7 @@ use Rattle.markdown_model.specs.LabelEnd.{Element, plain, starts, ends, Label, l
 use Rattle.markdown_model.specs.Element.{AreElements, AreStringElements, elements_of, string_elements_of}
 use Rattle.markdown_model.specs.Runs.{Run, marker_of}
 use Rattle.markdown_model.specs.Pairs.{Pair, run_at, taken_by, IsPairList, pair_list}
+use Rattle.markdown_model.specs.Passes.{merged}
 use Rattle.markdown_model.specs.Inline.{IsTextTree, IsStringTree, text_tree, string_tree}
 
 -- it holds of x, and of nothing else
@@ -128,6 +129,37 @@ AreApart (group_then name enter exit inside rest) = (is_link name ≡ true → h
 abbrev pub LinksDoNotNest : Type 0
 LinksDoNotNest = (s : Setting) (cs : List Code) → AreApart (text_tree s cs)
 
+-- Passes.
+
+abbrev pub begins_data : Forest → Bool
+begins_data (leaf_then Name.Data None cs rest) = true
+begins_data _ = false
+
+-- no two data without a link are neighbours, in a row or inside it
+abbrev pub IsDataApart : Forest → Type 0
+IsDataApart empty = Unit {0}
+IsDataApart (leaf_then Name.Data None cs rest) = (begins_data rest ≡ false) × IsDataApart rest
+IsDataApart (leaf_then name link cs rest) = IsDataApart rest
+IsDataApart (group_then name enter exit inside rest) = IsDataApart inside × IsDataApart rest
+
+-- after merging no two data without a link are neighbours
+abbrev pub MergedDataIsApart : Type 0
+MergedDataIsApart = (tree : Forest) → IsDataApart (merged tree)
+
+abbrev pub is_run : Name → Bool
+is_run Name.AttentionSequence = true
+is_run _ = false
+
+-- no leaf is a run of markers
+abbrev pub HasNoRun : Forest → Type 0
+HasNoRun empty = Unit {0}
+HasNoRun (leaf_then name link cs rest) = (is_run name ≡ false) × HasNoRun rest
+HasNoRun (group_then name enter exit inside rest) = HasNoRun inside × HasNoRun rest
+
+-- in the inline tree of a text no run of markers is left: its markers are sequences of pairs, or data
+abbrev pub NoRunIsLeft : Type 0
+NoRunIsLeft = (s : Setting) (cs : List Code) → HasNoRun (text_tree s cs)
+
 -- Pairs.
 
 -- two pairs overlap, and neither stands inside the other
@@ -153,8 +185,13 @@ pub record Shape : Type 0 where
 abbrev pub shape_of : Run → Shape
 shape_of r = record { marker = marker_of r.codes; size = length r.codes; may_open = r.may_open; may_close = r.may_close }
 
--- containers whose runs agree in marker, size, and what they may do have the same pair list
+-- two settings agree in the options that pairs depend on
+pub record ReadsPairsAlike (s other : Setting) : Type 0 where
+  pub lengths : s.options.attention_first_lengths ≡ other.options.attention_first_lengths
+  pub tildes : s.options.gfm_strikethrough_single_tilde ≡ other.options.gfm_strikethrough_single_tilde
+
+-- containers whose runs agree in marker, size, and what they may do have the same pair list, also in two documents
 abbrev pub PairsAreLocal : Type 0
 PairsAreLocal =
-    (s : Setting) (runs others : List Run) (pairs : List Pair)
-    → map shape_of runs ≡ map shape_of others → IsPairList s runs pairs → IsPairList s others pairs
+    (s other : Setting) (runs others : List Run) (pairs : List Pair)
+    → ReadsPairsAlike s other → map shape_of runs ≡ map shape_of others → IsPairList s runs pairs → IsPairList other others pairs

@@ -34,8 +34,8 @@ is_strictly_within i p = nat_lt p.opener i && nat_lt i p.closer
 
 module _ (s : Setting) (runs : List Run) where
   -- The rule of three: where one of two runs may both open and close, the sum of their sizes is no
-  -- multiple of 3, unless the closer's size is one. Here the sizes are what earlier pairs left of the
-  -- runs; the option asks for CommonMark's, those of the whole runs.
+  -- multiple of 3, unless the closer's size is a multiple of 3 itself. Here the sizes are what earlier
+  -- pairs left of the runs; the option asks for CommonMark's, those of the whole runs.
 
   abbrev pub ruled_size : List Pair → ℕ → ℕ
   ruled_size earlier i = if s.options.attention_first_lengths then length (run_at runs i).codes else remaining runs earlier i

@@ -1,5 +1,5 @@
 // Laws on the definitions.
-ghost use Rattle.markdown_model.specs.Laws.{OnePairList, OneElementList, OneTree, EventsNest, LeavesCover, OneEnd, LabelsMatch, EndsTakeTheNearest, LinksDoNotNest, PairsAreSound, PairsAreLocal};
+ghost use Rattle.markdown_model.specs.Laws.{OnePairList, OneElementList, OneTree, EventsNest, LeavesCover, OneEnd, LabelsMatch, EndsTakeTheNearest, LinksDoNotNest, MergedDataIsApart, NoRunIsLeft, PairsAreSound, PairsAreLocal};
 
 /// Each container has exactly one pair list, whatever sizes the rule of three reads.
 pub fn one_pair_list()
@@ -48,12 +48,23 @@ pub fn links_do_not_nest()
     ensures { LinksDoNotNest }
 {}
 
+/// After merging no two data without a link are neighbours.
+pub fn merged_data_is_apart()
+    ensures { MergedDataIsApart }
+{}
+
+/// In the inline tree of a text no run of markers is left: its markers are sequences of pairs, or data.
+pub fn no_run_is_left()
+    ensures { NoRunIsLeft }
+{}
+
 /// The pairs of a container take each marker once at most, do not cross, and are at most half as many as the markers.
 pub fn pairs_are_sound()
     ensures { PairsAreSound }
 {}
 
-/// Containers whose runs agree in marker, size, and in what they may do have the same pair list.
+/// Containers whose runs agree in marker, size, and in what they may do have the same pair list, also in two documents
+/// whose settings agree in the options that pairs depend on.
 pub fn pairs_are_local()
     ensures { PairsAreLocal }
 {}
