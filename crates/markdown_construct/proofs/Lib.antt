@@ -2,6 +2,7 @@ pub mod AfterLemmas
 pub mod WholeReadings
 pub mod StretchLemmas
 pub mod OpenLemmas
+pub mod PassedLemmas
 pub mod PlanLemmas
 pub mod RenamingLemmas
 pub mod NamingLemmas

@@ -5,19 +5,18 @@ use Rattle.markdown_engine.specs.Codes.{Code, is_blank, is_line_ending}
 use Rattle.markdown_engine.specs.Grown.{Grown, Fails}
 use Rattle.markdown_engine.specs.Lists.{rest_of}
 use Rattle.markdown_engine.specs.Ops.{Op, current_of, ahead, IsOpen, done, moves, scratched, frame_of}
-use Rattle.markdown_engine.specs.Runs.{Stepped, stepped, GoesOn, Goes, restored, going_state, going_in}
+use Rattle.markdown_engine.specs.Runs.{Stepped, stepped, Goes, restored, going_state, going_in}
 use Rattle.markdown_engine.specs.Tree.{Forest, ◌⊕◌, leaf, group}
 use Rattle.markdown_engine.specs.Weights.{weight_at, codes_left}
 use Rattle.markdown_engine.specs.declared.event.Name.{Name}
 use Rattle.markdown_engine.specs.declared.event.Name.TheVariants as N
 use Rattle.markdown_engine.specs.declared.state.State.{State}
 use Rattle.markdown_engine.specs.declared.state.State.TheVariants.{Next, Retry, Nok}
-use Rattle.markdown_engine.specs.declared.state.StateName.{StateName}
 use Rattle.markdown_engine.specs.declared.state.StateName.TheVariants.{GfmTaskListItemCheckInside, GfmTaskListItemCheckClose, GfmTaskListItemCheckAfter, GfmTaskListItemCheckAfterSpaceOrTab, SpaceOrTabStart}
 use Rattle.markdown_engine.specs.declared.tokenizer.TokenizeState.{TokenizeState}
 use Rattle.markdown_engine.specs.declared.tokenizer.Tokenizer.{Tokenizer}
 use Rattle.markdown_engine.proofs.EndsLemmas.{scratched-same, left-read}
-use Rattle.markdown_engine.proofs.Laws.{if-step, code-step, Goes-plain, Grown-refl, restored-fails}
+use Rattle.markdown_engine.proofs.Laws.{if-step, code-step, Grown-refl, restored-fails}
 use Rattle.markdown_engine.proofs.OpRules.{law_rules, ahead-none, ahead-some, attempts-scratched, left-scratched, left-ahead, some-codes}
 use Rattle.markdown_engine.proofs.OpsLemmas.{left-done, scratch-done}
 use Rattle.markdown_engine.proofs.TreeLemmas.{Fails-past}
@@ -30,29 +29,14 @@ use Rattle.markdown_partial.specs.SpaceSteps as S
 use Rattle.markdown_partial.specs.SpaceSteps.{most, rested}
 use Rattle.markdown_partial.proofs.SpacingLemmas.{space-all}
 use Rattle.markdown_construct.specs.Plan.{Plan, preceded, tree_ops, plan_of, KeepsAs}
-use Rattle.markdown_construct.proofs.PlanLemmas.{GoesOn-map, Goes-next, Goes-yes, Goes-no, EndsAs-plan}
+use Rattle.markdown_construct.proofs.PlanLemmas.{EndsAs-plan}
 use Rattle.markdown_construct.proofs.WholeReadings.{Gives, Covers, IsSome, Gives-bind, Gives-before, Gives-switched, Gives-one, Gives-gives, Covers-group, Covers-row, Covers-leaf, some-first}
-use Rattle.markdown_gfm.specs.GfmTaskListItemCheck.{opening, value, closing, is_mark, is_space, may_begin, start_at, start_step, inside_at, inside_step, close_at, close_step, space_asked, looked, after_at, after_step, after_space_or_tab_at, after_space_or_tab_step, MayLook, IsOpened, check_here, start_ends, after_plan, close_plan, inside_plan, inside_ends, close_ends, after_ends, after_space_or_tab_ends}
-use Rattle.markdown_gfm.proofs.LookLemmas.{Goes-looked}
+use Rattle.markdown_gfm.specs.GfmTaskListItemCheck.{opening, value, closing, is_mark, is_space, may_begin, start_at, start_step, inside_at, inside_step, close_at, close_step, space_asked, looked, after_at, after_step, after_space_or_tab_at, after_space_or_tab_step, MayLook, IsOpened, check_here, start_ends, after_plan, close_plan, inside_plan, inside_ends, close_ends, after_ends, after_space_or_tab_ends, states, after_space_or_tab_words, after_words, close_words, inside_words, start_words}
+use Rattle.markdown_gfm.proofs.LookLemmas.{Goes-looked, goes-then}
 use Rattle.markdown_model.proofs.ReadingSteps.{span-takes, bind-some, bind-none, before-some, before-none, before-other, one-here, one-not, switched-on, switched-off, and-left, and-right, and-false, if-true, if-false}
-
--- what the layer says of these states, and of the start of whitespace
-pub record Within (ready : StateName → Tokenizer → Type 0) (ends : StateName → Tokenizer → Bool → Tokenizer → Type 0) (weight : StateName → Tokenizer → ℕ) : Type 0 where
-  pub inside_ready : (T : Tokenizer) → IsOpened T → ready GfmTaskListItemCheckInside T
-  pub inside_end : (T : Tokenizer) (ok : Bool) (U : Tokenizer) → ends GfmTaskListItemCheckInside T ok U → inside_ends T ok U
-  pub inside_weight : (T : Tokenizer) → weight GfmTaskListItemCheckInside T ≡ weight_at 1 T
-  pub close_ready : (T : Tokenizer) → IsOpened T → ready GfmTaskListItemCheckClose T
-  pub close_end : (T : Tokenizer) (ok : Bool) (U : Tokenizer) → ends GfmTaskListItemCheckClose T ok U → close_ends T ok U
-  pub close_weight : (T : Tokenizer) → weight GfmTaskListItemCheckClose T ≡ weight_at 1 T
-  pub after_ready : (T : Tokenizer) → MayLook T → ready GfmTaskListItemCheckAfter T
-  pub after_end : (T : Tokenizer) (ok : Bool) (U : Tokenizer) → ends GfmTaskListItemCheckAfter T ok U → after_ends T ok U
-  pub after_weight : (T : Tokenizer) → weight GfmTaskListItemCheckAfter T ≡ weight_at 4 T
-  pub space_ready : (T : Tokenizer) → S.StartReady T → ready SpaceOrTabStart T
-  pub space_end : (T : Tokenizer) (ok : Bool) (U : Tokenizer) → ends SpaceOrTabStart T ok U → S.start_ends T ok U
-  pub space_weight : (T : Tokenizer) → weight SpaceOrTabStart T ≡ weight_at 3 T
-  pub after_space_or_tab_ready : (T : Tokenizer) → ready GfmTaskListItemCheckAfterSpaceOrTab T
-  pub after_space_or_tab_end : (T : Tokenizer) (ok : Bool) (U : Tokenizer) → ends GfmTaskListItemCheckAfterSpaceOrTab T ok U → after_space_or_tab_ends T ok U
-  pub after_space_or_tab_weight : (T : Tokenizer) → weight GfmTaskListItemCheckAfterSpaceOrTab T ≡ weight_at 1 T
+use Rattle.markdown_engine.specs.StateWords.{Words, Law, GoesIn, weight_in}
+use Rattle.markdown_construct.proofs.StateLaws.{GoesOn-map, Goes-end, Goes-next, Goes-yes, Goes-no}
+use Rattle.markdown_construct.specs.Within.{Within}
 
 -- The reading, by what stands there.
 
@@ -145,58 +129,55 @@ look-done os T h k =
 
 -- The states.
 
-pub start-law : (ready : StateName → Tokenizer → Type 0) (ends : StateName → Tokenizer → Bool → Tokenizer → Type 0) (weight : StateName → Tokenizer → ℕ) → Within ready ends weight → (T : Tokenizer) → T.attempts ≡ [] → MayLook T → GoesOn ready ends weight (weight_at 2 T) (start_ends T) (start_step T)
-start-law ready ends weight within T alone look =
+pub start-law : (W : Words) → Within states W → Law W start_words
+start-law W within T alone look =
     let p : Plan = plan_of (check_here T) in
     let E : Bool → Tokenizer → Type 0 = KeepsAs 0 p T in
-    let P : Stepped → Type 0 = GoesOn ready ends weight (weight_at 2 T) E in
-    GoesOn-map ready ends weight (weight_at 2 T) E (start_ends T) (start_step T) (λ ok U k. EndsAs-plan (check_here T) (whole (may_begin T)) T.tokenize_state T ok U k)
+    let P : Stepped → Type 0 = GoesIn W (weight_at 2 T) E in
+    GoesOn-map W (weight_at 2 T) E (start_ends T) (start_step T) (λ ok U k. EndsAs-plan (check_here T) (whole (may_begin T)) T.tokenize_state T ok U k)
     (code-step P (current_of T) (λ o. start_at (may_begin T) o T)
-    (λ e. Goes-no ready ends weight 2 0 p T alone (ap p (ahead-none T e) ∙ no-check (may_begin T) [] (and-false (may_begin T))))
+    (λ e. Goes-no W 2 0 p T alone (ap p (ahead-none T e) ∙ no-check (may_begin T) [] (and-false (may_begin T))))
     (λ c e. let b = ahead-some T c e in
     if-step P (may_begin T && (c == 91)) _ _
-    (λ h. Goes-next ready ends weight 2 1 0 p inside_plan opening T (Next GfmTaskListItemCheckInside) alone refl (some-codes T c e) (omega arith)
+    (λ h. Goes-next W 2 0 p inside_plan opening T (Next GfmTaskListItemCheckInside) (within GfmTaskListItemCheckInside) alone refl (some-codes T c e) (omega arith)
     (ap p b.whole ∙ check-bracket (may_begin T) b.code (rest_of (ahead T)) (and-left _ _ h) (ap (λ v. v == 91) b.value ∙ and-right _ _ h))
-    (within.inside_ready (done opening T) (record { whole = grind (arith, law_rules); look = look-done opening T (some-codes T c e) look }))
-    (within.inside_weight (done opening T))
-    (within.inside_end (done opening T)))
-    (λ h. Goes-no ready ends weight 2 0 p T alone (ap p b.whole ∙ no-check (may_begin T) (b.code ∷ rest_of (ahead T)) (ap (λ v. may_begin T && (v == 91)) b.value ∙ h)))))
+    (record { whole = grind (arith, law_rules); look = look-done opening T (some-codes T c e) look })
+    (λ ok U x. x))
+    (λ h. Goes-no W 2 0 p T alone (ap p b.whole ∙ no-check (may_begin T) (b.code ∷ rest_of (ahead T)) (ap (λ v. may_begin T && (v == 91)) b.value ∙ h)))))
 
 -- past the value of this name
-value-goes : (ready : StateName → Tokenizer → Type 0) (ends : StateName → Tokenizer → Bool → Tokenizer → Type 0) (weight : StateName → Tokenizer → ℕ) → Within ready ends weight → (name : Name) (T : Tokenizer) → T.attempts ≡ [] → IsOpened T → 1 ≤ length (ahead T) → inside_plan (ahead T) ≡ preceded (value name) (close_plan (rest_of (ahead T))) → GoesOn ready ends weight (weight_at 1 T) (inside_ends T) (stepped (Next GfmTaskListItemCheckClose) (done (value name) T))
-value-goes ready ends weight within name T alone on some e =
-    Goes-next ready ends weight 1 1 1 inside_plan close_plan (value name) T (Next GfmTaskListItemCheckClose) alone refl some (omega arith) e
-    (within.close_ready (done (value name) T) (record { whole = (let w : IsOpen N.GfmTaskListItemCheck T = on.whole in grind (arith, law_rules)); look = look-done (value name) T some on.look }))
-    (within.close_weight (done (value name) T))
-    (within.close_end (done (value name) T))
+value-goes : (W : Words) → Within states W → (name : Name) (T : Tokenizer) → T.attempts ≡ [] → IsOpened T → 1 ≤ length (ahead T) → inside_plan (ahead T) ≡ preceded (value name) (close_plan (rest_of (ahead T))) → GoesIn W (weight_at 1 T) (inside_ends T) (stepped (Next GfmTaskListItemCheckClose) (done (value name) T))
+value-goes W within name T alone on some e =
+    Goes-next W 1 1 inside_plan close_plan (value name) T (Next GfmTaskListItemCheckClose) (within GfmTaskListItemCheckClose) alone refl some (omega arith) e
+    (record { whole = (let w : IsOpen N.GfmTaskListItemCheck T = on.whole in grind (arith, law_rules)); look = look-done (value name) T some on.look })
+    (λ ok U x. x)
 
-pub inside-law : (ready : StateName → Tokenizer → Type 0) (ends : StateName → Tokenizer → Bool → Tokenizer → Type 0) (weight : StateName → Tokenizer → ℕ) → Within ready ends weight → (T : Tokenizer) → T.attempts ≡ [] → IsOpened T → GoesOn ready ends weight (weight_at 1 T) (inside_ends T) (inside_step T)
-inside-law ready ends weight within T alone on =
-    let P : Stepped → Type 0 = GoesOn ready ends weight (weight_at 1 T) (inside_ends T) in
+pub inside-law : (W : Words) → Within states W → Law W inside_words
+inside-law W within T alone on =
+    let P : Stepped → Type 0 = GoesIn W (weight_at 1 T) (inside_ends T) in
     code-step P (current_of T) (λ o. inside_at o T)
-    (λ e. Goes-no ready ends weight 1 1 inside_plan T alone (ap inside_plan (ahead-none T e)))
+    (λ e. Goes-no W 1 1 inside_plan T alone (ap inside_plan (ahead-none T e)))
     (λ c e. let b = ahead-some T c e in
     if-step P (is_mark c) _ _
-    (λ h. value-goes ready ends weight within N.GfmTaskListItemValueChecked T alone on (some-codes T c e)
+    (λ h. value-goes W within N.GfmTaskListItemValueChecked T alone on (some-codes T c e)
     (ap inside_plan b.whole ∙ if-true _ _ _ (ap is_mark b.value ∙ h)))
     (λ h. if-step P (is_space c) _ _
-    (λ k. value-goes ready ends weight within N.GfmTaskListItemValueUnchecked T alone on (some-codes T c e)
+    (λ k. value-goes W within N.GfmTaskListItemValueUnchecked T alone on (some-codes T c e)
     (ap inside_plan b.whole ∙ if-false _ _ _ (ap is_mark b.value ∙ h) ∙ if-true _ _ _ (ap is_space b.value ∙ k)))
-    (λ k. Goes-no ready ends weight 1 1 inside_plan T alone (ap inside_plan b.whole ∙ if-false _ _ _ (ap is_mark b.value ∙ h) ∙ if-false _ _ _ (ap is_space b.value ∙ k)))))
+    (λ k. Goes-no W 1 1 inside_plan T alone (ap inside_plan b.whole ∙ if-false _ _ _ (ap is_mark b.value ∙ h) ∙ if-false _ _ _ (ap is_space b.value ∙ k)))))
 
-pub close-law : (ready : StateName → Tokenizer → Type 0) (ends : StateName → Tokenizer → Bool → Tokenizer → Type 0) (weight : StateName → Tokenizer → ℕ) → Within ready ends weight → (T : Tokenizer) → T.attempts ≡ [] → IsOpened T → GoesOn ready ends weight (weight_at 1 T) (close_ends T) (close_step T)
-close-law ready ends weight within T alone on =
-    let P : Stepped → Type 0 = GoesOn ready ends weight (weight_at 1 T) (close_ends T) in
+pub close-law : (W : Words) → Within states W → Law W close_words
+close-law W within T alone on =
+    let P : Stepped → Type 0 = GoesIn W (weight_at 1 T) (close_ends T) in
     code-step P (current_of T) (λ o. close_at o T)
-    (λ e. Goes-no ready ends weight 1 1 close_plan T alone (ap close_plan (ahead-none T e)))
+    (λ e. Goes-no W 1 1 close_plan T alone (ap close_plan (ahead-none T e)))
     (λ c e. let b = ahead-some T c e in
     if-step P (c == 93) _ _
-    (λ h. Goes-next ready ends weight 1 4 1 close_plan after_plan closing T (Next GfmTaskListItemCheckAfter) alone refl (some-codes T c e) (omega arith)
+    (λ h. Goes-next W 1 1 close_plan after_plan closing T (Next GfmTaskListItemCheckAfter) (within GfmTaskListItemCheckAfter) alone refl (some-codes T c e) (omega arith)
     (ap close_plan b.whole ∙ if-true _ _ _ (ap (λ v. v == 93) b.value ∙ h))
-    (within.after_ready (done closing T) (look-done closing T (some-codes T c e) on.look))
-    (within.after_weight (done closing T))
-    (within.after_end (done closing T)))
-    (λ h. Goes-no ready ends weight 1 1 close_plan T alone (ap close_plan b.whole ∙ if-false _ _ _ (ap (λ v. v == 93) b.value ∙ h))))
+    (look-done closing T (some-codes T c e) on.look)
+    (λ ok U x. x))
+    (λ h. Goes-no W 1 1 close_plan T alone (ap close_plan b.whole ∙ if-false _ _ _ (ap (λ v. v == 93) b.value ∙ h))))
 
 -- After the check.
 
@@ -255,49 +236,47 @@ blank-text c cs e h =
     ap (λ b. b || (is_blank c && more)) e ∙ ap (λ b. b && more) h ∙ ap (λ (s : List Code × List Code). not (is_empty s.1)) (sym (span-takes is_blank c cs h))
 
 -- the check ends, whether it holds or not, where it began
-check-ended : (ready : StateName → Tokenizer → Type 0) (ends : StateName → Tokenizer → Bool → Tokenizer → Type 0) (weight : StateName → Tokenizer → ℕ) (n : ℕ) (End : Bool → Tokenizer → Type 0) (ok : Bool) (A V W : Tokenizer) → 0 < n → restored (frame_of true State.Ok Nok A) V ≡ W → End ok W → Goes ready ends weight n End [] (going_state (frame_of true State.Ok Nok A) ok) (going_in (frame_of true State.Ok Nok A) ok V)
+check-ended : (W : Words) (n : ℕ) (End : Bool → Tokenizer → Type 0) (ok : Bool) (A V X : Tokenizer) → 0 < n → restored (frame_of true State.Ok Nok A) V ≡ X → End ok X → Goes W.ready W.ends (weight_in W) n End [] (going_state (frame_of true State.Ok Nok A) ok) (going_in (frame_of true State.Ok Nok A) ok V)
 unfolding frame_of
-check-ended ready ends weight n End true A V W some e k =
+check-ended W n End true A V X some e k =
     (record { goes_on = tt; falls = some }, λ ok U x. subst (λ b. End b U) (sym x.0) (subst (End true) (sym (x.1 ∙ e)) k))
-check-ended ready ends weight n End false A V W some e k =
+check-ended W n End false A V X some e k =
     (record { goes_on = tt; falls = some }, λ ok U x. subst (λ b. End b U) (sym x.0) (subst (End false) (sym (x.1 ∙ e)) k))
 
-look-law : (ready : StateName → Tokenizer → Type 0) (ends : StateName → Tokenizer → Bool → Tokenizer → Type 0) (weight : StateName → Tokenizer → ℕ) → Within ready ends weight → (T : Tokenizer) → T.attempts ≡ [] → MayLook T → next_is is_blank (ahead T) ≡ true → begins_task_text (ahead T) ≡ not (is_empty (span is_blank (ahead T)).1) → GoesOn ready ends weight (weight_at 4 T) (after_ends T) (stepped (Retry SpaceOrTabStart) (looked T))
-look-law ready ends weight within T alone look b text =
+look-law : (W : Words) → Within states W → (T : Tokenizer) → T.attempts ≡ [] → MayLook T → next_is is_blank (ahead T) ≡ true → begins_task_text (ahead T) ≡ not (is_empty (span is_blank (ahead T)).1) → GoesIn W (weight_at 4 T) (after_ends T) (stepped (Retry SpaceOrTabStart) (looked T))
+look-law W within T alone look b text =
     let s : TokenizeState = T.tokenize_state in
     let n : ℕ = weight_at 4 T in
     let A : Tokenizer = scratched (space_asked s) T in
-    Goes-looked ready ends weight n (after_ends T) (Retry SpaceOrTabStart) (Next GfmTaskListItemCheckAfterSpaceOrTab) Nok State.Ok Nok A (attempts-scratched _ T ∙ alone) (within.space_ready A (space-ready T look))
-    (rw within.space_weight (omega (arith, left-scratched (space_asked s) T)))
-    (λ U now k. let g : Spaced T U = spaced T U look b (within.space_end A true U k) in (
-      record { goes_on = within.after_space_or_tab_ready U; falls = rw within.after_space_or_tab_weight (omega (arith, g.fewer)) },
-      λ ok V now m. let e = within.after_space_or_tab_end U ok V m in
-          check-ended ready ends weight n (after_ends T) ok A V T (omega arith) (ap (restored (frame_of true State.Ok Nok A)) e.1 ∙ g.back) (after-keeps T ok T (e.0 ∙ ap (λ cs. not (is_empty cs)) g.after ∙ sym text) refl),
-    ))
-    (λ U now k. absurd (never-refused T U look b (within.space_end A false U k)))
+    Goes-looked W n (after_ends T) (Retry SpaceOrTabStart) (within SpaceOrTabStart) (Next GfmTaskListItemCheckAfterSpaceOrTab) Nok State.Ok Nok A (attempts-scratched _ T ∙ alone) (space-ready T look)
+    (omega (arith, left-scratched (space_asked s) T))
+    (λ U now k. let g : Spaced T U = spaced T U look b k in (
+    goes-then W n (after_ends T) (frame_of true State.Ok Nok A) [] (Next GfmTaskListItemCheckAfterSpaceOrTab) (within GfmTaskListItemCheckAfterSpaceOrTab) U tt (omega (arith, g.fewer))
+    (λ ok V now m. check-ended W n (after_ends T) ok A V T (omega arith) (ap (restored (frame_of true State.Ok Nok A)) m.1 ∙ g.back) (after-keeps T ok T (m.0 ∙ ap (λ cs. not (is_empty cs)) g.after ∙ sym text) refl))))
+    (λ U now k. absurd (never-refused T U look b k))
 
-pub after-law : (ready : StateName → Tokenizer → Type 0) (ends : StateName → Tokenizer → Bool → Tokenizer → Type 0) (weight : StateName → Tokenizer → ℕ) → Within ready ends weight → (T : Tokenizer) → T.attempts ≡ [] → MayLook T → GoesOn ready ends weight (weight_at 4 T) (after_ends T) (after_step T)
-after-law ready ends weight within T alone look =
-    let P : Stepped → Type 0 = GoesOn ready ends weight (weight_at 4 T) (after_ends T) in
+pub after-law : (W : Words) → Within states W → Law W after_words
+after-law W within T alone look =
+    let P : Stepped → Type 0 = GoesIn W (weight_at 4 T) (after_ends T) in
     code-step P (current_of T) (λ o. after_at o T)
-    (λ e. Goes-no ready ends weight 4 0 after_plan T alone (ap after_plan (ahead-none T e)))
+    (λ e. Goes-no W 4 0 after_plan T alone (ap after_plan (ahead-none T e)))
     (λ c e. let b = ahead-some T c e in
     let more : List Code = rest_of (ahead T) in
     if-step P (c == 10) _ _
-    (λ h. Goes-yes ready ends weight 4 0 after_plan [] T alone (ap after_plan b.whole ∙ if-true _ _ _ (or-left _ _ (ap (λ v. v == 10) b.value ∙ h))))
+    (λ h. Goes-yes W 4 0 after_plan [] T alone (ap after_plan b.whole ∙ if-true _ _ _ (or-left _ _ (ap (λ v. v == 10) b.value ∙ h))))
     (λ h. let line : is_line_ending b.code ≡ false = ap (λ v. v == 10) b.value ∙ h in
     if-step P (S.at_blank (Some c)) _ _
     (λ k. let blank : is_blank b.code ≡ true = ap (λ v. S.at_blank (Some v)) b.value ∙ k in
-    look-law ready ends weight within T alone look (ap (next_is is_blank) b.whole ∙ blank)
+    look-law W within T alone look (ap (next_is is_blank) b.whole ∙ blank)
     (ap begins_task_text b.whole ∙ blank-text b.code more line blank ∙ ap (λ cs. not (is_empty (span is_blank cs).1)) (sym b.whole)))
     (λ k. let blank : is_blank b.code ≡ false = ap (λ v. S.at_blank (Some v)) b.value ∙ k in
-    Goes-no ready ends weight 4 0 after_plan T alone
+    Goes-no W 4 0 after_plan T alone
     (ap after_plan b.whole ∙ if-false _ _ _ (or-none _ _ line (ap (λ x. x && not (is_empty (span is_blank more).1)) blank))))))
 
-pub after_space_or_tab-law : (ready : StateName → Tokenizer → Type 0) (ends : StateName → Tokenizer → Bool → Tokenizer → Type 0) (weight : StateName → Tokenizer → ℕ) (T : Tokenizer) → T.attempts ≡ [] → GoesOn ready ends weight (weight_at 1 T) (after_space_or_tab_ends T) (after_space_or_tab_step T)
-after_space_or_tab-law ready ends weight T alone =
+pub after_space_or_tab-law : (W : Words) → Law W after_space_or_tab_words
+after_space_or_tab-law W T alone _ =
     let n : ℕ = weight_at 1 T in
-    let P : Stepped → Type 0 = GoesOn ready ends weight n (after_space_or_tab_ends T) in
+    let P : Stepped → Type 0 = GoesIn W n (after_space_or_tab_ends T) in
     code-step P (current_of T) (λ o. after_space_or_tab_at o T)
-    (λ e. Goes-plain ready ends weight n (after_space_or_tab_ends T) Nok T alone tt (omega arith) (λ ok U k. (k.0 ∙ ap (λ cs. not (is_empty cs)) (sym (ahead-none T e)), k.1)))
-    (λ c e. Goes-plain ready ends weight n (after_space_or_tab_ends T) State.Ok T alone tt (omega arith) (λ ok U k. (k.0 ∙ ap (λ cs. not (is_empty cs)) (sym (ahead-some T c e).whole), k.1)))
+    (λ e. Goes-end W n (after_space_or_tab_ends T) false T alone (omega arith) (λ ok U k. (k.0 ∙ ap (λ cs. not (is_empty cs)) (sym (ahead-none T e)), k.1)))
+    (λ c e. Goes-end W n (after_space_or_tab_ends T) true T alone (omega arith) (λ ok U k. (k.0 ∙ ap (λ cs. not (is_empty cs)) (sym (ahead-some T c e).whole), k.1)))

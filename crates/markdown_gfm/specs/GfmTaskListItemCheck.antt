@@ -10,14 +10,17 @@ use Rattle.markdown_model.specs.Grammar.{◌>>◌, provided}
 use Rattle.markdown_model.specs.Leaf.{task_check, begins_task_text}
 use Rattle.markdown_construct.specs.Values.{among_values}
 use Rattle.markdown_construct.specs.Plan.{Plan, preceded, KeepsAs}
+use Rattle.markdown_partial.specs.SpaceSteps as S
 use Rattle.markdown_partial.specs.SpaceSteps.{most, asked, rested, at_blank}
 use Rattle.markdown_engine.specs.declared.event.Name.{Name}
 use Rattle.markdown_engine.specs.declared.event.Name.TheVariants as N
 use Rattle.markdown_engine.specs.declared.state.State.TheVariants.{Next, Retry, Nok}
 use Rattle.markdown_engine.specs.declared.state.State.TheVariants as State
-use Rattle.markdown_engine.specs.declared.state.StateName.TheVariants.{GfmTaskListItemCheckInside, GfmTaskListItemCheckClose, GfmTaskListItemCheckAfter, GfmTaskListItemCheckAfterSpaceOrTab, SpaceOrTabStart}
+use Rattle.markdown_engine.specs.declared.state.StateName.TheVariants.{GfmTaskListItemCheckInside, GfmTaskListItemCheckClose, GfmTaskListItemCheckAfter, GfmTaskListItemCheckAfterSpaceOrTab, SpaceOrTabStart, GfmTaskListItemCheckStart}
 use Rattle.markdown_engine.specs.declared.tokenizer.TokenizeState.{TokenizeState}
 use Rattle.markdown_engine.specs.declared.tokenizer.Tokenizer.{Tokenizer}
+use Rattle.markdown_engine.specs.StateWords.{StateWords}
+use Rattle.markdown_engine.specs.declared.state.StateName.{StateName}
 
 -- Operations.
 
@@ -138,3 +141,30 @@ after_ends T ok U = KeepsAs 0 after_plan T ok U
 -- it ends where it stands, by whether a code is left
 abbrev pub after_space_or_tab_ends : Tokenizer → Bool → Tokenizer → Type 0
 after_space_or_tab_ends T ok U = (ok ≡ not (is_empty (ahead T))) × (U ≡ T)
+
+-- The states.
+
+abbrev pub start_words : StateWords
+start_words = record { ready = MayLook; step = start_step; ends = start_ends; rank = 2 }
+
+abbrev pub inside_words : StateWords
+inside_words = record { ready = IsOpened; step = inside_step; ends = inside_ends; rank = 1 }
+
+abbrev pub close_words : StateWords
+close_words = record { ready = IsOpened; step = close_step; ends = close_ends; rank = 1 }
+
+abbrev pub after_words : StateWords
+after_words = record { ready = MayLook; step = after_step; ends = after_ends; rank = 4 }
+
+abbrev pub after_space_or_tab_words : StateWords
+after_space_or_tab_words = record { ready = λ T. Unit {0}; step = after_space_or_tab_step; ends = after_space_or_tab_ends; rank = 1 }
+
+-- these states as they are said, and any other as it is given
+abbrev pub states : (StateName → StateWords) → StateName → StateWords
+states other GfmTaskListItemCheckStart = start_words
+states other GfmTaskListItemCheckInside = inside_words
+states other GfmTaskListItemCheckClose = close_words
+states other GfmTaskListItemCheckAfter = after_words
+states other GfmTaskListItemCheckAfterSpaceOrTab = after_space_or_tab_words
+states other SpaceOrTabStart = S.start_words
+states other s = other s

@@ -5,11 +5,10 @@ use Rattle.std.proofs.lemmas.Bool.{eqb-true}
 use Rattle.markdown_engine.specs.Codes.{Code}
 use Rattle.markdown_engine.specs.Lists.{rest_of}
 use Rattle.markdown_engine.specs.Ops.{Op, Exit, Consume, current_of, ahead, applied, done, scratched}
-use Rattle.markdown_engine.specs.Runs.{Stepped, GoesOn}
+use Rattle.markdown_engine.specs.Runs.{Stepped}
 use Rattle.markdown_engine.specs.Weights.{weight_at}
 use Rattle.markdown_engine.specs.declared.event.Name.TheVariants as N
 use Rattle.markdown_engine.specs.declared.state.State.TheVariants.{Next}
-use Rattle.markdown_engine.specs.declared.state.StateName.{StateName}
 use Rattle.markdown_engine.specs.declared.state.StateName.TheVariants as H
 use Rattle.markdown_engine.specs.declared.tokenizer.TokenizeState.{TokenizeState}
 use Rattle.markdown_engine.specs.declared.tokenizer.Tokenizer.{Tokenizer}
@@ -21,11 +20,10 @@ use Rattle.markdown_model.specs.Grammar.{with_first, word, word_of, through, ◌
 use Rattle.markdown_construct.specs.Values.{letter_value, among_values}
 use Rattle.markdown_construct.specs.Plan.{DoesAs}
 use Rattle.markdown_construct.specs.Scratch.{with_size}
-use Rattle.markdown_construct.proofs.PlanLemmas.{Goes-on, Goes-kept, Goes-nok, Goes-yes}
 use Rattle.markdown_html.specs.LineOps.{InLine, break_from, text_from, text_of}
 use Rattle.markdown_html.specs.Rests.{Open, DeclarationOpen, CommentOpenInside, Comment, CommentClose, CommentEnd, Cdata, CdataClose, CdataEnd, Declaration, Instruction, InstructionClose, TagCloseStart, TagClose, TagCloseBetween, TagOpen, TagOpenBetween, AttributeName, AttributeNameAfter, ValueBefore, ValueQuotedAfter, ValueUnquoted, End, rank_of, tag_rest, tag_next, name_next, value_rest, quoted_rest, closing_between, comment_after_two, cdata_opening, cdata_after_two, instruction_after_one, declaration_rest}
 use Rattle.markdown_html.specs.Values.{blank_value, whitespace_value, name_value, attribute_first_value, attribute_rest_value, after_value, barred_value}
-use Rattle.markdown_html.specs.HtmlText.{rested, with_marker, closing, past_code, prefix_value, cdata_passed, starts_no_value, quote_value, quote_passed, PartReady, CdataReady, QuotedReady, part_ends, cdata_open_inside_ends, quoted_ends, open_at, open_step, declaration_open_at, declaration_open_step, comment_open_inside_at, comment_open_inside_step, comment_at, comment_step, comment_close_at, comment_close_step, comment_end_at, comment_end_step, cdata_open_inside_at, cdata_open_inside_step, cdata_at, cdata_step, cdata_close_at, cdata_close_step, cdata_end_at, cdata_end_step, declaration_at, declaration_step, instruction_at, instruction_step, instruction_close_at, instruction_close_step, tag_close_start_at, tag_close_start_step, tag_close_at, tag_close_step, tag_close_between_at, tag_close_between_step, tag_open_at, tag_open_step, tag_open_between_at, tag_open_between_step, tag_open_attribute_name_at, tag_open_attribute_name_step, tag_open_attribute_name_after_at, tag_open_attribute_name_after_step, tag_open_attribute_value_before_at, tag_open_attribute_value_before_step, tag_open_attribute_value_quoted_at, tag_open_attribute_value_quoted_step, tag_open_attribute_value_quoted_after_at, tag_open_attribute_value_quoted_after_step, tag_open_attribute_value_unquoted_at, tag_open_attribute_value_unquoted_step, end_at, end_step}
+use Rattle.markdown_html.specs.HtmlText.{rested, with_marker, closing, past_code, prefix_value, cdata_passed, starts_no_value, quote_value, quote_passed, PartReady, CdataReady, QuotedReady, part_ends, cdata_open_inside_ends, quoted_ends, open_at, open_step, declaration_open_at, declaration_open_step, comment_open_inside_at, comment_open_inside_step, comment_at, comment_step, comment_close_at, comment_close_step, comment_end_at, comment_end_step, cdata_open_inside_at, cdata_open_inside_step, cdata_at, cdata_step, cdata_close_at, cdata_close_step, cdata_end_at, cdata_end_step, declaration_at, declaration_step, instruction_at, instruction_step, instruction_close_at, instruction_close_step, tag_close_start_at, tag_close_start_step, tag_close_at, tag_close_step, tag_close_between_at, tag_close_between_step, tag_open_at, tag_open_step, tag_open_between_at, tag_open_between_step, tag_open_attribute_name_at, tag_open_attribute_name_step, tag_open_attribute_name_after_at, tag_open_attribute_name_after_step, tag_open_attribute_value_before_at, tag_open_attribute_value_before_step, tag_open_attribute_value_quoted_at, tag_open_attribute_value_quoted_step, tag_open_attribute_value_quoted_after_at, tag_open_attribute_value_quoted_after_step, tag_open_attribute_value_unquoted_at, tag_open_attribute_value_unquoted_step, end_at, end_step, cdata_open_inside_words, tag_open_attribute_value_quoted_words, part_words}
 use Rattle.markdown_html.proofs.LineLemmas.{from-data}
 use Rattle.markdown_html.proofs.CodeReadings.{then-nothing, word-end, word-then, word-then-none}
 use Rattle.markdown_html.proofs.KindReadings.{end-here, end-none, comment-goes, comment-end, comment-dash, comment-other, comment-one-dash, comment-one-other, comment-two-end, comment-two-one, comment-inside-dash, comment-inside-none, cdata-goes, cdata-end, cdata-bracket, cdata-other, cdata-one-bracket, cdata-one-other, cdata-two-end, cdata-two-one, declaration-goes, declaration-end, declaration-here, declaration-other, instruction-goes, instruction-end, instruction-mark, instruction-other, instruction-one-end, instruction-one-other, spaces-first, spaces-none, closing-goes, name-on, name-none, name-first, name-not, marked-none, marked-dash, marked-letter, marked-bracket, open-none, open-letter, open-slash, open-question, open-bang}
@@ -33,6 +31,8 @@ use Rattle.markdown_html.proofs.TagReadings.{or-left, or-right, or-none, among-e
 use Rattle.markdown_html.proofs.HtmlTextReady.{quoted-next, quoted-broken, quoted-opened, quoted-closed, cdata-opened, cdata-next, cdata-closed, part-next}
 use Rattle.markdown_html.proofs.LineEndingLaws.{Within, next-at, next-end}
 use Rattle.markdown_html.proofs.PartLaws.{text-next, not-ending, part-past, part-over, part-fails, text-broken, part-broken-on}
+use Rattle.markdown_engine.specs.StateWords.{Words, Law, GoesIn}
+use Rattle.markdown_construct.proofs.StateLaws.{Goes-on, Goes-kept, Goes-yes, Goes-nok}
 
 -- Tests.
 
@@ -135,360 +135,358 @@ quoted-says os T r ok U x =
     subst (λ (q : TokenizeState). DoesAs 2 (text_of (quoted_rest T.tokenize_state.marker)) q (done os T) ok U) r.rest
     (subst (λ (q : TokenizeState). DoesAs 2 (text_of (quoted_rest q.marker)) (rested q) (done os T) ok U) (scratch-done os T) x)
 
-module _ (ready : StateName → Tokenizer → Type 0) (ends : StateName → Tokenizer → Bool → Tokenizer → Type 0) (weight : StateName → Tokenizer → ℕ) (within : Within ready ends weight) where
-  pub open-law : (T : Tokenizer) → T.attempts ≡ [] → PartReady T → GoesOn ready ends weight (weight_at (rank_of Open) T) (part_ends Open T) (open_step T)
+module _ (W : Words) (within : Within W) where
+  pub open-law : Law W (part_words Open)
   open-law T alone r =
-      let P : Stepped → Type 0 = GoesOn ready ends weight (weight_at (rank_of Open) T) (part_ends Open T) in
+      let P : Stepped → Type 0 = GoesIn W (weight_at (rank_of Open) T) (part_ends Open T) in
       code-step P (current_of T) (λ o. open_at o T)
-      (λ e. part-fails ready ends weight within Open T alone (open-none (ahead T) (next-end letter_value T e) (next-end (λ v. v == 47) T e) (next-end (λ v. v == 33) T e) (next-end (λ v. v == 63) T e)))
+      (λ e. part-fails W within Open T alone (open-none (ahead T) (next-end letter_value T e) (next-end (λ v. v == 47) T e) (next-end (λ v. v == 33) T e) (next-end (λ v. v == 63) T e)))
       (λ c e.
       let b : Begins c (ahead T) = ahead-some T c e in
       let rest : List Code = rest_of (ahead T) in
       if-step P (c == 33) _ _
-      (λ h1. part-past ready ends weight within Open DeclarationOpen T c alone r e (ap (λ v. v == 10) (eqb-true c 33 h1)) (open-bang b.code rest (is-so letter_value 33 T c e h1) (is-so (λ v. v == 47) 33 T c e h1) (is-so (λ v. v == 33) 33 T c e h1) (is-so (λ v. v == 63) 33 T c e h1)))
+      (λ h1. part-past W within Open DeclarationOpen T c alone r e (ap (λ v. v == 10) (eqb-true c 33 h1)) (open-bang b.code rest (is-so letter_value 33 T c e h1) (is-so (λ v. v == 47) 33 T c e h1) (is-so (λ v. v == 33) 33 T c e h1) (is-so (λ v. v == 63) 33 T c e h1)))
       (λ h1. if-step P (c == 47) _ _
-      (λ h2. part-past ready ends weight within Open TagCloseStart T c alone r e (ap (λ v. v == 10) (eqb-true c 47 h2)) (open-slash b.code rest (is-so letter_value 47 T c e h2) (is-so (λ v. v == 47) 47 T c e h2) (is-so (λ v. v == 33) 47 T c e h2) (is-so (λ v. v == 63) 47 T c e h2)))
+      (λ h2. part-past W within Open TagCloseStart T c alone r e (ap (λ v. v == 10) (eqb-true c 47 h2)) (open-slash b.code rest (is-so letter_value 47 T c e h2) (is-so (λ v. v == 47) 47 T c e h2) (is-so (λ v. v == 33) 47 T c e h2) (is-so (λ v. v == 63) 47 T c e h2)))
       (λ h2. if-step P (c == 63) _ _
-      (λ h3. part-past ready ends weight within Open Instruction T c alone r e (ap (λ v. v == 10) (eqb-true c 63 h3)) (open-question b.code rest (is-so letter_value 63 T c e h3) (is-so (λ v. v == 47) 63 T c e h3) (is-so (λ v. v == 33) 63 T c e h3) (is-so (λ v. v == 63) 63 T c e h3)))
+      (λ h3. part-past W within Open Instruction T c alone r e (ap (λ v. v == 10) (eqb-true c 63 h3)) (open-question b.code rest (is-so letter_value 63 T c e h3) (is-so (λ v. v == 47) 63 T c e h3) (is-so (λ v. v == 33) 63 T c e h3) (is-so (λ v. v == 63) 63 T c e h3)))
       (λ h3. if-step P (letter_value c) _ _
-      (λ h4. part-past ready ends weight within Open TagOpen T c alone r e (not-ending letter_value c h4 refl) (open-letter b.code rest (at letter_value T c e ∙ h4) (at (λ v. v == 47) T c e ∙ h2) (at (λ v. v == 33) T c e ∙ h1) (at (λ v. v == 63) T c e ∙ h3)))
-      (λ h4. part-fails ready ends weight within Open T alone (open-none (ahead T) (next-at letter_value T c e ∙ h4) (next-at (λ v. v == 47) T c e ∙ h2) (next-at (λ v. v == 33) T c e ∙ h1) (next-at (λ v. v == 63) T c e ∙ h3)))))))
+      (λ h4. part-past W within Open TagOpen T c alone r e (not-ending letter_value c h4 refl) (open-letter b.code rest (at letter_value T c e ∙ h4) (at (λ v. v == 47) T c e ∙ h2) (at (λ v. v == 33) T c e ∙ h1) (at (λ v. v == 63) T c e ∙ h3)))
+      (λ h4. part-fails W within Open T alone (open-none (ahead T) (next-at letter_value T c e ∙ h4) (next-at (λ v. v == 47) T c e ∙ h2) (next-at (λ v. v == 33) T c e ∙ h1) (next-at (λ v. v == 63) T c e ∙ h3)))))))
 
   -- into the opening of a CDATA section
-  cdata-entered : (T : Tokenizer) (c : ℕ) → T.attempts ≡ [] → PartReady T → (e : current_of T ≡ Some c) → (c == 91) ≡ true → GoesOn ready ends weight (weight_at (rank_of DeclarationOpen) T) (part_ends DeclarationOpen T) (past_code H.HtmlTextCdataOpenInside T)
+  cdata-entered : (T : Tokenizer) (c : ℕ) → T.attempts ≡ [] → PartReady T → (e : current_of T ≡ Some c) → (c == 91) ≡ true → GoesIn W (weight_at (rank_of DeclarationOpen) T) (part_ends DeclarationOpen T) (past_code H.HtmlTextCdataOpenInside T)
   cdata-entered T c alone r e h =
       let V : Tokenizer = done (Consume ∷ []) T in
       let more : 1 ≤ length (ahead T) = some-codes T c e in
       let next : PartReady V = part-next T more r in
       let size : V.tokenize_state.size ≡ 0 = ap (λ (s : TokenizeState). s.size) (sym next.rest) in
-      Goes-kept ready ends weight 2 2 2 (text_of declaration_rest) (text_of (cdata_opening 0)) (Consume ∷ []) T.tokenize_state T (Next H.HtmlTextCdataOpenInside) alone refl more (omega arith)
+      Goes-kept W 2 2 (text_of declaration_rest) (text_of (cdata_opening 0)) (Consume ∷ []) T.tokenize_state T (Next H.HtmlTextCdataOpenInside) within.cdata alone refl more (omega arith)
       (text-next declaration_rest (cdata_opening 0) T c e (ap (λ v. v == 10) (eqb-true c 91 h)) (marked-bracket (ahead-some T c e).code (rest_of (ahead T)) (is-so (λ v. v == 45) 91 T c e h) (is-so letter_value 91 T c e h) (is-so (λ v. v == 91) 91 T c e h)))
-      (within.cdata_ready V (cdata-opened V next))
-      (within.cdata_weight V)
+      (cdata-opened V next)
       (λ ok U x. subst (λ (s : TokenizeState). DoesAs 2 (text_of (cdata_opening 0)) s V ok U) (next.rest ∙ scratch-done (Consume ∷ []) T)
-      (subst (λ (n : ℕ). DoesAs 2 (text_of (cdata_opening n)) (rested V.tokenize_state) V ok U) size (within.cdata_end V ok U x)))
+      (subst (λ (n : ℕ). DoesAs 2 (text_of (cdata_opening n)) (rested V.tokenize_state) V ok U) size x))
 
-  pub declaration_open-law : (T : Tokenizer) → T.attempts ≡ [] → PartReady T → GoesOn ready ends weight (weight_at (rank_of DeclarationOpen) T) (part_ends DeclarationOpen T) (declaration_open_step T)
+  pub declaration_open-law : Law W (part_words DeclarationOpen)
   declaration_open-law T alone r =
-      let P : Stepped → Type 0 = GoesOn ready ends weight (weight_at (rank_of DeclarationOpen) T) (part_ends DeclarationOpen T) in
+      let P : Stepped → Type 0 = GoesIn W (weight_at (rank_of DeclarationOpen) T) (part_ends DeclarationOpen T) in
       code-step P (current_of T) (λ o. declaration_open_at o T)
-      (λ e. part-fails ready ends weight within DeclarationOpen T alone (marked-none (ahead T) (next-end (λ v. v == 45) T e) (next-end letter_value T e) (next-end (λ v. v == 91) T e)))
+      (λ e. part-fails W within DeclarationOpen T alone (marked-none (ahead T) (next-end (λ v. v == 45) T e) (next-end letter_value T e) (next-end (λ v. v == 91) T e)))
       (λ c e.
       let b : Begins c (ahead T) = ahead-some T c e in
       let rest : List Code = rest_of (ahead T) in
       if-step P (c == 45) _ _
-      (λ h1. part-past ready ends weight within DeclarationOpen CommentOpenInside T c alone r e (ap (λ v. v == 10) (eqb-true c 45 h1)) (marked-dash b.code rest (is-so (λ v. v == 45) 45 T c e h1) (is-so letter_value 45 T c e h1) (is-so (λ v. v == 91) 45 T c e h1)))
+      (λ h1. part-past W within DeclarationOpen CommentOpenInside T c alone r e (ap (λ v. v == 10) (eqb-true c 45 h1)) (marked-dash b.code rest (is-so (λ v. v == 45) 45 T c e h1) (is-so letter_value 45 T c e h1) (is-so (λ v. v == 91) 45 T c e h1)))
       (λ h1. if-step P (letter_value c) _ _
-      (λ h2. part-past ready ends weight within DeclarationOpen Declaration T c alone r e (not-ending letter_value c h2 refl) (marked-letter b.code rest (at (λ v. v == 45) T c e ∙ h1) (at letter_value T c e ∙ h2) (at (λ v. v == 91) T c e ∙ not-bracket c h2)))
+      (λ h2. part-past W within DeclarationOpen Declaration T c alone r e (not-ending letter_value c h2 refl) (marked-letter b.code rest (at (λ v. v == 45) T c e ∙ h1) (at letter_value T c e ∙ h2) (at (λ v. v == 91) T c e ∙ not-bracket c h2)))
       (λ h2. if-step P (c == 91) _ _
       (λ h3. cdata-entered T c alone r e h3)
-      (λ h3. part-fails ready ends weight within DeclarationOpen T alone (marked-none (ahead T) (next-at (λ v. v == 45) T c e ∙ h1) (next-at letter_value T c e ∙ h2) (next-at (λ v. v == 91) T c e ∙ h3))))))
+      (λ h3. part-fails W within DeclarationOpen T alone (marked-none (ahead T) (next-at (λ v. v == 45) T c e ∙ h1) (next-at letter_value T c e ∙ h2) (next-at (λ v. v == 91) T c e ∙ h3))))))
 
-  pub comment_open_inside-law : (T : Tokenizer) → T.attempts ≡ [] → PartReady T → GoesOn ready ends weight (weight_at (rank_of CommentOpenInside) T) (part_ends CommentOpenInside T) (comment_open_inside_step T)
+  pub comment_open_inside-law : Law W (part_words CommentOpenInside)
   comment_open_inside-law T alone r =
-      let P : Stepped → Type 0 = GoesOn ready ends weight (weight_at (rank_of CommentOpenInside) T) (part_ends CommentOpenInside T) in
+      let P : Stepped → Type 0 = GoesIn W (weight_at (rank_of CommentOpenInside) T) (part_ends CommentOpenInside T) in
       code-step P (current_of T) (λ o. comment_open_inside_at o T)
-      (λ e. part-fails ready ends weight within CommentOpenInside T alone (comment-inside-none (ahead T) (next-end (λ v. v == 45) T e)))
+      (λ e. part-fails W within CommentOpenInside T alone (comment-inside-none (ahead T) (next-end (λ v. v == 45) T e)))
       (λ c e.
       let b : Begins c (ahead T) = ahead-some T c e in
       let rest : List Code = rest_of (ahead T) in
       if-step P (c == 45) _ _
-      (λ h. part-past ready ends weight within CommentOpenInside CommentEnd T c alone r e (ap (λ v. v == 10) (eqb-true c 45 h)) (comment-inside-dash b.code rest (at (λ v. v == 45) T c e ∙ h)))
-      (λ h. part-fails ready ends weight within CommentOpenInside T alone (comment-inside-none (ahead T) (next-at (λ v. v == 45) T c e ∙ h))))
+      (λ h. part-past W within CommentOpenInside CommentEnd T c alone r e (ap (λ v. v == 10) (eqb-true c 45 h)) (comment-inside-dash b.code rest (at (λ v. v == 45) T c e ∙ h)))
+      (λ h. part-fails W within CommentOpenInside T alone (comment-inside-none (ahead T) (next-at (λ v. v == 45) T c e ∙ h))))
 
-  pub comment-law : (T : Tokenizer) → T.attempts ≡ [] → PartReady T → GoesOn ready ends weight (weight_at (rank_of Comment) T) (part_ends Comment T) (comment_step T)
+  pub comment-law : Law W (part_words Comment)
   comment-law T alone r =
-      let P : Stepped → Type 0 = GoesOn ready ends weight (weight_at (rank_of Comment) T) (part_ends Comment T) in
+      let P : Stepped → Type 0 = GoesIn W (weight_at (rank_of Comment) T) (part_ends Comment T) in
       code-step P (current_of T) (λ o. comment_at o T)
-      (λ e. part-fails ready ends weight within Comment T alone (ap (through "-->") (ahead-none T e) ∙ comment-end))
+      (λ e. part-fails W within Comment T alone (ap (through "-->") (ahead-none T e) ∙ comment-end))
       (λ c e.
       let b : Begins c (ahead T) = ahead-some T c e in
       let rest : List Code = rest_of (ahead T) in
       if-step P (c == 10) _ _
-      (λ h. part-broken-on ready ends weight within Comment T (omega arith) (comment-goes) alone r (e ∙ ap (λ v. Some v) (eqb-true c 10 h)))
+      (λ h. part-broken-on W within Comment T (omega arith) (comment-goes) alone r (e ∙ ap (λ v. Some v) (eqb-true c 10 h)))
       (λ h. if-step P (c == 45) _ _
-      (λ g. part-past ready ends weight within Comment CommentClose T c alone r e (h) (comment-dash b.code rest (at (λ v. v == 45) T c e ∙ g)))
-      (λ g. part-past ready ends weight within Comment Comment T c alone r e (h) (comment-other b.code rest (at (λ v. v == 45) T c e ∙ g)))))
+      (λ g. part-past W within Comment CommentClose T c alone r e (h) (comment-dash b.code rest (at (λ v. v == 45) T c e ∙ g)))
+      (λ g. part-past W within Comment Comment T c alone r e (h) (comment-other b.code rest (at (λ v. v == 45) T c e ∙ g)))))
 
-  pub comment_close-law : (T : Tokenizer) → T.attempts ≡ [] → PartReady T → GoesOn ready ends weight (weight_at (rank_of CommentClose) T) (part_ends CommentClose T) (comment_close_step T)
+  pub comment_close-law : Law W (part_words CommentClose)
   comment_close-law T alone r =
-      let P : Stepped → Type 0 = GoesOn ready ends weight (weight_at (rank_of CommentClose) T) (part_ends CommentClose T) in
+      let P : Stepped → Type 0 = GoesIn W (weight_at (rank_of CommentClose) T) (part_ends CommentClose T) in
       code-step P (current_of T) (λ o. comment_close_at o T)
-      (λ e. part-over ready ends weight within CommentClose Comment T alone r (omega arith) (comment-one-other (ahead T) (next-end (λ v. v == 45) T e)))
+      (λ e. part-over W within CommentClose Comment T alone r (omega arith) (comment-one-other (ahead T) (next-end (λ v. v == 45) T e)))
       (λ c e.
       let b : Begins c (ahead T) = ahead-some T c e in
       let rest : List Code = rest_of (ahead T) in
       if-step P (c == 45) _ _
-      (λ h. part-past ready ends weight within CommentClose CommentEnd T c alone r e (ap (λ v. v == 10) (eqb-true c 45 h)) (comment-one-dash b.code rest (at (λ v. v == 45) T c e ∙ h)))
-      (λ h. part-over ready ends weight within CommentClose Comment T alone r (omega arith) (comment-one-other (ahead T) (next-at (λ v. v == 45) T c e ∙ h))))
+      (λ h. part-past W within CommentClose CommentEnd T c alone r e (ap (λ v. v == 10) (eqb-true c 45 h)) (comment-one-dash b.code rest (at (λ v. v == 45) T c e ∙ h)))
+      (λ h. part-over W within CommentClose Comment T alone r (omega arith) (comment-one-other (ahead T) (next-at (λ v. v == 45) T c e ∙ h))))
 
-  pub comment_end-law : (T : Tokenizer) → T.attempts ≡ [] → PartReady T → GoesOn ready ends weight (weight_at (rank_of CommentEnd) T) (part_ends CommentEnd T) (comment_end_step T)
+  pub comment_end-law : Law W (part_words CommentEnd)
   comment_end-law T alone r =
-      let P : Stepped → Type 0 = GoesOn ready ends weight (weight_at (rank_of CommentEnd) T) (part_ends CommentEnd T) in
+      let P : Stepped → Type 0 = GoesIn W (weight_at (rank_of CommentEnd) T) (part_ends CommentEnd T) in
       code-step P (current_of T) (λ o. comment_end_at o T)
-      (λ e. part-over ready ends weight within CommentEnd Comment T alone r (omega arith) (comment-two-one (ahead T) (next-end (λ v. v == 62) T e) ∙ comment-one-other (ahead T) (next-end (λ v. v == 45) T e)))
+      (λ e. part-over W within CommentEnd Comment T alone r (omega arith) (comment-two-one (ahead T) (next-end (λ v. v == 62) T e) ∙ comment-one-other (ahead T) (next-end (λ v. v == 45) T e)))
       (λ c e.
       let b : Begins c (ahead T) = ahead-some T c e in
       let rest : List Code = rest_of (ahead T) in
       if-step P (c == 62) _ _
-      (λ h. part-over ready ends weight within CommentEnd End T alone r (omega arith) (ap comment_after_two b.whole ∙ comment-two-end b.code rest (at (λ v. v == 62) T c e ∙ h) ∙ ap (word ">") (sym b.whole)))
+      (λ h. part-over W within CommentEnd End T alone r (omega arith) (ap comment_after_two b.whole ∙ comment-two-end b.code rest (at (λ v. v == 62) T c e ∙ h) ∙ ap (word ">") (sym b.whole)))
       (λ h. if-step P (c == 45) _ _
-      (λ g. part-over ready ends weight within CommentEnd CommentClose T alone r (omega arith) (comment-two-one (ahead T) (next-at (λ v. v == 62) T c e ∙ h)))
-      (λ g. part-over ready ends weight within CommentEnd Comment T alone r (omega arith) (comment-two-one (ahead T) (next-at (λ v. v == 62) T c e ∙ h) ∙ comment-one-other (ahead T) (next-at (λ v. v == 45) T c e ∙ g)))))
+      (λ g. part-over W within CommentEnd CommentClose T alone r (omega arith) (comment-two-one (ahead T) (next-at (λ v. v == 62) T c e ∙ h)))
+      (λ g. part-over W within CommentEnd Comment T alone r (omega arith) (comment-two-one (ahead T) (next-at (λ v. v == 62) T c e ∙ h) ∙ comment-one-other (ahead T) (next-at (λ v. v == 45) T c e ∙ g)))))
 
-  pub cdata-law : (T : Tokenizer) → T.attempts ≡ [] → PartReady T → GoesOn ready ends weight (weight_at (rank_of Cdata) T) (part_ends Cdata T) (cdata_step T)
+  pub cdata-law : Law W (part_words Cdata)
   cdata-law T alone r =
-      let P : Stepped → Type 0 = GoesOn ready ends weight (weight_at (rank_of Cdata) T) (part_ends Cdata T) in
+      let P : Stepped → Type 0 = GoesIn W (weight_at (rank_of Cdata) T) (part_ends Cdata T) in
       code-step P (current_of T) (λ o. cdata_at o T)
-      (λ e. part-fails ready ends weight within Cdata T alone (ap (through "]]>") (ahead-none T e) ∙ cdata-end))
+      (λ e. part-fails W within Cdata T alone (ap (through "]]>") (ahead-none T e) ∙ cdata-end))
       (λ c e.
       let b : Begins c (ahead T) = ahead-some T c e in
       let rest : List Code = rest_of (ahead T) in
       if-step P (c == 10) _ _
-      (λ h. part-broken-on ready ends weight within Cdata T (omega arith) (cdata-goes) alone r (e ∙ ap (λ v. Some v) (eqb-true c 10 h)))
+      (λ h. part-broken-on W within Cdata T (omega arith) (cdata-goes) alone r (e ∙ ap (λ v. Some v) (eqb-true c 10 h)))
       (λ h. if-step P (c == 93) _ _
-      (λ g. part-past ready ends weight within Cdata CdataClose T c alone r e (h) (cdata-bracket b.code rest (at (λ v. v == 93) T c e ∙ g)))
-      (λ g. part-past ready ends weight within Cdata Cdata T c alone r e (h) (cdata-other b.code rest (at (λ v. v == 93) T c e ∙ g)))))
+      (λ g. part-past W within Cdata CdataClose T c alone r e (h) (cdata-bracket b.code rest (at (λ v. v == 93) T c e ∙ g)))
+      (λ g. part-past W within Cdata Cdata T c alone r e (h) (cdata-other b.code rest (at (λ v. v == 93) T c e ∙ g)))))
 
-  pub cdata_close-law : (T : Tokenizer) → T.attempts ≡ [] → PartReady T → GoesOn ready ends weight (weight_at (rank_of CdataClose) T) (part_ends CdataClose T) (cdata_close_step T)
+  pub cdata_close-law : Law W (part_words CdataClose)
   cdata_close-law T alone r =
-      let P : Stepped → Type 0 = GoesOn ready ends weight (weight_at (rank_of CdataClose) T) (part_ends CdataClose T) in
+      let P : Stepped → Type 0 = GoesIn W (weight_at (rank_of CdataClose) T) (part_ends CdataClose T) in
       code-step P (current_of T) (λ o. cdata_close_at o T)
-      (λ e. part-over ready ends weight within CdataClose Cdata T alone r (omega arith) (cdata-one-other (ahead T) (next-end (λ v. v == 93) T e)))
+      (λ e. part-over W within CdataClose Cdata T alone r (omega arith) (cdata-one-other (ahead T) (next-end (λ v. v == 93) T e)))
       (λ c e.
       let b : Begins c (ahead T) = ahead-some T c e in
       let rest : List Code = rest_of (ahead T) in
       if-step P (c == 93) _ _
-      (λ h. part-past ready ends weight within CdataClose CdataEnd T c alone r e (ap (λ v. v == 10) (eqb-true c 93 h)) (cdata-one-bracket b.code rest (at (λ v. v == 93) T c e ∙ h)))
-      (λ h. part-over ready ends weight within CdataClose Cdata T alone r (omega arith) (cdata-one-other (ahead T) (next-at (λ v. v == 93) T c e ∙ h))))
+      (λ h. part-past W within CdataClose CdataEnd T c alone r e (ap (λ v. v == 10) (eqb-true c 93 h)) (cdata-one-bracket b.code rest (at (λ v. v == 93) T c e ∙ h)))
+      (λ h. part-over W within CdataClose Cdata T alone r (omega arith) (cdata-one-other (ahead T) (next-at (λ v. v == 93) T c e ∙ h))))
 
-  pub cdata_end-law : (T : Tokenizer) → T.attempts ≡ [] → PartReady T → GoesOn ready ends weight (weight_at (rank_of CdataEnd) T) (part_ends CdataEnd T) (cdata_end_step T)
+  pub cdata_end-law : Law W (part_words CdataEnd)
   cdata_end-law T alone r =
-      let P : Stepped → Type 0 = GoesOn ready ends weight (weight_at (rank_of CdataEnd) T) (part_ends CdataEnd T) in
+      let P : Stepped → Type 0 = GoesIn W (weight_at (rank_of CdataEnd) T) (part_ends CdataEnd T) in
       code-step P (current_of T) (λ o. cdata_end_at o T)
-      (λ e. part-over ready ends weight within CdataEnd Cdata T alone r (omega arith) (cdata-two-one (ahead T) (next-end (λ v. v == 62) T e) ∙ cdata-one-other (ahead T) (next-end (λ v. v == 93) T e)))
+      (λ e. part-over W within CdataEnd Cdata T alone r (omega arith) (cdata-two-one (ahead T) (next-end (λ v. v == 62) T e) ∙ cdata-one-other (ahead T) (next-end (λ v. v == 93) T e)))
       (λ c e.
       let b : Begins c (ahead T) = ahead-some T c e in
       let rest : List Code = rest_of (ahead T) in
       if-step P (c == 62) _ _
-      (λ h. part-over ready ends weight within CdataEnd End T alone r (omega arith) (ap cdata_after_two b.whole ∙ cdata-two-end b.code rest (at (λ v. v == 62) T c e ∙ h) ∙ ap (word ">") (sym b.whole)))
+      (λ h. part-over W within CdataEnd End T alone r (omega arith) (ap cdata_after_two b.whole ∙ cdata-two-end b.code rest (at (λ v. v == 62) T c e ∙ h) ∙ ap (word ">") (sym b.whole)))
       (λ h. if-step P (c == 93) _ _
-      (λ g. part-over ready ends weight within CdataEnd CdataClose T alone r (omega arith) (cdata-two-one (ahead T) (next-at (λ v. v == 62) T c e ∙ h)))
-      (λ g. part-over ready ends weight within CdataEnd Cdata T alone r (omega arith) (cdata-two-one (ahead T) (next-at (λ v. v == 62) T c e ∙ h) ∙ cdata-one-other (ahead T) (next-at (λ v. v == 93) T c e ∙ g)))))
+      (λ g. part-over W within CdataEnd CdataClose T alone r (omega arith) (cdata-two-one (ahead T) (next-at (λ v. v == 62) T c e ∙ h)))
+      (λ g. part-over W within CdataEnd Cdata T alone r (omega arith) (cdata-two-one (ahead T) (next-at (λ v. v == 62) T c e ∙ h) ∙ cdata-one-other (ahead T) (next-at (λ v. v == 93) T c e ∙ g)))))
 
-  pub declaration-law : (T : Tokenizer) → T.attempts ≡ [] → PartReady T → GoesOn ready ends weight (weight_at (rank_of Declaration) T) (part_ends Declaration T) (declaration_step T)
+  pub declaration-law : Law W (part_words Declaration)
   declaration-law T alone r =
-      let P : Stepped → Type 0 = GoesOn ready ends weight (weight_at (rank_of Declaration) T) (part_ends Declaration T) in
+      let P : Stepped → Type 0 = GoesIn W (weight_at (rank_of Declaration) T) (part_ends Declaration T) in
       code-step P (current_of T) (λ o. declaration_at o T)
-      (λ e. part-over ready ends weight within Declaration End T alone r (omega arith) (ap (through ">") (ahead-none T e) ∙ declaration-end ∙ ap (word ">") (sym (ahead-none T e))))
+      (λ e. part-over W within Declaration End T alone r (omega arith) (ap (through ">") (ahead-none T e) ∙ declaration-end ∙ ap (word ">") (sym (ahead-none T e))))
       (λ c e.
       let b : Begins c (ahead T) = ahead-some T c e in
       let rest : List Code = rest_of (ahead T) in
       if-step P (c == 62) _ _
-      (λ h. part-over ready ends weight within Declaration End T alone r (omega arith) (ap (through ">") b.whole ∙ declaration-here b.code rest (at (λ v. v == 62) T c e ∙ h) ∙ ap (word ">") (sym b.whole)))
+      (λ h. part-over W within Declaration End T alone r (omega arith) (ap (through ">") b.whole ∙ declaration-here b.code rest (at (λ v. v == 62) T c e ∙ h) ∙ ap (word ">") (sym b.whole)))
       (λ h. if-step P (c == 10) _ _
-      (λ g. part-broken-on ready ends weight within Declaration T (omega arith) (declaration-goes) alone r (e ∙ ap (λ v. Some v) (eqb-true c 10 g)))
-      (λ g. part-past ready ends weight within Declaration Declaration T c alone r e (g) (declaration-other b.code rest (at (λ v. v == 62) T c e ∙ h)))))
+      (λ g. part-broken-on W within Declaration T (omega arith) (declaration-goes) alone r (e ∙ ap (λ v. Some v) (eqb-true c 10 g)))
+      (λ g. part-past W within Declaration Declaration T c alone r e (g) (declaration-other b.code rest (at (λ v. v == 62) T c e ∙ h)))))
 
-  pub instruction-law : (T : Tokenizer) → T.attempts ≡ [] → PartReady T → GoesOn ready ends weight (weight_at (rank_of Instruction) T) (part_ends Instruction T) (instruction_step T)
+  pub instruction-law : Law W (part_words Instruction)
   instruction-law T alone r =
-      let P : Stepped → Type 0 = GoesOn ready ends weight (weight_at (rank_of Instruction) T) (part_ends Instruction T) in
+      let P : Stepped → Type 0 = GoesIn W (weight_at (rank_of Instruction) T) (part_ends Instruction T) in
       code-step P (current_of T) (λ o. instruction_at o T)
-      (λ e. part-fails ready ends weight within Instruction T alone (ap (through "?>") (ahead-none T e) ∙ instruction-end))
+      (λ e. part-fails W within Instruction T alone (ap (through "?>") (ahead-none T e) ∙ instruction-end))
       (λ c e.
       let b : Begins c (ahead T) = ahead-some T c e in
       let rest : List Code = rest_of (ahead T) in
       if-step P (c == 10) _ _
-      (λ h. part-broken-on ready ends weight within Instruction T (omega arith) (instruction-goes) alone r (e ∙ ap (λ v. Some v) (eqb-true c 10 h)))
+      (λ h. part-broken-on W within Instruction T (omega arith) (instruction-goes) alone r (e ∙ ap (λ v. Some v) (eqb-true c 10 h)))
       (λ h. if-step P (c == 63) _ _
-      (λ g. part-past ready ends weight within Instruction InstructionClose T c alone r e (h) (instruction-mark b.code rest (at (λ v. v == 63) T c e ∙ g)))
-      (λ g. part-past ready ends weight within Instruction Instruction T c alone r e (h) (instruction-other b.code rest (at (λ v. v == 63) T c e ∙ g)))))
+      (λ g. part-past W within Instruction InstructionClose T c alone r e (h) (instruction-mark b.code rest (at (λ v. v == 63) T c e ∙ g)))
+      (λ g. part-past W within Instruction Instruction T c alone r e (h) (instruction-other b.code rest (at (λ v. v == 63) T c e ∙ g)))))
 
-  pub instruction_close-law : (T : Tokenizer) → T.attempts ≡ [] → PartReady T → GoesOn ready ends weight (weight_at (rank_of InstructionClose) T) (part_ends InstructionClose T) (instruction_close_step T)
+  pub instruction_close-law : Law W (part_words InstructionClose)
   instruction_close-law T alone r =
-      let P : Stepped → Type 0 = GoesOn ready ends weight (weight_at (rank_of InstructionClose) T) (part_ends InstructionClose T) in
+      let P : Stepped → Type 0 = GoesIn W (weight_at (rank_of InstructionClose) T) (part_ends InstructionClose T) in
       code-step P (current_of T) (λ o. instruction_close_at o T)
-      (λ e. part-over ready ends weight within InstructionClose Instruction T alone r (omega arith) (instruction-one-other (ahead T) (next-end (λ v. v == 62) T e)))
+      (λ e. part-over W within InstructionClose Instruction T alone r (omega arith) (instruction-one-other (ahead T) (next-end (λ v. v == 62) T e)))
       (λ c e.
       let b : Begins c (ahead T) = ahead-some T c e in
       let rest : List Code = rest_of (ahead T) in
       if-step P (c == 62) _ _
-      (λ h. part-over ready ends weight within InstructionClose End T alone r (omega arith) (ap instruction_after_one b.whole ∙ instruction-one-end b.code rest (at (λ v. v == 62) T c e ∙ h) ∙ ap (word ">") (sym b.whole)))
-      (λ h. part-over ready ends weight within InstructionClose Instruction T alone r (omega arith) (instruction-one-other (ahead T) (next-at (λ v. v == 62) T c e ∙ h))))
+      (λ h. part-over W within InstructionClose End T alone r (omega arith) (ap instruction_after_one b.whole ∙ instruction-one-end b.code rest (at (λ v. v == 62) T c e ∙ h) ∙ ap (word ">") (sym b.whole)))
+      (λ h. part-over W within InstructionClose Instruction T alone r (omega arith) (instruction-one-other (ahead T) (next-at (λ v. v == 62) T c e ∙ h))))
 
-  pub tag_close_start-law : (T : Tokenizer) → T.attempts ≡ [] → PartReady T → GoesOn ready ends weight (weight_at (rank_of TagCloseStart) T) (part_ends TagCloseStart T) (tag_close_start_step T)
+  pub tag_close_start-law : Law W (part_words TagCloseStart)
   tag_close_start-law T alone r =
-      let P : Stepped → Type 0 = GoesOn ready ends weight (weight_at (rank_of TagCloseStart) T) (part_ends TagCloseStart T) in
+      let P : Stepped → Type 0 = GoesIn W (weight_at (rank_of TagCloseStart) T) (part_ends TagCloseStart T) in
       code-step P (current_of T) (λ o. tag_close_start_at o T)
-      (λ e. part-fails ready ends weight within TagCloseStart T alone (name-not closing_between (ahead T) (next-end letter_value T e)))
+      (λ e. part-fails W within TagCloseStart T alone (name-not closing_between (ahead T) (next-end letter_value T e)))
       (λ c e.
       let b : Begins c (ahead T) = ahead-some T c e in
       let rest : List Code = rest_of (ahead T) in
       if-step P (letter_value c) _ _
-      (λ h. part-past ready ends weight within TagCloseStart TagClose T c alone r e (not-ending letter_value c h refl) (name-first closing_between b.code rest (at letter_value T c e ∙ h)))
-      (λ h. part-fails ready ends weight within TagCloseStart T alone (name-not closing_between (ahead T) (next-at letter_value T c e ∙ h))))
+      (λ h. part-past W within TagCloseStart TagClose T c alone r e (not-ending letter_value c h refl) (name-first closing_between b.code rest (at letter_value T c e ∙ h)))
+      (λ h. part-fails W within TagCloseStart T alone (name-not closing_between (ahead T) (next-at letter_value T c e ∙ h))))
 
-  pub tag_close-law : (T : Tokenizer) → T.attempts ≡ [] → PartReady T → GoesOn ready ends weight (weight_at (rank_of TagClose) T) (part_ends TagClose T) (tag_close_step T)
+  pub tag_close-law : Law W (part_words TagClose)
   tag_close-law T alone r =
-      let P : Stepped → Type 0 = GoesOn ready ends weight (weight_at (rank_of TagClose) T) (part_ends TagClose T) in
+      let P : Stepped → Type 0 = GoesIn W (weight_at (rank_of TagClose) T) (part_ends TagClose T) in
       code-step P (current_of T) (λ o. tag_close_at o T)
-      (λ e. part-over ready ends weight within TagClose TagCloseBetween T alone r (omega arith) (name-none closing_between (ahead T) (next-end name_value T e)))
+      (λ e. part-over W within TagClose TagCloseBetween T alone r (omega arith) (name-none closing_between (ahead T) (next-end name_value T e)))
       (λ c e.
       let b : Begins c (ahead T) = ahead-some T c e in
       let rest : List Code = rest_of (ahead T) in
       if-step P (name_value c) _ _
-      (λ h. part-past ready ends weight within TagClose TagClose T c alone r e (not-ending name_value c h refl) (name-on closing_between b.code rest (at name_value T c e ∙ h)))
-      (λ h. part-over ready ends weight within TagClose TagCloseBetween T alone r (omega arith) (name-none closing_between (ahead T) (next-at name_value T c e ∙ h))))
+      (λ h. part-past W within TagClose TagClose T c alone r e (not-ending name_value c h refl) (name-on closing_between b.code rest (at name_value T c e ∙ h)))
+      (λ h. part-over W within TagClose TagCloseBetween T alone r (omega arith) (name-none closing_between (ahead T) (next-at name_value T c e ∙ h))))
 
-  pub tag_close_between-law : (T : Tokenizer) → T.attempts ≡ [] → PartReady T → GoesOn ready ends weight (weight_at (rank_of TagCloseBetween) T) (part_ends TagCloseBetween T) (tag_close_between_step T)
+  pub tag_close_between-law : Law W (part_words TagCloseBetween)
   tag_close_between-law T alone r =
-      let P : Stepped → Type 0 = GoesOn ready ends weight (weight_at (rank_of TagCloseBetween) T) (part_ends TagCloseBetween T) in
+      let P : Stepped → Type 0 = GoesIn W (weight_at (rank_of TagCloseBetween) T) (part_ends TagCloseBetween T) in
       code-step P (current_of T) (λ o. tag_close_between_at o T)
-      (λ e. part-over ready ends weight within TagCloseBetween End T alone r (omega arith) (spaces-none (word ">") (ahead T) (next-end whitespace_value T e)))
+      (λ e. part-over W within TagCloseBetween End T alone r (omega arith) (spaces-none (word ">") (ahead T) (next-end whitespace_value T e)))
       (λ c e.
       let b : Begins c (ahead T) = ahead-some T c e in
       let rest : List Code = rest_of (ahead T) in
       if-step P (c == 10) _ _
-      (λ h. part-broken-on ready ends weight within TagCloseBetween T (omega arith) (closing-goes) alone r (e ∙ ap (λ v. Some v) (eqb-true c 10 h)))
+      (λ h. part-broken-on W within TagCloseBetween T (omega arith) (closing-goes) alone r (e ∙ ap (λ v. Some v) (eqb-true c 10 h)))
       (λ h. if-step P (blank_value c) _ _
-      (λ g. part-past ready ends weight within TagCloseBetween TagCloseBetween T c alone r e (h) (spaces-first (word ">") b.code rest (at whitespace_value T c e ∙ blank-whitespace c g)))
-      (λ g. part-over ready ends weight within TagCloseBetween End T alone r (omega arith) (spaces-none (word ">") (ahead T) (next-at whitespace_value T c e ∙ or-none (blank_value c) _ g h)))))
+      (λ g. part-past W within TagCloseBetween TagCloseBetween T c alone r e (h) (spaces-first (word ">") b.code rest (at whitespace_value T c e ∙ blank-whitespace c g)))
+      (λ g. part-over W within TagCloseBetween End T alone r (omega arith) (spaces-none (word ">") (ahead T) (next-at whitespace_value T c e ∙ or-none (blank_value c) _ g h)))))
 
-  pub tag_open-law : (T : Tokenizer) → T.attempts ≡ [] → PartReady T → GoesOn ready ends weight (weight_at (rank_of TagOpen) T) (part_ends TagOpen T) (tag_open_step T)
+  pub tag_open-law : Law W (part_words TagOpen)
   tag_open-law T alone r =
-      let P : Stepped → Type 0 = GoesOn ready ends weight (weight_at (rank_of TagOpen) T) (part_ends TagOpen T) in
+      let P : Stepped → Type 0 = GoesIn W (weight_at (rank_of TagOpen) T) (part_ends TagOpen T) in
       code-step P (current_of T) (λ o. tag_open_at o T)
-      (λ e. part-fails ready ends weight within TagOpen T alone (name-none tag_rest (ahead T) (next-end name_value T e) ∙ rest-refused (ahead T) (next-end whitespace_value T e) (next-end (λ v. v == 47) T e) (next-end (λ v. v == 62) T e)))
+      (λ e. part-fails W within TagOpen T alone (name-none tag_rest (ahead T) (next-end name_value T e) ∙ rest-refused (ahead T) (next-end whitespace_value T e) (next-end (λ v. v == 47) T e) (next-end (λ v. v == 62) T e)))
       (λ c e.
       let b : Begins c (ahead T) = ahead-some T c e in
       let rest : List Code = rest_of (ahead T) in
       if-step P (after_value c) _ _
-      (λ g. part-over ready ends weight within TagOpen TagOpenBetween T alone r (omega arith) (name-none tag_rest (ahead T) (next-at name_value T c e ∙ after-each (λ v. name_value v ≡ false) c g refl refl refl refl refl) ∙ rest-between (ahead T) (next-at attribute_first_value T c e ∙ after-each (λ v. attribute_first_value v ≡ false) c g refl refl refl refl refl)))
+      (λ g. part-over W within TagOpen TagOpenBetween T alone r (omega arith) (name-none tag_rest (ahead T) (next-at name_value T c e ∙ after-each (λ v. name_value v ≡ false) c g refl refl refl refl refl) ∙ rest-between (ahead T) (next-at attribute_first_value T c e ∙ after-each (λ v. attribute_first_value v ≡ false) c g refl refl refl refl refl)))
       (λ g. if-step P (name_value c) _ _
-      (λ h. part-past ready ends weight within TagOpen TagOpen T c alone r e (not-ending name_value c h refl) (name-on tag_rest b.code rest (at name_value T c e ∙ h)))
-      (λ h. part-fails ready ends weight within TagOpen T alone (name-none tag_rest (ahead T) (next-at name_value T c e ∙ h) ∙ rest-refused (ahead T) (next-at whitespace_value T c e ∙ or-left (whitespace_value c) _ g) (next-at (λ v. v == 47) T c e ∙ or-left (c == 47) _ (or-right (whitespace_value c) _ g)) (next-at (λ v. v == 62) T c e ∙ or-left (c == 62) _ (or-right (c == 47) _ (or-right (whitespace_value c) _ g)))))))
+      (λ h. part-past W within TagOpen TagOpen T c alone r e (not-ending name_value c h refl) (name-on tag_rest b.code rest (at name_value T c e ∙ h)))
+      (λ h. part-fails W within TagOpen T alone (name-none tag_rest (ahead T) (next-at name_value T c e ∙ h) ∙ rest-refused (ahead T) (next-at whitespace_value T c e ∙ or-left (whitespace_value c) _ g) (next-at (λ v. v == 47) T c e ∙ or-left (c == 47) _ (or-right (whitespace_value c) _ g)) (next-at (λ v. v == 62) T c e ∙ or-left (c == 62) _ (or-right (c == 47) _ (or-right (whitespace_value c) _ g)))))))
 
-  pub tag_open_between-law : (T : Tokenizer) → T.attempts ≡ [] → PartReady T → GoesOn ready ends weight (weight_at (rank_of TagOpenBetween) T) (part_ends TagOpenBetween T) (tag_open_between_step T)
+  pub tag_open_between-law : Law W (part_words TagOpenBetween)
   tag_open_between-law T alone r =
-      let P : Stepped → Type 0 = GoesOn ready ends weight (weight_at (rank_of TagOpenBetween) T) (part_ends TagOpenBetween T) in
+      let P : Stepped → Type 0 = GoesIn W (weight_at (rank_of TagOpenBetween) T) (part_ends TagOpenBetween T) in
       code-step P (current_of T) (λ o. tag_open_between_at o T)
-      (λ e. part-over ready ends weight within TagOpenBetween End T alone r (omega arith) (between-none (ahead T) (next-end whitespace_value T e) (next-end attribute_first_value T e) (next-end (λ v. v == 47) T e)))
+      (λ e. part-over W within TagOpenBetween End T alone r (omega arith) (between-none (ahead T) (next-end whitespace_value T e) (next-end attribute_first_value T e) (next-end (λ v. v == 47) T e)))
       (λ c e.
       let b : Begins c (ahead T) = ahead-some T c e in
       let rest : List Code = rest_of (ahead T) in
       if-step P (c == 10) _ _
-      (λ h. part-broken-on ready ends weight within TagOpenBetween T (omega arith) (between-goes) alone r (e ∙ ap (λ v. Some v) (eqb-true c 10 h)))
+      (λ h. part-broken-on W within TagOpenBetween T (omega arith) (between-goes) alone r (e ∙ ap (λ v. Some v) (eqb-true c 10 h)))
       (λ h. if-step P (blank_value c) _ _
-      (λ g. part-past ready ends weight within TagOpenBetween TagOpenBetween T c alone r e (h) (spaces-first tag_next b.code rest (at whitespace_value T c e ∙ blank-whitespace c g)))
+      (λ g. part-past W within TagOpenBetween TagOpenBetween T c alone r e (h) (spaces-first tag_next b.code rest (at whitespace_value T c e ∙ blank-whitespace c g)))
       (λ g. if-step P (c == 47) _ _
-      (λ i. part-past ready ends weight within TagOpenBetween End T c alone r e (h) (between-slash b.code rest (at (λ v. v == 47) T c e ∙ i)))
+      (λ i. part-past W within TagOpenBetween End T c alone r e (h) (between-slash b.code rest (at (λ v. v == 47) T c e ∙ i)))
       (λ i. if-step P (attribute_first_value c) _ _
-      (λ j. part-past ready ends weight within TagOpenBetween AttributeName T c alone r e (h) (between-first b.code rest (at whitespace_value T c e ∙ or-none (blank_value c) _ g h) (at attribute_first_value T c e ∙ j)))
-      (λ j. part-over ready ends weight within TagOpenBetween End T alone r (omega arith) (between-none (ahead T) (next-at whitespace_value T c e ∙ or-none (blank_value c) _ g h) (next-at attribute_first_value T c e ∙ j) (next-at (λ v. v == 47) T c e ∙ i)))))))
+      (λ j. part-past W within TagOpenBetween AttributeName T c alone r e (h) (between-first b.code rest (at whitespace_value T c e ∙ or-none (blank_value c) _ g h) (at attribute_first_value T c e ∙ j)))
+      (λ j. part-over W within TagOpenBetween End T alone r (omega arith) (between-none (ahead T) (next-at whitespace_value T c e ∙ or-none (blank_value c) _ g h) (next-at attribute_first_value T c e ∙ j) (next-at (λ v. v == 47) T c e ∙ i)))))))
 
-  pub tag_open_attribute_name-law : (T : Tokenizer) → T.attempts ≡ [] → PartReady T → GoesOn ready ends weight (weight_at (rank_of AttributeName) T) (part_ends AttributeName T) (tag_open_attribute_name_step T)
+  pub tag_open_attribute_name-law : Law W (part_words AttributeName)
   tag_open_attribute_name-law T alone r =
-      let P : Stepped → Type 0 = GoesOn ready ends weight (weight_at (rank_of AttributeName) T) (part_ends AttributeName T) in
+      let P : Stepped → Type 0 = GoesIn W (weight_at (rank_of AttributeName) T) (part_ends AttributeName T) in
       code-step P (current_of T) (λ o. tag_open_attribute_name_at o T)
-      (λ e. part-over ready ends weight within AttributeName AttributeNameAfter T alone r (omega arith) (name-rest-end (ahead T) (next-end attribute_rest_value T e)))
+      (λ e. part-over W within AttributeName AttributeNameAfter T alone r (omega arith) (name-rest-end (ahead T) (next-end attribute_rest_value T e)))
       (λ c e.
       let b : Begins c (ahead T) = ahead-some T c e in
       let rest : List Code = rest_of (ahead T) in
       if-step P (attribute_rest_value c) _ _
-      (λ h. part-past ready ends weight within AttributeName AttributeName T c alone r e (not-ending attribute_rest_value c h refl) (name-rest-on b.code rest (at attribute_rest_value T c e ∙ h)))
-      (λ h. part-over ready ends weight within AttributeName AttributeNameAfter T alone r (omega arith) (name-rest-end (ahead T) (next-at attribute_rest_value T c e ∙ h))))
+      (λ h. part-past W within AttributeName AttributeName T c alone r e (not-ending attribute_rest_value c h refl) (name-rest-on b.code rest (at attribute_rest_value T c e ∙ h)))
+      (λ h. part-over W within AttributeName AttributeNameAfter T alone r (omega arith) (name-rest-end (ahead T) (next-at attribute_rest_value T c e ∙ h))))
 
-  pub tag_open_attribute_name_after-law : (T : Tokenizer) → T.attempts ≡ [] → PartReady T → GoesOn ready ends weight (weight_at (rank_of AttributeNameAfter) T) (part_ends AttributeNameAfter T) (tag_open_attribute_name_after_step T)
+  pub tag_open_attribute_name_after-law : Law W (part_words AttributeNameAfter)
   tag_open_attribute_name_after-law T alone r =
-      let P : Stepped → Type 0 = GoesOn ready ends weight (weight_at (rank_of AttributeNameAfter) T) (part_ends AttributeNameAfter T) in
+      let P : Stepped → Type 0 = GoesIn W (weight_at (rank_of AttributeNameAfter) T) (part_ends AttributeNameAfter T) in
       code-step P (current_of T) (λ o. tag_open_attribute_name_after_at o T)
-      (λ e. part-over ready ends weight within AttributeNameAfter TagOpenBetween T alone r (omega arith) (name-after-other (ahead T) (next-end whitespace_value T e) (next-end (λ v. v == 61) T e)))
+      (λ e. part-over W within AttributeNameAfter TagOpenBetween T alone r (omega arith) (name-after-other (ahead T) (next-end whitespace_value T e) (next-end (λ v. v == 61) T e)))
       (λ c e.
       let b : Begins c (ahead T) = ahead-some T c e in
       let rest : List Code = rest_of (ahead T) in
       if-step P (c == 10) _ _
-      (λ h. part-broken-on ready ends weight within AttributeNameAfter T (omega arith) (name-after-goes) alone r (e ∙ ap (λ v. Some v) (eqb-true c 10 h)))
+      (λ h. part-broken-on W within AttributeNameAfter T (omega arith) (name-after-goes) alone r (e ∙ ap (λ v. Some v) (eqb-true c 10 h)))
       (λ h. if-step P (blank_value c) _ _
-      (λ g. part-past ready ends weight within AttributeNameAfter AttributeNameAfter T c alone r e (h) (spaces-first name_next b.code rest (at whitespace_value T c e ∙ blank-whitespace c g)))
+      (λ g. part-past W within AttributeNameAfter AttributeNameAfter T c alone r e (h) (spaces-first name_next b.code rest (at whitespace_value T c e ∙ blank-whitespace c g)))
       (λ g. if-step P (c == 61) _ _
-      (λ i. part-past ready ends weight within AttributeNameAfter ValueBefore T c alone r e (h) (name-after-equals b.code rest (at (λ v. v == 61) T c e ∙ i)))
-      (λ i. part-over ready ends weight within AttributeNameAfter TagOpenBetween T alone r (omega arith) (name-after-other (ahead T) (next-at whitespace_value T c e ∙ or-none (blank_value c) _ g h) (next-at (λ v. v == 61) T c e ∙ i))))))
+      (λ i. part-past W within AttributeNameAfter ValueBefore T c alone r e (h) (name-after-equals b.code rest (at (λ v. v == 61) T c e ∙ i)))
+      (λ i. part-over W within AttributeNameAfter TagOpenBetween T alone r (omega arith) (name-after-other (ahead T) (next-at whitespace_value T c e ∙ or-none (blank_value c) _ g h) (next-at (λ v. v == 61) T c e ∙ i))))))
 
   -- into a quoted value
-  quote-entered : (T : Tokenizer) (c : ℕ) → T.attempts ≡ [] → PartReady T → (e : current_of T ≡ Some c) → (c == 10) ≡ false → quote_value c ≡ true → GoesOn ready ends weight (weight_at (rank_of ValueBefore) T) (part_ends ValueBefore T) (quote_passed c T)
+  quote-entered : (T : Tokenizer) (c : ℕ) → T.attempts ≡ [] → PartReady T → (e : current_of T ≡ Some c) → (c == 10) ≡ false → quote_value c ≡ true → GoesIn W (weight_at (rank_of ValueBefore) T) (part_ends ValueBefore T) (quote_passed c T)
   unfolding scratched
   quote-entered T c alone r e h k =
       let s : TokenizeState = T.tokenize_state in
       let b : Begins c (ahead T) = ahead-some T c e in
       let more : 1 ≤ length (ahead T) = some-codes T c e in
-      Goes-on ready ends weight 2 2 2 (text_of value_rest) (text_of (quoted_rest c)) (Consume ∷ []) s (with_marker c s) T (Next H.HtmlTextTagOpenAttributeValueQuoted) alone refl more (omega arith)
+      Goes-on W 2 2 (text_of value_rest) (text_of (quoted_rest c)) (Consume ∷ []) s (with_marker c s) T (Next H.HtmlTextTagOpenAttributeValueQuoted) within.quoted alone refl more (omega arith)
       (text-next value_rest (quoted_rest c) T c e h (value-quote c b.code (rest_of (ahead T)) k (at (λ v. v == c) T c e ∙ same-value c)))
-      (within.quoted_ready _ (quoted-opened c T more (quote-plain c k) r))
-      (within.quoted_weight _)
-      (λ ok U x. subst (λ (q : TokenizeState). DoesAs 2 (text_of (quoted_rest c)) q (scratched (with_marker c s) (done (Consume ∷ []) T)) ok U) r.rest (within.quoted_end _ ok U x))
+      (quoted-opened c T more (quote-plain c k) r)
+      (λ ok U x. subst (λ (q : TokenizeState). DoesAs 2 (text_of (quoted_rest c)) q (scratched (with_marker c s) (done (Consume ∷ []) T)) ok U) r.rest x)
 
-  pub tag_open_attribute_value_before-law : (T : Tokenizer) → T.attempts ≡ [] → PartReady T → GoesOn ready ends weight (weight_at (rank_of ValueBefore) T) (part_ends ValueBefore T) (tag_open_attribute_value_before_step T)
+  pub tag_open_attribute_value_before-law : Law W (part_words ValueBefore)
   tag_open_attribute_value_before-law T alone r =
-      let P : Stepped → Type 0 = GoesOn ready ends weight (weight_at (rank_of ValueBefore) T) (part_ends ValueBefore T) in
+      let P : Stepped → Type 0 = GoesIn W (weight_at (rank_of ValueBefore) T) (part_ends ValueBefore T) in
       code-step P (current_of T) (λ o. tag_open_attribute_value_before_at o T)
-      (λ e. part-fails ready ends weight within ValueBefore T alone (ap value_rest (ahead-none T e) ∙ value-end))
+      (λ e. part-fails W within ValueBefore T alone (ap value_rest (ahead-none T e) ∙ value-end))
       (λ c e.
       let b : Begins c (ahead T) = ahead-some T c e in
       let rest : List Code = rest_of (ahead T) in
       if-step P (starts_no_value c) _ _
-      (λ h0. part-fails ready ends weight within ValueBefore T alone (ap value_rest b.whole ∙ value-none b.code rest (at starts_no_value T c e ∙ h0)))
+      (λ h0. part-fails W within ValueBefore T alone (ap value_rest b.whole ∙ value-none b.code rest (at starts_no_value T c e ∙ h0)))
       (λ h0. if-step P (c == 10) _ _
-      (λ h. part-broken-on ready ends weight within ValueBefore T (omega arith) (value-goes) alone r (e ∙ ap (λ v. Some v) (eqb-true c 10 h)))
+      (λ h. part-broken-on W within ValueBefore T (omega arith) (value-goes) alone r (e ∙ ap (λ v. Some v) (eqb-true c 10 h)))
       (λ h. if-step P (blank_value c) _ _
-      (λ g. part-past ready ends weight within ValueBefore ValueBefore T c alone r e (h) (value-space b.code rest (at whitespace_value T c e ∙ blank-whitespace c g)))
+      (λ g. part-past W within ValueBefore ValueBefore T c alone r e (h) (value-space b.code rest (at whitespace_value T c e ∙ blank-whitespace c g)))
       (λ g. if-step P (quote_value c) _ _
       (λ i. quote-entered T c alone r e h i)
-      (λ i. part-past ready ends weight within ValueBefore ValueUnquoted T c alone r e (h) (value-plain b.code rest (at whitespace_value T c e ∙ or-none (blank_value c) _ g h) (at quote_value T c e ∙ i) (at starts_no_value T c e ∙ h0)))))))
+      (λ i. part-past W within ValueBefore ValueUnquoted T c alone r e (h) (value-plain b.code rest (at whitespace_value T c e ∙ or-none (blank_value c) _ g h) (at quote_value T c e ∙ i) (at starts_no_value T c e ∙ h0)))))))
 
-  pub tag_open_attribute_value_quoted_after-law : (T : Tokenizer) → T.attempts ≡ [] → PartReady T → GoesOn ready ends weight (weight_at (rank_of ValueQuotedAfter) T) (part_ends ValueQuotedAfter T) (tag_open_attribute_value_quoted_after_step T)
+  pub tag_open_attribute_value_quoted_after-law : Law W (part_words ValueQuotedAfter)
   tag_open_attribute_value_quoted_after-law T alone r =
-      let P : Stepped → Type 0 = GoesOn ready ends weight (weight_at (rank_of ValueQuotedAfter) T) (part_ends ValueQuotedAfter T) in
+      let P : Stepped → Type 0 = GoesIn W (weight_at (rank_of ValueQuotedAfter) T) (part_ends ValueQuotedAfter T) in
       code-step P (current_of T) (λ o. tag_open_attribute_value_quoted_after_at o T)
-      (λ e. part-fails ready ends weight within ValueQuotedAfter T alone (rest-refused (ahead T) (next-end whitespace_value T e) (next-end (λ v. v == 47) T e) (next-end (λ v. v == 62) T e)))
+      (λ e. part-fails W within ValueQuotedAfter T alone (rest-refused (ahead T) (next-end whitespace_value T e) (next-end (λ v. v == 47) T e) (next-end (λ v. v == 62) T e)))
       (λ c e.
       let b : Begins c (ahead T) = ahead-some T c e in
       let rest : List Code = rest_of (ahead T) in
       if-step P (after_value c) _ _
-      (λ h. part-over ready ends weight within ValueQuotedAfter TagOpenBetween T alone r (omega arith) (rest-between (ahead T) (next-at attribute_first_value T c e ∙ after-each (λ v. attribute_first_value v ≡ false) c h refl refl refl refl refl)))
-      (λ h. part-fails ready ends weight within ValueQuotedAfter T alone (rest-refused (ahead T) (next-at whitespace_value T c e ∙ or-left (whitespace_value c) _ h) (next-at (λ v. v == 47) T c e ∙ or-left (c == 47) _ (or-right (whitespace_value c) _ h)) (next-at (λ v. v == 62) T c e ∙ or-left (c == 62) _ (or-right (c == 47) _ (or-right (whitespace_value c) _ h))))))
+      (λ h. part-over W within ValueQuotedAfter TagOpenBetween T alone r (omega arith) (rest-between (ahead T) (next-at attribute_first_value T c e ∙ after-each (λ v. attribute_first_value v ≡ false) c h refl refl refl refl refl)))
+      (λ h. part-fails W within ValueQuotedAfter T alone (rest-refused (ahead T) (next-at whitespace_value T c e ∙ or-left (whitespace_value c) _ h) (next-at (λ v. v == 47) T c e ∙ or-left (c == 47) _ (or-right (whitespace_value c) _ h)) (next-at (λ v. v == 62) T c e ∙ or-left (c == 62) _ (or-right (c == 47) _ (or-right (whitespace_value c) _ h))))))
 
-  pub tag_open_attribute_value_unquoted-law : (T : Tokenizer) → T.attempts ≡ [] → PartReady T → GoesOn ready ends weight (weight_at (rank_of ValueUnquoted) T) (part_ends ValueUnquoted T) (tag_open_attribute_value_unquoted_step T)
+  pub tag_open_attribute_value_unquoted-law : Law W (part_words ValueUnquoted)
   tag_open_attribute_value_unquoted-law T alone r =
-      let P : Stepped → Type 0 = GoesOn ready ends weight (weight_at (rank_of ValueUnquoted) T) (part_ends ValueUnquoted T) in
+      let P : Stepped → Type 0 = GoesIn W (weight_at (rank_of ValueUnquoted) T) (part_ends ValueUnquoted T) in
       code-step P (current_of T) (λ o. tag_open_attribute_value_unquoted_at o T)
-      (λ e. part-fails ready ends weight within ValueUnquoted T alone (unquoted-none (ahead T) (next-end unquoted_value_test T e) (next-end after_value T e)))
+      (λ e. part-fails W within ValueUnquoted T alone (unquoted-none (ahead T) (next-end unquoted_value_test T e) (next-end after_value T e)))
       (λ c e.
       let b : Begins c (ahead T) = ahead-some T c e in
       let rest : List Code = rest_of (ahead T) in
       if-step P (barred_value c) _ _
-      (λ h. part-fails ready ends weight within ValueUnquoted T alone (unquoted-none (ahead T) (next-at unquoted_value_test T c e ∙ (barred-each c h).0) (next-at after_value T c e ∙ (barred-each c h).1)))
+      (λ h. part-fails W within ValueUnquoted T alone (unquoted-none (ahead T) (next-at unquoted_value_test T c e ∙ (barred-each c h).0) (next-at after_value T c e ∙ (barred-each c h).1)))
       (λ h. if-step P (after_value c) _ _
-      (λ g. part-over ready ends weight within ValueUnquoted TagOpenBetween T alone r (omega arith) (unquoted-after (ahead T) (next-at unquoted_value_test T c e ∙ after-each (λ v. unquoted_value_test v ≡ false) c g refl refl refl refl refl) (next-at after_value T c e ∙ g) ∙ rest-between (ahead T) (next-at attribute_first_value T c e ∙ after-each (λ v. attribute_first_value v ≡ false) c g refl refl refl refl refl)))
-      (λ g. part-past ready ends weight within ValueUnquoted ValueUnquoted T c alone r e (or-right (blank_value c) _ (or-left (whitespace_value c) _ g)) (unquoted-more b.code rest (at unquoted_value_test T c e ∙ unquoted-true c h g)))))
+      (λ g. part-over W within ValueUnquoted TagOpenBetween T alone r (omega arith) (unquoted-after (ahead T) (next-at unquoted_value_test T c e ∙ after-each (λ v. unquoted_value_test v ≡ false) c g refl refl refl refl refl) (next-at after_value T c e ∙ g) ∙ rest-between (ahead T) (next-at attribute_first_value T c e ∙ after-each (λ v. attribute_first_value v ≡ false) c g refl refl refl refl refl)))
+      (λ g. part-past W within ValueUnquoted ValueUnquoted T c alone r e (or-right (blank_value c) _ (or-left (whitespace_value c) _ g)) (unquoted-more b.code rest (at unquoted_value_test T c e ∙ unquoted-true c h g)))))
 
   -- The end.
 
-  pub end-law : (T : Tokenizer) → T.attempts ≡ [] → PartReady T → GoesOn ready ends weight (weight_at (rank_of End) T) (part_ends End T) (end_step T)
+  pub end-law : Law W (part_words End)
   end-law T alone r =
-      let P : Stepped → Type 0 = GoesOn ready ends weight (weight_at (rank_of End) T) (part_ends End T) in
+      let P : Stepped → Type 0 = GoesIn W (weight_at (rank_of End) T) (part_ends End T) in
       code-step P (current_of T) (λ o. end_at o T)
-      (λ e. part-fails ready ends weight within End T alone (end-none (ahead T) (next-end (λ v. v == 62) T e)))
+      (λ e. part-fails W within End T alone (end-none (ahead T) (next-end (λ v. v == 62) T e)))
       (λ c e.
       let b : Begins c (ahead T) = ahead-some T c e in
       if-step P (c == 62) _ _
-      (λ h. Goes-yes ready ends weight 1 2 (text_of (word ">")) closing T alone
+      (λ h. Goes-yes W 1 2 (text_of (word ">")) closing T alone
       (ap (text_of (word ">")) b.whole ∙ ap (text_from InLine) (end-here b.code (rest_of (ahead T)) (at (λ v. v == 62) T c e ∙ h))
       ∙ ap (λ os. Some (os ++ Exit N.HtmlText ∷ [])) (from-data InLine b.code [] (is-so (λ v. v == 10) 62 T c e h) refl)))
-      (λ h. part-fails ready ends weight within End T alone (end-none (ahead T) (next-at (λ v. v == 62) T c e ∙ h))))
+      (λ h. part-fails W within End T alone (end-none (ahead T) (next-at (λ v. v == 62) T c e ∙ h))))
 
   -- The opening of a CDATA section.
 
-  cdata-passed : (T : Tokenizer) (c : ℕ) → T.attempts ≡ [] → CdataReady T → (e : current_of T ≡ Some c) → (c == prefix_value T.tokenize_state.size) ≡ true → GoesOn ready ends weight (weight_at 2 T) (DoesAs 2 (text_of (cdata_opening T.tokenize_state.size)) (with_size 0 T.tokenize_state) T) (cdata_passed T.tokenize_state.size T)
+  cdata-passed : (T : Tokenizer) (c : ℕ) → T.attempts ≡ [] → CdataReady T → (e : current_of T ≡ Some c) → (c == prefix_value T.tokenize_state.size) ≡ true → GoesIn W (weight_at 2 T) (DoesAs 2 (text_of (cdata_opening T.tokenize_state.size)) (with_size 0 T.tokenize_state) T) (cdata_passed T.tokenize_state.size T)
   unfolding scratched applied
   cdata-passed T c alone r e h =
       let s : TokenizeState = T.tokenize_state in
@@ -498,69 +496,64 @@ module _ (ready : StateName → Tokenizer → Type 0) (ends : StateName → Toke
       let more : 1 ≤ length (ahead T) = some-codes T c e in
       let plain : (c == 10) ≡ false = ap (λ v. v == 10) (eqb-true c (prefix_value n) h) ∙ prefix-plain n r.size in
       let on : cdata_opening n (b.code ∷ rest) ≡ with_first b.code (cdata_opening (n + 1) rest) = prefix-on n r.size b.code rest (at (λ v. v == prefix_value n) T c e ∙ h) in
-      let P : Stepped → Type 0 = GoesOn ready ends weight (weight_at 2 T) (DoesAs 2 (text_of (cdata_opening n)) (with_size 0 s) T) in
+      let P : Stepped → Type 0 = GoesIn W (weight_at 2 T) (DoesAs 2 (text_of (cdata_opening n)) (with_size 0 s) T) in
       if-step P (n + 1 == 6) _ _
-      (λ g. Goes-on ready ends weight 2 2 2 (text_of (cdata_opening n)) (text_of (through "]]>")) (Consume ∷ []) (with_size 0 s) (with_size 0 s) T (Next H.HtmlTextCdata) alone refl more (omega arith)
+      (λ g. Goes-on W 2 2 (text_of (cdata_opening n)) (text_of (through "]]>")) (Consume ∷ []) (with_size 0 s) (with_size 0 s) T (Next H.HtmlTextCdata) (within.parts Cdata) alone refl more (omega arith)
       (text-next (cdata_opening n) (through "]]>") T c e plain (on ∙ ap (with_first b.code) (prefix-end (n + 1) rest (eqb-true (n + 1) 6 g))))
-      (within.part_ready Cdata _ (cdata-closed T more r))
-      (within.part_weight Cdata _)
-      (λ ok U x. within.part_end Cdata _ ok U x))
-      (λ g. Goes-on ready ends weight 2 2 2 (text_of (cdata_opening n)) (text_of (cdata_opening (n + 1))) (Consume ∷ []) (with_size 0 s) (with_size (n + 1) s) T (Next H.HtmlTextCdataOpenInside) alone refl more (omega arith)
+      (cdata-closed T more r)
+      (λ ok U x. x))
+      (λ g. Goes-on W 2 2 (text_of (cdata_opening n)) (text_of (cdata_opening (n + 1))) (Consume ∷ []) (with_size 0 s) (with_size (n + 1) s) T (Next H.HtmlTextCdataOpenInside) within.cdata alone refl more (omega arith)
       (text-next (cdata_opening n) (cdata_opening (n + 1)) T c e plain on)
-      (within.cdata_ready _ (cdata-next T more (less n r.size g) r))
-      (within.cdata_weight _)
-      (λ ok U x. subst (λ (q : TokenizeState). DoesAs 2 (text_of (cdata_opening (n + 1))) q (scratched (with_size (n + 1) s) (done (Consume ∷ []) T)) ok U) r.rest (within.cdata_end _ ok U x)))
+      (cdata-next T more (less n r.size g) r)
+      (λ ok U x. subst (λ (q : TokenizeState). DoesAs 2 (text_of (cdata_opening (n + 1))) q (scratched (with_size (n + 1) s) (done (Consume ∷ []) T)) ok U) r.rest x))
 
-  pub cdata_open_inside-law : (T : Tokenizer) → T.attempts ≡ [] → CdataReady T → GoesOn ready ends weight (weight_at 2 T) (cdata_open_inside_ends T) (cdata_open_inside_step T)
+  pub cdata_open_inside-law : Law W cdata_open_inside_words
   cdata_open_inside-law T alone r =
       let s : TokenizeState = T.tokenize_state in
       let n : ℕ = s.size in
       let E : Bool → Tokenizer → Type 0 = DoesAs 2 (text_of (cdata_opening n)) (with_size 0 s) T in
-      let P : Stepped → Type 0 = GoesOn ready ends weight (weight_at 2 T) E in
-      subst (λ (q : TokenizeState). GoesOn ready ends weight (weight_at 2 T) (DoesAs 2 (text_of (cdata_opening n)) q T) (cdata_open_inside_step T)) (sym r.rest)
+      let P : Stepped → Type 0 = GoesIn W (weight_at 2 T) E in
+      subst (λ (q : TokenizeState). GoesIn W (weight_at 2 T) (DoesAs 2 (text_of (cdata_opening n)) q T) (cdata_open_inside_step T)) (sym r.rest)
       (code-step P (current_of T) (λ o. cdata_open_inside_at o T)
-      (λ e. Goes-nok ready ends weight 2 2 (text_of (cdata_opening n)) (with_size 0 s) T alone (ap (text_from InLine) (prefix-none n r.size (ahead T) (next-end (λ v. v == prefix_value n) T e))))
+      (λ e. Goes-nok W 2 2 (text_of (cdata_opening n)) (with_size 0 s) T alone (ap (text_from InLine) (prefix-none n r.size (ahead T) (next-end (λ v. v == prefix_value n) T e))))
       (λ c e. if-step P (c == prefix_value n) _ _
       (λ h. cdata-passed T c alone r e h)
-      (λ h. Goes-nok ready ends weight 2 2 (text_of (cdata_opening n)) (with_size 0 s) T alone (ap (text_from InLine) (prefix-none n r.size (ahead T) (next-at (λ v. v == prefix_value n) T c e ∙ h))))))
+      (λ h. Goes-nok W 2 2 (text_of (cdata_opening n)) (with_size 0 s) T alone (ap (text_from InLine) (prefix-none n r.size (ahead T) (next-at (λ v. v == prefix_value n) T c e ∙ h))))))
 
   -- Quoted values.
 
-  quoted-ended : (T : Tokenizer) (c : ℕ) → T.attempts ≡ [] → QuotedReady T → (e : current_of T ≡ Some c) → (c == T.tokenize_state.marker) ≡ true → GoesOn ready ends weight (weight_at 2 T) (DoesAs 2 (text_of (quoted_rest T.tokenize_state.marker)) (with_marker 0 T.tokenize_state) T) (record { state = Next H.HtmlTextTagOpenAttributeValueQuotedAfter; left = scratched (with_marker 0 T.tokenize_state) (done (Consume ∷ []) T) })
+  quoted-ended : (T : Tokenizer) (c : ℕ) → T.attempts ≡ [] → QuotedReady T → (e : current_of T ≡ Some c) → (c == T.tokenize_state.marker) ≡ true → GoesIn W (weight_at 2 T) (DoesAs 2 (text_of (quoted_rest T.tokenize_state.marker)) (with_marker 0 T.tokenize_state) T) (record { state = Next H.HtmlTextTagOpenAttributeValueQuotedAfter; left = scratched (with_marker 0 T.tokenize_state) (done (Consume ∷ []) T) })
   unfolding scratched applied
   quoted-ended T c alone r e h =
       let s : TokenizeState = T.tokenize_state in
       let m : ℕ = s.marker in
       let b : Begins c (ahead T) = ahead-some T c e in
       let more : 1 ≤ length (ahead T) = some-codes T c e in
-      Goes-on ready ends weight 2 3 2 (text_of (quoted_rest m)) (text_of tag_rest) (Consume ∷ []) (with_marker 0 s) (with_marker 0 s) T (Next H.HtmlTextTagOpenAttributeValueQuotedAfter) alone refl more (omega arith)
+      Goes-on W 2 2 (text_of (quoted_rest m)) (text_of tag_rest) (Consume ∷ []) (with_marker 0 s) (with_marker 0 s) T (Next H.HtmlTextTagOpenAttributeValueQuotedAfter) (within.parts ValueQuotedAfter) alone refl more (omega arith)
       (text-next (quoted_rest m) tag_rest T c e (ap (λ v. v == 10) (eqb-true c m h) ∙ or-right (blank_value m) _ r.quote) (quoted-close m b.code (rest_of (ahead T)) (at (λ v. v == m) T c e ∙ h)))
-      (within.part_ready ValueQuotedAfter _ (quoted-closed T more r))
-      (within.part_weight ValueQuotedAfter _)
-      (λ ok U x. within.part_end ValueQuotedAfter _ ok U x)
+      (quoted-closed T more r)
+      (λ ok U x. x)
 
-  pub tag_open_attribute_value_quoted-law : (T : Tokenizer) → T.attempts ≡ [] → QuotedReady T → GoesOn ready ends weight (weight_at 2 T) (quoted_ends T) (tag_open_attribute_value_quoted_step T)
+  pub tag_open_attribute_value_quoted-law : Law W tag_open_attribute_value_quoted_words
   unfolding applied
   tag_open_attribute_value_quoted-law T alone r =
       let s : TokenizeState = T.tokenize_state in
       let m : ℕ = s.marker in
       let E : Bool → Tokenizer → Type 0 = DoesAs 2 (text_of (quoted_rest m)) (with_marker 0 s) T in
-      let P : Stepped → Type 0 = GoesOn ready ends weight (weight_at 2 T) E in
-      subst (λ (q : TokenizeState). GoesOn ready ends weight (weight_at 2 T) (DoesAs 2 (text_of (quoted_rest m)) q T) (tag_open_attribute_value_quoted_step T)) (sym r.rest)
+      let P : Stepped → Type 0 = GoesIn W (weight_at 2 T) E in
+      subst (λ (q : TokenizeState). GoesIn W (weight_at 2 T) (DoesAs 2 (text_of (quoted_rest m)) q T) (tag_open_attribute_value_quoted_step T)) (sym r.rest)
       (code-step P (current_of T) (λ o. tag_open_attribute_value_quoted_at o T)
-      (λ e. Goes-nok ready ends weight 2 2 (text_of (quoted_rest m)) (with_marker 0 s) T alone (ap (text_from InLine) (ap (quoted_rest m) (ahead-none T e) ∙ quoted-end m)))
+      (λ e. Goes-nok W 2 2 (text_of (quoted_rest m)) (with_marker 0 s) T alone (ap (text_from InLine) (ap (quoted_rest m) (ahead-none T e) ∙ quoted-end m)))
       (λ c e.
       let b : Begins c (ahead T) = ahead-some T c e in
       let more : 1 ≤ length (ahead T) = some-codes T c e in
       if-step P (c == m) _ _
       (λ h. quoted-ended T c alone r e h)
       (λ h. if-step P (c == 10) _ _
-      (λ g. text-broken ready ends weight within 2 (quoted_rest m) (with_marker 0 s) H.HtmlTextTagOpenAttributeValueQuoted T (omega arith) (omega arith) (quoted-goes m r.quote) alone r.inside (e ∙ ap (λ v. Some v) (eqb-true c 10 g))
-      (within.quoted_ready _ (quoted-broken T r))
-      (within.quoted_weight _)
-      (λ ok U x. quoted-says (break_from InLine (ahead T)) T r ok U (within.quoted_end _ ok U x)))
-      (λ g. Goes-kept ready ends weight 2 2 2 (text_of (quoted_rest m)) (text_of (quoted_rest m)) (Consume ∷ []) (with_marker 0 s) T (Next H.HtmlTextTagOpenAttributeValueQuoted) alone refl more (omega arith)
+      (λ g. text-broken W within 2 (quoted_rest m) (with_marker 0 s) H.HtmlTextTagOpenAttributeValueQuoted within.quoted T (omega arith) (omega arith) refl (quoted-goes m r.quote) alone r.inside (e ∙ ap (λ v. Some v) (eqb-true c 10 g))
+      (quoted-broken T r)
+      (λ ok U x. quoted-says (break_from InLine (ahead T)) T r ok U x))
+      (λ g. Goes-kept W 2 2 (text_of (quoted_rest m)) (text_of (quoted_rest m)) (Consume ∷ []) (with_marker 0 s) T (Next H.HtmlTextTagOpenAttributeValueQuoted) within.quoted alone refl more (omega arith)
       (text-next (quoted_rest m) (quoted_rest m) T c e g (quoted-more m b.code (rest_of (ahead T)) (at (λ v. v == m) T c e ∙ h)))
-      (within.quoted_ready _ (quoted-next T more r))
-      (within.quoted_weight _)
-      (λ ok U x. quoted-says (Consume ∷ []) T r ok U (within.quoted_end _ ok U x))))))
+      (quoted-next T more r)
+      (λ ok U x. quoted-says (Consume ∷ []) T r ok U x)))))

@@ -5,20 +5,19 @@ use Rattle.markdown_engine.specs.Codes.{Code, is_line_ending, is_blank}
 use Rattle.markdown_engine.specs.Lists.{rest_of}
 use Rattle.markdown_engine.specs.Ops.{Op, Enter, Exit, Consume, current_of, ahead, done, moves, scratched}
 use Rattle.markdown_engine.specs.Past.{past, Reads, EndsAs}
-use Rattle.markdown_engine.specs.Runs.{Stepped, GoesOn}
+use Rattle.markdown_engine.specs.Runs.{Stepped, stepped}
 use Rattle.markdown_engine.specs.Tree.{Forest, leaf_codes}
 use Rattle.markdown_engine.specs.TreeOps.{ops_of, consumes, IsSolid}
 use Rattle.markdown_engine.specs.Weights.{codes_left, weight_at}
 use Rattle.markdown_engine.specs.declared.event.Name.TheVariants as N
 use Rattle.markdown_engine.specs.declared.state.State.TheVariants.{Next, Retry, Nok}
 use Rattle.markdown_engine.specs.declared.state.State.TheVariants as State
-use Rattle.markdown_engine.specs.declared.state.StateName.{StateName}
 use Rattle.markdown_engine.specs.declared.state.StateName.TheVariants as H
 use Rattle.markdown_engine.specs.declared.tokenizer.Tokenizer.{Tokenizer}
 use Rattle.markdown_engine.proofs.EndsLemmas.{scratched-same, left-read}
-use Rattle.markdown_engine.proofs.Laws.{Goes-attempt, Goes-plain, code-step, if-step}
+use Rattle.markdown_engine.proofs.Laws.{code-step, if-step}
 use Rattle.markdown_engine.proofs.OpRules.{ahead-none, ahead-some, attempts-scratched, left-scratched, left-ahead, Begins, some-codes}
-use Rattle.markdown_engine.proofs.OpsLemmas.{Goes-ops, ahead-done, left-done}
+use Rattle.markdown_engine.proofs.OpsLemmas.{ahead-done, left-done, attempts-done}
 use Rattle.markdown_engine.proofs.TreeLemmas.{done-append, ops-past}
 use Rattle.markdown_model.specs.CodeTests.{next_is}
 use Rattle.markdown_model.specs.Grammar.{span}
@@ -30,35 +29,23 @@ use Rattle.markdown_partial.proofs.AskedLaws.{asked-ready, asked-ends}
 use Rattle.markdown_partial.proofs.SpacingLemmas.{space-all}
 use Rattle.markdown_html.specs.LineOps.{InLine, AtStart, InBlank, ending_ops, break_from, prefix_from}
 use Rattle.markdown_html.specs.Rests.{Part, state_of, rank_of}
-use Rattle.markdown_html.specs.HtmlText.{blank_asked, PartReady, CdataReady, QuotedReady, BeforeReady, AfterReady, part_ends, cdata_open_inside_ends, quoted_ends, line_ending_before_step, line_ending_before_ends, line_ending_after_at, line_ending_after_step, line_ending_after_ends, data_entered, line_ending_after_prefix_at, line_ending_after_prefix_step, line_ending_after_prefix_ends}
+use Rattle.markdown_html.specs.HtmlText.{blank_asked, PartReady, CdataReady, QuotedReady, BeforeReady, AfterReady, part_ends, cdata_open_inside_ends, quoted_ends, line_ending_before_step, line_ending_before_ends, line_ending_after_at, line_ending_after_step, line_ending_after_ends, data_entered, line_ending_after_prefix_at, line_ending_after_prefix_step, line_ending_after_prefix_ends, line_ending_after_prefix_words, line_ending_after_words, line_ending_before_words, part_words, cdata_open_inside_words, tag_open_attribute_value_quoted_words}
 use Rattle.markdown_html.specs.Values.{blank_value}
 use Rattle.markdown_html.proofs.BreakLemmas.{break-ending, break-blank, break-data}
 use Rattle.markdown_html.proofs.HtmlTextReady.{before-passed, ending-passed}
 use Rattle.markdown_model.proofs.ReadingSteps.{span-takes, span-none}
+use Rattle.markdown_engine.specs.StateWords.{Words, Law, GoesIn, words_in}
+use Rattle.markdown_construct.proofs.StateLaws.{Goes-plain, Goes-end, Goes-ops, Goes-attempt, follows}
 
--- what the layer says of these states, and of the start of whitespace
-pub record Within (ready : StateName → Tokenizer → Type 0) (ends : StateName → Tokenizer → Bool → Tokenizer → Type 0) (weight : StateName → Tokenizer → ℕ) : Type 0 where
-  pub part_ready : (k : Part) (T : Tokenizer) → PartReady T → ready (state_of k) T
-  pub part_end : (k : Part) (T : Tokenizer) (ok : Bool) (U : Tokenizer) → ends (state_of k) T ok U → part_ends k T ok U
-  pub part_weight : (k : Part) (T : Tokenizer) → weight (state_of k) T ≡ weight_at (rank_of k) T
-  pub cdata_ready : (T : Tokenizer) → CdataReady T → ready H.HtmlTextCdataOpenInside T
-  pub cdata_end : (T : Tokenizer) (ok : Bool) (U : Tokenizer) → ends H.HtmlTextCdataOpenInside T ok U → cdata_open_inside_ends T ok U
-  pub cdata_weight : (T : Tokenizer) → weight H.HtmlTextCdataOpenInside T ≡ weight_at 2 T
-  pub quoted_ready : (T : Tokenizer) → QuotedReady T → ready H.HtmlTextTagOpenAttributeValueQuoted T
-  pub quoted_end : (T : Tokenizer) (ok : Bool) (U : Tokenizer) → ends H.HtmlTextTagOpenAttributeValueQuoted T ok U → quoted_ends T ok U
-  pub quoted_weight : (T : Tokenizer) → weight H.HtmlTextTagOpenAttributeValueQuoted T ≡ weight_at 2 T
-  pub before_ready : (T : Tokenizer) → BeforeReady T → ready H.HtmlTextLineEndingBefore T
-  pub before_end : (T : Tokenizer) (ok : Bool) (U : Tokenizer) → ends H.HtmlTextLineEndingBefore T ok U → line_ending_before_ends T ok U
-  pub before_weight : (T : Tokenizer) → weight H.HtmlTextLineEndingBefore T ≡ weight_at 1 T
-  pub after_ready : (T : Tokenizer) → AfterReady T → ready H.HtmlTextLineEndingAfter T
-  pub after_end : (T : Tokenizer) (ok : Bool) (U : Tokenizer) → ends H.HtmlTextLineEndingAfter T ok U → line_ending_after_ends T ok U
-  pub after_weight : (T : Tokenizer) → weight H.HtmlTextLineEndingAfter T ≡ weight_at 4 T
-  pub prefix_ready : (T : Tokenizer) → AfterReady T → ready H.HtmlTextLineEndingAfterPrefix T
-  pub prefix_end : (T : Tokenizer) (ok : Bool) (U : Tokenizer) → ends H.HtmlTextLineEndingAfterPrefix T ok U → line_ending_after_prefix_ends T ok U
-  pub prefix_weight : (T : Tokenizer) → weight H.HtmlTextLineEndingAfterPrefix T ≡ weight_at 1 T
-  pub space_ready : (T : Tokenizer) → S.StartReady T → ready H.SpaceOrTabStart T
-  pub space_end : (T : Tokenizer) (ok : Bool) (U : Tokenizer) → ends H.SpaceOrTabStart T ok U → S.start_ends T ok U
-  pub space_weight : (T : Tokenizer) → weight H.SpaceOrTabStart T ≡ weight_at 3 T
+-- what the layer says of these states, and of the start of blank codes
+pub record Within (W : Words) : Type 1 where
+  pub parts : (k : Part) → words_in W (state_of k) ≡ part_words k
+  pub cdata : words_in W H.HtmlTextCdataOpenInside ≡ cdata_open_inside_words
+  pub quoted : words_in W H.HtmlTextTagOpenAttributeValueQuoted ≡ tag_open_attribute_value_quoted_words
+  pub before : words_in W H.HtmlTextLineEndingBefore ≡ line_ending_before_words
+  pub after : words_in W H.HtmlTextLineEndingAfter ≡ line_ending_after_words
+  pub prefix : words_in W H.HtmlTextLineEndingAfterPrefix ≡ line_ending_after_prefix_words
+  pub space : words_in W H.SpaceOrTabStart ≡ S.start_words
 
 -- Breaks, by what stands there.
 
@@ -157,27 +144,27 @@ spaced-ready T U k s =
     let now : AfterReady (past None (blank_tree T) T) = record { stand_open = k.stand_open; spaces = record { resting = k.spaces.resting; short = omega (arith, k.spaces.short, s.fewer, ap (λ (x : Tokenizer). codes_left x) s.left) } } in
     subst (λ (x : Tokenizer). AfterReady x) (sym s.left) now
 
-module _ (ready : StateName → Tokenizer → Type 0) (ends : StateName → Tokenizer → Bool → Tokenizer → Type 0) (weight : StateName → Tokenizer → ℕ) (within : Within ready ends weight) where
+module _ (W : Words) (within : Within W) where
   -- After the blank codes at the start of a line.
 
-  data-here : (T : Tokenizer) → T.attempts ≡ [] → next_is is_line_ending (ahead T) ≡ false → GoesOn ready ends weight (weight_at 1 T) (line_ending_after_prefix_ends T) (data_entered T)
+  data-here : (T : Tokenizer) → T.attempts ≡ [] → next_is is_line_ending (ahead T) ≡ false → GoesIn W (weight_at 1 T) (line_ending_after_prefix_ends T) (data_entered T)
   data-here T alone h =
-      Goes-ops ready ends weight (weight_at 1 T) (line_ending_after_prefix_ends T) State.Ok (Enter N.HtmlTextData ∷ []) T alone tt (omega arith)
+      Goes-end W (weight_at 1 T) (line_ending_after_prefix_ends T) true (done (Enter N.HtmlTextData ∷ []) T) (attempts-done (Enter N.HtmlTextData ∷ []) T ∙ alone) (omega arith)
       (λ ok U x. (x.0, x.1 ∙ ap (λ os. done os T) (sym (prefix-data (ahead T) h))))
 
   -- past a line ending, on to the start of the next line
-  passed-on : (j : ℕ) (E : Bool → Tokenizer → Type 0) (os : List Op) (T : Tokenizer) → T.attempts ≡ [] → moves os ≡ 1 → 1 ≤ length (ahead T) → AfterReady (done os T) → ((ok : Bool) (U : Tokenizer) → (ok ≡ true) × (U ≡ done (os ++ break_from AtStart (rest_of (ahead T))) T) → E ok U) → GoesOn ready ends weight (weight_at j T) E (record { state = Next H.HtmlTextLineEndingAfter; left = done os T })
+  passed-on : (j : ℕ) (E : Bool → Tokenizer → Type 0) (os : List Op) (T : Tokenizer) → T.attempts ≡ [] → moves os ≡ 1 → 1 ≤ length (ahead T) → AfterReady (done os T) → ((ok : Bool) (U : Tokenizer) → (ok ≡ true) × (U ≡ done (os ++ break_from AtStart (rest_of (ahead T))) T) → E ok U) → GoesIn W (weight_at j T) E (stepped (Next H.HtmlTextLineEndingAfter) (done os T))
   passed-on j E os T alone one more k closed =
       let V : Tokenizer = done os T in
       let rest : ahead V ≡ rest_of (ahead T) = ahead-done os T ∙ ap (λ n. drop n (ahead T)) one in
-      Goes-ops ready ends weight (weight_at j T) E (Next H.HtmlTextLineEndingAfter) os T alone (within.after_ready V k)
-      (rw within.after_weight (omega (arith, left-done os T (omega (arith, one, more)), one)))
-      (λ ok U x. let e = within.after_end V ok U x in
+      Goes-ops W (weight_at j T) E (Next H.HtmlTextLineEndingAfter) within.after os T alone k
+      (omega (arith, left-done os T (omega (arith, one, more)), one))
+      (λ ok U x. let e = x in
       closed ok U (e.0, e.1 ∙ ap (λ cs. done (break_from AtStart cs) V) rest ∙ sym (done-append os (break_from AtStart (rest_of (ahead T))) T)))
 
-  pub prefix-law : (T : Tokenizer) → T.attempts ≡ [] → AfterReady T → GoesOn ready ends weight (weight_at 1 T) (line_ending_after_prefix_ends T) (line_ending_after_prefix_step T)
+  pub prefix-law : Law W line_ending_after_prefix_words
   prefix-law T alone k =
-      let P : Stepped → Type 0 = GoesOn ready ends weight (weight_at 1 T) (line_ending_after_prefix_ends T) in
+      let P : Stepped → Type 0 = GoesIn W (weight_at 1 T) (line_ending_after_prefix_ends T) in
       code-step P (current_of T) (λ o. line_ending_after_prefix_at o T)
       (λ e. data-here T alone (next-end (λ v. v == 10) T e))
       (λ c e.
@@ -189,10 +176,10 @@ module _ (ready : StateName → Tokenizer → Type 0) (ends : StateName → Toke
 
   -- At the start of a line.
 
-  plain-here : (T : Tokenizer) → T.attempts ≡ [] → AfterReady T → next_is is_blank (ahead T) ≡ false → GoesOn ready ends weight (weight_at 4 T) (line_ending_after_ends T) (record { state = Retry H.HtmlTextLineEndingAfterPrefix; left = T })
+  plain-here : (T : Tokenizer) → T.attempts ≡ [] → AfterReady T → next_is is_blank (ahead T) ≡ false → GoesIn W (weight_at 4 T) (line_ending_after_ends T) (stepped (Retry H.HtmlTextLineEndingAfterPrefix) T)
   plain-here T alone k h =
-      Goes-plain ready ends weight (weight_at 4 T) (line_ending_after_ends T) (Retry H.HtmlTextLineEndingAfterPrefix) T alone (within.prefix_ready T k) (rw within.prefix_weight (omega arith))
-      (λ ok U x. let e = within.prefix_end T ok U x in (e.0, e.1 ∙ ap (λ os. done os T) (sym (start-plain (ahead T) h))))
+      Goes-plain W (weight_at 4 T) (line_ending_after_ends T) (Retry H.HtmlTextLineEndingAfterPrefix) within.prefix T alone k (omega arith)
+      (λ ok U x. let e = x in (e.0, e.1 ∙ ap (λ os. done os T) (sym (start-plain (ahead T) h))))
 
   never-refused : (T U : Tokenizer) → AfterReady T → next_is is_blank (ahead T) ≡ true → EndsAs (space_or_tab N.SpaceOrTab None 1 most) None T.tokenize_state T false U → ⊥
   never-refused T U k h x = let no = sym (space-there T k h) ∙ x.refused in cc
@@ -204,27 +191,27 @@ module _ (ready : StateName → Tokenizer → Type 0) (ends : StateName → Toke
         ∙ sym (done-append (ops_of (blank_tree T)) (prefix_from (span is_blank (ahead T)).1) T) ∙ ap (λ os. done os T) (sym (start-blank (ahead T) h)),
   )
 
-  pub after-law : (T : Tokenizer) → T.attempts ≡ [] → AfterReady T → GoesOn ready ends weight (weight_at 4 T) (line_ending_after_ends T) (line_ending_after_step T)
+  pub after-law : Law W line_ending_after_words
   after-law T alone k =
       let n : ℕ = weight_at 4 T in
       let E : Bool → Tokenizer → Type 0 = line_ending_after_ends T in
-      let P : Stepped → Type 0 = GoesOn ready ends weight n E in
+      let P : Stepped → Type 0 = GoesIn W n E in
       let A : Tokenizer = scratched (blank_asked T.tokenize_state) T in
       code-step P (current_of T) (λ o. line_ending_after_at o T)
       (λ e. plain-here T alone k (next-end blank_value T e))
       (λ c e. if-step P (blank_value c) _ _
       (λ h. let there : next_is is_blank (ahead T) ≡ true = next-at blank_value T c e ∙ h in
-      Goes-attempt ready ends weight n E (Retry H.SpaceOrTabStart) (Next H.HtmlTextLineEndingAfterPrefix) Nok A (attempts-scratched _ T ∙ alone)
-      (within.space_ready A (asked-ready 1 most N.SpaceOrTab false None T k.spaces.resting (λ x. cc)))
-      (rw within.space_weight (omega (arith, left-scratched (blank_asked T.tokenize_state) T)))
-      (λ U now x. let s : Spaced T U = spaced T U there (space-there T k there) (asked-ends 1 most N.SpaceOrTab false None T k.spaces.resting true U (within.space_end A true U x)) in
-      record { goes_on = within.prefix_ready U (spaced-ready T U k s); falls = rw within.prefix_weight (omega (arith, s.fewer)); closed = λ ok V m. spaced-closed T U there s ok V (within.prefix_end U ok V m) })
-      (λ U now x. absurd (never-refused T U k there (asked-ends 1 most N.SpaceOrTab false None T k.spaces.resting false U (within.space_end A false U x)))))
+      Goes-attempt W n E (Retry H.SpaceOrTabStart) within.space (Next H.HtmlTextLineEndingAfterPrefix) Nok A (attempts-scratched _ T ∙ alone)
+      (asked-ready 1 most N.SpaceOrTab false None T k.spaces.resting (λ x. cc))
+      (omega (arith, left-scratched (blank_asked T.tokenize_state) T))
+      (λ U now x. let s : Spaced T U = spaced T U there (space-there T k there) (asked-ends 1 most N.SpaceOrTab false None T k.spaces.resting true U x) in
+      follows W _ _ (Next H.HtmlTextLineEndingAfterPrefix) within.prefix U (spaced-ready T U k s) (omega (arith, s.fewer)) (λ ok V m. spaced-closed T U there s ok V m))
+      (λ U now x. absurd (never-refused T U k there (asked-ends 1 most N.SpaceOrTab false None T k.spaces.resting false U x))))
       (λ h. plain-here T alone k (next-at blank_value T c e ∙ h)))
 
   -- At a line ending.
 
-  pub before-law : (T : Tokenizer) → T.attempts ≡ [] → BeforeReady T → GoesOn ready ends weight (weight_at 1 T) (line_ending_before_ends T) (line_ending_before_step T)
+  pub before-law : Law W line_ending_before_words
   before-law T alone k =
       let b : Begins 10 (ahead T) = ahead-some T 10 k.ending in
       let more : 1 ≤ length (ahead T) = some-codes T 10 k.ending in

@@ -4,25 +4,26 @@ use Rattle.std.proofs.lemmas.Bool.{eqb-true}
 use Rattle.markdown_engine.specs.Codes.{Code}
 use Rattle.markdown_engine.specs.Lists.{rest_of}
 use Rattle.markdown_engine.specs.Ops.{Op, Consume, current_of, ahead, done, moves, scratched}
-use Rattle.markdown_engine.specs.Runs.{GoesOn, stepped}
+use Rattle.markdown_engine.specs.Runs.{stepped}
 use Rattle.markdown_engine.specs.Weights.{codes_left, weight_at}
 use Rattle.markdown_engine.specs.declared.state.State.TheVariants.{Next, Retry, Nok}
-use Rattle.markdown_engine.specs.declared.state.StateName.{StateName}
 use Rattle.markdown_engine.specs.declared.state.StateName.TheVariants as H
 use Rattle.markdown_engine.specs.declared.tokenizer.TokenizeState.{TokenizeState}
 use Rattle.markdown_engine.specs.declared.tokenizer.Tokenizer.{Tokenizer}
-use Rattle.markdown_engine.proofs.Laws.{Goes-attempt}
 use Rattle.markdown_engine.proofs.OpRules.{ahead-some, Begins, some-codes}
 use Rattle.markdown_engine.proofs.OpsLemmas.{left-done, scratch-done}
 use Rattle.markdown_model.specs.Grammar.{Reading, with_first}
 use Rattle.markdown_construct.specs.Plan.{preceded, DoesAs}
-use Rattle.markdown_construct.proofs.PlanLemmas.{DoesAs-then, Goes-next, Goes-no, kept, preceded-nil}
+use Rattle.markdown_construct.proofs.PlanLemmas.{DoesAs-then, kept, preceded-nil}
 use Rattle.markdown_html.specs.LineOps.{InLine, break_from, text_from, text_of}
 use Rattle.markdown_html.specs.Rests.{Part, Open, DeclarationOpen, CommentOpenInside, Comment, CommentClose, CommentEnd, Cdata, CdataClose, CdataEnd, Declaration, Instruction, InstructionClose, TagCloseStart, TagClose, TagCloseBetween, TagOpen, TagOpenBetween, AttributeName, AttributeNameAfter, ValueBefore, ValueQuotedAfter, ValueUnquoted, End, state_of, reading_of, rank_of}
-use Rattle.markdown_html.specs.HtmlText.{past_code, over_to, broken, InsideReady, PartReady, part_ends}
+use Rattle.markdown_html.specs.HtmlText.{past_code, over_to, broken, InsideReady, PartReady, part_ends, part_words}
 use Rattle.markdown_html.proofs.BreakLemmas.{Goes, text-code, breaks, break-stays, break-depth, break-fits, break-moves}
 use Rattle.markdown_html.proofs.HtmlTextReady.{part-next, part-broken}
 use Rattle.markdown_html.proofs.LineEndingLaws.{Within}
+use Rattle.markdown_engine.specs.StateWords.{Words, GoesIn, StateWords, words_in}
+use Rattle.markdown_construct.proofs.StateLaws.{Goes-attempt, Goes-next, Goes-no, follows, FollowsIn}
+use Rattle.markdown_engine.specs.declared.state.StateName.{StateName}
 
 pub rank-low : (k : Part) → rank_of k < 5
 rank-low Open = omega arith
@@ -63,43 +64,39 @@ not-ending-by p c true e h k = let no : true ≡ false = sym h ∙ ap p (eqb-tru
 pub not-ending : (p : ℕ → Bool) (c : ℕ) → p c ≡ true → p 10 ≡ false → (c == 10) ≡ false
 not-ending p c h k = not-ending-by p c (c == 10) refl h k
 
-module _ (ready : StateName → Tokenizer → Type 0) (ends : StateName → Tokenizer → Bool → Tokenizer → Type 0) (weight : StateName → Tokenizer → ℕ) (within : Within ready ends weight) where
-  pub part-past : (k j : Part) (T : Tokenizer) (c : ℕ) → T.attempts ≡ [] → PartReady T → (e : current_of T ≡ Some c) → (c == 10) ≡ false → reading_of k ((ahead-some T c e).code ∷ rest_of (ahead T)) ≡ with_first (ahead-some T c e).code (reading_of j (rest_of (ahead T))) → GoesOn ready ends weight (weight_at (rank_of k) T) (part_ends k T) (past_code (state_of j) T)
+module _ (W : Words) (within : Within W) where
+  pub part-past : (k j : Part) (T : Tokenizer) (c : ℕ) → T.attempts ≡ [] → PartReady T → (e : current_of T ≡ Some c) → (c == 10) ≡ false → reading_of k ((ahead-some T c e).code ∷ rest_of (ahead T)) ≡ with_first (ahead-some T c e).code (reading_of j (rest_of (ahead T))) → GoesIn W (weight_at (rank_of k) T) (part_ends k T) (past_code (state_of j) T)
   part-past k j T c alone r e h same =
       let more : 1 ≤ length (ahead T) = some-codes T c e in
-      Goes-next ready ends weight (rank_of k) (rank_of j) 2 (text_of (reading_of k)) (text_of (reading_of j)) (Consume ∷ []) T (Next (state_of j)) alone refl more (omega (arith, rank-low j)) (text-next (reading_of k) (reading_of j) T c e h same) (within.part_ready j _ (part-next T more r)) (within.part_weight j _)
-      (λ ok U x. within.part_end j _ ok U x)
+      Goes-next W (rank_of k) 2 (text_of (reading_of k)) (text_of (reading_of j)) (Consume ∷ []) T (Next (state_of j)) (within.parts j) alone refl more (omega (arith, rank-low j)) (text-next (reading_of k) (reading_of j) T c e h same) (part-next T more r)
+      (λ ok U x. x)
 
-  pub part-over : (k j : Part) (T : Tokenizer) → T.attempts ≡ [] → PartReady T → rank_of j < rank_of k → reading_of k (ahead T) ≡ reading_of j (ahead T) → GoesOn ready ends weight (weight_at (rank_of k) T) (part_ends k T) (over_to (state_of j) T)
+  pub part-over : (k j : Part) (T : Tokenizer) → T.attempts ≡ [] → PartReady T → rank_of j < rank_of k → reading_of k (ahead T) ≡ reading_of j (ahead T) → GoesIn W (weight_at (rank_of k) T) (part_ends k T) (over_to (state_of j) T)
   part-over k j T alone r lower same =
-      Goes-next ready ends weight (rank_of k) (rank_of j) 2 (text_of (reading_of k)) (text_of (reading_of j)) [] T (Retry (state_of j)) alone refl (omega arith) (omega (arith, lower)) (ap (text_from InLine) same ∙ preceded-nil (text_of (reading_of j) (ahead T))) (within.part_ready j T r) (within.part_weight j T)
-      (λ ok U x. within.part_end j T ok U x)
+      Goes-next W (rank_of k) 2 (text_of (reading_of k)) (text_of (reading_of j)) [] T (Retry (state_of j)) (within.parts j) alone refl (omega arith) (omega (arith, lower)) (ap (text_from InLine) same ∙ preceded-nil (text_of (reading_of j) (ahead T))) r
+      (λ ok U x. x)
 
-  pub part-fails : (k : Part) (T : Tokenizer) → T.attempts ≡ [] → reading_of k (ahead T) ≡ None → GoesOn ready ends weight (weight_at (rank_of k) T) (part_ends k T) (stepped Nok T)
-  part-fails k T alone none = Goes-no ready ends weight (rank_of k) 2 (text_of (reading_of k)) T alone (ap (text_from InLine) none)
+  pub part-fails : (k : Part) (T : Tokenizer) → T.attempts ≡ [] → reading_of k (ahead T) ≡ None → GoesIn W (weight_at (rank_of k) T) (part_ends k T) (stepped Nok T)
+  part-fails k T alone none = Goes-no W (rank_of k) 2 (text_of (reading_of k)) T alone (ap (text_from InLine) none)
 
   -- past a line ending and the whitespace after it
-  pub text-broken : (k : ℕ) (r : Reading (List Code)) (s : TokenizeState) (st : StateName) (T : Tokenizer) → 1 < k → k < 5 → Goes r → T.attempts ≡ [] → InsideReady T → current_of T ≡ Some 10 → ready st (done (break_from InLine (ahead T)) T) → weight st (done (break_from InLine (ahead T)) T) ≡ weight_at k (done (break_from InLine (ahead T)) T) → ((ok : Bool) (U : Tokenizer) → ends st (done (break_from InLine (ahead T)) T) ok U → DoesAs 2 (text_of r) s (done (break_from InLine (ahead T)) T) ok U) → GoesOn ready ends weight (weight_at k T) (DoesAs 2 (text_of r) s T) (broken st T)
-  text-broken k r s st T high low g alone inside e on w closed =
+  pub text-broken : (k : ℕ) (r : Reading (List Code)) (s : TokenizeState) (st : StateName) {w : StateWords} → words_in W st ≡ w → (T : Tokenizer) → 1 < k → k < 5 → w.rank ≡ k → Goes r → T.attempts ≡ [] → InsideReady T → current_of T ≡ Some 10 → w.ready (done (break_from InLine (ahead T)) T) → ((ok : Bool) (U : Tokenizer) → w.ends (done (break_from InLine (ahead T)) T) ok U → DoesAs 2 (text_of r) s (done (break_from InLine (ahead T)) T) ok U) → GoesIn W (weight_at k T) (DoesAs 2 (text_of r) s T) (broken st T)
+  text-broken k r s st {w} say T high low level g alone inside e on closed =
       let os : List Op = break_from InLine (ahead T) in
       let V : Tokenizer = done os T in
+      let E : Bool → Tokenizer → Type 0 = DoesAs 2 (text_of r) s T in
       let b : Begins 10 (ahead T) = ahead-some T 10 e in
       let some : 1 ≤ moves os = subst (λ cs. 1 ≤ moves (break_from InLine cs)) (sym b.whole) (break-moves InLine b.code (rest_of (ahead T)) (ap (λ v. v == 10) b.value)) in
       let fewer : codes_left V + moves os ≡ codes_left T = left-done os T (break-fits InLine (ahead T)) in
-      let falls : weight st V < weight_at k T = subst (λ n. n < weight_at k T) (sym w) (omega (arith, some, fewer)) in
-      Goes-attempt ready ends weight (weight_at k T) (DoesAs 2 (text_of r) s T) (Retry H.HtmlTextLineEndingBefore) (Next st) Nok T alone (within.before_ready T (record { inside = inside; ending = e })) (rw within.before_weight (omega (arith, high)))
-      (λ U now x. let is : U ≡ V = (within.before_end T true U x).1 in
-      record {
-        goes_on = subst (λ (y : Tokenizer). ready st y) (sym is) on;
-        falls = subst (λ (y : Tokenizer). weight st y < weight_at k T) (sym is) falls;
-        closed = λ ok W m.
-            DoesAs-then 2 (text_of r) (text_of r) os s T.tokenize_state T (break-stays (ahead T)) (breaks r g InLine (ahead T)) ok W
-            (subst (λ (d : ℕ). DoesAs d (text_of r) s (scratched T.tokenize_state V) ok W) (sym (break-depth (ahead T)))
-            (subst (λ (y : Tokenizer). DoesAs 2 (text_of r) s y ok W) (sym (kept os T)) (closed ok W (subst (λ (y : Tokenizer). ends st y ok W) is m))));
-      })
-      (λ U now x. let no : false ≡ true = (within.before_end T false U x).0 in cc)
+      Goes-attempt W (weight_at k T) E (Retry H.HtmlTextLineEndingBefore) within.before (Next st) Nok T alone (record { inside = inside; ending = e }) (omega (arith, high))
+      (λ U now x. subst (λ (y : Tokenizer). FollowsIn W (weight_at k T) E (Next st) y) (sym x.1)
+      (follows W _ _ (Next st) {w = w} say V on (omega (arith, some, fewer, level)) (λ ok X m.
+      DoesAs-then 2 (text_of r) (text_of r) os s T.tokenize_state T (break-stays (ahead T)) (breaks r g InLine (ahead T)) ok X
+      (subst (λ (d : ℕ). DoesAs d (text_of r) s (scratched T.tokenize_state V) ok X) (sym (break-depth (ahead T)))
+      (subst (λ (y : Tokenizer). DoesAs 2 (text_of r) s y ok X) (sym (kept os T)) (closed ok X m))))))
+      (λ U now x. let no : false ≡ true = x.0 in cc)
 
-  pub part-broken-on : (k : Part) (T : Tokenizer) → 1 < rank_of k → Goes (reading_of k) → T.attempts ≡ [] → PartReady T → current_of T ≡ Some 10 → GoesOn ready ends weight (weight_at (rank_of k) T) (part_ends k T) (broken (state_of k) T)
+  pub part-broken-on : (k : Part) (T : Tokenizer) → 1 < rank_of k → Goes (reading_of k) → T.attempts ≡ [] → PartReady T → current_of T ≡ Some 10 → GoesIn W (weight_at (rank_of k) T) (part_ends k T) (broken (state_of k) T)
   part-broken-on k T high g alone r e =
-      text-broken (rank_of k) (reading_of k) T.tokenize_state (state_of k) T high (rank-low k) g alone r.inside e (within.part_ready k _ (part-broken T r)) (within.part_weight k _)
-      (λ ok U x. subst (λ (s : TokenizeState). DoesAs 2 (text_of (reading_of k)) s (done (break_from InLine (ahead T)) T) ok U) (scratch-done (break_from InLine (ahead T)) T) (within.part_end k _ ok U x))
+      text-broken (rank_of k) (reading_of k) T.tokenize_state (state_of k) (within.parts k) T high (rank-low k) refl g alone r.inside e (part-broken T r)
+      (λ ok U x. subst (λ (s : TokenizeState). DoesAs 2 (text_of (reading_of k)) s (done (break_from InLine (ahead T)) T) ok U) (scratch-done (break_from InLine (ahead T)) T) x)

@@ -3,40 +3,40 @@ use Rattle.std.proofs.Common.{◌≡◌, ℕ, ◌≤◌, ◌==◌, ◌&&◌, Boo
 use Rattle.std.proofs.lemmas.Bool.{eqb-true}
 use Rattle.markdown_engine.specs.Lists.{rest_of}
 use Rattle.markdown_engine.specs.Ops.{current_of, ahead}
-use Rattle.markdown_engine.specs.Runs.{Stepped, GoesOn}
+use Rattle.markdown_engine.specs.Runs.{Stepped}
 use Rattle.markdown_engine.specs.Weights.{weight_at}
 use Rattle.markdown_engine.specs.declared.state.State.TheVariants.{Next}
-use Rattle.markdown_engine.specs.declared.state.StateName.{StateName}
 use Rattle.markdown_engine.specs.declared.state.StateName.TheVariants as H
 use Rattle.markdown_engine.specs.declared.tokenizer.Tokenizer.{Tokenizer}
 use Rattle.markdown_engine.proofs.Laws.{code-step, if-step}
 use Rattle.markdown_engine.proofs.OpRules.{ahead-none, ahead-some, Begins, some-codes}
 use Rattle.markdown_construct.specs.Plan.{Plan, plan_of, KeepsAs}
-use Rattle.markdown_construct.proofs.PlanLemmas.{GoesOn-map, Goes-next, Goes-no, EndsAs-plan}
-use Rattle.markdown_html.specs.HtmlText.{is_on, opening, start_at, start_step, StartReady, html_here, start_ends}
+use Rattle.markdown_construct.proofs.PlanLemmas.{EndsAs-plan}
+use Rattle.markdown_html.specs.HtmlText.{is_on, opening, start_at, start_step, StartReady, html_here, start_ends, start_words}
 use Rattle.markdown_html.specs.LineOps.{text_of}
 use Rattle.markdown_html.specs.Rests.{Open, open_rest}
 use Rattle.markdown_html.proofs.HtmlTextReady.{start-opened}
 use Rattle.markdown_html.proofs.HtmlTextWhole.{whole-html, html-opens, no-html}
 use Rattle.markdown_html.proofs.LineEndingLaws.{Within}
 use Rattle.markdown_model.proofs.ReadingSteps.{and-left, and-right, and-false}
+use Rattle.markdown_engine.specs.StateWords.{Words, Law, GoesIn}
+use Rattle.markdown_construct.proofs.StateLaws.{GoesOn-map, Goes-next, Goes-no}
 
-pub start-law : (ready : StateName → Tokenizer → Type 0) (ends : StateName → Tokenizer → Bool → Tokenizer → Type 0) (weight : StateName → Tokenizer → ℕ) → Within ready ends weight → (T : Tokenizer) → T.attempts ≡ [] → StartReady T → GoesOn ready ends weight (weight_at 3 T) (start_ends T) (start_step T)
-start-law ready ends weight within T alone r =
+pub start-law : (W : Words) → Within W → Law W start_words
+start-law W within T alone r =
     let p : Plan = plan_of (html_here T) in
     let E : Bool → Tokenizer → Type 0 = KeepsAs 0 p T in
-    let P : Stepped → Type 0 = GoesOn ready ends weight (weight_at 3 T) E in
-    GoesOn-map ready ends weight (weight_at 3 T) E (start_ends T) (start_step T) (λ ok U x. EndsAs-plan (html_here T) (whole-html (is_on T)) T.tokenize_state T ok U x)
+    let P : Stepped → Type 0 = GoesIn W (weight_at 3 T) E in
+    GoesOn-map W (weight_at 3 T) E (start_ends T) (start_step T) (λ ok U x. EndsAs-plan (html_here T) (whole-html (is_on T)) T.tokenize_state T ok U x)
     (code-step P (current_of T) (λ o. start_at o T)
-    (λ e. Goes-no ready ends weight 3 0 p T alone (ap p (ahead-none T e) ∙ no-html (is_on T) [] (and-false (is_on T))))
+    (λ e. Goes-no W 3 0 p T alone (ap p (ahead-none T e) ∙ no-html (is_on T) [] (and-false (is_on T))))
     (λ c e.
     let b : Begins c (ahead T) = ahead-some T c e in
     let more : 1 ≤ length (ahead T) = some-codes T c e in
     if-step P (is_on T && (c == 60)) _ _
     (λ h. let bracket : (c == 60) ≡ true = and-right (is_on T) _ h in
-    Goes-next ready ends weight 3 2 0 p (text_of open_rest) opening T (Next H.HtmlTextOpen) alone refl more (omega arith)
+    Goes-next W 3 0 p (text_of open_rest) opening T (Next H.HtmlTextOpen) (within.parts Open) alone refl more (omega arith)
     (ap p b.whole ∙ html-opens (is_on T) b.code (rest_of (ahead T)) (and-left (is_on T) _ h) (ap (λ v. v == 60) b.value ∙ bracket) (ap (λ v. v == 10) (b.value ∙ eqb-true c 60 bracket)))
-    (within.part_ready Open _ (start-opened T more r))
-    (within.part_weight Open _)
-    (λ ok U x. within.part_end Open _ ok U x))
-    (λ h. Goes-no ready ends weight 3 0 p T alone (ap p b.whole ∙ no-html (is_on T) (b.code ∷ rest_of (ahead T)) (ap (λ v. is_on T && (v == 60)) b.value ∙ h)))))
+    (start-opened T more r)
+    (λ ok U x. x))
+    (λ h. Goes-no W 3 0 p T alone (ap p b.whole ∙ no-html (is_on T) (b.code ∷ rest_of (ahead T)) (ap (λ v. is_on T && (v == 60)) b.value ∙ h)))))

@@ -19,8 +19,9 @@ use Rattle.markdown_construct.specs.Values.{letter_value, among_values}
 use Rattle.markdown_construct.specs.Plan.{DoesAs, KeepsAs}
 use Rattle.markdown_construct.specs.Scratch.{AreOpen, with_size}
 use Rattle.markdown_html.specs.LineOps.{InLine, AtStart, break_from, prefix_from, ending_ops, text_of}
-use Rattle.markdown_html.specs.Rests.{Part, reading_of, quoted_rest, cdata_opening}
+use Rattle.markdown_html.specs.Rests.{Part, reading_of, quoted_rest, cdata_opening, rank_of, Open, DeclarationOpen, CommentOpenInside, Comment, CommentClose, CommentEnd, Cdata, CdataClose, CdataEnd, Declaration, Instruction, InstructionClose, TagCloseStart, TagClose, TagCloseBetween, TagOpen, TagOpenBetween, AttributeName, AttributeNameAfter, ValueBefore, ValueQuotedAfter, ValueUnquoted, End}
 use Rattle.markdown_html.specs.Values.{blank_value, whitespace_value, name_value, attribute_first_value, attribute_rest_value, after_value, barred_value}
+use Rattle.markdown_engine.specs.StateWords.{StateWords}
 
 abbrev pub is_on : Tokenizer → Bool
 is_on T = T.parse_state.now.options.now.constructs.html_text
@@ -429,3 +430,52 @@ line_ending_after_ends T ok U = (ok ≡ true) × (U ≡ done (break_from AtStart
 
 abbrev pub line_ending_after_prefix_ends : Tokenizer → Bool → Tokenizer → Type 0
 line_ending_after_prefix_ends T ok U = (ok ≡ true) × (U ≡ done (prefix_from (ahead T)) T)
+
+-- The states.
+
+-- what the states that leave the scratch fields alone do
+abbrev pub part_step : Part → Tokenizer → Stepped
+part_step Open = open_step
+part_step DeclarationOpen = declaration_open_step
+part_step CommentOpenInside = comment_open_inside_step
+part_step Comment = comment_step
+part_step CommentClose = comment_close_step
+part_step CommentEnd = comment_end_step
+part_step Cdata = cdata_step
+part_step CdataClose = cdata_close_step
+part_step CdataEnd = cdata_end_step
+part_step Declaration = declaration_step
+part_step Instruction = instruction_step
+part_step InstructionClose = instruction_close_step
+part_step TagCloseStart = tag_close_start_step
+part_step TagClose = tag_close_step
+part_step TagCloseBetween = tag_close_between_step
+part_step TagOpen = tag_open_step
+part_step TagOpenBetween = tag_open_between_step
+part_step AttributeName = tag_open_attribute_name_step
+part_step AttributeNameAfter = tag_open_attribute_name_after_step
+part_step ValueBefore = tag_open_attribute_value_before_step
+part_step ValueQuotedAfter = tag_open_attribute_value_quoted_after_step
+part_step ValueUnquoted = tag_open_attribute_value_unquoted_step
+part_step End = end_step
+
+abbrev pub part_words : Part → StateWords
+part_words k = record { ready = PartReady; step = part_step k; ends = part_ends k; rank = rank_of k }
+
+abbrev pub start_words : StateWords
+start_words = record { ready = StartReady; step = start_step; ends = start_ends; rank = 3 }
+
+abbrev pub cdata_open_inside_words : StateWords
+cdata_open_inside_words = record { ready = CdataReady; step = cdata_open_inside_step; ends = cdata_open_inside_ends; rank = 2 }
+
+abbrev pub tag_open_attribute_value_quoted_words : StateWords
+tag_open_attribute_value_quoted_words = record { ready = QuotedReady; step = tag_open_attribute_value_quoted_step; ends = quoted_ends; rank = 2 }
+
+abbrev pub line_ending_before_words : StateWords
+line_ending_before_words = record { ready = BeforeReady; step = line_ending_before_step; ends = line_ending_before_ends; rank = 1 }
+
+abbrev pub line_ending_after_words : StateWords
+line_ending_after_words = record { ready = AfterReady; step = line_ending_after_step; ends = line_ending_after_ends; rank = 4 }
+
+abbrev pub line_ending_after_prefix_words : StateWords
+line_ending_after_prefix_words = record { ready = AfterReady; step = line_ending_after_prefix_step; ends = line_ending_after_prefix_ends; rank = 1 }

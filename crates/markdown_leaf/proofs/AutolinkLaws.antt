@@ -6,13 +6,12 @@ use Rattle.std.proofs.lemmas.Grind.{common_steps}
 use Rattle.markdown_engine.specs.Codes.{Code}
 use Rattle.markdown_engine.specs.Lists.{rest_of}
 use Rattle.markdown_engine.specs.Ops.{Op, Consume, current_of, ahead, applied, done, scratched}
-use Rattle.markdown_engine.specs.Runs.{Stepped, GoesOn, stepped}
+use Rattle.markdown_engine.specs.Runs.{Stepped, stepped}
 use Rattle.markdown_engine.specs.Weights.{weight_at}
 use Rattle.markdown_engine.specs.declared.event.Name.{Name}
 use Rattle.markdown_engine.specs.declared.event.Name.TheVariants as N
 use Rattle.markdown_engine.specs.declared.state.State.TheVariants.{Next, Retry}
 use Rattle.markdown_engine.specs.declared.state.State.TheVariants as State
-use Rattle.markdown_engine.specs.declared.state.StateName.{StateName}
 use Rattle.markdown_engine.specs.declared.state.StateName.TheVariants.{AutolinkOpen, AutolinkSchemeOrEmailAtext, AutolinkSchemeInsideOrEmailAtext, AutolinkUrlInside, AutolinkEmailAtext, AutolinkEmailAtSignOrDot, AutolinkEmailLabel, AutolinkEmailValue}
 use Rattle.markdown_engine.specs.declared.tokenizer.TokenizeState.{TokenizeState}
 use Rattle.markdown_engine.specs.declared.tokenizer.Tokenizer.{Tokenizer}
@@ -22,43 +21,19 @@ use Rattle.markdown_model.specs.CodeTests.{is_value, is_alphanumeric, is_letter,
 use Rattle.markdown_model.specs.Grammar.{any_number}
 use Rattle.markdown_model.specs.Leaf.{uri, email_address, is_scheme_code, is_uri_code, is_local_code}
 use Rattle.markdown_construct.specs.Values.{letter_value, alphanumeric_value}
-use Rattle.markdown_leaf.specs.Autolink.{scheme_value, local_value, uri_value, is_on, opening, ending, start_at, start_step, open_at, open_step, scheme_or_at, scheme_or_step, scheme_inside_at, scheme_inside_step, url_inside_at, url_inside_step, email_atext_at, email_atext_step, email_at_sign_or_dot_at, email_at_sign_or_dot_step, in_label_at, email_value_step, email_label_at, email_label_step, InsideReady, SchemeReady, LabelReady, link_here, start_ends, ended, up_to_bracket, or_else, scheme_rest, local_rest, domains, is_label_code, label_rest, open_naming, scheme_naming, open_ends, scheme_or_ends, scheme_inside_ends, url_inside_ends, email_atext_ends, email_at_sign_or_dot_ends, email_label_ends, email_value_ends}
+use Rattle.markdown_leaf.specs.Autolink.{scheme_value, local_value, uri_value, is_on, opening, ending, start_at, start_step, open_at, open_step, scheme_or_at, scheme_or_step, scheme_inside_at, scheme_inside_step, url_inside_at, url_inside_step, email_atext_at, email_atext_step, email_at_sign_or_dot_at, email_at_sign_or_dot_step, in_label_at, email_value_step, email_label_at, email_label_step, InsideReady, SchemeReady, LabelReady, link_here, start_ends, ended, up_to_bracket, or_else, scheme_rest, local_rest, domains, is_label_code, label_rest, open_naming, scheme_naming, open_ends, scheme_or_ends, scheme_inside_ends, url_inside_ends, email_atext_ends, email_at_sign_or_dot_ends, email_label_ends, email_value_ends, states, email_at_sign_or_dot_words, email_atext_words, email_label_words, email_value_words, open_words, scheme_inside_words, scheme_or_words, start_words, url_inside_words}
 use Rattle.markdown_construct.specs.Plan.{Plan, preceded, plan_of, DoesAs, KeepsAs}
 use Rattle.markdown_construct.specs.Scratch.{with_size}
 use Rattle.markdown_construct.specs.Renaming.{Naming, NamesAs, renamed, preceded_by, opening_of}
 use Rattle.markdown_leaf.proofs.AutolinkReadings.{bracket-next, or-next, scheme-more, scheme-colon, scheme-here, scheme-other, scheme-long, uri-first, uri-none, url-more, url-end, local-more, local-at, local-other, email-first, email-none, label-more, label-long, label-unended, label-ended, domains-first, domains-none}
 use Rattle.markdown_leaf.proofs.AutolinkWhole.{whole-link, ended-here, ended-other, more-none, more-dot, bracket_ops, link-here, no-link}
-use Rattle.markdown_construct.proofs.NamingLemmas.{renamed-entered, renamed-consumed, renamed-scratched, Goes-inside, Goes-inside-kept, Goes-over, Goes-refused, Goes-named, Goes-to, DoesAs-entered}
-use Rattle.markdown_construct.proofs.PlanLemmas.{GoesOn-map, Goes-no, EndsAs-plan, DoesAs-then, kept}
+use Rattle.markdown_construct.proofs.NamingLemmas.{renamed-entered, renamed-consumed, renamed-scratched, DoesAs-entered}
+use Rattle.markdown_construct.proofs.PlanLemmas.{EndsAs-plan, DoesAs-then, kept}
 use Rattle.markdown_leaf.proofs.RawTextReady.{some-event}
 use Rattle.markdown_model.proofs.ReadingSteps.{and-left, and-right, and-false}
-
--- what the layer says of these states
-pub record Within (ready : StateName → Tokenizer → Type 0) (ends : StateName → Tokenizer → Bool → Tokenizer → Type 0) (weight : StateName → Tokenizer → ℕ) : Type 0 where
-  pub open_ready : (T : Tokenizer) → InsideReady T → ready AutolinkOpen T
-  pub open_end : (T : Tokenizer) (ok : Bool) (U : Tokenizer) → ends AutolinkOpen T ok U → open_ends T ok U
-  pub open_weight : (T : Tokenizer) → weight AutolinkOpen T ≡ weight_at 2 T
-  pub scheme_or_ready : (T : Tokenizer) → InsideReady T → ready AutolinkSchemeOrEmailAtext T
-  pub scheme_or_end : (T : Tokenizer) (ok : Bool) (U : Tokenizer) → ends AutolinkSchemeOrEmailAtext T ok U → scheme_or_ends T ok U
-  pub scheme_or_weight : (T : Tokenizer) → weight AutolinkSchemeOrEmailAtext T ≡ weight_at 2 T
-  pub scheme_inside_ready : (T : Tokenizer) → SchemeReady T → ready AutolinkSchemeInsideOrEmailAtext T
-  pub scheme_inside_end : (T : Tokenizer) (ok : Bool) (U : Tokenizer) → ends AutolinkSchemeInsideOrEmailAtext T ok U → scheme_inside_ends T ok U
-  pub scheme_inside_weight : (T : Tokenizer) → weight AutolinkSchemeInsideOrEmailAtext T ≡ weight_at 2 T
-  pub url_inside_ready : (T : Tokenizer) → InsideReady T → ready AutolinkUrlInside T
-  pub url_inside_end : (T : Tokenizer) (ok : Bool) (U : Tokenizer) → ends AutolinkUrlInside T ok U → url_inside_ends T ok U
-  pub url_inside_weight : (T : Tokenizer) → weight AutolinkUrlInside T ≡ weight_at 1 T
-  pub email_atext_ready : (T : Tokenizer) → InsideReady T → ready AutolinkEmailAtext T
-  pub email_atext_end : (T : Tokenizer) (ok : Bool) (U : Tokenizer) → ends AutolinkEmailAtext T ok U → email_atext_ends T ok U
-  pub email_atext_weight : (T : Tokenizer) → weight AutolinkEmailAtext T ≡ weight_at 1 T
-  pub email_at_sign_or_dot_ready : (T : Tokenizer) → InsideReady T → ready AutolinkEmailAtSignOrDot T
-  pub email_at_sign_or_dot_end : (T : Tokenizer) (ok : Bool) (U : Tokenizer) → ends AutolinkEmailAtSignOrDot T ok U → email_at_sign_or_dot_ends T ok U
-  pub email_at_sign_or_dot_weight : (T : Tokenizer) → weight AutolinkEmailAtSignOrDot T ≡ weight_at 1 T
-  pub email_label_ready : (T : Tokenizer) → LabelReady T → ready AutolinkEmailLabel T
-  pub email_label_end : (T : Tokenizer) (ok : Bool) (U : Tokenizer) → ends AutolinkEmailLabel T ok U → email_label_ends T ok U
-  pub email_label_weight : (T : Tokenizer) → weight AutolinkEmailLabel T ≡ weight_at 1 T
-  pub email_value_ready : (T : Tokenizer) → LabelReady T → ready AutolinkEmailValue T
-  pub email_value_end : (T : Tokenizer) (ok : Bool) (U : Tokenizer) → ends AutolinkEmailValue T ok U → email_value_ends T ok U
-  pub email_value_weight : (T : Tokenizer) → weight AutolinkEmailValue T ≡ weight_at 1 T
+use Rattle.markdown_engine.specs.StateWords.{Words, Law, GoesIn}
+use Rattle.markdown_construct.proofs.StateLaws.{GoesOn-map, Goes-to, Goes-inside, Goes-inside-kept, Goes-over, Goes-no, Goes-named, Goes-refused}
+use Rattle.markdown_construct.specs.Within.{Within}
 
 -- Tests.
 
@@ -129,40 +104,40 @@ open-says : (T : Tokenizer) (ok : Bool) (U : Tokenizer) → T.tokenize_state.siz
 unfolding applied
 open-says T ok U k x = subst (λ (s : TokenizeState). NamesAs 1 open_naming s (done opening T) ok U) (ap (λ n. with_size n T.tokenize_state) (sym k)) x
 
-module _ (ready : StateName → Tokenizer → Type 0) (ends : StateName → Tokenizer → Bool → Tokenizer → Type 0) (weight : StateName → Tokenizer → ℕ) (within : Within ready ends weight) where
-  pub open-law : (T : Tokenizer) → T.attempts ≡ [] → InsideReady T → GoesOn ready ends weight (weight_at 2 T) (open_ends T) (open_step T)
+module _ (W : Words) (within : Within states W) where
+  pub open-law : Law W open_words
   unfolding applied scratched
   open-law T alone k =
       let s : TokenizeState = with_size 0 T.tokenize_state in
-      let P : Stepped → Type 0 = GoesOn ready ends weight (weight_at 2 T) (open_ends T) in
+      let P : Stepped → Type 0 = GoesIn W (weight_at 2 T) (open_ends T) in
       let none : (cs : List Code) → next_is is_letter cs ≡ false → next_is is_local_code cs ≡ false → open_naming cs ≡ None = λ cs h l. or-right (up_to_bracket N.AutolinkProtocol uri cs) (up_to_bracket N.AutolinkEmail email_address cs) None (ap (ended N.AutolinkProtocol) (uri-none cs h)) (ap (ended N.AutolinkEmail) (email-none cs l)) in
       code-step P (current_of T) (λ o. open_at o T)
-      (λ e. Goes-refused ready ends weight 2 1 open_naming s T alone (ap open_naming (ahead-none T e) ∙ none [] refl refl))
+      (λ e. Goes-refused W 2 1 open_naming s T alone (ap open_naming (ahead-none T e) ∙ none [] refl refl))
       (λ c e.
       let b : Begins c (ahead T) = ahead-some T c e in
       let cs : List Code = rest_of (ahead T) in
       let more : 1 ≤ length (ahead T) = some-codes T c e in
       if-step P (letter_value c) _ _
       (λ h. let letter : is_letter b.code ≡ true = ap letter_value b.value ∙ h in
-      Goes-inside-kept ready ends weight 2 2 1 open_naming (scheme_naming 1) s T (Next AutolinkSchemeOrEmailAtext) alone refl more (omega arith)
+      Goes-inside-kept W 2 1 open_naming (scheme_naming 1) s T (Next AutolinkSchemeOrEmailAtext) (within AutolinkSchemeOrEmailAtext) alone refl more (omega arith)
       (ap open_naming b.whole ∙ or-both (Consume ∷ []) _ _ _ _ (bracket-next N.AutolinkProtocol uri (scheme_rest 1) b.code cs (uri-first b.code cs letter)) (bracket-next N.AutolinkEmail email_address local_rest b.code cs (email-first b.code cs (letter-local b.code letter))))
-      (within.scheme_or_ready _ (inside-kept T k)) (within.scheme_or_weight _) (λ ok U x. within.scheme_or_end _ ok U x))
+      (inside-kept T k) (λ ok U x. x))
       (λ h. let letter : is_letter b.code ≡ false = ap letter_value b.value ∙ h in
       if-step P (local_value c) _ _
-      (λ l. Goes-inside-kept ready ends weight 2 1 1 open_naming (up_to_bracket N.AutolinkEmail local_rest) s T (Next AutolinkEmailAtext) alone refl more (omega arith)
+      (λ l. Goes-inside-kept W 2 1 open_naming (up_to_bracket N.AutolinkEmail local_rest) s T (Next AutolinkEmailAtext) (within AutolinkEmailAtext) alone refl more (omega arith)
       (ap open_naming b.whole ∙ or-right _ _ _ (ap (ended N.AutolinkProtocol) (uri-none (b.code ∷ cs) letter)) (bracket-next N.AutolinkEmail email_address local_rest b.code cs (email-first b.code cs (ap local_value b.value ∙ l))))
-      (within.email_atext_ready _ (inside-kept T k)) (within.email_atext_weight _) (λ ok U x. within.email_atext_end _ ok U x))
-      (λ l. Goes-refused ready ends weight 2 1 open_naming s T alone (ap open_naming b.whole ∙ none (b.code ∷ cs) letter (ap local_value b.value ∙ l)))))
+      (inside-kept T k) (λ ok U x. x))
+      (λ l. Goes-refused W 2 1 open_naming s T alone (ap open_naming b.whole ∙ none (b.code ∷ cs) letter (ap local_value b.value ∙ l)))))
 
-  pub scheme_or-law : (T : Tokenizer) → T.attempts ≡ [] → InsideReady T → GoesOn ready ends weight (weight_at 2 T) (scheme_or_ends T) (scheme_or_step T)
+  pub scheme_or-law : Law W scheme_or_words
   unfolding applied scratched
   scheme_or-law T alone k =
       let s : TokenizeState = with_size 0 T.tokenize_state in
-      let P : Stepped → Type 0 = GoesOn ready ends weight (weight_at 2 T) (scheme_or_ends T) in
+      let P : Stepped → Type 0 = GoesIn W (weight_at 2 T) (scheme_or_ends T) in
       let other : next_is is_scheme_code (ahead T) ≡ false → P (stepped (Retry AutolinkEmailAtext) T) = λ h.
-      Goes-over ready ends weight 2 1 1 (scheme_naming 1) (up_to_bracket N.AutolinkEmail local_rest) s T (Retry AutolinkEmailAtext) alone (omega arith)
+      Goes-over W 2 1 (scheme_naming 1) (up_to_bracket N.AutolinkEmail local_rest) s T (Retry AutolinkEmailAtext) (within AutolinkEmailAtext) alone (omega arith)
       (or-right _ _ _ (ap (ended N.AutolinkProtocol) (scheme-here 1 (ahead T) h)) refl)
-      (within.email_atext_ready _ k) (within.email_atext_weight _) (λ ok U x. within.email_atext_end _ ok U x) in
+      k (λ ok U x. x) in
       code-step P (current_of T) (λ o. scheme_or_at o T)
       (λ e. other (ap (λ cs. next_is is_scheme_code cs) (ahead-none T e)))
       (λ c e.
@@ -170,21 +145,21 @@ module _ (ready : StateName → Tokenizer → Type 0) (ends : StateName → Toke
       let cs : List Code = rest_of (ahead T) in
       if-step P (scheme_value c) _ _
       (λ h. let here : is_scheme_code b.code ≡ true = ap scheme_value b.value ∙ h in
-      Goes-inside ready ends weight 2 2 1 (scheme_naming 1) (scheme_naming 2) s (with_size 2 T.tokenize_state) T (Next AutolinkSchemeInsideOrEmailAtext) alone refl (some-codes T c e) (omega arith)
+      Goes-inside W 2 1 (scheme_naming 1) (scheme_naming 2) s (with_size 2 T.tokenize_state) T (Next AutolinkSchemeInsideOrEmailAtext) (within AutolinkSchemeInsideOrEmailAtext) alone refl (some-codes T c e) (omega arith)
       (ap (scheme_naming 1) b.whole ∙ or-both (Consume ∷ []) _ _ _ _ (bracket-next N.AutolinkProtocol (scheme_rest 1) (scheme_rest 2) b.code cs (scheme-more 1 b.code cs here)) (bracket-next N.AutolinkEmail local_rest local_rest b.code cs (local-more b.code cs (scheme-local b.code.value here))))
-      (within.scheme_inside_ready _ (record { inside = inside-next (with_size 2 T.tokenize_state) T k; least = omega arith; most = omega arith })) (within.scheme_inside_weight _) (λ ok U x. within.scheme_inside_end _ ok U x))
+      (record { inside = inside-next (with_size 2 T.tokenize_state) T k; least = omega arith; most = omega arith }) (λ ok U x. x))
       (λ h. other (ap (λ xs. next_is is_scheme_code xs) b.whole ∙ ap scheme_value b.value ∙ h)))
 
-  pub scheme_inside-law : (T : Tokenizer) → T.attempts ≡ [] → SchemeReady T → GoesOn ready ends weight (weight_at 2 T) (scheme_inside_ends T) (scheme_inside_step T)
+  pub scheme_inside-law : Law W scheme_inside_words
   unfolding applied scratched
   scheme_inside-law T alone k =
       let n : ℕ = T.tokenize_state.size in
       let s : TokenizeState = with_size 0 T.tokenize_state in
-      let P : Stepped → Type 0 = GoesOn ready ends weight (weight_at 2 T) (scheme_inside_ends T) in
+      let P : Stepped → Type 0 = GoesIn W (weight_at 2 T) (scheme_inside_ends T) in
       let other : scheme_rest n (ahead T) ≡ None → P (stepped (Retry AutolinkEmailAtext) T) = λ h.
-      Goes-over ready ends weight 2 1 1 (scheme_naming n) (up_to_bracket N.AutolinkEmail local_rest) s T (Retry AutolinkEmailAtext) alone (omega arith)
+      Goes-over W 2 1 (scheme_naming n) (up_to_bracket N.AutolinkEmail local_rest) s T (Retry AutolinkEmailAtext) (within AutolinkEmailAtext) alone (omega arith)
       (or-right _ _ _ (ap (ended N.AutolinkProtocol) h) refl)
-      (within.email_atext_ready _ k.inside) (within.email_atext_weight _) (λ ok U x. within.email_atext_end _ ok U x) in
+      k.inside (λ ok U x. x) in
       code-step P (current_of T) (λ o. scheme_inside_at o T)
       (λ e. other (ap (scheme_rest n) (ahead-none T e) ∙ scheme-other n [] refl refl))
       (λ c e.
@@ -193,92 +168,92 @@ module _ (ready : StateName → Tokenizer → Type 0) (ends : StateName → Toke
       let more : 1 ≤ length (ahead T) = some-codes T c e in
       if-step P (c == 58) _ _
       (λ h. let colon : is_value 58 b.code ≡ true = ap (λ v. v == 58) b.value ∙ h in
-      Goes-inside-kept ready ends weight 2 1 1 (scheme_naming n) (up_to_bracket N.AutolinkProtocol (any_number is_uri_code)) s T (Next AutolinkUrlInside) alone refl more (omega arith)
+      Goes-inside-kept W 2 1 (scheme_naming n) (up_to_bracket N.AutolinkProtocol (any_number is_uri_code)) s T (Next AutolinkUrlInside) (within AutolinkUrlInside) alone refl more (omega arith)
       (ap (scheme_naming n) b.whole ∙ or-left _ _ _ (bracket-next N.AutolinkProtocol (scheme_rest n) (any_number is_uri_code) b.code cs (scheme-colon n b.code cs colon k.least k.most)) (ap (ended N.AutolinkEmail) (local-other (b.code ∷ cs) (ap local_value (eqb-true b.code.value 58 colon)) (ap (λ v. v == 64) (eqb-true b.code.value 58 colon)))))
-      (within.url_inside_ready _ (inside-kept T k.inside)) (within.url_inside_weight _) (λ ok U x. within.url_inside_end _ ok U x))
+      (inside-kept T k.inside) (λ ok U x. x))
       (λ g. if-step P (scheme_value c && nat_lt n 32) _ _
       (λ h. let here : is_scheme_code b.code ≡ true = ap scheme_value b.value ∙ and-left (scheme_value c) _ h in
       let less : n < 32 = below n 32 (and-right (scheme_value c) _ h) in
-      Goes-inside ready ends weight 2 2 1 (scheme_naming n) (scheme_naming (n + 1)) s (with_size (n + 1) T.tokenize_state) T (Next AutolinkSchemeInsideOrEmailAtext) alone refl more (omega arith)
+      Goes-inside W 2 1 (scheme_naming n) (scheme_naming (n + 1)) s (with_size (n + 1) T.tokenize_state) T (Next AutolinkSchemeInsideOrEmailAtext) (within AutolinkSchemeInsideOrEmailAtext) alone refl more (omega arith)
       (ap (scheme_naming n) b.whole ∙ or-both (Consume ∷ []) _ _ _ _ (bracket-next N.AutolinkProtocol (scheme_rest n) (scheme_rest (n + 1)) b.code cs (scheme-more n b.code cs here)) (bracket-next N.AutolinkEmail local_rest local_rest b.code cs (local-more b.code cs (scheme-local b.code.value here))))
-      (within.scheme_inside_ready _ (record { inside = inside-next (with_size (n + 1) T.tokenize_state) T k.inside; least = omega (arith, k.least); most = omega (arith, less) })) (within.scheme_inside_weight _) (λ ok U x. within.scheme_inside_end _ ok U x))
+      (record { inside = inside-next (with_size (n + 1) T.tokenize_state) T k.inside; least = omega (arith, k.least); most = omega (arith, less) }) (λ ok U x. x))
       (λ h. other (ap (scheme_rest n) b.whole ∙ (elim (is_scheme_code b.code) as (λ z. is_scheme_code b.code ≡ z → scheme_rest n (b.code ∷ cs) ≡ None) [
         | true ↦ λ i. scheme-long n b.code cs i (not-below n 32 (ap (λ z. z && nat_lt n 32) (sym (sym (ap scheme_value b.value) ∙ i)) ∙ h))
         | false ↦ λ i. scheme-other n (b.code ∷ cs) i (ap (λ v. v == 58) b.value ∙ g)
       ] refl)))))
 
-  pub url_inside-law : (T : Tokenizer) → T.attempts ≡ [] → InsideReady T → GoesOn ready ends weight (weight_at 1 T) (url_inside_ends T) (url_inside_step T)
+  pub url_inside-law : Law W url_inside_words
   unfolding applied scratched
   url_inside-law T alone k =
       let s : TokenizeState = with_size 0 T.tokenize_state in
       let p : Naming = up_to_bracket N.AutolinkProtocol (any_number is_uri_code) in
-      let P : Stepped → Type 0 = GoesOn ready ends weight (weight_at 1 T) (url_inside_ends T) in
+      let P : Stepped → Type 0 = GoesIn W (weight_at 1 T) (url_inside_ends T) in
       let none : (cs : List Code) → next_is is_uri_code cs ≡ false → next_is (is_value 62) cs ≡ false → p cs ≡ None = λ cs h l. ap (ended N.AutolinkProtocol) (url-end cs h) ∙ ended-other N.AutolinkProtocol cs l in
       code-step P (current_of T) (λ o. url_inside_at o T)
-      (λ e. Goes-refused ready ends weight 1 1 p s T alone (ap p (ahead-none T e) ∙ none [] refl refl))
+      (λ e. Goes-refused W 1 1 p s T alone (ap p (ahead-none T e) ∙ none [] refl refl))
       (λ c e.
       let b : Begins c (ahead T) = ahead-some T c e in
       let cs : List Code = rest_of (ahead T) in
       if-step P (c == 62) _ _
       (λ h. let here : is_value 62 b.code ≡ true = ap (λ v. v == 62) b.value ∙ h in
       subst (λ (x : Tokenizer). P (stepped State.Ok (scratched s (done (ending N.AutolinkProtocol) x)))) k.entered
-      (Goes-named ready ends weight 1 1 p N.AutolinkProtocol (ending N.AutolinkProtocol) s T alone
+      (Goes-named W 1 1 p N.AutolinkProtocol (ending N.AutolinkProtocol) s T alone
       (ap p b.whole ∙ ap (ended N.AutolinkProtocol) (url-end (b.code ∷ cs) (ap uri_value (eqb-true b.code.value 62 here))) ∙ ended-here N.AutolinkProtocol b.code cs here)))
       (λ g. if-step P (uri_value c) _ _
-      (λ h. Goes-inside-kept ready ends weight 1 1 1 p p s T (Next AutolinkUrlInside) alone refl (some-codes T c e) (omega arith)
+      (λ h. Goes-inside-kept W 1 1 p p s T (Next AutolinkUrlInside) (within AutolinkUrlInside) alone refl (some-codes T c e) (omega arith)
       (ap p b.whole ∙ bracket-next N.AutolinkProtocol (any_number is_uri_code) (any_number is_uri_code) b.code cs (url-more b.code cs (ap uri_value b.value ∙ h)))
-      (within.url_inside_ready _ (inside-kept T k)) (within.url_inside_weight _) (λ ok U x. within.url_inside_end _ ok U x))
-      (λ h. Goes-refused ready ends weight 1 1 p s T alone (ap p b.whole ∙ none (b.code ∷ cs) (ap uri_value b.value ∙ h) (ap (λ v. v == 62) b.value ∙ g)))))
+      (inside-kept T k) (λ ok U x. x))
+      (λ h. Goes-refused W 1 1 p s T alone (ap p b.whole ∙ none (b.code ∷ cs) (ap uri_value b.value ∙ h) (ap (λ v. v == 62) b.value ∙ g)))))
 
-  pub email_atext-law : (T : Tokenizer) → T.attempts ≡ [] → InsideReady T → GoesOn ready ends weight (weight_at 1 T) (email_atext_ends T) (email_atext_step T)
+  pub email_atext-law : Law W email_atext_words
   unfolding applied scratched
   email_atext-law T alone k =
       let s : TokenizeState = with_size 0 T.tokenize_state in
       let p : Naming = up_to_bracket N.AutolinkEmail local_rest in
-      let P : Stepped → Type 0 = GoesOn ready ends weight (weight_at 1 T) (email_atext_ends T) in
+      let P : Stepped → Type 0 = GoesIn W (weight_at 1 T) (email_atext_ends T) in
       code-step P (current_of T) (λ o. email_atext_at o T)
-      (λ e. Goes-refused ready ends weight 1 1 p s T alone (ap p (ahead-none T e) ∙ ap (ended N.AutolinkEmail) (local-other [] refl refl)))
+      (λ e. Goes-refused W 1 1 p s T alone (ap p (ahead-none T e) ∙ ap (ended N.AutolinkEmail) (local-other [] refl refl)))
       (λ c e.
       let b : Begins c (ahead T) = ahead-some T c e in
       let cs : List Code = rest_of (ahead T) in
       let more : 1 ≤ length (ahead T) = some-codes T c e in
       if-step P (c == 64) _ _
-      (λ h. Goes-inside-kept ready ends weight 1 1 1 p (up_to_bracket N.AutolinkEmail domains) s T (Next AutolinkEmailAtSignOrDot) alone refl more (omega arith)
+      (λ h. Goes-inside-kept W 1 1 p (up_to_bracket N.AutolinkEmail domains) s T (Next AutolinkEmailAtSignOrDot) (within AutolinkEmailAtSignOrDot) alone refl more (omega arith)
       (ap p b.whole ∙ bracket-next N.AutolinkEmail local_rest domains b.code cs (local-at b.code cs (ap (λ v. v == 64) b.value ∙ h)))
-      (within.email_at_sign_or_dot_ready _ (inside-kept T k)) (within.email_at_sign_or_dot_weight _) (λ ok U x. within.email_at_sign_or_dot_end _ ok U x))
+      (inside-kept T k) (λ ok U x. x))
       (λ g. if-step P (local_value c) _ _
-      (λ h. Goes-inside-kept ready ends weight 1 1 1 p p s T (Next AutolinkEmailAtext) alone refl more (omega arith)
+      (λ h. Goes-inside-kept W 1 1 p p s T (Next AutolinkEmailAtext) (within AutolinkEmailAtext) alone refl more (omega arith)
       (ap p b.whole ∙ bracket-next N.AutolinkEmail local_rest local_rest b.code cs (local-more b.code cs (ap local_value b.value ∙ h)))
-      (within.email_atext_ready _ (inside-kept T k)) (within.email_atext_weight _) (λ ok U x. within.email_atext_end _ ok U x))
-      (λ h. Goes-refused ready ends weight 1 1 p s T alone (ap p b.whole ∙ ap (ended N.AutolinkEmail) (local-other (b.code ∷ cs) (ap local_value b.value ∙ h) (ap (λ v. v == 64) b.value ∙ g))))))
+      (inside-kept T k) (λ ok U x. x))
+      (λ h. Goes-refused W 1 1 p s T alone (ap p b.whole ∙ ap (ended N.AutolinkEmail) (local-other (b.code ∷ cs) (ap local_value b.value ∙ h) (ap (λ v. v == 64) b.value ∙ g))))))
 
-  pub email_at_sign_or_dot-law : (T : Tokenizer) → T.attempts ≡ [] → InsideReady T → GoesOn ready ends weight (weight_at 1 T) (email_at_sign_or_dot_ends T) (email_at_sign_or_dot_step T)
+  pub email_at_sign_or_dot-law : Law W email_at_sign_or_dot_words
   unfolding applied scratched
   email_at_sign_or_dot-law T alone k =
       let s : TokenizeState = with_size 0 T.tokenize_state in
       let p : Naming = up_to_bracket N.AutolinkEmail domains in
-      let P : Stepped → Type 0 = GoesOn ready ends weight (weight_at 1 T) (email_at_sign_or_dot_ends T) in
+      let P : Stepped → Type 0 = GoesIn W (weight_at 1 T) (email_at_sign_or_dot_ends T) in
       code-step P (current_of T) (λ o. email_at_sign_or_dot_at o T)
-      (λ e. Goes-refused ready ends weight 1 1 p s T alone (ap p (ahead-none T e) ∙ ap (ended N.AutolinkEmail) (domains-none [] refl)))
+      (λ e. Goes-refused W 1 1 p s T alone (ap p (ahead-none T e) ∙ ap (ended N.AutolinkEmail) (domains-none [] refl)))
       (λ c e.
       let b : Begins c (ahead T) = ahead-some T c e in
       let cs : List Code = rest_of (ahead T) in
       if-step P (alphanumeric_value c) _ _
-      (λ h. Goes-inside ready ends weight 1 1 1 p (up_to_bracket N.AutolinkEmail (label_rest 1 true)) s (with_size 1 T.tokenize_state) T (Next AutolinkEmailLabel) alone refl (some-codes T c e) (omega arith)
+      (λ h. Goes-inside W 1 1 p (up_to_bracket N.AutolinkEmail (label_rest 1 true)) s (with_size 1 T.tokenize_state) T (Next AutolinkEmailLabel) (within AutolinkEmailLabel) alone refl (some-codes T c e) (omega arith)
       (ap p b.whole ∙ bracket-next N.AutolinkEmail domains (label_rest 1 true) b.code cs (domains-first b.code cs (ap alphanumeric_value b.value ∙ h)))
-      (within.email_label_ready _ (record { inside = inside-next (with_size 1 T.tokenize_state) T k; most = omega arith })) (within.email_label_weight _) (λ ok U x. within.email_label_end _ ok U x))
-      (λ h. Goes-refused ready ends weight 1 1 p s T alone (ap p b.whole ∙ ap (ended N.AutolinkEmail) (domains-none (b.code ∷ cs) (ap alphanumeric_value b.value ∙ h)))))
+      (record { inside = inside-next (with_size 1 T.tokenize_state) T k; most = omega arith }) (λ ok U x. x))
+      (λ h. Goes-refused W 1 1 p s T alone (ap p b.whole ∙ ap (ended N.AutolinkEmail) (domains-none (b.code ∷ cs) (ap alphanumeric_value b.value ∙ h)))))
 
   -- at a code of a label, where the link does not hold at any other
-  in-label : (well : Bool) (T : Tokenizer) → T.attempts ≡ [] → LabelReady T → (next_is is_label_code (ahead T) ≡ false → up_to_bracket N.AutolinkEmail (label_rest T.tokenize_state.size well) (ahead T) ≡ None) → GoesOn ready ends weight (weight_at 1 T) (NamesAs 1 (up_to_bracket N.AutolinkEmail (label_rest T.tokenize_state.size well)) (with_size 0 T.tokenize_state) T) (in_label_at (current_of T) T)
+  in-label : (well : Bool) (T : Tokenizer) → T.attempts ≡ [] → LabelReady T → (next_is is_label_code (ahead T) ≡ false → up_to_bracket N.AutolinkEmail (label_rest T.tokenize_state.size well) (ahead T) ≡ None) → GoesIn W (weight_at 1 T) (NamesAs 1 (up_to_bracket N.AutolinkEmail (label_rest T.tokenize_state.size well)) (with_size 0 T.tokenize_state) T) (in_label_at (current_of T) T)
   unfolding applied scratched
   in-label well T alone k end =
       let n : ℕ = T.tokenize_state.size in
       let s : TokenizeState = with_size 0 T.tokenize_state in
       let p : Naming = up_to_bracket N.AutolinkEmail (label_rest n well) in
-      let P : Stepped → Type 0 = GoesOn ready ends weight (weight_at 1 T) (NamesAs 1 p s T) in
+      let P : Stepped → Type 0 = GoesIn W (weight_at 1 T) (NamesAs 1 p s T) in
       code-step P (current_of T) (λ o. in_label_at o T)
-      (λ e. Goes-refused ready ends weight 1 1 p s T alone (end (ap (λ cs. next_is is_label_code cs) (ahead-none T e))))
+      (λ e. Goes-refused W 1 1 p s T alone (end (ap (λ cs. next_is is_label_code cs) (ahead-none T e))))
       (λ c e.
       let b : Begins c (ahead T) = ahead-some T c e in
       let cs : List Code = rest_of (ahead T) in
@@ -286,72 +261,71 @@ module _ (ready : StateName → Tokenizer → Type 0) (ends : StateName → Toke
       if-step P (nat_lt n 63 && alphanumeric_value c) _ _
       (λ h. let less : n < 63 = below n 63 (and-left (nat_lt n 63) _ h) in
       let here : is_alphanumeric b.code ≡ true = ap alphanumeric_value b.value ∙ and-right (nat_lt n 63) _ h in
-      Goes-inside ready ends weight 1 1 1 p (up_to_bracket N.AutolinkEmail (label_rest (n + 1) true)) s (with_size (n + 1) T.tokenize_state) T (Next AutolinkEmailLabel) alone refl more (omega arith)
+      Goes-inside W 1 1 p (up_to_bracket N.AutolinkEmail (label_rest (n + 1) true)) s (with_size (n + 1) T.tokenize_state) T (Next AutolinkEmailLabel) (within AutolinkEmailLabel) alone refl more (omega arith)
       (ap p b.whole ∙ bracket-next N.AutolinkEmail (label_rest n well) (label_rest (n + 1) (is_alphanumeric b.code)) b.code cs (label-more n well b.code cs (ap (λ z. z || is_value 45 b.code) here)) ∙ ap (λ z. preceded_by (Consume ∷ []) (up_to_bracket N.AutolinkEmail (label_rest (n + 1) z) cs)) here)
-      (within.email_label_ready _ (record { inside = inside-next (with_size (n + 1) T.tokenize_state) T k.inside; most = omega (arith, less) })) (within.email_label_weight _) (λ ok U x. within.email_label_end _ ok U x))
+      (record { inside = inside-next (with_size (n + 1) T.tokenize_state) T k.inside; most = omega (arith, less) }) (λ ok U x. x))
       (λ g. if-step P (nat_lt n 63 && (c == 45)) _ _
       (λ h. let less : n < 63 = below n 63 (and-left (nat_lt n 63) _ h) in
       let hyphen : is_value 45 b.code ≡ true = ap (λ v. v == 45) b.value ∙ and-right (nat_lt n 63) _ h in
       let other : is_alphanumeric b.code ≡ false = ap alphanumeric_value (eqb-true b.code.value 45 hyphen) in
-      Goes-inside ready ends weight 1 1 1 p (up_to_bracket N.AutolinkEmail (label_rest (n + 1) false)) s (with_size (n + 1) T.tokenize_state) T (Next AutolinkEmailValue) alone refl more (omega arith)
+      Goes-inside W 1 1 p (up_to_bracket N.AutolinkEmail (label_rest (n + 1) false)) s (with_size (n + 1) T.tokenize_state) T (Next AutolinkEmailValue) (within AutolinkEmailValue) alone refl more (omega arith)
       (ap p b.whole ∙ bracket-next N.AutolinkEmail (label_rest n well) (label_rest (n + 1) (is_alphanumeric b.code)) b.code cs (label-more n well b.code cs (ap (λ z. z || is_value 45 b.code) other ∙ hyphen)) ∙ ap (λ z. preceded_by (Consume ∷ []) (up_to_bracket N.AutolinkEmail (label_rest (n + 1) z) cs)) other)
-      (within.email_value_ready _ (record { inside = inside-next (with_size (n + 1) T.tokenize_state) T k.inside; most = omega (arith, less) })) (within.email_value_weight _) (λ ok U x. within.email_value_end _ ok U x))
-      (λ h. Goes-refused ready ends weight 1 1 p s T alone (elim (is_label_code b.code) as (λ z. is_label_code b.code ≡ z → p (ahead T) ≡ None) [
+      (record { inside = inside-next (with_size (n + 1) T.tokenize_state) T k.inside; most = omega (arith, less) }) (λ ok U x. x))
+      (λ h. Goes-refused W 1 1 p s T alone (elim (is_label_code b.code) as (λ z. is_label_code b.code ≡ z → p (ahead T) ≡ None) [
         | true ↦ λ i. ap p b.whole ∙ ap (ended N.AutolinkEmail) (label-long n well b.code cs i (not-below n 63 (left-test (nat_lt n 63) (alphanumeric_value c) (c == 45) g h (sym (ap (λ v. alphanumeric_value v || v == 45) b.value) ∙ i))))
         | false ↦ λ i. end (ap (λ xs. next_is is_label_code xs) b.whole ∙ i)
       ] refl))))
 
-  pub email_value-law : (T : Tokenizer) → T.attempts ≡ [] → LabelReady T → GoesOn ready ends weight (weight_at 1 T) (email_value_ends T) (email_value_step T)
+  pub email_value-law : Law W email_value_words
   email_value-law T alone k = in-label false T alone k (λ h. ap (ended N.AutolinkEmail) (label-unended T.tokenize_state.size (ahead T) h))
 
-  pub email_label-law : (T : Tokenizer) → T.attempts ≡ [] → LabelReady T → GoesOn ready ends weight (weight_at 1 T) (email_label_ends T) (email_label_step T)
+  pub email_label-law : Law W email_label_words
   unfolding applied scratched renamed
   email_label-law T alone k =
       let n : ℕ = T.tokenize_state.size in
       let s : TokenizeState = with_size 0 T.tokenize_state in
       let p : Naming = up_to_bracket N.AutolinkEmail (label_rest n true) in
-      let P : Stepped → Type 0 = GoesOn ready ends weight (weight_at 1 T) (email_label_ends T) in
+      let P : Stepped → Type 0 = GoesIn W (weight_at 1 T) (email_label_ends T) in
       let end : (cs : List Code) → next_is is_label_code cs ≡ false → next_is (is_value 46) cs ≡ false → next_is (is_value 62) cs ≡ false → p cs ≡ None = λ cs h i j. ap (ended N.AutolinkEmail) (label-ended n cs h k.most ∙ more-none cs i) ∙ ended-other N.AutolinkEmail cs j in
       code-step P (current_of T) (λ o. email_label_at o T)
-      (λ e. Goes-refused ready ends weight 1 1 p s T alone (ap p (ahead-none T e) ∙ end [] refl refl refl))
+      (λ e. Goes-refused W 1 1 p s T alone (ap p (ahead-none T e) ∙ end [] refl refl refl))
       (λ c e.
       let b : Begins c (ahead T) = ahead-some T c e in
       let cs : List Code = rest_of (ahead T) in
       if-step P (c == 46) _ _
       (λ h. let dot : is_value 46 b.code ≡ true = ap (λ v. v == 46) b.value ∙ h in
-      Goes-inside-kept ready ends weight 1 1 1 p (up_to_bracket N.AutolinkEmail domains) s T (Next AutolinkEmailAtSignOrDot) alone refl (some-codes T c e) (omega arith)
+      Goes-inside-kept W 1 1 p (up_to_bracket N.AutolinkEmail domains) s T (Next AutolinkEmailAtSignOrDot) (within AutolinkEmailAtSignOrDot) alone refl (some-codes T c e) (omega arith)
       (ap p b.whole ∙ ap (ended N.AutolinkEmail) (label-ended n (b.code ∷ cs) (ap (λ v. alphanumeric_value v || v == 45) (eqb-true b.code.value 46 dot)) k.most) ∙ more-dot b.code cs dot)
-      (within.email_at_sign_or_dot_ready _ (inside-kept T k.inside)) (within.email_at_sign_or_dot_weight _) (λ ok U x. within.email_at_sign_or_dot_end _ ok U x))
+      (inside-kept T k.inside) (λ ok U x. x))
       (λ g. if-step P (c == 62) _ _
       (λ h. let here : is_value 62 b.code ≡ true = ap (λ v. v == 62) b.value ∙ h in
-      Goes-named ready ends weight 1 1 p N.AutolinkEmail (ending N.AutolinkEmail) s T alone
+      Goes-named W 1 1 p N.AutolinkEmail (ending N.AutolinkEmail) s T alone
       (ap p b.whole ∙ ap (ended N.AutolinkEmail) (label-ended n (b.code ∷ cs) (ap (λ v. alphanumeric_value v || v == 45) (eqb-true b.code.value 62 here)) k.most ∙ more-none (b.code ∷ cs) (ap (λ v. v == 46) (eqb-true b.code.value 62 here))) ∙ ended-here N.AutolinkEmail b.code cs here))
       (λ h. subst (λ (o : Option ℕ). P (in_label_at o T)) e (in-label true T alone k (λ i. ap p b.whole ∙ end (b.code ∷ cs) (sym (ap (λ xs. next_is is_label_code xs) b.whole) ∙ i) (ap (λ v. v == 46) b.value ∙ g) (ap (λ v. v == 62) b.value ∙ h))))))
 
   -- past the bracket, the leaf entered
-  link-opened : (T : Tokenizer) → 1 ≤ length (ahead T) → T.attempts ≡ [] → T.tokenize_state.size ≡ 0 → plan_of (link_here T) (ahead T) ≡ preceded bracket_ops (opening_of open_naming (drop 1 (ahead T))) → GoesOn ready ends weight (weight_at 3 T) (KeepsAs 0 (plan_of (link_here T)) T) (stepped (Next AutolinkOpen) (done opening T))
+  link-opened : (T : Tokenizer) → 1 ≤ length (ahead T) → T.attempts ≡ [] → T.tokenize_state.size ≡ 0 → plan_of (link_here T) (ahead T) ≡ preceded bracket_ops (opening_of open_naming (drop 1 (ahead T))) → GoesIn W (weight_at 3 T) (KeepsAs 0 (plan_of (link_here T)) T) (stepped (Next AutolinkOpen) (done opening T))
   link-opened T more alone k e =
       let s : TokenizeState = T.tokenize_state in
       let p : Plan = plan_of (link_here T) in
       let E : Bool → Tokenizer → Type 0 = KeepsAs 0 p T in
-      subst (λ (V : Tokenizer). ready AutolinkOpen V → weight AutolinkOpen V ≡ weight_at 2 V → ((ok : Bool) (U : Tokenizer) → ends AutolinkOpen V ok U → E ok U) → GoesOn ready ends weight (weight_at 3 T) E (stepped (Next AutolinkOpen) V)) (kept opening T)
-      (Goes-to ready ends weight 3 2 E opening s T T (Next AutolinkOpen) alone refl more (omega arith))
-      (within.open_ready _ (inside-entered T))
-      (within.open_weight _)
+      subst (λ (V : Tokenizer). InsideReady V → ((ok : Bool) (U : Tokenizer) → open_ends V ok U → E ok U) → GoesIn W (weight_at 3 T) E (stepped (Next AutolinkOpen) V)) (kept opening T)
+      (Goes-to W 3 E opening s T T (Next AutolinkOpen) (within AutolinkOpen) alone refl more (omega arith))
+      (inside-entered T)
       (λ ok U x. DoesAs-then 0 p (opening_of open_naming) bracket_ops s s T refl e ok U
       (subst (λ (V : Tokenizer). DoesAs 1 (opening_of open_naming) s V ok U) (sym (kept bracket_ops T))
-      (DoesAs-entered 1 (opening_of open_naming) open_naming N.AutolinkProtocol s (done bracket_ops T) refl ok U (open-says T ok U k (within.open_end _ ok U x)))))
+      (DoesAs-entered 1 (opening_of open_naming) open_naming N.AutolinkProtocol s (done bracket_ops T) refl ok U (open-says T ok U k x))))
 
-  pub start-law : (T : Tokenizer) → T.attempts ≡ [] → T.tokenize_state.size ≡ 0 → GoesOn ready ends weight (weight_at 3 T) (start_ends T) (start_step T)
+  pub start-law : Law W start_words
   start-law T alone k =
       let p : Plan = plan_of (link_here T) in
       let E : Bool → Tokenizer → Type 0 = KeepsAs 0 p T in
-      let P : Stepped → Type 0 = GoesOn ready ends weight (weight_at 3 T) E in
-      GoesOn-map ready ends weight (weight_at 3 T) E (start_ends T) (start_step T) (λ ok U x. EndsAs-plan (link_here T) (whole-link (is_on T)) T.tokenize_state T ok U x)
+      let P : Stepped → Type 0 = GoesIn W (weight_at 3 T) E in
+      GoesOn-map W (weight_at 3 T) E (start_ends T) (start_step T) (λ ok U x. EndsAs-plan (link_here T) (whole-link (is_on T)) T.tokenize_state T ok U x)
       (code-step P (current_of T) (λ o. start_at o T)
-      (λ e. Goes-no ready ends weight 3 0 p T alone (ap p (ahead-none T e) ∙ no-link (is_on T) [] (and-false (is_on T))))
+      (λ e. Goes-no W 3 0 p T alone (ap p (ahead-none T e) ∙ no-link (is_on T) [] (and-false (is_on T))))
       (λ c e.
       let b : Begins c (ahead T) = ahead-some T c e in
       if-step P (is_on T && (c == 60)) _ _
       (λ h. link-opened T (some-codes T c e) alone k (ap p b.whole ∙ link-here (is_on T) b.code (rest_of (ahead T)) (and-left (is_on T) _ h) (ap (λ v. v == 60) b.value ∙ and-right (is_on T) _ h)))
-      (λ h. Goes-no ready ends weight 3 0 p T alone (ap p b.whole ∙ no-link (is_on T) (b.code ∷ rest_of (ahead T)) (ap (λ v. is_on T && (v == 60)) b.value ∙ h)))))
+      (λ h. Goes-no W 3 0 p T alone (ap p b.whole ∙ no-link (is_on T) (b.code ∷ rest_of (ahead T)) (ap (λ v. is_on T && (v == 60)) b.value ∙ h)))))

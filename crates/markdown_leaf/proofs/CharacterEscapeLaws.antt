@@ -3,11 +3,10 @@ use Rattle.std.proofs.Common.{◌≡◌, ℕ, ◌==◌, ◌&&◌, Bool, true, fa
 use Rattle.markdown_engine.specs.Codes.{Code}
 use Rattle.markdown_engine.specs.Lists.{rest_of}
 use Rattle.markdown_engine.specs.Ops.{current_of, ahead, IsOpen, done}
-use Rattle.markdown_engine.specs.Runs.{Stepped, GoesOn}
+use Rattle.markdown_engine.specs.Runs.{Stepped}
 use Rattle.markdown_engine.specs.Weights.{weight_at}
 use Rattle.markdown_engine.specs.declared.event.Name.TheVariants as N
 use Rattle.markdown_engine.specs.declared.state.State.TheVariants.{Next}
-use Rattle.markdown_engine.specs.declared.state.StateName.{StateName}
 use Rattle.markdown_engine.specs.declared.state.StateName.TheVariants.{CharacterEscapeInside}
 use Rattle.markdown_engine.specs.declared.tokenizer.Tokenizer.{Tokenizer}
 use Rattle.markdown_engine.proofs.Laws.{if-step, code-step}
@@ -15,17 +14,14 @@ use Rattle.markdown_engine.proofs.OpRules.{law_rules, ahead-none, ahead-some, so
 use Rattle.markdown_model.specs.CodeTests.{is_value, is_ascii_punctuation, next_is}
 use Rattle.markdown_model.specs.Grammar.{◌>>◌, ◌>>=◌, provided, one, gives}
 use Rattle.markdown_model.specs.Leaf.{escape, escape_tree}
-use Rattle.markdown_leaf.specs.CharacterEscape.{is_punctuation, is_on, opening, value, start_at, start_step, inside_at, inside_step, escape_here, inside_plan, start_ends, inside_ends}
+use Rattle.markdown_leaf.specs.CharacterEscape.{is_punctuation, is_on, opening, value, start_at, start_step, inside_at, inside_step, escape_here, inside_plan, start_ends, inside_ends, states, inside_words, start_words}
 use Rattle.markdown_construct.specs.Plan.{preceded, tree_ops, plan_of, KeepsAs}
-use Rattle.markdown_construct.proofs.PlanLemmas.{GoesOn-map, Goes-next, Goes-yes, Goes-no, EndsAs-plan}
+use Rattle.markdown_construct.proofs.PlanLemmas.{EndsAs-plan}
 use Rattle.markdown_model.proofs.ReadingSteps.{bind-some, bind-none, one-here, one-not, switched-on, switched-off, and-left, and-right, and-false, if-true, if-false}
 use Rattle.markdown_construct.proofs.WholeReadings.{Gives, Covers, IsSome, Gives-bind, Gives-switched, Gives-one, Gives-gives, Covers-group, Covers-row, Covers-leaf, some-first}
-
--- what the layer says of these states
-pub record Within (ready : StateName → Tokenizer → Type 0) (ends : StateName → Tokenizer → Bool → Tokenizer → Type 0) (weight : StateName → Tokenizer → ℕ) : Type 0 where
-  pub inside_ready : (T : Tokenizer) → IsOpen N.CharacterEscape T → ready CharacterEscapeInside T
-  pub inside_end : (T : Tokenizer) (ok : Bool) (U : Tokenizer) → ends CharacterEscapeInside T ok U → inside_ends T ok U
-  pub inside_weight : (T : Tokenizer) → weight CharacterEscapeInside T ≡ weight_at 1 T
+use Rattle.markdown_engine.specs.StateWords.{Words, Law, GoesIn}
+use Rattle.markdown_construct.proofs.StateLaws.{GoesOn-map, Goes-next, Goes-yes, Goes-no}
+use Rattle.markdown_construct.specs.Within.{Within}
 
 -- The reading, by what stands there.
 
@@ -61,28 +57,27 @@ whole on =
 
 -- The states.
 
-pub start-law : (ready : StateName → Tokenizer → Type 0) (ends : StateName → Tokenizer → Bool → Tokenizer → Type 0) (weight : StateName → Tokenizer → ℕ) → Within ready ends weight → (T : Tokenizer) → T.attempts ≡ [] → GoesOn ready ends weight (weight_at 2 T) (start_ends T) (start_step T)
-start-law ready ends weight within T alone =
+pub start-law : (W : Words) → Within states W → Law W start_words
+start-law W within T alone _ =
     let E : Bool → Tokenizer → Type 0 = KeepsAs 0 (plan_of (escape_here T)) T in
-    let P : Stepped → Type 0 = GoesOn ready ends weight (weight_at 2 T) E in
-    GoesOn-map ready ends weight (weight_at 2 T) E (start_ends T) (start_step T) (λ ok U k. EndsAs-plan (escape_here T) (whole (is_on T)) T.tokenize_state T ok U k)
+    let P : Stepped → Type 0 = GoesIn W (weight_at 2 T) E in
+    GoesOn-map W (weight_at 2 T) E (start_ends T) (start_step T) (λ ok U k. EndsAs-plan (escape_here T) (whole (is_on T)) T.tokenize_state T ok U k)
     (code-step P (current_of T) (λ o. start_at (is_on T) o T)
-    (λ e. Goes-no ready ends weight 2 0 (plan_of (escape_here T)) T alone (ap (plan_of (escape_here T)) (ahead-none T e) ∙ no-escape (is_on T) [] (and-false (is_on T))))
+    (λ e. Goes-no W 2 0 (plan_of (escape_here T)) T alone (ap (plan_of (escape_here T)) (ahead-none T e) ∙ no-escape (is_on T) [] (and-false (is_on T))))
     (λ c e. let b = ahead-some T c e in
     if-step P (is_on T && (c == 92)) _ _
-    (λ h. Goes-next ready ends weight 2 1 0 (plan_of (escape_here T)) inside_plan opening T (Next CharacterEscapeInside) alone refl (some-codes T c e) (omega arith)
+    (λ h. Goes-next W 2 0 (plan_of (escape_here T)) inside_plan opening T (Next CharacterEscapeInside) (within CharacterEscapeInside) alone refl (some-codes T c e) (omega arith)
     (ap (plan_of (escape_here T)) b.whole ∙ escape-slash (is_on T) b.code (rest_of (ahead T)) (and-left _ _ h) (ap (λ v. v == 92) b.value ∙ and-right _ _ h))
-    (within.inside_ready (done opening T) (grind (arith, law_rules)))
-    (within.inside_weight (done opening T))
-    (within.inside_end (done opening T)))
-    (λ h. Goes-no ready ends weight 2 0 (plan_of (escape_here T)) T alone (ap (plan_of (escape_here T)) b.whole ∙ no-escape (is_on T) (b.code ∷ rest_of (ahead T)) (ap (λ v. is_on T && (v == 92)) b.value ∙ h)))))
+    (grind (arith, law_rules))
+    (λ ok U x. x))
+    (λ h. Goes-no W 2 0 (plan_of (escape_here T)) T alone (ap (plan_of (escape_here T)) b.whole ∙ no-escape (is_on T) (b.code ∷ rest_of (ahead T)) (ap (λ v. is_on T && (v == 92)) b.value ∙ h)))))
 
-pub inside-law : (ready : StateName → Tokenizer → Type 0) (ends : StateName → Tokenizer → Bool → Tokenizer → Type 0) (weight : StateName → Tokenizer → ℕ) (T : Tokenizer) → T.attempts ≡ [] → GoesOn ready ends weight (weight_at 1 T) (inside_ends T) (inside_step T)
-inside-law ready ends weight T alone =
-    let P : Stepped → Type 0 = GoesOn ready ends weight (weight_at 1 T) (inside_ends T) in
+pub inside-law : (W : Words) → Law W inside_words
+inside-law W T alone _ =
+    let P : Stepped → Type 0 = GoesIn W (weight_at 1 T) (inside_ends T) in
     code-step P (current_of T) (λ o. inside_at o T)
-    (λ e. Goes-no ready ends weight 1 1 inside_plan T alone (ap inside_plan (ahead-none T e)))
+    (λ e. Goes-no W 1 1 inside_plan T alone (ap inside_plan (ahead-none T e)))
     (λ c e. let b = ahead-some T c e in
     if-step P (is_punctuation c) _ _
-    (λ h. Goes-yes ready ends weight 1 1 inside_plan value T alone (ap inside_plan b.whole ∙ if-true _ _ _ (ap is_punctuation b.value ∙ h)))
-    (λ h. Goes-no ready ends weight 1 1 inside_plan T alone (ap inside_plan b.whole ∙ if-false _ _ _ (ap is_punctuation b.value ∙ h))))
+    (λ h. Goes-yes W 1 1 inside_plan value T alone (ap inside_plan b.whole ∙ if-true _ _ _ (ap is_punctuation b.value ∙ h)))
+    (λ h. Goes-no W 1 1 inside_plan T alone (ap inside_plan b.whole ∙ if-false _ _ _ (ap is_punctuation b.value ∙ h))))

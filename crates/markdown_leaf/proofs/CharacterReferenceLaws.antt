@@ -4,12 +4,11 @@ use Rattle.std.specs.Prelude.{codes}
 use Rattle.markdown_engine.specs.Codes.{Code}
 use Rattle.markdown_engine.specs.Lists.{rest_of}
 use Rattle.markdown_engine.specs.Ops.{Op, Consume, applied, current_of, ahead, done, scratched}
-use Rattle.markdown_engine.specs.Runs.{Stepped, GoesOn, stepped}
+use Rattle.markdown_engine.specs.Runs.{Stepped, stepped}
 use Rattle.markdown_engine.specs.Weights.{weight_at}
 use Rattle.markdown_engine.specs.declared.event.Name.{Name}
 use Rattle.markdown_engine.specs.declared.event.Name.TheVariants as N
 use Rattle.markdown_engine.specs.declared.state.State.TheVariants.{Next, Retry, Nok}
-use Rattle.markdown_engine.specs.declared.state.StateName.{StateName}
 use Rattle.markdown_engine.specs.declared.state.StateName.TheVariants.{CharacterReferenceOpen, CharacterReferenceNumeric, CharacterReferenceValue}
 use Rattle.markdown_engine.specs.declared.tokenizer.TokenizeState.{TokenizeState}
 use Rattle.markdown_engine.specs.declared.tokenizer.Tokenizer.{Tokenizer}
@@ -20,24 +19,15 @@ use Rattle.markdown_model.specs.CodeTests.{is_value, is_among, is_alphanumeric, 
 use Rattle.markdown_model.specs.Grammar.{◌>>◌, provided, some}
 use Rattle.markdown_model.specs.Leaf.{Parts, reference, reference_tree, named_parts, decimal_parts, hexadecimal_parts}
 use Rattle.markdown_util.specs.Reference.{html_5_rows, IsMarker, value_size_max}
-use Rattle.markdown_leaf.specs.CharacterReference.{IsAtRest, IsOpened, IsValue, is_on, marked, sized, rested, opening, number_sign, hexadecimal_sign, value_start, closing, begins_name, is_taken, start_at, start_step, named_step, open_at, open_step, decimal_step, numeric_at, numeric_step, value_at, value_step, reference_here, value_plan, numeric_plan, named_plan, open_plan, start_ends, open_ends, numeric_ends, value_ends}
+use Rattle.markdown_leaf.specs.CharacterReference.{IsAtRest, IsOpened, IsValue, is_on, marked, sized, rested, opening, number_sign, hexadecimal_sign, value_start, closing, begins_name, is_taken, start_at, start_step, named_step, open_at, open_step, decimal_step, numeric_at, numeric_step, value_at, value_step, reference_here, value_plan, numeric_plan, named_plan, open_plan, start_ends, open_ends, numeric_ends, value_ends, states, numeric_words, open_words, start_words, value_words}
 use Rattle.markdown_construct.specs.Plan.{Plan, preceded, plan_of, DoesAs, KeepsAs}
 use Rattle.markdown_leaf.proofs.CharacterReferenceReading.{reference-start, no-reference, value-close, value-more, value-end, value-stop}
-use Rattle.markdown_construct.proofs.PlanLemmas.{GoesOn-map, Goes-on, Goes-kept, Goes-next, Goes-ok, Goes-nok, Goes-no, EndsAs-plan, no-codes}
+use Rattle.markdown_construct.proofs.PlanLemmas.{EndsAs-plan, no-codes}
 use Rattle.markdown_model.proofs.ReadingSteps.{and-left, and-right, and-false, if-true, if-false}
 use Rattle.markdown_construct.proofs.WholeReadings.{Gives, Covers, IsSome, IsNothing, Gives-bind, Gives-after, Gives-either, Gives-switched, Gives-one, Gives-some, Gives-test, Gives-gives, Covers-group, Covers-row, Covers-leaf, some-first}
-
--- what the layer says of these states
-pub record Within (ready : StateName → Tokenizer → Type 0) (ends : StateName → Tokenizer → Bool → Tokenizer → Type 0) (weight : StateName → Tokenizer → ℕ) : Type 0 where
-  pub open_ready : (T : Tokenizer) → IsOpened T → ready CharacterReferenceOpen T
-  pub open_end : (T : Tokenizer) (ok : Bool) (U : Tokenizer) → ends CharacterReferenceOpen T ok U → open_ends T ok U
-  pub open_weight : (T : Tokenizer) → weight CharacterReferenceOpen T ≡ weight_at 3 T
-  pub numeric_ready : (T : Tokenizer) → IsOpened T → ready CharacterReferenceNumeric T
-  pub numeric_end : (T : Tokenizer) (ok : Bool) (U : Tokenizer) → ends CharacterReferenceNumeric T ok U → numeric_ends T ok U
-  pub numeric_weight : (T : Tokenizer) → weight CharacterReferenceNumeric T ≡ weight_at 2 T
-  pub value_ready : (T : Tokenizer) → IsValue T → ready CharacterReferenceValue T
-  pub value_end : (T : Tokenizer) (ok : Bool) (U : Tokenizer) → ends CharacterReferenceValue T ok U → value_ends T ok U
-  pub value_weight : (T : Tokenizer) → weight CharacterReferenceValue T ≡ weight_at 1 T
+use Rattle.markdown_engine.specs.StateWords.{Words, Law, GoesIn}
+use Rattle.markdown_construct.proofs.StateLaws.{GoesOn-map, Goes-on, Goes-kept, Goes-next, Goes-ok, Goes-nok, Goes-no}
+use Rattle.markdown_construct.specs.Within.{Within}
 
 -- What a reference passes.
 
@@ -148,95 +138,89 @@ sign-test c = ap (λ b. (c.value == 120) || b) (or-none (c.value == 88))
 
 -- The states.
 
-module _ (ready : StateName → Tokenizer → Type 0) (ends : StateName → Tokenizer → Bool → Tokenizer → Type 0) (weight : StateName → Tokenizer → ℕ) (within : Within ready ends weight) where
-  pub start-law : (T : Tokenizer) → T.attempts ≡ [] → IsAtRest T → GoesOn ready ends weight (weight_at 4 T) (start_ends T) (start_step T)
+module _ (W : Words) (within : Within states W) where
+  pub start-law : Law W start_words
   start-law T alone rest =
       let p : Plan = plan_of (reference_here T) in
       let E : Bool → Tokenizer → Type 0 = KeepsAs 0 p T in
-      let P : Stepped → Type 0 = GoesOn ready ends weight (weight_at 4 T) E in
+      let P : Stepped → Type 0 = GoesIn W (weight_at 4 T) E in
       let open_rest : IsOpened (done opening T) → rested (done opening T).tokenize_state ≡ (done opening T).tokenize_state =
       λ o. rested-same _ o.marker o.size in
-      GoesOn-map ready ends weight (weight_at 4 T) E (start_ends T) (start_step T) (λ ok U k. EndsAs-plan (reference_here T) (whole (is_on T)) T.tokenize_state T ok U k)
+      GoesOn-map W (weight_at 4 T) E (start_ends T) (start_step T) (λ ok U k. EndsAs-plan (reference_here T) (whole (is_on T)) T.tokenize_state T ok U k)
       (code-step P (current_of T) (λ o. start_at (is_on T) o T)
-      (λ e. Goes-no ready ends weight 4 0 p T alone (ap p (ahead-none T e) ∙ no-reference (is_on T) [] (and-false (is_on T))))
+      (λ e. Goes-no W 4 0 p T alone (ap p (ahead-none T e) ∙ no-reference (is_on T) [] (and-false (is_on T))))
       (λ c e. let b = ahead-some T c e in
       if-step P (is_on T && (c == 38)) _ _
-      (λ h. Goes-next ready ends weight 4 3 0 p open_plan opening T (Next CharacterReferenceOpen) alone refl (some-codes T c e) (omega arith)
+      (λ h. Goes-next W 4 0 p open_plan opening T (Next CharacterReferenceOpen) (within CharacterReferenceOpen) alone refl (some-codes T c e) (omega arith)
       (ap p b.whole ∙ reference-start (is_on T) b.code (rest_of (ahead T)) (and-left _ _ h) (ap (λ v. v == 38) b.value ∙ and-right _ _ h))
-      (within.open_ready (done opening T) (opened-done T rest))
-      (within.open_weight (done opening T))
-      (λ ok U k. subst (λ (s : TokenizeState). DoesAs 1 open_plan s (done opening T) ok U) (open_rest (opened-done T rest)) (within.open_end (done opening T) ok U k)))
-      (λ h. Goes-no ready ends weight 4 0 p T alone (ap p b.whole ∙ no-reference (is_on T) (b.code ∷ rest_of (ahead T)) (ap (λ v. is_on T && (v == 38)) b.value ∙ h)))))
+      (opened-done T rest)
+      (λ ok U k. subst (λ (s : TokenizeState). DoesAs 1 open_plan s (done opening T) ok U) (open_rest (opened-done T rest)) k))
+      (λ h. Goes-no W 4 0 p T alone (ap p b.whole ∙ no-reference (is_on T) (b.code ∷ rest_of (ahead T)) (ap (λ v. is_on T && (v == 38)) b.value ∙ h)))))
 
   -- neither a number nor a name of the table, or the start of a name
-  named-law : (T : Tokenizer) → T.attempts ≡ [] → IsOpened T → next_is (is_value 35) (ahead T) ≡ false → GoesOn ready ends weight (weight_at 3 T) (open_ends T) (named_step T)
+  named-law : (T : Tokenizer) → T.attempts ≡ [] → IsOpened T → next_is (is_value 35) (ahead T) ≡ false → GoesIn W (weight_at 3 T) (open_ends T) (named_step T)
   named-law T alone o none =
-      let P : Stepped → Type 0 = GoesOn ready ends weight (weight_at 3 T) (open_ends T) in
+      let P : Stepped → Type 0 = GoesIn W (weight_at 3 T) (open_ends T) in
       let V : Tokenizer = scratched (marked 38 T.tokenize_state) (done value_start T) in
       let other : open_plan (ahead T) ≡ named_plan (ahead T) = if-false _ _ _ none in
       if-step P (begins_name (ahead T)) _ _
-      (λ h. Goes-on ready ends weight 3 1 1 open_plan (value_plan 38 0) value_start (rested T.tokenize_state) (marked 38 T.tokenize_state) T (Retry CharacterReferenceValue) alone refl (no-codes T) (omega arith)
+      (λ h. Goes-on W 3 1 open_plan (value_plan 38 0) value_start (rested T.tokenize_state) (marked 38 T.tokenize_state) T (Retry CharacterReferenceValue) (within CharacterReferenceValue) alone refl (no-codes T) (omega arith)
       (other ∙ if-true _ _ _ h)
-      (within.value_ready V (is-value 38 V T.tokenize_state (rest_of T.stack) (started 38 T o) (scratch-scratched _ _) o.size (inl refl)))
-      (within.value_weight V)
-      (λ ok U k. value-from 38 value_start T o ok U (within.value_end V ok U k)))
-      (λ h. subst (λ (s : TokenizeState). GoesOn ready ends weight (weight_at 3 T) (DoesAs 1 open_plan s T) (stepped Nok T)) (sym (rested-same T.tokenize_state o.marker o.size)) (Goes-no ready ends weight 3 1 open_plan T alone (other ∙ if-false _ _ _ h)))
+      (is-value 38 V T.tokenize_state (rest_of T.stack) (started 38 T o) (scratch-scratched _ _) o.size (inl refl))
+      (λ ok U k. value-from 38 value_start T o ok U k))
+      (λ h. subst (λ (s : TokenizeState). GoesIn W (weight_at 3 T) (DoesAs 1 open_plan s T) (stepped Nok T)) (sym (rested-same T.tokenize_state o.marker o.size)) (Goes-no W 3 1 open_plan T alone (other ∙ if-false _ _ _ h)))
 
-  pub open-law : (T : Tokenizer) → T.attempts ≡ [] → IsOpened T → GoesOn ready ends weight (weight_at 3 T) (open_ends T) (open_step T)
+  pub open-law : Law W open_words
   open-law T alone o =
-      let P : Stepped → Type 0 = GoesOn ready ends weight (weight_at 3 T) (open_ends T) in
+      let P : Stepped → Type 0 = GoesIn W (weight_at 3 T) (open_ends T) in
       code-step P (current_of T) (λ x. open_at x T)
       (λ e. named-law T alone o (ap (next_is (is_value 35)) (ahead-none T e)))
       (λ c e. let b = ahead-some T c e in
       if-step P (c == 35) _ _
-      (λ h. Goes-kept ready ends weight 3 2 1 open_plan numeric_plan number_sign (rested T.tokenize_state) T (Next CharacterReferenceNumeric) alone refl (some-codes T c e) (omega arith)
+      (λ h. Goes-kept W 3 1 open_plan numeric_plan number_sign (rested T.tokenize_state) T (Next CharacterReferenceNumeric) (within CharacterReferenceNumeric) alone refl (some-codes T c e) (omega arith)
       (ap open_plan b.whole ∙ if-true _ _ _ (ap (λ v. v == 35) b.value ∙ h) ∙ ap (λ cs. preceded number_sign (numeric_plan (drop 1 cs))) (sym b.whole))
-      (within.numeric_ready (done number_sign T) (numbered-done T o))
-      (within.numeric_weight (done number_sign T))
-      (λ ok U k. subst (λ (s : TokenizeState). DoesAs 1 numeric_plan (rested s) (done number_sign T) ok U) (scratch-done number_sign T) (within.numeric_end (done number_sign T) ok U k)))
+      (numbered-done T o)
+      (λ ok U k. subst (λ (s : TokenizeState). DoesAs 1 numeric_plan (rested s) (done number_sign T) ok U) (scratch-done number_sign T) k))
       (λ h. named-law T alone o (ap (next_is (is_value 35)) b.whole ∙ ap (λ v. v == 35) b.value ∙ h)))
 
   -- decimal digits
-  decimal-law : (T : Tokenizer) → T.attempts ≡ [] → IsOpened T → next_is (is_among (codes "xX")) (ahead T) ≡ false → GoesOn ready ends weight (weight_at 2 T) (numeric_ends T) (decimal_step T)
+  decimal-law : (T : Tokenizer) → T.attempts ≡ [] → IsOpened T → next_is (is_among (codes "xX")) (ahead T) ≡ false → GoesIn W (weight_at 2 T) (numeric_ends T) (decimal_step T)
   decimal-law T alone o none =
       let V : Tokenizer = scratched (marked 35 T.tokenize_state) (done value_start T) in
-      Goes-on ready ends weight 2 1 1 numeric_plan (value_plan 35 0) value_start (rested T.tokenize_state) (marked 35 T.tokenize_state) T (Retry CharacterReferenceValue) alone refl (no-codes T) (omega arith)
+      Goes-on W 2 1 numeric_plan (value_plan 35 0) value_start (rested T.tokenize_state) (marked 35 T.tokenize_state) T (Retry CharacterReferenceValue) (within CharacterReferenceValue) alone refl (no-codes T) (omega arith)
       (if-false _ _ _ none)
-      (within.value_ready V (is-value 35 V T.tokenize_state (rest_of T.stack) (started 35 T o) (scratch-scratched _ _) o.size (inr (inl refl))))
-      (within.value_weight V)
-      (λ ok U k. value-from 35 value_start T o ok U (within.value_end V ok U k))
+      (is-value 35 V T.tokenize_state (rest_of T.stack) (started 35 T o) (scratch-scratched _ _) o.size (inr (inl refl)))
+      (λ ok U k. value-from 35 value_start T o ok U k)
 
-  pub numeric-law : (T : Tokenizer) → T.attempts ≡ [] → IsOpened T → GoesOn ready ends weight (weight_at 2 T) (numeric_ends T) (numeric_step T)
+  pub numeric-law : Law W numeric_words
   numeric-law T alone o =
-      let P : Stepped → Type 0 = GoesOn ready ends weight (weight_at 2 T) (numeric_ends T) in
+      let P : Stepped → Type 0 = GoesIn W (weight_at 2 T) (numeric_ends T) in
       let V : Tokenizer = scratched (marked 120 T.tokenize_state) (done hexadecimal_sign T) in
       code-step P (current_of T) (λ x. numeric_at x T)
       (λ e. decimal-law T alone o (ap (next_is (is_among (codes "xX"))) (ahead-none T e)))
       (λ c e. let b = ahead-some T c e in
       if-step P ((c == 120) || (c == 88)) _ _
-      (λ h. Goes-on ready ends weight 2 1 1 numeric_plan (value_plan 120 0) hexadecimal_sign (rested T.tokenize_state) (marked 120 T.tokenize_state) T (Next CharacterReferenceValue) alone refl (some-codes T c e) (omega arith)
+      (λ h. Goes-on W 2 1 numeric_plan (value_plan 120 0) hexadecimal_sign (rested T.tokenize_state) (marked 120 T.tokenize_state) T (Next CharacterReferenceValue) (within CharacterReferenceValue) alone refl (some-codes T c e) (omega arith)
       (ap numeric_plan b.whole ∙ if-true _ _ _ (sign-test b.code ∙ ap (λ v. (v == 120) || (v == 88)) b.value ∙ h) ∙ ap (λ cs. preceded hexadecimal_sign (value_plan 120 0 (drop 1 cs))) (sym b.whole))
-      (within.value_ready V (is-value 120 V T.tokenize_state (rest_of T.stack) (signed T o) (scratch-scratched _ _) o.size (inr (inr refl))))
-      (within.value_weight V)
-      (λ ok U k. value-from 120 hexadecimal_sign T o ok U (within.value_end V ok U k)))
+      (is-value 120 V T.tokenize_state (rest_of T.stack) (signed T o) (scratch-scratched _ _) o.size (inr (inr refl)))
+      (λ ok U k. value-from 120 hexadecimal_sign T o ok U k))
       (λ h. decimal-law T alone o (ap (next_is (is_among (codes "xX"))) b.whole ∙ sign-test b.code ∙ ap (λ v. (v == 120) || (v == 88)) b.value ∙ h)))
 
-  pub value-law : (T : Tokenizer) → T.attempts ≡ [] → IsValue T → GoesOn ready ends weight (weight_at 1 T) (value_ends T) (value_step T)
+  pub value-law : Law W value_words
   value-law T alone v =
       let s : TokenizeState = T.tokenize_state in
       let p : Plan = value_plan s.marker s.size in
-      let P : Stepped → Type 0 = GoesOn ready ends weight (weight_at 1 T) (value_ends T) in
+      let P : Stepped → Type 0 = GoesIn W (weight_at 1 T) (value_ends T) in
       let V : Tokenizer = scratched (sized (s.size + 1) s) (done (Consume ∷ []) T) in
       code-step P (current_of T) (λ x. value_at x T)
-      (λ e. Goes-nok ready ends weight 1 2 p (rested s) T alone (ap p (ahead-none T e) ∙ value-end s.marker s.size))
+      (λ e. Goes-nok W 1 2 p (rested s) T alone (ap p (ahead-none T e) ∙ value-end s.marker s.size))
       (λ c e. let b = ahead-some T c e in
       if-step P ((c == 59) && nat_lt 0 s.size) _ _
-      (λ h. Goes-ok ready ends weight 1 2 p closing (rested s) T alone (ap p b.whole ∙ value-close s.marker s.size b.code (rest_of (ahead T)) (ap (λ x. x == 59) b.value ∙ and-left _ _ h) (and-right _ _ h) v.size))
+      (λ h. Goes-ok W 1 2 p closing (rested s) T alone (ap p b.whole ∙ value-close s.marker s.size b.code (rest_of (ahead T)) (ap (λ x. x == 59) b.value ∙ and-left _ _ h) (and-right _ _ h) v.size))
       (λ h. if-step P (is_taken s.marker s.size c) _ _
       (λ t. let t2 : is_taken s.marker s.size b.code.value ≡ true = ap (is_taken s.marker s.size) b.value ∙ t in
-      Goes-on ready ends weight 1 1 2 p (value_plan s.marker (s.size + 1)) (Consume ∷ []) (rested s) (sized (s.size + 1) s) T (Next CharacterReferenceValue) alone refl (some-codes T c e) (omega arith)
+      Goes-on W 1 2 p (value_plan s.marker (s.size + 1)) (Consume ∷ []) (rested s) (sized (s.size + 1) s) T (Next CharacterReferenceValue) (within CharacterReferenceValue) alone refl (some-codes T c e) (omega arith)
       (ap p b.whole ∙ value-more s.marker s.size b.code (rest_of (ahead T)) t2 ∙ ap (λ cs. preceded (Consume ∷ []) (value_plan s.marker (s.size + 1) (drop 1 cs))) (sym b.whole))
-      (within.value_ready V (value-on T v c t))
-      (within.value_weight V)
-      (λ ok U k. subst (λ (q : TokenizeState). DoesAs 2 (value_plan q.marker q.size) (rested q) V ok U) (scratch-scratched (sized (s.size + 1) s) (done (Consume ∷ []) T)) (within.value_end V ok U k)))
-      (λ t. Goes-nok ready ends weight 1 2 p (rested s) T alone (ap p b.whole ∙ value-stop s.marker s.size b.code (rest_of (ahead T)) (ap (λ x. (x == 59) && nat_lt 0 s.size) b.value ∙ h) (ap (is_taken s.marker s.size) b.value ∙ t)))))
+      (value-on T v c t)
+      (λ ok U k. subst (λ (q : TokenizeState). DoesAs 2 (value_plan q.marker q.size) (rested q) V ok U) (scratch-scratched (sized (s.size + 1) s) (done (Consume ∷ []) T)) k))
+      (λ t. Goes-nok W 1 2 p (rested s) T alone (ap p b.whole ∙ value-stop s.marker s.size b.code (rest_of (ahead T)) (ap (λ x. (x == 59) && nat_lt 0 s.size) b.value ∙ h) (ap (is_taken s.marker s.size) b.value ∙ t)))))

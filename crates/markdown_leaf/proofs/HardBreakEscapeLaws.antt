@@ -3,12 +3,11 @@ use Rattle.std.proofs.Common.{◌≡◌, ℕ, ◌==◌, ◌&&◌, Bool, true, fa
 use Rattle.markdown_engine.specs.Codes.{Code, is_line_ending}
 use Rattle.markdown_engine.specs.Lists.{rest_of}
 use Rattle.markdown_engine.specs.Ops.{current_of, ahead, IsOpen, done}
-use Rattle.markdown_engine.specs.Runs.{Stepped, GoesOn}
+use Rattle.markdown_engine.specs.Runs.{Stepped}
 use Rattle.markdown_engine.specs.Tree.{leaf}
 use Rattle.markdown_engine.specs.Weights.{weight_at}
 use Rattle.markdown_engine.specs.declared.event.Name.TheVariants as N
 use Rattle.markdown_engine.specs.declared.state.State.TheVariants.{Next}
-use Rattle.markdown_engine.specs.declared.state.StateName.{StateName}
 use Rattle.markdown_engine.specs.declared.state.StateName.TheVariants.{HardBreakEscapeAfter}
 use Rattle.markdown_engine.specs.declared.tokenizer.Tokenizer.{Tokenizer}
 use Rattle.markdown_engine.proofs.Laws.{if-step, code-step}
@@ -16,17 +15,14 @@ use Rattle.markdown_engine.proofs.OpRules.{law_rules, ahead-none, ahead-some, so
 use Rattle.markdown_model.specs.CodeTests.{is_value, next_is}
 use Rattle.markdown_model.specs.Grammar.{◌>>◌, provided, gives}
 use Rattle.markdown_model.specs.Leaf.{hard_break_escape}
-use Rattle.markdown_leaf.specs.HardBreakEscape.{is_on, opening, closing, start_at, start_step, after_at, after_step, break_here, after_plan, start_ends, after_ends}
+use Rattle.markdown_leaf.specs.HardBreakEscape.{is_on, opening, closing, start_at, start_step, after_at, after_step, break_here, after_plan, start_ends, after_ends, states, after_words, start_words}
 use Rattle.markdown_construct.specs.Plan.{Plan, preceded, tree_ops, plan_of, KeepsAs}
-use Rattle.markdown_construct.proofs.PlanLemmas.{GoesOn-map, Goes-next, Goes-yes, Goes-no, EndsAs-plan}
+use Rattle.markdown_construct.proofs.PlanLemmas.{EndsAs-plan}
 use Rattle.markdown_model.proofs.ReadingSteps.{bind-some, bind-none, before-some, before-none, before-other, one-here, one-not, switched-on, switched-off, and-left, and-right, and-false, if-true, if-false}
 use Rattle.markdown_construct.proofs.WholeReadings.{Gives, Covers, IsSome, Gives-bind, Gives-before, Gives-switched, Gives-one, Gives-gives, Covers-leaf}
-
--- what the layer says of these states
-pub record Within (ready : StateName → Tokenizer → Type 0) (ends : StateName → Tokenizer → Bool → Tokenizer → Type 0) (weight : StateName → Tokenizer → ℕ) : Type 0 where
-  pub after_ready : (T : Tokenizer) → IsOpen N.HardBreakEscape T → ready HardBreakEscapeAfter T
-  pub after_end : (T : Tokenizer) (ok : Bool) (U : Tokenizer) → ends HardBreakEscapeAfter T ok U → after_ends T ok U
-  pub after_weight : (T : Tokenizer) → weight HardBreakEscapeAfter T ≡ weight_at 1 T
+use Rattle.markdown_engine.specs.StateWords.{Words, Law, GoesIn}
+use Rattle.markdown_construct.proofs.StateLaws.{GoesOn-map, Goes-next, Goes-yes, Goes-no}
+use Rattle.markdown_construct.specs.Within.{Within}
 
 -- The reading, by what stands there.
 
@@ -53,29 +49,28 @@ whole on =
 
 -- The states.
 
-pub start-law : (ready : StateName → Tokenizer → Type 0) (ends : StateName → Tokenizer → Bool → Tokenizer → Type 0) (weight : StateName → Tokenizer → ℕ) → Within ready ends weight → (T : Tokenizer) → T.attempts ≡ [] → GoesOn ready ends weight (weight_at 2 T) (start_ends T) (start_step T)
-start-law ready ends weight within T alone =
+pub start-law : (W : Words) → Within states W → Law W start_words
+start-law W within T alone _ =
     let p : Plan = plan_of (break_here T) in
     let E : Bool → Tokenizer → Type 0 = KeepsAs 0 p T in
-    let P : Stepped → Type 0 = GoesOn ready ends weight (weight_at 2 T) E in
-    GoesOn-map ready ends weight (weight_at 2 T) E (start_ends T) (start_step T) (λ ok U k. EndsAs-plan (break_here T) (whole (is_on T)) T.tokenize_state T ok U k)
+    let P : Stepped → Type 0 = GoesIn W (weight_at 2 T) E in
+    GoesOn-map W (weight_at 2 T) E (start_ends T) (start_step T) (λ ok U k. EndsAs-plan (break_here T) (whole (is_on T)) T.tokenize_state T ok U k)
     (code-step P (current_of T) (λ o. start_at (is_on T) o T)
-    (λ e. Goes-no ready ends weight 2 0 p T alone (ap p (ahead-none T e) ∙ no-break (is_on T) [] (and-false (is_on T))))
+    (λ e. Goes-no W 2 0 p T alone (ap p (ahead-none T e) ∙ no-break (is_on T) [] (and-false (is_on T))))
     (λ c e. let b = ahead-some T c e in
     if-step P (is_on T && (c == 92)) _ _
-    (λ h. Goes-next ready ends weight 2 1 0 p after_plan opening T (Next HardBreakEscapeAfter) alone refl (some-codes T c e) (omega arith)
+    (λ h. Goes-next W 2 0 p after_plan opening T (Next HardBreakEscapeAfter) (within HardBreakEscapeAfter) alone refl (some-codes T c e) (omega arith)
     (ap p b.whole ∙ break-slash (is_on T) b.code (rest_of (ahead T)) (and-left _ _ h) (ap (λ v. v == 92) b.value ∙ and-right _ _ h))
-    (within.after_ready (done opening T) (grind (arith, law_rules)))
-    (within.after_weight (done opening T))
-    (within.after_end (done opening T)))
-    (λ h. Goes-no ready ends weight 2 0 p T alone (ap p b.whole ∙ no-break (is_on T) (b.code ∷ rest_of (ahead T)) (ap (λ v. is_on T && (v == 92)) b.value ∙ h)))))
+    (grind (arith, law_rules))
+    (λ ok U x. x))
+    (λ h. Goes-no W 2 0 p T alone (ap p b.whole ∙ no-break (is_on T) (b.code ∷ rest_of (ahead T)) (ap (λ v. is_on T && (v == 92)) b.value ∙ h)))))
 
-pub after-law : (ready : StateName → Tokenizer → Type 0) (ends : StateName → Tokenizer → Bool → Tokenizer → Type 0) (weight : StateName → Tokenizer → ℕ) (T : Tokenizer) → T.attempts ≡ [] → GoesOn ready ends weight (weight_at 1 T) (after_ends T) (after_step T)
-after-law ready ends weight T alone =
-    let P : Stepped → Type 0 = GoesOn ready ends weight (weight_at 1 T) (after_ends T) in
+pub after-law : (W : Words) → Law W after_words
+after-law W T alone _ =
+    let P : Stepped → Type 0 = GoesIn W (weight_at 1 T) (after_ends T) in
     code-step P (current_of T) (λ o. after_at o T)
-    (λ e. Goes-no ready ends weight 1 1 after_plan T alone (ap after_plan (ahead-none T e)))
+    (λ e. Goes-no W 1 1 after_plan T alone (ap after_plan (ahead-none T e)))
     (λ c e. let b = ahead-some T c e in
     if-step P (c == 10) _ _
-    (λ h. Goes-yes ready ends weight 1 1 after_plan closing T alone (ap after_plan b.whole ∙ if-true _ _ _ (ap (λ v. v == 10) b.value ∙ h)))
-    (λ h. Goes-no ready ends weight 1 1 after_plan T alone (ap after_plan b.whole ∙ if-false _ _ _ (ap (λ v. v == 10) b.value ∙ h))))
+    (λ h. Goes-yes W 1 1 after_plan closing T alone (ap after_plan b.whole ∙ if-true _ _ _ (ap (λ v. v == 10) b.value ∙ h)))
+    (λ h. Goes-no W 1 1 after_plan T alone (ap after_plan b.whole ∙ if-false _ _ _ (ap (λ v. v == 10) b.value ∙ h))))

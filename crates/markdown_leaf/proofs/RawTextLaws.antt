@@ -4,12 +4,11 @@ use Rattle.markdown_engine.specs.Codes.{Code}
 use Rattle.markdown_engine.specs.Lists.{rest_of}
 use Rattle.markdown_engine.specs.Ops.{Op, Enter, Exit, Consume, current_of, ahead, applied, done, scratched}
 use Rattle.markdown_engine.specs.Place.{value_of, code_before}
-use Rattle.markdown_engine.specs.Runs.{Stepped, GoesOn}
+use Rattle.markdown_engine.specs.Runs.{Stepped}
 use Rattle.markdown_engine.specs.Weights.{weight_at}
 use Rattle.markdown_engine.specs.declared.event.Name.TheVariants as N
 use Rattle.markdown_engine.specs.declared.state.State.TheVariants.{Next, Retry}
 use Rattle.markdown_engine.specs.declared.state.State.TheVariants as State
-use Rattle.markdown_engine.specs.declared.state.StateName.{StateName}
 use Rattle.markdown_engine.specs.declared.state.StateName.TheVariants.{RawTextSequenceOpen, RawTextBetween, RawTextData, RawTextSequenceClose}
 use Rattle.markdown_engine.specs.declared.tokenizer.TokenizeState.{TokenizeState}
 use Rattle.markdown_engine.specs.declared.tokenizer.Tokenizer.{Tokenizer}
@@ -18,32 +17,19 @@ use Rattle.markdown_engine.proofs.OpRules.{ahead-none, ahead-some, Begins, some-
 use Rattle.markdown_model.specs.CodeTests.{is_value, is_some_code, next_is}
 use Rattle.markdown_model.specs.Leaf.{SpanNames, code_names, math_names}
 use Rattle.markdown_construct.specs.Plan.{Plan, preceded, plan_of, KeepsAs}
-use Rattle.markdown_leaf.specs.RawText.{names_in, begun, rested, is_same, is_barred, follows_escape, code_just_before, code_is_on, math_is_on, single_dollar, opened, start_at, start_step, after_opening, sequence_open_at, sequence_open_step, between_at, between_step, after_data, data_at, data_step, after_run, sequence_close_at, sequence_close_step, StartReady, SequenceOpenReady, BetweenReady, DataReady, SequenceCloseReady, span_at, is_hopeless, closed_ops, inside_plan, is_data, data_plan, run_naming, opening_plan, start_ends, sequence_open_ends, between_ends, data_ends, sequence_close_ends}
+use Rattle.markdown_leaf.specs.RawText.{names_in, begun, rested, is_same, is_barred, follows_escape, code_just_before, code_is_on, math_is_on, single_dollar, opened, start_at, start_step, after_opening, sequence_open_at, sequence_open_step, between_at, between_step, after_data, data_at, data_step, after_run, sequence_close_at, sequence_close_step, StartReady, SequenceOpenReady, BetweenReady, DataReady, SequenceCloseReady, span_at, is_hopeless, closed_ops, inside_plan, is_data, data_plan, run_naming, opening_plan, start_ends, sequence_open_ends, between_ends, data_ends, sequence_close_ends, states, between_words, data_words, sequence_close_words, sequence_open_words, start_words}
 use Rattle.markdown_construct.specs.Scratch.{with_size, with_size_b}
 use Rattle.markdown_construct.specs.Renaming.{Naming, renamed}
 use Rattle.markdown_leaf.proofs.ClosingLemmas.{hopeless-none}
-use Rattle.markdown_construct.proofs.NamingLemmas.{Goes-entered, Goes-inside, Goes-settled, Goes-named}
-use Rattle.markdown_construct.proofs.PlanLemmas.{GoesOn-map, Goes-on, Goes-kept, Goes-nok, Goes-no, EndsAs-plan}
+use Rattle.markdown_construct.proofs.PlanLemmas.{EndsAs-plan}
 use Rattle.markdown_leaf.proofs.RawTextReadings.{inside-none, inside-ending, inside-data, inside-run, data-more, data-end, run-more, run-closed, run-other, open-more, open-end, code-opens, math-opens-here, no-span}
 use Rattle.markdown_leaf.proofs.RawTextReady.{start-opened, opened-more, opened-between, between-ending, between-data, between-run, data-next, data-between, run-next, run-between, opening-says}
 use Rattle.markdown_leaf.proofs.RawTextWhole.{whole-here}
 use Rattle.markdown_model.proofs.ReadingSteps.{and-left, and-right, if-true}
 use Rattle.markdown_construct.proofs.WholeReadings.{Gives, Covers, Gives-either}
-
--- what the layer says of these states
-pub record Within (ready : StateName → Tokenizer → Type 0) (ends : StateName → Tokenizer → Bool → Tokenizer → Type 0) (weight : StateName → Tokenizer → ℕ) : Type 0 where
-  pub sequence_open_ready : (T : Tokenizer) → SequenceOpenReady T → ready RawTextSequenceOpen T
-  pub sequence_open_end : (T : Tokenizer) (ok : Bool) (U : Tokenizer) → ends RawTextSequenceOpen T ok U → sequence_open_ends T ok U
-  pub sequence_open_weight : (T : Tokenizer) → weight RawTextSequenceOpen T ≡ weight_at 3 T
-  pub between_ready : (T : Tokenizer) → BetweenReady T → ready RawTextBetween T
-  pub between_end : (T : Tokenizer) (ok : Bool) (U : Tokenizer) → ends RawTextBetween T ok U → between_ends T ok U
-  pub between_weight : (T : Tokenizer) → weight RawTextBetween T ≡ weight_at 2 T
-  pub data_ready : (T : Tokenizer) → DataReady T → ready RawTextData T
-  pub data_end : (T : Tokenizer) (ok : Bool) (U : Tokenizer) → ends RawTextData T ok U → data_ends T ok U
-  pub data_weight : (T : Tokenizer) → weight RawTextData T ≡ weight_at 3 T
-  pub sequence_close_ready : (T : Tokenizer) → SequenceCloseReady T → ready RawTextSequenceClose T
-  pub sequence_close_end : (T : Tokenizer) (ok : Bool) (U : Tokenizer) → ends RawTextSequenceClose T ok U → sequence_close_ends T ok U
-  pub sequence_close_weight : (T : Tokenizer) → weight RawTextSequenceClose T ≡ weight_at 3 T
+use Rattle.markdown_engine.specs.StateWords.{Words, Law, GoesIn}
+use Rattle.markdown_construct.proofs.StateLaws.{GoesOn-map, Goes-on, Goes-kept, Goes-entered, Goes-inside, Goes-settled, Goes-nok, Goes-no, Goes-named}
+use Rattle.markdown_construct.specs.Within.{Within}
 
 -- Tests.
 
@@ -70,58 +56,54 @@ barred-is m T = free-is (follows_escape T.events) m (code_just_before T)
 whole : (T : Tokenizer) → Gives Covers (span_at T)
 whole T = Gives-either _ _ Covers (whole-here _ _ _ _ _ _) (whole-here _ _ _ _ _ _)
 
-module _ (ready : StateName → Tokenizer → Type 0) (ends : StateName → Tokenizer → Bool → Tokenizer → Type 0) (weight : StateName → Tokenizer → ℕ) (within : Within ready ends weight) where
+module _ (W : Words) (within : Within states W) where
   -- The rest of a span, from its states.
 
-  pub between-law : (T : Tokenizer) → T.attempts ≡ [] → BetweenReady T → GoesOn ready ends weight (weight_at 2 T) (between_ends T) (between_step T)
+  pub between-law : Law W between_words
   unfolding scratched applied
   between-law T alone k =
       let s : TokenizeState = T.tokenize_state in
       let m : ℕ = s.marker in
       let p : Plan = inside_plan m (names_in s) s.size in
-      let P : Stepped → Type 0 = GoesOn ready ends weight (weight_at 2 T) (between_ends T) in
+      let P : Stepped → Type 0 = GoesIn W (weight_at 2 T) (between_ends T) in
       code-step P (current_of T) (λ o. between_at o T)
-      (λ e. Goes-nok ready ends weight 2 1 p (rested s) T alone (ap p (ahead-none T e) ∙ inside-none m (names_in s) s.size))
+      (λ e. Goes-nok W 2 1 p (rested s) T alone (ap p (ahead-none T e) ∙ inside-none m (names_in s) s.size))
       (λ c e.
       let b : Begins c (ahead T) = ahead-some T c e in
       let more : 1 ≤ length (ahead T) = some-codes T c e in
       if-step P (c == 10) _ _
-      (λ h. Goes-kept ready ends weight 2 2 1 p p (Enter N.LineEnding ∷ Consume ∷ Exit N.LineEnding ∷ []) (rested s) T (Next RawTextBetween) alone refl more (omega arith)
+      (λ h. Goes-kept W 2 1 p p (Enter N.LineEnding ∷ Consume ∷ Exit N.LineEnding ∷ []) (rested s) T (Next RawTextBetween) (within RawTextBetween) alone refl more (omega arith)
       (ap p b.whole ∙ inside-ending m (names_in s) s.size k.marker b.code (rest_of (ahead T)) (ap (λ v. v == 10) b.value ∙ h))
-      (within.between_ready _ (between-ending T more k))
-      (within.between_weight _)
-      (λ ok U x. within.between_end _ ok U x))
+      (between-ending T more k)
+      (λ ok U x. x))
       (λ h. if-step P (c == m) _ _
-      (λ g. Goes-entered ready ends weight 2 3 1 p (run_naming m (names_in s) s.size 1) s.token_2 (rested s) (with_size_b 1 s) T (Next RawTextSequenceClose) alone refl more (omega arith)
+      (λ g. Goes-entered W 2 1 p (run_naming m (names_in s) s.size 1) s.token_2 (rested s) (with_size_b 1 s) T (Next RawTextSequenceClose) (within RawTextSequenceClose) alone refl more (omega arith)
       (ap p b.whole ∙ inside-run m (names_in s) s.size k.marker b.code (rest_of (ahead T)) (ap (λ v. v == m) b.value ∙ g))
-      (within.sequence_close_ready _ (between-run T more k))
-      (within.sequence_close_weight _)
-      (λ ok U x. within.sequence_close_end _ ok U x))
-      (λ g. Goes-kept ready ends weight 2 3 1 p (data_plan m (names_in s) s.size) (Enter s.token_3 ∷ Consume ∷ []) (rested s) T (Next RawTextData) alone refl more (omega arith)
+      (between-run T more k)
+      (λ ok U x. x))
+      (λ g. Goes-kept W 2 1 p (data_plan m (names_in s) s.size) (Enter s.token_3 ∷ Consume ∷ []) (rested s) T (Next RawTextData) (within RawTextData) alone refl more (omega arith)
       (ap p b.whole ∙ inside-data m (names_in s) s.size b.code (rest_of (ahead T)) (or-false _ _ (ap (λ v. v == 10) b.value ∙ h) (ap (λ v. v == m) b.value ∙ g)))
-      (within.data_ready _ (between-data T more k))
-      (within.data_weight _)
-      (λ ok U x. within.data_end _ ok U x))))
+      (between-data T more k)
+      (λ ok U x. x))))
 
   -- data ends where none comes next
-  data-ends-here : (T : Tokenizer) → T.attempts ≡ [] → DataReady T → next_is (is_data T.tokenize_state.marker (names_in T.tokenize_state) T.tokenize_state.size) (ahead T) ≡ false → GoesOn ready ends weight (weight_at 3 T) (data_ends T) (after_data T)
+  data-ends-here : (T : Tokenizer) → T.attempts ≡ [] → DataReady T → next_is (is_data T.tokenize_state.marker (names_in T.tokenize_state) T.tokenize_state.size) (ahead T) ≡ false → GoesIn W (weight_at 3 T) (data_ends T) (after_data T)
   unfolding scratched applied
   data-ends-here T alone k h =
       let s : TokenizeState = T.tokenize_state in
-      Goes-kept ready ends weight 3 2 2 (data_plan s.marker (names_in s) s.size) (inside_plan s.marker (names_in s) s.size) (Exit s.token_3 ∷ []) (rested s) T (Retry RawTextBetween) alone refl (omega arith) (omega arith)
+      Goes-kept W 3 2 (data_plan s.marker (names_in s) s.size) (inside_plan s.marker (names_in s) s.size) (Exit s.token_3 ∷ []) (rested s) T (Retry RawTextBetween) (within RawTextBetween) alone refl (omega arith) (omega arith)
       (data-end s.marker (names_in s) s.size (ahead T) h)
-      (within.between_ready _ (data-between T k))
-      (within.between_weight _)
-      (λ ok U x. within.between_end _ ok U x)
+      (data-between T k)
+      (λ ok U x. x)
 
-  pub data-law : (T : Tokenizer) → T.attempts ≡ [] → DataReady T → GoesOn ready ends weight (weight_at 3 T) (data_ends T) (data_step T)
+  pub data-law : Law W data_words
   unfolding scratched applied
   data-law T alone k =
       let s : TokenizeState = T.tokenize_state in
       let m : ℕ = s.marker in
       let p : Plan = data_plan m (names_in s) s.size in
       let q : Code → Bool = is_data m (names_in s) s.size in
-      let P : Stepped → Type 0 = GoesOn ready ends weight (weight_at 3 T) (data_ends T) in
+      let P : Stepped → Type 0 = GoesIn W (weight_at 3 T) (data_ends T) in
       code-step P (current_of T) (λ o. data_at o T)
       (λ e. data-ends-here T alone k (ap (λ cs. next_is q cs) (ahead-none T e)))
       (λ c e.
@@ -129,36 +111,34 @@ module _ (ready : StateName → Tokenizer → Type 0) (ends : StateName → Toke
       let here : q b.code ≡ not (c == 10 || c == m) = ap (λ v. not (v == 10 || v == m)) b.value in
       if-step P (c == 10 || c == m) _ _
       (λ h. data-ends-here T alone k (ap (λ cs. next_is q cs) b.whole ∙ here ∙ ap not h))
-      (λ h. Goes-kept ready ends weight 3 3 2 p p (Consume ∷ []) (rested s) T (Next RawTextData) alone refl (some-codes T c e) (omega arith)
+      (λ h. Goes-kept W 3 2 p p (Consume ∷ []) (rested s) T (Next RawTextData) (within RawTextData) alone refl (some-codes T c e) (omega arith)
       (ap p b.whole ∙ data-more m (names_in s) s.size b.code (rest_of (ahead T)) (here ∙ ap not h))
-      (within.data_ready _ (data-next T (some-codes T c e) k))
-      (within.data_weight _)
-      (λ ok U x. within.data_end _ ok U x)))
+      (data-next T (some-codes T c e) k)
+      (λ ok U x. x)))
 
   -- the run ends where no marker comes next
-  run-ends-here : (T : Tokenizer) → T.attempts ≡ [] → SequenceCloseReady T → next_is (is_value T.tokenize_state.marker) (ahead T) ≡ false → GoesOn ready ends weight (weight_at 3 T) (sequence_close_ends T) (after_run T)
+  run-ends-here : (T : Tokenizer) → T.attempts ≡ [] → SequenceCloseReady T → next_is (is_value T.tokenize_state.marker) (ahead T) ≡ false → GoesIn W (weight_at 3 T) (sequence_close_ends T) (after_run T)
   unfolding scratched applied renamed
   run-ends-here T alone k h =
       let s : TokenizeState = T.tokenize_state in
       let m : ℕ = s.marker in
       let p : Naming = run_naming m (names_in s) s.size s.size_b in
       let os : List Op = Exit s.token_2 ∷ Exit s.token_1 ∷ [] in
-      let P : Stepped → Type 0 = GoesOn ready ends weight (weight_at 3 T) (sequence_close_ends T) in
+      let P : Stepped → Type 0 = GoesIn W (weight_at 3 T) (sequence_close_ends T) in
       if-step P (s.size_b == s.size) _ _
       (λ g. subst (λ (x : Tokenizer). P (record { state = State.Ok; left = scratched (rested s) (done os x) })) k.entered
-      (Goes-named ready ends weight 3 1 p s.token_2 os (rested s) T alone (run-closed m (names_in s) s.size s.size_b (ahead T) h g)))
-      (λ g. Goes-settled ready ends weight 3 2 1 p s.token_3 (inside_plan m (names_in s) s.size) (Exit s.token_3 ∷ []) (rested s) (with_size_b 0 s) T (Retry RawTextBetween) alone refl (omega arith) (omega arith)
+      (Goes-named W 3 1 p s.token_2 os (rested s) T alone (run-closed m (names_in s) s.size s.size_b (ahead T) h g)))
+      (λ g. Goes-settled W 3 1 p s.token_3 (inside_plan m (names_in s) s.size) (Exit s.token_3 ∷ []) (rested s) (with_size_b 0 s) T (Retry RawTextBetween) (within RawTextBetween) alone refl (omega arith) (omega arith)
       (run-other m (names_in s) s.size s.size_b (ahead T) h g)
-      (within.between_ready _ (run-between T k))
-      (within.between_weight _)
-      (λ ok U x. within.between_end _ ok U x))
+      (run-between T k)
+      (λ ok U x. x))
 
-  pub sequence_close-law : (T : Tokenizer) → T.attempts ≡ [] → SequenceCloseReady T → GoesOn ready ends weight (weight_at 3 T) (sequence_close_ends T) (sequence_close_step T)
+  pub sequence_close-law : Law W sequence_close_words
   unfolding scratched applied
   sequence_close-law T alone k =
       let s : TokenizeState = T.tokenize_state in
       let m : ℕ = s.marker in
-      let P : Stepped → Type 0 = GoesOn ready ends weight (weight_at 3 T) (sequence_close_ends T) in
+      let P : Stepped → Type 0 = GoesIn W (weight_at 3 T) (sequence_close_ends T) in
       code-step P (current_of T) (λ o. sequence_close_at o T)
       (λ e. run-ends-here T alone k (ap (λ cs. next_is (is_value m) cs) (ahead-none T e)))
       (λ c e.
@@ -166,11 +146,10 @@ module _ (ready : StateName → Tokenizer → Type 0) (ends : StateName → Toke
       let here : is_value m b.code ≡ (c == m) = ap (λ v. v == m) b.value in
       let p : Naming = run_naming m (names_in s) s.size s.size_b in
       if-step P (c == m) _ _
-      (λ h. Goes-inside ready ends weight 3 3 1 p (run_naming m (names_in s) s.size (s.size_b + 1)) (rested s) (with_size_b (s.size_b + 1) s) T (Next RawTextSequenceClose) alone refl (some-codes T c e) (omega arith)
+      (λ h. Goes-inside W 3 1 p (run_naming m (names_in s) s.size (s.size_b + 1)) (rested s) (with_size_b (s.size_b + 1) s) T (Next RawTextSequenceClose) (within RawTextSequenceClose) alone refl (some-codes T c e) (omega arith)
       (ap p b.whole ∙ run-more m (names_in s) s.size s.size_b b.code (rest_of (ahead T)) (here ∙ h))
-      (within.sequence_close_ready _ (run-next T (some-codes T c e) k))
-      (within.sequence_close_weight _)
-      (λ ok U x. within.sequence_close_end _ ok U x))
+      (run-next T (some-codes T c e) k)
+      (λ ok U x. x))
       (λ h. run-ends-here T alone k (ap (λ cs. next_is (is_value m) cs) b.whole ∙ here ∙ h)))
 
   -- The opening run.
@@ -180,29 +159,28 @@ module _ (ready : StateName → Tokenizer → Type 0) (ends : StateName → Toke
   none-opened T k h true e = refl
   none-opened T k h false e = ap (λ o. preceded (Exit T.tokenize_state.token_2 ∷ []) (closed_ops (names_in T.tokenize_state) o)) (hopeless-none T k.marker k.indexed e h)
 
-  run-opened : (T : Tokenizer) → T.attempts ≡ [] → SequenceOpenReady T → next_is (is_value T.tokenize_state.marker) (ahead T) ≡ false → GoesOn ready ends weight (weight_at 3 T) (sequence_open_ends T) (after_opening T)
+  run-opened : (T : Tokenizer) → T.attempts ≡ [] → SequenceOpenReady T → next_is (is_value T.tokenize_state.marker) (ahead T) ≡ false → GoesIn W (weight_at 3 T) (sequence_open_ends T) (after_opening T)
   unfolding scratched applied
   run-opened T alone k h =
       let s : TokenizeState = T.tokenize_state in
       let m : ℕ = s.marker in
       let p : Plan = opening_plan (single_dollar T) m (names_in s) s.size in
-      let P : Stepped → Type 0 = GoesOn ready ends weight (weight_at 3 T) (sequence_open_ends T) in
+      let P : Stepped → Type 0 = GoesIn W (weight_at 3 T) (sequence_open_ends T) in
       let end = open-end (single_dollar T) m (names_in s) s.size (ahead T) h in
       let short : Bool = m == 36 && (s.size == 1 && not (single_dollar T)) in
       if-step P (short || is_hopeless T) _ _
-      (λ g. Goes-nok ready ends weight 3 2 p (rested s) T alone (end ∙ none-opened T k h short g))
-      (λ g. Goes-kept ready ends weight 3 2 2 p (inside_plan m (names_in s) s.size) (Exit s.token_2 ∷ []) (rested s) T (Retry RawTextBetween) alone refl (omega arith) (omega arith)
+      (λ g. Goes-nok W 3 2 p (rested s) T alone (end ∙ none-opened T k h short g))
+      (λ g. Goes-kept W 3 2 p (inside_plan m (names_in s) s.size) (Exit s.token_2 ∷ []) (rested s) T (Retry RawTextBetween) (within RawTextBetween) alone refl (omega arith) (omega arith)
       (end ∙ if-true _ _ _ (ap not (or-left short (is_hopeless T) g)))
-      (within.between_ready _ (opened-between T k))
-      (within.between_weight _)
-      (λ ok U x. within.between_end _ ok U x))
+      (opened-between T k)
+      (λ ok U x. x))
 
-  pub sequence_open-law : (T : Tokenizer) → T.attempts ≡ [] → SequenceOpenReady T → GoesOn ready ends weight (weight_at 3 T) (sequence_open_ends T) (sequence_open_step T)
+  pub sequence_open-law : Law W sequence_open_words
   unfolding scratched applied
   sequence_open-law T alone k =
       let s : TokenizeState = T.tokenize_state in
       let m : ℕ = s.marker in
-      let P : Stepped → Type 0 = GoesOn ready ends weight (weight_at 3 T) (sequence_open_ends T) in
+      let P : Stepped → Type 0 = GoesIn W (weight_at 3 T) (sequence_open_ends T) in
       code-step P (current_of T) (λ o. sequence_open_at o T)
       (λ e. run-opened T alone k (ap (λ cs. next_is (is_value m) cs) (ahead-none T e)))
       (λ c e.
@@ -210,24 +188,22 @@ module _ (ready : StateName → Tokenizer → Type 0) (ends : StateName → Toke
       let here : is_value m b.code ≡ (c == m) = ap (λ v. v == m) b.value in
       let p : Plan = opening_plan (single_dollar T) m (names_in s) s.size in
       if-step P (c == m) _ _
-      (λ h. Goes-on ready ends weight 3 3 2 p (opening_plan (single_dollar T) m (names_in s) (s.size + 1)) (Consume ∷ []) (rested s) (with_size (s.size + 1) s) T (Next RawTextSequenceOpen) alone refl (some-codes T c e) (omega arith)
+      (λ h. Goes-on W 3 2 p (opening_plan (single_dollar T) m (names_in s) (s.size + 1)) (Consume ∷ []) (rested s) (with_size (s.size + 1) s) T (Next RawTextSequenceOpen) (within RawTextSequenceOpen) alone refl (some-codes T c e) (omega arith)
       (ap p b.whole ∙ open-more (single_dollar T) m (names_in s) s.size b.code (rest_of (ahead T)) (here ∙ h))
-      (within.sequence_open_ready _ (opened-more T (some-codes T c e) k))
-      (within.sequence_open_weight _)
-      (λ ok U x. within.sequence_open_end _ ok U x))
+      (opened-more T (some-codes T c e) k)
+      (λ ok U x. x))
       (λ h. run-opened T alone k (ap (λ cs. next_is (is_value m) cs) b.whole ∙ here ∙ h)))
 
   -- The start.
 
   -- past the first marker of a span
-  span-opened : (m : ℕ) (names : SpanNames) (T : Tokenizer) → T.attempts ≡ [] → StartReady T → (m == 10) ≡ false → 1 ≤ length (ahead T) → plan_of (span_at T) (ahead T) ≡ preceded (Enter names.whole ∷ Enter names.sequence ∷ Consume ∷ []) (opening_plan (single_dollar T) m names 1 (drop 1 (ahead T))) → GoesOn ready ends weight (weight_at 4 T) (KeepsAs 0 (plan_of (span_at T)) T) (opened m names T)
+  span-opened : (m : ℕ) (names : SpanNames) (T : Tokenizer) → T.attempts ≡ [] → StartReady T → (m == 10) ≡ false → 1 ≤ length (ahead T) → plan_of (span_at T) (ahead T) ≡ preceded (Enter names.whole ∷ Enter names.sequence ∷ Consume ∷ []) (opening_plan (single_dollar T) m names 1 (drop 1 (ahead T))) → GoesIn W (weight_at 4 T) (KeepsAs 0 (plan_of (span_at T)) T) (opened m names T)
   span-opened m names T alone k other more e =
-      Goes-on ready ends weight 4 3 0 (plan_of (span_at T)) (opening_plan (single_dollar T) m names 1) (Enter names.whole ∷ Enter names.sequence ∷ Consume ∷ []) T.tokenize_state (begun m names T.tokenize_state) T (Next RawTextSequenceOpen) alone refl more (omega arith) e
-      (within.sequence_open_ready _ (start-opened m names T other more k))
-      (within.sequence_open_weight _)
-      (λ ok U x. opening-says m names T ok U k.rest (within.sequence_open_end _ ok U x))
+      Goes-on W 4 0 (plan_of (span_at T)) (opening_plan (single_dollar T) m names 1) (Enter names.whole ∷ Enter names.sequence ∷ Consume ∷ []) T.tokenize_state (begun m names T.tokenize_state) T (Next RawTextSequenceOpen) (within RawTextSequenceOpen) alone refl more (omega arith) e
+      (start-opened m names T other more k)
+      (λ ok U x. opening-says m names T ok U k.rest x)
 
-  pub start-law : (T : Tokenizer) → T.attempts ≡ [] → StartReady T → GoesOn ready ends weight (weight_at 4 T) (start_ends T) (start_step T)
+  pub start-law : Law W start_words
   start-law T alone k =
       let p : Plan = plan_of (span_at T) in
       let on : Bool = code_is_on T in
@@ -236,12 +212,12 @@ module _ (ready : StateName → Tokenizer → Type 0) (ends : StateName → Toke
       let escaped : Bool = follows_escape T.events in
       let previous : Option Code = code_just_before T in
       let E : Bool → Tokenizer → Type 0 = KeepsAs 0 p T in
-      let P : Stepped → Type 0 = GoesOn ready ends weight (weight_at 4 T) E in
+      let P : Stepped → Type 0 = GoesIn W (weight_at 4 T) E in
       let code_free = barred-is 96 T in
       let math_free = barred-is 36 T in
-      GoesOn-map ready ends weight (weight_at 4 T) E (start_ends T) (start_step T) (λ ok U x. EndsAs-plan (span_at T) (whole T) T.tokenize_state T ok U x)
+      GoesOn-map W (weight_at 4 T) E (start_ends T) (start_step T) (λ ok U x. EndsAs-plan (span_at T) (whole T) T.tokenize_state T ok U x)
       (code-step P (current_of T) (λ o. start_at o T)
-      (λ e. Goes-no ready ends weight 4 0 p T alone (ap p (ahead-none T e) ∙ no-span on math single escaped previous [] refl refl))
+      (λ e. Goes-no W 4 0 p T alone (ap p (ahead-none T e) ∙ no-span on math single escaped previous [] refl refl))
       (λ c e.
       let b : Begins c (ahead T) = ahead-some T c e in
       let more : 1 ≤ length (ahead T) = some-codes T c e in
@@ -251,5 +227,5 @@ module _ (ready : StateName → Tokenizer → Type 0) (ends : StateName → Toke
       (λ h. if-step P (c == 36 && (math && not (is_barred 36 T))) _ _
       (λ g. span-opened 36 math_names T alone k refl more
       (ap p b.whole ∙ math-opens-here on math single escaped previous b.code (rest_of (ahead T)) (ap (λ v. v == 36) b.value ∙ and-left _ _ g) (and-left _ _ (and-right (c == 36) _ g)) (sym math_free ∙ and-right math _ (and-right (c == 36) _ g))))
-      (λ g. Goes-no ready ends weight 4 0 p T alone
+      (λ g. Goes-no W 4 0 p T alone
       (ap p b.whole ∙ no-span on math single escaped previous (b.code ∷ rest_of (ahead T)) (ap (λ v. (v == 96) && (on && (escaped || not (is_some_code (is_value 96) previous)))) b.value ∙ ap (λ f. (c == 96) && (on && f)) (sym code_free) ∙ h) (ap (λ v. (v == 36) && (math && (escaped || not (is_some_code (is_value 36) previous)))) b.value ∙ ap (λ f. (c == 36) && (math && f)) (sym math_free) ∙ g))))))

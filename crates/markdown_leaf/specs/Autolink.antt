@@ -16,8 +16,10 @@ use Rattle.markdown_engine.specs.declared.event.Name.{Name}
 use Rattle.markdown_engine.specs.declared.event.Name.TheVariants as N
 use Rattle.markdown_engine.specs.declared.state.State.TheVariants.{Next, Retry, Nok}
 use Rattle.markdown_engine.specs.declared.state.State.TheVariants as State
-use Rattle.markdown_engine.specs.declared.state.StateName.TheVariants.{AutolinkOpen, AutolinkSchemeOrEmailAtext, AutolinkSchemeInsideOrEmailAtext, AutolinkUrlInside, AutolinkEmailAtext, AutolinkEmailAtSignOrDot, AutolinkEmailLabel, AutolinkEmailValue}
+use Rattle.markdown_engine.specs.declared.state.StateName.TheVariants.{AutolinkOpen, AutolinkSchemeOrEmailAtext, AutolinkSchemeInsideOrEmailAtext, AutolinkUrlInside, AutolinkEmailAtext, AutolinkEmailAtSignOrDot, AutolinkEmailLabel, AutolinkEmailValue, AutolinkStart}
 use Rattle.markdown_engine.specs.declared.tokenizer.Tokenizer.{Tokenizer}
+use Rattle.markdown_engine.specs.StateWords.{StateWords}
+use Rattle.markdown_engine.specs.declared.state.StateName.{StateName}
 
 -- Tests on the value of a code.
 
@@ -231,3 +233,45 @@ email_label_ends T ok U = NamesAs 1 (up_to_bracket N.AutolinkEmail (label_rest T
 
 abbrev pub email_value_ends : Tokenizer → Bool → Tokenizer → Type 0
 email_value_ends T ok U = NamesAs 1 (up_to_bracket N.AutolinkEmail (label_rest T.tokenize_state.size false)) (with_size 0 T.tokenize_state) T ok U
+
+-- The states.
+
+abbrev pub start_words : StateWords
+start_words = record { ready = λ T. T.tokenize_state.size ≡ 0; step = start_step; ends = start_ends; rank = 3 }
+
+abbrev pub open_words : StateWords
+open_words = record { ready = InsideReady; step = open_step; ends = open_ends; rank = 2 }
+
+abbrev pub scheme_or_words : StateWords
+scheme_or_words = record { ready = InsideReady; step = scheme_or_step; ends = scheme_or_ends; rank = 2 }
+
+abbrev pub scheme_inside_words : StateWords
+scheme_inside_words = record { ready = SchemeReady; step = scheme_inside_step; ends = scheme_inside_ends; rank = 2 }
+
+abbrev pub url_inside_words : StateWords
+url_inside_words = record { ready = InsideReady; step = url_inside_step; ends = url_inside_ends; rank = 1 }
+
+abbrev pub email_atext_words : StateWords
+email_atext_words = record { ready = InsideReady; step = email_atext_step; ends = email_atext_ends; rank = 1 }
+
+abbrev pub email_at_sign_or_dot_words : StateWords
+email_at_sign_or_dot_words = record { ready = InsideReady; step = email_at_sign_or_dot_step; ends = email_at_sign_or_dot_ends; rank = 1 }
+
+abbrev pub email_label_words : StateWords
+email_label_words = record { ready = LabelReady; step = email_label_step; ends = email_label_ends; rank = 1 }
+
+abbrev pub email_value_words : StateWords
+email_value_words = record { ready = LabelReady; step = email_value_step; ends = email_value_ends; rank = 1 }
+
+-- these states as they are said, and any other as it is given
+abbrev pub states : (StateName → StateWords) → StateName → StateWords
+states other AutolinkStart = start_words
+states other AutolinkOpen = open_words
+states other AutolinkSchemeOrEmailAtext = scheme_or_words
+states other AutolinkSchemeInsideOrEmailAtext = scheme_inside_words
+states other AutolinkUrlInside = url_inside_words
+states other AutolinkEmailAtext = email_atext_words
+states other AutolinkEmailAtSignOrDot = email_at_sign_or_dot_words
+states other AutolinkEmailLabel = email_label_words
+states other AutolinkEmailValue = email_value_words
+states other s = other s

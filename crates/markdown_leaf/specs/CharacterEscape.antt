@@ -1,6 +1,6 @@
 -- What the states of a character escape do, and how runs from them end.
 use Rattle.std.specs.Prelude.{ℕ, Bool, ◌&&◌, ◌||◌, nat_le, ◌==◌, if◌then◌else◌, Option, Some, None, List, [], ◌∷◌}
-use Rattle.markdown_engine.specs.Ops.{Op, Enter, Exit, Consume, done, current_of}
+use Rattle.markdown_engine.specs.Ops.{Op, Enter, Exit, Consume, done, current_of, IsOpen}
 use Rattle.markdown_engine.specs.Past.{EndsAs, TreeReading}
 use Rattle.markdown_engine.specs.Runs.{Stepped, stepped}
 use Rattle.markdown_model.specs.CodeTests.{is_ascii_punctuation, next_is}
@@ -10,8 +10,10 @@ use Rattle.markdown_construct.specs.Plan.{Plan, KeepsAs}
 use Rattle.markdown_engine.specs.declared.event.Name.TheVariants as N
 use Rattle.markdown_engine.specs.declared.state.State.TheVariants.{Next, Nok}
 use Rattle.markdown_engine.specs.declared.state.State.TheVariants as State
-use Rattle.markdown_engine.specs.declared.state.StateName.TheVariants.{CharacterEscapeInside}
+use Rattle.markdown_engine.specs.declared.state.StateName.TheVariants.{CharacterEscapeInside, CharacterEscapeStart}
 use Rattle.markdown_engine.specs.declared.tokenizer.Tokenizer.{Tokenizer}
+use Rattle.markdown_engine.specs.StateWords.{StateWords}
+use Rattle.markdown_engine.specs.declared.state.StateName.{StateName}
 
 abbrev pub is_punctuation : ℕ → Bool
 is_punctuation c = (nat_le 33 c && nat_le c 47) || (nat_le 58 c && nat_le c 64) || (nat_le 91 c && nat_le c 96) || (nat_le 123 c && nat_le c 126)
@@ -55,3 +57,17 @@ inside_plan cs = if next_is is_ascii_punctuation cs then Some value else None
 
 abbrev pub inside_ends : Tokenizer → Bool → Tokenizer → Type 0
 inside_ends T ok U = KeepsAs 1 inside_plan T ok U
+
+-- The states.
+
+abbrev pub start_words : StateWords
+start_words = record { ready = λ T. Unit {0}; step = start_step; ends = start_ends; rank = 2 }
+
+abbrev pub inside_words : StateWords
+inside_words = record { ready = IsOpen N.CharacterEscape; step = inside_step; ends = inside_ends; rank = 1 }
+
+-- these states as they are said, and any other as it is given
+abbrev pub states : (StateName → StateWords) → StateName → StateWords
+states other CharacterEscapeStart = start_words
+states other CharacterEscapeInside = inside_words
+states other s = other s

@@ -16,9 +16,11 @@ use Rattle.markdown_construct.specs.Plan.{Plan, preceded, DoesAs}
 use Rattle.markdown_engine.specs.declared.event.Name.TheVariants as N
 use Rattle.markdown_engine.specs.declared.state.State.TheVariants.{Next, Retry, Nok}
 use Rattle.markdown_engine.specs.declared.state.State.TheVariants as State
-use Rattle.markdown_engine.specs.declared.state.StateName.TheVariants.{CharacterReferenceOpen, CharacterReferenceNumeric, CharacterReferenceValue}
+use Rattle.markdown_engine.specs.declared.state.StateName.TheVariants.{CharacterReferenceOpen, CharacterReferenceNumeric, CharacterReferenceValue, CharacterReferenceStart}
 use Rattle.markdown_engine.specs.declared.tokenizer.TokenizeState.{TokenizeState}
 use Rattle.markdown_engine.specs.declared.tokenizer.Tokenizer.{Tokenizer}
+use Rattle.markdown_engine.specs.StateWords.{StateWords}
+use Rattle.markdown_engine.specs.declared.state.StateName.{StateName}
 
 -- The scratch fields: the kind of the value, and how many of its codes are passed.
 
@@ -189,3 +191,25 @@ open_plan cs = if next_is (is_value 35) cs then preceded number_sign (numeric_pl
 
 abbrev pub open_ends : Tokenizer → Bool → Tokenizer → Type 0
 open_ends T ok U = DoesAs 1 open_plan (rested T.tokenize_state) T ok U
+
+-- The states.
+
+abbrev pub start_words : StateWords
+start_words = record { ready = IsAtRest; step = start_step; ends = start_ends; rank = 4 }
+
+abbrev pub open_words : StateWords
+open_words = record { ready = IsOpened; step = open_step; ends = open_ends; rank = 3 }
+
+abbrev pub numeric_words : StateWords
+numeric_words = record { ready = IsOpened; step = numeric_step; ends = numeric_ends; rank = 2 }
+
+abbrev pub value_words : StateWords
+value_words = record { ready = IsValue; step = value_step; ends = value_ends; rank = 1 }
+
+-- these states as they are said, and any other as it is given
+abbrev pub states : (StateName → StateWords) → StateName → StateWords
+states other CharacterReferenceStart = start_words
+states other CharacterReferenceOpen = open_words
+states other CharacterReferenceNumeric = numeric_words
+states other CharacterReferenceValue = value_words
+states other s = other s

@@ -1,7 +1,7 @@
 -- What the states of a hard break by a backslash do, and how runs from them end.
 use Rattle.std.specs.Prelude.{ℕ, Bool, ◌&&◌, ◌==◌, if◌then◌else◌, Option, Some, None, List, [], ◌∷◌}
 use Rattle.markdown_engine.specs.Codes.{is_line_ending}
-use Rattle.markdown_engine.specs.Ops.{Op, Enter, Exit, Consume, done, current_of}
+use Rattle.markdown_engine.specs.Ops.{Op, Enter, Exit, Consume, done, current_of, IsOpen}
 use Rattle.markdown_engine.specs.Past.{EndsAs, TreeReading}
 use Rattle.markdown_engine.specs.Runs.{Stepped, stepped}
 use Rattle.markdown_model.specs.CodeTests.{next_is}
@@ -11,8 +11,10 @@ use Rattle.markdown_construct.specs.Plan.{Plan, KeepsAs}
 use Rattle.markdown_engine.specs.declared.event.Name.TheVariants as N
 use Rattle.markdown_engine.specs.declared.state.State.TheVariants.{Next, Nok}
 use Rattle.markdown_engine.specs.declared.state.State.TheVariants as State
-use Rattle.markdown_engine.specs.declared.state.StateName.TheVariants.{HardBreakEscapeAfter}
+use Rattle.markdown_engine.specs.declared.state.StateName.TheVariants.{HardBreakEscapeAfter, HardBreakEscapeStart}
 use Rattle.markdown_engine.specs.declared.tokenizer.Tokenizer.{Tokenizer}
+use Rattle.markdown_engine.specs.StateWords.{StateWords}
+use Rattle.markdown_engine.specs.declared.state.StateName.{StateName}
 
 abbrev pub opening : List Op
 opening = Enter N.HardBreakEscape ∷ Consume ∷ []
@@ -53,3 +55,17 @@ after_plan cs = if next_is is_line_ending cs then Some closing else None
 
 abbrev pub after_ends : Tokenizer → Bool → Tokenizer → Type 0
 after_ends T ok U = KeepsAs 1 after_plan T ok U
+
+-- The states.
+
+abbrev pub start_words : StateWords
+start_words = record { ready = λ T. Unit {0}; step = start_step; ends = start_ends; rank = 2 }
+
+abbrev pub after_words : StateWords
+after_words = record { ready = IsOpen N.HardBreakEscape; step = after_step; ends = after_ends; rank = 1 }
+
+-- these states as they are said, and any other as it is given
+abbrev pub states : (StateName → StateWords) → StateName → StateWords
+states other HardBreakEscapeStart = start_words
+states other HardBreakEscapeAfter = after_words
+states other s = other s

@@ -22,9 +22,11 @@ use Rattle.markdown_engine.specs.declared.event.Name.{Name}
 use Rattle.markdown_engine.specs.declared.event.Name.TheVariants as N
 use Rattle.markdown_engine.specs.declared.state.State.TheVariants.{Next, Retry, Nok}
 use Rattle.markdown_engine.specs.declared.state.State.TheVariants as State
-use Rattle.markdown_engine.specs.declared.state.StateName.TheVariants.{RawTextSequenceOpen, RawTextBetween, RawTextData, RawTextSequenceClose}
+use Rattle.markdown_engine.specs.declared.state.StateName.TheVariants.{RawTextSequenceOpen, RawTextBetween, RawTextData, RawTextSequenceClose, RawTextStart}
 use Rattle.markdown_engine.specs.declared.tokenizer.TokenizeState.{TokenizeState}
 use Rattle.markdown_engine.specs.declared.tokenizer.Tokenizer.{Tokenizer}
+use Rattle.markdown_engine.specs.StateWords.{StateWords}
+use Rattle.markdown_engine.specs.declared.state.StateName.{StateName}
 
 -- The scratch fields.
 
@@ -263,3 +265,29 @@ abbrev pub sequence_close_ends : Tokenizer → Bool → Tokenizer → Type 0
 sequence_close_ends T ok U =
     let s : TokenizeState = T.tokenize_state in
     NamesAs 1 (run_naming s.marker (names_in s) s.size s.size_b) (rested s) T ok U
+
+-- The states.
+
+abbrev pub start_words : StateWords
+start_words = record { ready = StartReady; step = start_step; ends = start_ends; rank = 4 }
+
+abbrev pub sequence_open_words : StateWords
+sequence_open_words = record { ready = SequenceOpenReady; step = sequence_open_step; ends = sequence_open_ends; rank = 3 }
+
+abbrev pub between_words : StateWords
+between_words = record { ready = BetweenReady; step = between_step; ends = between_ends; rank = 2 }
+
+abbrev pub data_words : StateWords
+data_words = record { ready = DataReady; step = data_step; ends = data_ends; rank = 3 }
+
+abbrev pub sequence_close_words : StateWords
+sequence_close_words = record { ready = SequenceCloseReady; step = sequence_close_step; ends = sequence_close_ends; rank = 3 }
+
+-- these states as they are said, and any other as it is given
+abbrev pub states : (StateName → StateWords) → StateName → StateWords
+states other RawTextStart = start_words
+states other RawTextSequenceOpen = sequence_open_words
+states other RawTextBetween = between_words
+states other RawTextData = data_words
+states other RawTextSequenceClose = sequence_close_words
+states other s = other s

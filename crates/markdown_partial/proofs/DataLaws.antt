@@ -4,35 +4,29 @@ use Rattle.markdown_engine.specs.Codes.{Code}
 use Rattle.markdown_engine.specs.Lists.{rest_of}
 use Rattle.markdown_engine.specs.Ops.{current_of, ahead, exited, applied, IsOpen, done, Exit, Consume}
 use Rattle.markdown_engine.specs.Past.{EndsAs, past, passed, behind, last_link}
-use Rattle.markdown_engine.specs.Runs.{Stepped, GoesOn, stepped}
+use Rattle.markdown_engine.specs.Runs.{Stepped, stepped}
 use Rattle.markdown_engine.specs.Tree.{Forest, empty, leaf, leaf_codes}
 use Rattle.markdown_engine.specs.Weights.{codes_left, weight_at}
 use Rattle.markdown_engine.specs.declared.event.Name.TheVariants as N
 use Rattle.markdown_engine.specs.declared.state.State.TheVariants.{Next, Retry}
 use Rattle.markdown_engine.specs.declared.state.State.{State}
-use Rattle.markdown_engine.specs.declared.state.StateName.{StateName}
 use Rattle.markdown_engine.specs.declared.state.StateName.TheVariants.{DataAtBreak, DataInside}
 use Rattle.markdown_engine.specs.declared.tokenizer.TokenizeState.{TokenizeState}
 use Rattle.markdown_engine.specs.declared.tokenizer.Tokenizer.{Tokenizer}
 use Rattle.markdown_engine.proofs.EndsLemmas.{EndsAs-then, scratched-same}
-use Rattle.markdown_engine.proofs.Laws.{Goes-plain, if-step, code-step}
+use Rattle.markdown_engine.proofs.Laws.{if-step, code-step}
 use Rattle.markdown_engine.proofs.OpRules.{Begins, ahead-none, ahead-some, some-codes}
-use Rattle.markdown_engine.proofs.OpsLemmas.{Goes-ops, ahead-done, left-done}
+use Rattle.markdown_engine.proofs.OpsLemmas.{ahead-done, left-done, scratch-done}
 use Rattle.markdown_engine.proofs.TreeLemmas.{done-leaf, leaf-past, ahead-past}
 use Rattle.markdown_model.specs.Lines.{data_up_to}
-use Rattle.markdown_partial.specs.DataSteps.{marks, markers_of, ending, opening, passing, start_at, start_step, at_break_at, at_break_step, leaving, inside_at, inside_step, more_data, is_plain, stretch_of, past_stretch, start_ends, at_break_ends, inside_ends}
-use Rattle.markdown_partial.proofs.RunLemmas.{EndsAs-same, EndsAs-here, Goes-wider}
+use Rattle.markdown_partial.specs.DataSteps.{marks, markers_of, ending, opening, passing, start_at, start_step, at_break_at, at_break_step, leaving, inside_at, inside_step, more_data, is_plain, stretch_of, past_stretch, start_ends, at_break_ends, inside_ends, states, at_break_words, inside_words, start_words}
+use Rattle.markdown_partial.proofs.RunLemmas.{EndsAs-same, EndsAs-here}
 use Rattle.markdown_partial.proofs.LineLemmas.{up_to_break, data-then, ending-then, more-goes, more-stops, break-stops, break-goes}
 use Rattle.markdown_model.proofs.Leaves.{span-append}
-
--- what the layer says of the states of data
-pub record Within (ready : StateName → Tokenizer → Type 0) (ends : StateName → Tokenizer → Bool → Tokenizer → Type 0) (weight : StateName → Tokenizer → ℕ) : Type 0 where
-  pub at_break_ready : (T : Tokenizer) → ready DataAtBreak T
-  pub at_break_end : (T : Tokenizer) (ok : Bool) (U : Tokenizer) → ends DataAtBreak T ok U → at_break_ends T ok U
-  pub at_break_weight : (T : Tokenizer) → weight DataAtBreak T ≡ weight_at 1 T
-  pub inside_ready : (T : Tokenizer) → IsOpen N.Data T → ready DataInside T
-  pub inside_end : (T : Tokenizer) (ok : Bool) (U : Tokenizer) → ends DataInside T ok U → inside_ends T ok U
-  pub inside_weight : (T : Tokenizer) → weight DataInside T ≡ weight_at 2 T
+use Rattle.markdown_engine.specs.StateWords.{Words, Law, GoesIn}
+use Rattle.markdown_construct.proofs.PassedLemmas.{passed-none, passed-one}
+use Rattle.markdown_construct.proofs.StateLaws.{GoesOn-map, Goes-end, Goes-ops}
+use Rattle.markdown_construct.specs.Within.{Within}
 
 -- past a leaf the run goes on with more data
 scratch-past : (t : Forest) (T V : Tokenizer) → V ≡ past None t T → V.tokenize_state ≡ T.tokenize_state
@@ -90,15 +84,15 @@ opening-closes T v e h ok U k =
     closes (leaf N.Data (b.code ∷ w.0)) w.1 T V refl is (whole ∙ ap (λ xs. xs ++ w.1) (sym (append-nil (b.code ∷ w.0))))
     (ap (data_up_to (markers_of T)) b.whole ∙ data-then (markers_of T) b.code cs (ap (λ x. x == 10) b.value ∙ h)) ok U k
 
-passing-law : (ready : StateName → Tokenizer → Type 0) (ends : StateName → Tokenizer → Bool → Tokenizer → Type 0) (weight : StateName → Tokenizer → ℕ) → Within ready ends weight → (T : Tokenizer) → T.attempts ≡ [] → (v : ℕ) → current_of T ≡ Some v → GoesOn ready ends weight (weight_at 1 T) (start_ends T) (passing v T)
-passing-law ready ends weight within T alone v e =
-    let P : Stepped → Type 0 = GoesOn ready ends weight (weight_at 1 T) (start_ends T) in
+passing-law : (W : Words) → Within states W → (T : Tokenizer) → T.attempts ≡ [] → (v : ℕ) → current_of T ≡ Some v → GoesIn W (weight_at 1 T) (start_ends T) (passing v T)
+passing-law W within T alone v e =
+    let P : Stepped → Type 0 = GoesIn W (weight_at 1 T) (start_ends T) in
     let one : 1 ≤ length (ahead T) = some-codes T v e in
     if-step P (v == 10) (stepped (Next DataAtBreak) (done ending T)) (stepped (Next DataInside) (done opening T))
     (λ h. let less : codes_left (done ending T) + 1 ≡ codes_left T = left-done ending T one in
-    Goes-ops ready ends weight (weight_at 1 T) (start_ends T) (Next DataAtBreak) ending T alone (within.at_break_ready (done ending T)) (rw within.at_break_weight (omega (arith, less))) (λ ok U k. ending-closes T v e h ok U (within.at_break_end (done ending T) ok U k)))
+    Goes-ops W (weight_at 1 T) (start_ends T) (Next DataAtBreak) (within DataAtBreak) ending T alone tt (omega (arith, less)) (λ ok U k. ending-closes T v e h ok U k))
     (λ h. let less : codes_left (done opening T) + 1 ≡ codes_left T = left-done opening T one in
-    Goes-ops ready ends weight (weight_at 1 T) (start_ends T) (Next DataInside) opening T alone (within.inside_ready (done opening T) (opened T)) (rw within.inside_weight (omega (arith, less))) (λ ok U k. opening-closes T v e h ok U (within.inside_end (done opening T) ok U k)))
+    Goes-ops W (weight_at 1 T) (start_ends T) (Next DataInside) (within DataInside) opening T alone (opened T) (omega (arith, less)) (λ ok U k. opening-closes T v e h ok U k))
 
 nothing-read : (T : Tokenizer) → ahead T ≡ [] → data_up_to (markers_of T) (ahead T) ≡ Some (empty, ahead T)
 unfolding data_up_to
@@ -107,12 +101,12 @@ nothing-read T e = subst (λ cs. data_up_to (markers_of T) cs ≡ Some (empty, c
 nothing-more : (T : Tokenizer) → ahead T ≡ [] → more_data (markers_of T) (ahead T) ≡ Some (empty, ahead T)
 nothing-more T e = subst (λ cs. more_data (markers_of T) cs ≡ Some (empty, cs)) (sym e) refl
 
-pub start-law : (ready : StateName → Tokenizer → Type 0) (ends : StateName → Tokenizer → Bool → Tokenizer → Type 0) (weight : StateName → Tokenizer → ℕ) → Within ready ends weight → (T : Tokenizer) → T.attempts ≡ [] → GoesOn ready ends weight (weight_at 1 T) (start_ends T) (start_step T)
-start-law ready ends weight within T alone =
-    let P : Stepped → Type 0 = GoesOn ready ends weight (weight_at 1 T) (start_ends T) in
+pub start-law : (W : Words) → Within states W → Law W start_words
+start-law W within T alone _ =
+    let P : Stepped → Type 0 = GoesIn W (weight_at 1 T) (start_ends T) in
     code-step P (current_of T) (λ o. start_at o T)
-    (λ e. Goes-plain ready ends weight (weight_at 1 T) (start_ends T) State.Ok T alone tt (omega arith) (EndsAs-here (data_up_to (markers_of T)) T (nothing-read T (ahead-none T e))))
-    (λ v e. passing-law ready ends weight within T alone v e)
+    (λ e. Goes-end W (weight_at 1 T) (start_ends T) true T alone (omega arith) (EndsAs-here (data_up_to (markers_of T)) T (nothing-read T (ahead-none T e))))
+    (λ v e. passing-law W within T alone v e)
 
 -- the same where no marker stands
 more-here : (T : Tokenizer) (v : ℕ) → current_of T ≡ Some v → marks (markers_of T) v ≡ false → (ok : Bool) (U : Tokenizer) → start_ends T ok U → at_break_ends T ok U
@@ -128,29 +122,17 @@ marker-here T v e h =
     let b : Begins v (ahead T) = ahead-some T v e in
     ap (more_data (markers_of T)) b.whole ∙ more-stops (markers_of T) b.code (rest_of (ahead T)) (ap (marks (markers_of T)) b.value ∙ h) ∙ ap (λ cs. Some (empty, cs)) (sym b.whole)
 
-pub at_break-law : (ready : StateName → Tokenizer → Type 0) (ends : StateName → Tokenizer → Bool → Tokenizer → Type 0) (weight : StateName → Tokenizer → ℕ) → Within ready ends weight → (T : Tokenizer) → T.attempts ≡ [] → GoesOn ready ends weight (weight_at 1 T) (at_break_ends T) (at_break_step T)
-at_break-law ready ends weight within T alone =
+pub at_break-law : (W : Words) → Within states W → Law W at_break_words
+at_break-law W within T alone _ =
     let n : ℕ = weight_at 1 T in
-    let P : Stepped → Type 0 = GoesOn ready ends weight n (at_break_ends T) in
+    let P : Stepped → Type 0 = GoesIn W n (at_break_ends T) in
     code-step P (current_of T) (λ o. at_break_at o T)
-    (λ e. Goes-plain ready ends weight n (at_break_ends T) State.Ok T alone tt (omega arith) (EndsAs-here (more_data (markers_of T)) T (nothing-more T (ahead-none T e))))
+    (λ e. Goes-end W n (at_break_ends T) true T alone (omega arith) (EndsAs-here (more_data (markers_of T)) T (nothing-more T (ahead-none T e))))
     (λ v e. if-step P (marks (markers_of T) v) (stepped State.Ok T) (passing v T)
-    (λ h. Goes-plain ready ends weight n (at_break_ends T) State.Ok T alone tt (omega arith) (EndsAs-here (more_data (markers_of T)) T (marker-here T v e h)))
-    (λ h. Goes-wider ready ends weight n (start_ends T) (at_break_ends T) (passing v T) (λ ok U k. more-here T v e h ok U k) (passing-law ready ends weight within T alone v e)))
+    (λ h. Goes-end W n (at_break_ends T) true T alone (omega arith) (EndsAs-here (more_data (markers_of T)) T (marker-here T v e h)))
+    (λ h. GoesOn-map W n (start_ends T) (at_break_ends T) (passing v T) (λ ok U k. more-here T v e h ok U k) (passing-law W within T alone v e)))
 
 -- In a stretch.
-
-past-none : (T : Tokenizer) → passed [] T ≡ T
-unfolding passed
-past-none T = refl
-
-past-one : (c : Code) (cs : List Code) (T : Tokenizer) → passed (c ∷ cs) T ≡ passed cs (done (Consume ∷ []) T)
-unfolding passed applied
-past-one c cs T = refl
-
-scratch-consumed : (T : Tokenizer) → (done (Consume ∷ []) T).tokenize_state ≡ T.tokenize_state
-unfolding applied
-scratch-consumed T = refl
 
 stack-consumed : (T : Tokenizer) → IsOpen N.Data T → IsOpen N.Data (done (Consume ∷ []) T)
 unfolding applied
@@ -158,7 +140,7 @@ stack-consumed T h = h
 
 stretch-ends : (T : Tokenizer) → stretch_of T ≡ [] → (ok : Bool) (U : Tokenizer) → at_break_ends (done (Exit N.Data ∷ []) T) ok U → inside_ends T ok U
 stretch-ends T e ok U k =
-    let same : exited N.Data T ≡ past_stretch T = ap (exited N.Data) (sym (past-none T) ∙ ap (λ cs. passed cs T) (sym e)) in
+    let same : exited N.Data T ≡ past_stretch T = ap (exited N.Data) (sym (passed-none T) ∙ ap (λ cs. passed cs T) (sym e)) in
     subst (λ (V : Tokenizer). at_break_ends V ok U) same k
 
 stretch-goes : (T : Tokenizer) (v : ℕ) → current_of T ≡ Some v → (v == 10) || marks (markers_of T) v ≡ false → (ok : Bool) (U : Tokenizer) → inside_ends (done (Consume ∷ []) T) ok U → inside_ends T ok U
@@ -167,12 +149,12 @@ stretch-goes T v e h ok U k =
     let m : List ℕ = markers_of T in
     let X : Tokenizer = done (Consume ∷ []) T in
     let next : stretch_of X ≡ (up_to_break m (rest_of (ahead T))).0 =
-    ap (λ (q : TokenizeState). (up_to_break q.markers (ahead X)).0) (scratch-consumed T) ∙ ap (λ cs. (up_to_break m cs).0) (ahead-done (Consume ∷ []) T) in
+    ap (λ (q : TokenizeState). (up_to_break q.markers (ahead X)).0) (scratch-done (Consume ∷ []) T) ∙ ap (λ cs. (up_to_break m cs).0) (ahead-done (Consume ∷ []) T) in
     let here : stretch_of T ≡ b.code ∷ stretch_of X =
     ap (λ cs. (up_to_break m cs).0) b.whole
     ∙ ap (λ (s : List Code × List Code). s.0) (break-goes m b.code (rest_of (ahead T)) (ap (λ x. (x == 10) || marks m x) b.value ∙ h))
     ∙ ap (λ cs. b.code ∷ cs) (sym next) in
-    let same : past_stretch X ≡ past_stretch T = ap (exited N.Data) (sym (past-one b.code (stretch_of X) T) ∙ ap (λ cs. passed cs T) (sym here)) in
+    let same : past_stretch X ≡ past_stretch T = ap (exited N.Data) (sym (passed-one b.code (stretch_of X) T) ∙ ap (λ cs. passed cs T) (sym here)) in
     subst (λ (V : Tokenizer). at_break_ends V ok U) same k
 
 stretch-stops : (T : Tokenizer) (v : ℕ) → current_of T ≡ Some v → (v == 10) || marks (markers_of T) v ≡ true → stretch_of T ≡ []
@@ -181,17 +163,17 @@ stretch-stops T v e h =
     let m : List ℕ = markers_of T in
     ap (λ cs. (up_to_break m cs).0) b.whole ∙ ap (λ (s : List Code × List Code). s.0) (break-stops m b.code (rest_of (ahead T)) (ap (λ x. (x == 10) || marks m x) b.value ∙ h))
 
-pub inside-law : (ready : StateName → Tokenizer → Type 0) (ends : StateName → Tokenizer → Bool → Tokenizer → Type 0) (weight : StateName → Tokenizer → ℕ) → Within ready ends weight → (T : Tokenizer) → T.attempts ≡ [] → IsOpen N.Data T → GoesOn ready ends weight (weight_at 2 T) (inside_ends T) (inside_step T)
-inside-law ready ends weight within T alone token =
+pub inside-law : (W : Words) → Within states W → Law W inside_words
+inside-law W within T alone token =
     let n : ℕ = weight_at 2 T in
-    let P : Stepped → Type 0 = GoesOn ready ends weight n (inside_ends T) in
+    let P : Stepped → Type 0 = GoesIn W n (inside_ends T) in
     let X : Tokenizer = done (Exit N.Data ∷ []) T in
     let leave : stretch_of T ≡ [] → P (leaving T) = λ h.
-    Goes-ops ready ends weight n (inside_ends T) (Retry DataAtBreak) (Exit N.Data ∷ []) T alone (within.at_break_ready X) (rw within.at_break_weight (omega (arith, left-done (Exit N.Data ∷ []) T (omega arith)))) (λ ok U k. stretch-ends T h ok U (within.at_break_end X ok U k)) in
+    Goes-ops W n (inside_ends T) (Retry DataAtBreak) (within DataAtBreak) (Exit N.Data ∷ []) T alone tt (omega (arith, left-done (Exit N.Data ∷ []) T (omega arith))) (λ ok U k. stretch-ends T h ok U k) in
     code-step P (current_of T) (λ o. inside_at o T)
     (λ e. leave (ap (λ cs. (up_to_break (markers_of T) cs).0) (ahead-none T e)))
     (λ v e. if-step P ((v == 10) || marks (markers_of T) v) (leaving T) (stepped (Next DataInside) (done (Consume ∷ []) T))
     (λ h. leave (stretch-stops T v e h))
     (λ h. let Y : Tokenizer = done (Consume ∷ []) T in
     let less : codes_left Y + 1 ≡ codes_left T = left-done (Consume ∷ []) T (some-codes T v e) in
-    Goes-ops ready ends weight n (inside_ends T) (Next DataInside) (Consume ∷ []) T alone (within.inside_ready Y (stack-consumed T token)) (rw within.inside_weight (omega (arith, less))) (λ ok U k. stretch-goes T v e h ok U (within.inside_end Y ok U k))))
+    Goes-ops W n (inside_ends T) (Next DataInside) (within DataInside) (Consume ∷ []) T alone (stack-consumed T token) (omega (arith, less)) (λ ok U k. stretch-goes T v e h ok U k)))

@@ -4,19 +4,18 @@ use Rattle.markdown_engine.specs.Chain.{has_link}
 use Rattle.markdown_engine.specs.Codes.{Code, is_blank, is_line_ending}
 use Rattle.markdown_engine.specs.Ops.{current_of, consumed, exited, scratched, ahead, applied, ends_linked, LinkedBefore}
 use Rattle.markdown_engine.specs.Past.{EndsAs, past, passed, link_before, last_link, behind}
-use Rattle.markdown_engine.specs.Runs.{Stepped, GoesOn}
+use Rattle.markdown_engine.specs.Runs.{Stepped}
 use Rattle.markdown_engine.specs.Tree.{Forest, empty, leaf_codes}
 use Rattle.markdown_engine.specs.Weights.{codes_left, weight_at}
 use Rattle.markdown_engine.specs.declared.event.Content.{Content}
 use Rattle.markdown_engine.specs.declared.event.Event.{Event}
 use Rattle.markdown_engine.specs.declared.event.Name.TheVariants as N
 use Rattle.markdown_engine.specs.declared.state.State.TheVariants.{Next, Retry, Nok}
-use Rattle.markdown_engine.specs.declared.state.StateName.{StateName}
 use Rattle.markdown_engine.specs.declared.state.StateName.TheVariants.{SpaceOrTabStart, SpaceOrTabEolAfterFirst, SpaceOrTabEolAtEol, SpaceOrTabEolAfterEol, SpaceOrTabEolAfterMore}
 use Rattle.markdown_engine.specs.declared.tokenizer.TokenizeState.{TokenizeState}
 use Rattle.markdown_engine.specs.declared.tokenizer.Tokenizer.{Tokenizer}
 use Rattle.markdown_engine.proofs.EndsLemmas.{EndsAs-scratched, EndsAs-then, left-read}
-use Rattle.markdown_engine.proofs.Laws.{Goes-plain, Goes-attempt, if-step}
+use Rattle.markdown_engine.proofs.Laws.{if-step}
 use Rattle.markdown_engine.proofs.OpRules.{attempts-scratched, left-scratched, left-ahead}
 use Rattle.markdown_engine.proofs.TreeLemmas.{leaf-past, ahead-past, past-empty, Fails-past}
 use Rattle.markdown_model.specs.CodeTests.{next_is}
@@ -25,37 +24,21 @@ use Rattle.markdown_model.specs.Lines.{linked_leaf}
 use Rattle.markdown_model.specs.Whitespace.{space_or_tab, spacing, begins_filled_line}
 use Rattle.markdown_partial.specs.SpaceSteps as S
 use Rattle.markdown_partial.specs.SpaceSteps.{most, at_blank, rested}
-use Rattle.markdown_partial.specs.EolSteps.{space_asked, eol_rested, held, joins, joined, start_step, after_first_step, at_line_ending, ending_entered, at_eol_step, after_eol_step, goes_on_line, after_more_step, EolReady, StartReady, AfterFirstReady, indent, at_ending, start_ends, after_first_ends, at_eol_ends, after_eol_ends, after_more_ends}
+use Rattle.markdown_partial.specs.EolSteps.{space_asked, eol_rested, held, joins, joined, start_step, after_first_step, at_line_ending, ending_entered, at_eol_step, after_eol_step, goes_on_line, after_more_step, EolReady, StartReady, AfterFirstReady, indent, at_ending, start_ends, after_first_ends, at_eol_ends, after_eol_ends, after_more_ends, states, after_eol_words, after_first_words, after_more_words, at_eol_words, start_words}
 use Rattle.markdown_partial.proofs.RunLemmas.{EndsAs-same}
 use Rattle.markdown_partial.proofs.BlankLemmas.{Here, here, blank-ahead, ending-ahead, filled-ahead}
 use Rattle.markdown_partial.proofs.SpacingLemmas.{nothing, space-all, ending-here, ending-none, spacing-then, spacing-none}
-use Rattle.markdown_partial.proofs.SpaceLaws.{Goes-ended}
 use Rattle.markdown_partial.proofs.LeafLemmas.{entered-attempts}
 use Rattle.markdown_model.proofs.Leaves.{span-append}
 use Rattle.markdown_model.proofs.ReadingSteps.{span-none}
 use Rattle.markdown_model.proofs.Readings.{codes-linked_leaf}
+use Rattle.markdown_engine.specs.StateWords.{Words, Law, GoesIn}
+use Rattle.markdown_construct.proofs.StateLaws.{Goes-end, Goes-plain, Goes-attempt, follows}
+use Rattle.markdown_construct.specs.Within.{Within}
 
--- what the layer says of the states of whitespace with a line ending, and of the start of whitespace
-pub record Within (ready : StateName → Tokenizer → Type 0) (ends : StateName → Tokenizer → Bool → Tokenizer → Type 0) (weight : StateName → Tokenizer → ℕ) : Type 0 where
-  pub space_ready : (T : Tokenizer) → S.StartReady T → ready SpaceOrTabStart T
-  pub space_end : (T : Tokenizer) (ok : Bool) (U : Tokenizer) → ends SpaceOrTabStart T ok U → S.start_ends T ok U
-  pub space_weight : (T : Tokenizer) → weight SpaceOrTabStart T ≡ weight_at 3 T
-  pub after_first_ready : (T : Tokenizer) → AfterFirstReady T → ready SpaceOrTabEolAfterFirst T
-  pub after_first_end : (T : Tokenizer) (ok : Bool) (U : Tokenizer) → ends SpaceOrTabEolAfterFirst T ok U → after_first_ends T ok U
-  pub after_first_weight : (T : Tokenizer) → weight SpaceOrTabEolAfterFirst T ≡ weight_at 7 T
-  pub at_eol_ready : (T : Tokenizer) → EolReady T → ready SpaceOrTabEolAtEol T
-  pub at_eol_end : (T : Tokenizer) (ok : Bool) (U : Tokenizer) → ends SpaceOrTabEolAtEol T ok U → at_eol_ends T ok U
-  pub at_eol_weight : (T : Tokenizer) → weight SpaceOrTabEolAtEol T ≡ weight_at 6 T
-  pub after_eol_ready : (T : Tokenizer) → EolReady T → ready SpaceOrTabEolAfterEol T
-  pub after_eol_end : (T : Tokenizer) (ok : Bool) (U : Tokenizer) → ends SpaceOrTabEolAfterEol T ok U → after_eol_ends T ok U
-  pub after_eol_weight : (T : Tokenizer) → weight SpaceOrTabEolAfterEol T ≡ weight_at 5 T
-  pub after_more_ready : (T : Tokenizer) → ready SpaceOrTabEolAfterMore T
-  pub after_more_end : (T : Tokenizer) (ok : Bool) (U : Tokenizer) → ends SpaceOrTabEolAfterMore T ok U → after_more_ends T ok U
-  pub after_more_weight : (T : Tokenizer) → weight SpaceOrTabEolAfterMore T ≡ weight_at 4 T
-
-pub after_more-law : (ready : StateName → Tokenizer → Type 0) (ends : StateName → Tokenizer → Bool → Tokenizer → Type 0) (weight : StateName → Tokenizer → ℕ) (T : Tokenizer) → T.attempts ≡ [] → GoesOn ready ends weight (weight_at 4 T) (after_more_ends T) (after_more_step T)
-after_more-law ready ends weight T alone =
-    Goes-ended ready ends weight (weight_at 4 T) (after_more_ends T) (goes_on_line (current_of T)) (scratched (eol_rested T.tokenize_state) T) (attempts-scratched _ T ∙ alone) (omega arith)
+pub after_more-law : (W : Words) → Law W after_more_words
+after_more-law W T alone _ =
+    Goes-end W (weight_at 4 T) (after_more_ends T) (goes_on_line (current_of T)) (scratched (eol_rested T.tokenize_state) T) (attempts-scratched _ T ∙ alone) (omega arith)
     (λ ok U k. (k.0 ∙ filled-ahead T, k.1))
 
 -- The conditions.
@@ -72,12 +55,12 @@ first-closed : (T : Tokenizer) (ok : Bool) (V : Tokenizer) → at_eol_ends (scra
 unfolding scratched
 first-closed T ok V k = EndsAs-scratched _ _ _ (held T.tokenize_state) T ok V k
 
-pub after_first-law : (ready : StateName → Tokenizer → Type 0) (ends : StateName → Tokenizer → Bool → Tokenizer → Type 0) (weight : StateName → Tokenizer → ℕ) → Within ready ends weight → (T : Tokenizer) → T.attempts ≡ [] → AfterFirstReady T → GoesOn ready ends weight (weight_at 7 T) (after_first_ends T) (after_first_step T)
-after_first-law ready ends weight within T alone r =
+pub after_first-law : (W : Words) → Within states W → Law W after_first_words
+after_first-law W within T alone r =
     let U : Tokenizer = scratched (held T.tokenize_state) T in
-    Goes-plain ready ends weight (weight_at 7 T) (after_first_ends T) (Retry SpaceOrTabEolAtEol) U (attempts-scratched _ T ∙ alone) (within.at_eol_ready U (eol-held T r.goes_on))
-    (rw within.at_eol_weight (omega (arith, left-scratched (held T.tokenize_state) T)))
-    (λ ok V k. first-closed T ok V (within.at_eol_end U ok V k))
+    Goes-plain W (weight_at 7 T) (after_first_ends T) (Retry SpaceOrTabEolAtEol) (within SpaceOrTabEolAtEol) U (attempts-scratched _ T ∙ alone) (eol-held T r.goes_on)
+    (omega (arith, left-scratched (held T.tokenize_state) T))
+    (λ ok V k. first-closed T ok V k)
 
 -- What the attempt of whitespace gives, where a blank code stands.
 
@@ -142,21 +125,21 @@ none-closed T e ok V m =
     indent-closed s.space_or_tab_eol_content previous (eol_rested s) T ok V (m.0 ∙ ap (λ (b : List Code × List Code). begins_filled_line b.1) (sym e))
     (m.1 ∙ sym (past-empty previous (scratched (eol_rested s) T)) ∙ ap (λ (b : List Code × List Code). past previous (linked_leaf N.SpaceOrTab s.space_or_tab_eol_content b.0) (scratched (eol_rested s) T)) (sym e))
 
-pub after_eol-law : (ready : StateName → Tokenizer → Type 0) (ends : StateName → Tokenizer → Bool → Tokenizer → Type 0) (weight : StateName → Tokenizer → ℕ) → Within ready ends weight → (T : Tokenizer) → T.attempts ≡ [] → EolReady T → GoesOn ready ends weight (weight_at 5 T) (after_eol_ends T) (after_eol_step T)
-after_eol-law ready ends weight within T alone r =
+pub after_eol-law : (W : Words) → Within states W → Law W after_eol_words
+after_eol-law W within T alone r =
     let s : TokenizeState = T.tokenize_state in
     let n : ℕ = weight_at 5 T in
-    let P : Stepped → Type 0 = GoesOn ready ends weight n (after_eol_ends T) in
+    let P : Stepped → Type 0 = GoesIn W n (after_eol_ends T) in
     let A : Tokenizer = scratched (space_asked s) T in
     if-step P (at_blank (current_of T)) _ _
     (λ h. let b : next_is is_blank (ahead T) ≡ true = sym (blank-ahead T) ∙ h in
-    Goes-attempt ready ends weight n (after_eol_ends T) (Retry SpaceOrTabStart) (Next SpaceOrTabEolAfterMore) Nok A (attempts-scratched _ T ∙ alone) (within.space_ready A (space-ready T r))
-    (rw within.space_weight (omega (arith, left-scratched (space_asked s) T)))
-    (λ U now k. let g : Spaced T U = spaced T U r b (within.space_end A true U k) in
-    record { goes_on = within.after_more_ready U; falls = rw within.after_more_weight (omega (arith, g.fewer)); closed = λ ok V m. more-closed T U r g ok V (within.after_more_end U ok V m) })
-    (λ U now k. absurd (never-refused T U r b (within.space_end A false U k))))
-    (λ h. Goes-plain ready ends weight n (after_eol_ends T) (Retry SpaceOrTabEolAfterMore) T alone (within.after_more_ready T) (rw within.after_more_weight (omega arith))
-    (λ ok V m. none-closed T (span-none is_blank (ahead T) (sym (blank-ahead T) ∙ h)) ok V (within.after_more_end T ok V m)))
+    Goes-attempt W n (after_eol_ends T) (Retry SpaceOrTabStart) (within SpaceOrTabStart) (Next SpaceOrTabEolAfterMore) Nok A (attempts-scratched _ T ∙ alone) (space-ready T r)
+    (omega (arith, left-scratched (space_asked s) T))
+    (λ U now k. let g : Spaced T U = spaced T U r b k in
+    follows W _ _ (Next SpaceOrTabEolAfterMore) (within SpaceOrTabEolAfterMore) U tt (omega (arith, g.fewer)) (λ ok V m. more-closed T U r g ok V m))
+    (λ U now k. absurd (never-refused T U r b k)))
+    (λ h. Goes-plain W n (after_eol_ends T) (Retry SpaceOrTabEolAfterMore) (within SpaceOrTabEolAfterMore) T alone tt (omega arith)
+    (λ ok V m. none-closed T (span-none is_blank (ahead T) (sym (blank-ahead T) ∙ h)) ok V m))
 
 -- At a line ending.
 
@@ -246,19 +229,19 @@ ending-alone : (T : Tokenizer) → T.attempts ≡ [] → (left_by_ending T).atte
 unfolding scratched applied
 ending-alone T h = entered-attempts N.LineEnding T.tokenize_state.space_or_tab_eol_content T.tokenize_state.space_or_tab_eol_connect T ∙ h
 
-pub at_eol-law : (ready : StateName → Tokenizer → Type 0) (ends : StateName → Tokenizer → Bool → Tokenizer → Type 0) (weight : StateName → Tokenizer → ℕ) → Within ready ends weight → (T : Tokenizer) → T.attempts ≡ [] → EolReady T → GoesOn ready ends weight (weight_at 6 T) (at_eol_ends T) (at_eol_step T)
-at_eol-law ready ends weight within T alone r =
+pub at_eol-law : (W : Words) → Within states W → Law W at_eol_words
+at_eol-law W within T alone r =
     let s : TokenizeState = T.tokenize_state in
     let n : ℕ = weight_at 6 T in
-    let P : Stepped → Type 0 = GoesOn ready ends weight n (at_eol_ends T) in
+    let P : Stepped → Type 0 = GoesIn W n (at_eol_ends T) in
     let U : Tokenizer = left_by_ending T in
     if-step P (at_line_ending (current_of T)) _ _
     (λ h. let b : Here is_line_ending T = here is_line_ending T (sym (ending-ahead T) ∙ h) in
     let j : Joined b.code T U = joined-here T b U (ending-joined T b) in
-    Goes-plain ready ends weight n (at_eol_ends T) (Next SpaceOrTabEolAfterEol) U (ending-alone T alone) (within.after_eol_ready U (joined-ready b.code T U r j))
-    (rw within.after_eol_weight (omega (arith, left-ahead T, left-ahead U, ap length j.here)))
-    (λ ok V k. ending-closed b.code T U b.passes r j ok V (within.after_eol_end U ok V k)))
-    (λ h. Goes-ended ready ends weight n (at_eol_ends T) s.space_or_tab_eol_ok (scratched (eol_rested s) T) (attempts-scratched _ T ∙ alone) (omega arith) (stop-closed T (sym (ending-ahead T) ∙ h)))
+    Goes-plain W n (at_eol_ends T) (Next SpaceOrTabEolAfterEol) (within SpaceOrTabEolAfterEol) U (ending-alone T alone) (joined-ready b.code T U r j)
+    (omega (arith, left-ahead T, left-ahead U, ap length j.here))
+    (λ ok V k. ending-closed b.code T U b.passes r j ok V k))
+    (λ h. Goes-end W n (at_eol_ends T) s.space_or_tab_eol_ok (scratched (eol_rested s) T) (attempts-scratched _ T ∙ alone) (omega arith) (stop-closed T (sym (ending-ahead T) ∙ h)))
 
 -- At the start.
 
@@ -307,18 +290,18 @@ start-none T z h ok V k =
     let same : spacing s.space_or_tab_eol_content (ahead T) ≡ at_ending s.space_or_tab_eol_content s.space_or_tab_eol_ok (ahead T) = spacing-none s.space_or_tab_eol_content (ahead T) h ∙ ap (λ b. at_ending s.space_or_tab_eol_content b (ahead T)) (sym z) in
     EndsAs-same (spacing s.space_or_tab_eol_content) (at_ending s.space_or_tab_eol_content s.space_or_tab_eol_ok) _ _ T same ok V k
 
-pub start-law : (ready : StateName → Tokenizer → Type 0) (ends : StateName → Tokenizer → Bool → Tokenizer → Type 0) (weight : StateName → Tokenizer → ℕ) → Within ready ends weight → (T : Tokenizer) → T.attempts ≡ [] → StartReady T → GoesOn ready ends weight (weight_at 8 T) (start_ends T) (start_step T)
-start-law ready ends weight within T alone r =
+pub start-law : (W : Words) → Within states W → Law W start_words
+start-law W within T alone r =
     let s : TokenizeState = T.tokenize_state in
     let n : ℕ = weight_at 8 T in
-    let P : Stepped → Type 0 = GoesOn ready ends weight n (start_ends T) in
+    let P : Stepped → Type 0 = GoesIn W n (start_ends T) in
     let A : Tokenizer = scratched (space_asked s) T in
     if-step P (at_blank (current_of T)) _ _
     (λ h. let b : next_is is_blank (ahead T) ≡ true = sym (blank-ahead T) ∙ h in
-    Goes-attempt ready ends weight n (start_ends T) (Retry SpaceOrTabStart) (Next SpaceOrTabEolAfterFirst) (Next SpaceOrTabEolAtEol) A (attempts-scratched _ T ∙ alone) (within.space_ready A (space-ready T r.begins))
-    (rw within.space_weight (omega (arith, left-scratched (space_asked s) T)))
-    (λ U now k. let g : Spaced T U = spaced T U r.begins b (within.space_end A true U k) in
-    record { goes_on = within.after_first_ready U (first-ready T U r.begins (r.plain h) g); falls = rw within.after_first_weight (omega (arith, g.fewer)); closed = λ ok V m. start-first T U r.begins (r.plain h) b g ok V (within.after_first_end U ok V m) })
-    (λ U now k. absurd (never-refused T U r.begins b (within.space_end A false U k))))
-    (λ h. Goes-plain ready ends weight n (start_ends T) (Retry SpaceOrTabEolAtEol) T alone (within.at_eol_ready T r.begins) (rw within.at_eol_weight (omega arith))
-    (λ ok V m. start-none T r.none_yet (sym (blank-ahead T) ∙ h) ok V (within.at_eol_end T ok V m)))
+    Goes-attempt W n (start_ends T) (Retry SpaceOrTabStart) (within SpaceOrTabStart) (Next SpaceOrTabEolAfterFirst) (Next SpaceOrTabEolAtEol) A (attempts-scratched _ T ∙ alone) (space-ready T r.begins)
+    (omega (arith, left-scratched (space_asked s) T))
+    (λ U now k. let g : Spaced T U = spaced T U r.begins b k in
+    follows W _ _ (Next SpaceOrTabEolAfterFirst) (within SpaceOrTabEolAfterFirst) U (first-ready T U r.begins (r.plain h) g) (omega (arith, g.fewer)) (λ ok V m. start-first T U r.begins (r.plain h) b g ok V m))
+    (λ U now k. absurd (never-refused T U r.begins b k)))
+    (λ h. Goes-plain W n (start_ends T) (Retry SpaceOrTabEolAtEol) (within SpaceOrTabEolAtEol) T alone r.begins (omega arith)
+    (λ ok V m. start-none T r.none_yet (sym (blank-ahead T) ∙ h) ok V m))

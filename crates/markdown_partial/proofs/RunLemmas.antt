@@ -1,12 +1,8 @@
--- more on runs and how they end
-use Rattle.std.proofs.Common.{◌≡◌, ℕ, Bool, true, false, Option, Some, None, List, [], ◌∷◌, refl, sym, ap, ◌∙◌}
+-- More on how runs end.
+use Rattle.std.proofs.Common.{◌≡◌, ℕ, Bool, true, false, Option, Some, None, refl, sym, ap, ◌∙◌}
 use Rattle.markdown_engine.specs.Ops.{ahead}
 use Rattle.markdown_engine.specs.Past.{EndsAs, TreeReading, past}
-use Rattle.markdown_engine.specs.Runs.{Stepped, Goes, GoesOn, settled, going_state, going_in}
 use Rattle.markdown_engine.specs.Tree.{empty}
-use Rattle.markdown_engine.specs.declared.state.State.{State}
-use Rattle.markdown_engine.specs.declared.state.StateName.{StateName}
-use Rattle.markdown_engine.specs.declared.tokenizer.Attempt.{Attempt}
 use Rattle.markdown_engine.specs.declared.tokenizer.TokenizeState.{TokenizeState}
 use Rattle.markdown_engine.specs.declared.tokenizer.Tokenizer.{Tokenizer}
 use Rattle.markdown_engine.proofs.EndsLemmas.{scratched-same}
@@ -22,11 +18,3 @@ pub EndsAs-here : (r : TreeReading) (T : Tokenizer) → r (ahead T) ≡ Some (em
 EndsAs-here r T e true U k =
     record { tree = empty; rest = ahead T; holds = e; left = k.1 ∙ sym (past-empty None T) ∙ ap (past None empty) (sym (scratched-same T)); whole = refl; after = ap ahead k.1 }
 EndsAs-here r T e false U k = cc
-
--- what goes on to meet one claim meets a wider one
-goes-wider : (ready : StateName → Tokenizer → Type 0) (ends : StateName → Tokenizer → Bool → Tokenizer → Type 0) (weight : StateName → Tokenizer → ℕ) (n : ℕ) (E F : Bool → Tokenizer → Type 0) (fs : List Attempt) (st : State) (T : Tokenizer) → ((ok : Bool) (U : Tokenizer) → E ok U → F ok U) → Goes ready ends weight n E fs st T → Goes ready ends weight n F fs st T
-goes-wider ready ends weight n E F [] st T w g = (g.0, λ ok U k. w ok U (g.1 ok U k))
-goes-wider ready ends weight n E F (f ∷ fs) st T w g = (g.0, λ ok U now k. goes-wider ready ends weight n E F fs (going_state f ok) (going_in f ok U) w (g.1 ok U now k))
-
-pub Goes-wider : (ready : StateName → Tokenizer → Type 0) (ends : StateName → Tokenizer → Bool → Tokenizer → Type 0) (weight : StateName → Tokenizer → ℕ) (n : ℕ) (E F : Bool → Tokenizer → Type 0) (r : Stepped) → ((ok : Bool) (U : Tokenizer) → E ok U → F ok U) → GoesOn ready ends weight n E r → GoesOn ready ends weight n F r
-Goes-wider ready ends weight n E F r w g = goes-wider ready ends weight n E F r.left.attempts r.state (settled r.left) w g

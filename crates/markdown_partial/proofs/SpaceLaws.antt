@@ -4,47 +4,35 @@ use Rattle.markdown_engine.specs.Codes.{Code, is_blank}
 use Rattle.markdown_engine.specs.Ops.{current_of, consumed, exited, scratched, ahead, applied, Exit, Consume, IsOpen}
 use Rattle.markdown_engine.specs.Past.{EndsAs, entered_leaf, link_before, past, passed}
 use Rattle.markdown_engine.specs.Place.{ahead_at}
-use Rattle.markdown_engine.specs.Runs.{Stepped, GoesOn, Goes, settled}
+use Rattle.markdown_engine.specs.Runs.{Stepped, stepped}
 use Rattle.markdown_engine.specs.Tree.{leaf_codes}
 use Rattle.markdown_engine.specs.Weights.{codes_left, weight_at}
 use Rattle.markdown_engine.specs.declared.event.Content.{Content}
 use Rattle.markdown_engine.specs.declared.event.Name.{Name}
 use Rattle.markdown_engine.specs.declared.state.State.TheVariants.{Next, Retry, Nok}
 use Rattle.markdown_engine.specs.declared.state.State.TheVariants as State
-use Rattle.markdown_engine.specs.declared.state.StateName.{StateName}
 use Rattle.markdown_engine.specs.declared.state.StateName.TheVariants.{SpaceOrTabInside, SpaceOrTabAfter}
 use Rattle.markdown_engine.specs.declared.tokenizer.TokenizeState.{TokenizeState}
 use Rattle.markdown_engine.specs.declared.tokenizer.Tokenizer.{Tokenizer}
-use Rattle.markdown_engine.proofs.Laws.{Goes-plain, if-step}
+use Rattle.markdown_engine.proofs.Laws.{if-step}
 use Rattle.markdown_engine.proofs.OpRules.{attempts-applied, attempts-scratched, left-applied, left-scratched, left-ahead}
 use Rattle.markdown_engine.proofs.OpsLemmas.{and-left, and-right}
 use Rattle.markdown_engine.proofs.TreeLemmas.{leaf-past, ahead-past, past-empty, Fails-past}
 use Rattle.markdown_model.specs.Grammar.{span}
 use Rattle.markdown_model.specs.Lines.{linked_leaf}
 use Rattle.markdown_model.specs.Whitespace.{space_or_tab}
-use Rattle.markdown_partial.specs.SpaceSteps.{at_blank, sized, rested, start_step, inside_step, ended, after_step, StartReady, start_ends, taken, inside_ends, after_ends}
+use Rattle.markdown_partial.specs.SpaceSteps.{at_blank, sized, rested, start_step, inside_step, ended, after_step, StartReady, start_ends, taken, inside_ends, after_ends, states, after_words, inside_words, start_words}
 use Rattle.markdown_partial.proofs.LeafLemmas.{entered-cursor, entered-scratch, entered-attempts, entered-open, entered-left}
 use Rattle.markdown_partial.proofs.BlankLemmas.{Here, here, blank-ahead, taken-parts, taken-first, taken-none}
 use Rattle.markdown_partial.proofs.SpacingLemmas.{space-holds, space-refused}
 use Rattle.markdown_model.proofs.Readings.{codes-linked_leaf}
+use Rattle.markdown_engine.specs.StateWords.{Words, Law, GoesIn}
+use Rattle.markdown_construct.proofs.StateLaws.{Goes-plain, Goes-end}
+use Rattle.markdown_construct.specs.Within.{Within}
 
--- what the layer says of the states of whitespace
-pub record Within (ready : StateName → Tokenizer → Type 0) (ends : StateName → Tokenizer → Bool → Tokenizer → Type 0) (weight : StateName → Tokenizer → ℕ) : Type 0 where
-  pub inside_ready : (T : Tokenizer) → IsOpen T.tokenize_state.space_or_tab_token T → ready SpaceOrTabInside T
-  pub inside_end : (T : Tokenizer) (ok : Bool) (U : Tokenizer) → ends SpaceOrTabInside T ok U → inside_ends T ok U
-  pub inside_weight : (T : Tokenizer) → weight SpaceOrTabInside T ≡ weight_at 2 T
-  pub after_ready : (T : Tokenizer) → ready SpaceOrTabAfter T
-  pub after_end : (T : Tokenizer) (ok : Bool) (U : Tokenizer) → ends SpaceOrTabAfter T ok U → after_ends T ok U
-  pub after_weight : (T : Tokenizer) → weight SpaceOrTabAfter T ≡ weight_at 1 T
-
--- a step that ends, by a test
-pub Goes-ended : (ready : StateName → Tokenizer → Type 0) (ends : StateName → Tokenizer → Bool → Tokenizer → Type 0) (weight : StateName → Tokenizer → ℕ) (n : ℕ) (End : Bool → Tokenizer → Type 0) (b : Bool) (T : Tokenizer) → T.attempts ≡ [] → 0 < n → ((ok : Bool) (U : Tokenizer) → (ok ≡ b) × (U ≡ T) → End ok U) → Goes ready ends weight n End T.attempts (ended b) (settled T)
-Goes-ended ready ends weight n End true T alone h closed = Goes-plain ready ends weight n End State.Ok T alone tt h closed
-Goes-ended ready ends weight n End false T alone h closed = Goes-plain ready ends weight n End Nok T alone tt h closed
-
-pub after-law : (ready : StateName → Tokenizer → Type 0) (ends : StateName → Tokenizer → Bool → Tokenizer → Type 0) (weight : StateName → Tokenizer → ℕ) (T : Tokenizer) → T.attempts ≡ [] → GoesOn ready ends weight (weight_at 1 T) (after_ends T) (after_step T)
-after-law ready ends weight T alone =
-    Goes-ended ready ends weight (weight_at 1 T) (after_ends T) _ (scratched (rested T.tokenize_state) T) (attempts-scratched _ T ∙ alone) (omega arith) (λ ok U k. k)
+pub after-law : (W : Words) → Law W after_words
+after-law W T alone _ =
+    Goes-end W (weight_at 1 T) (after_ends T) _ (scratched (rested T.tokenize_state) T) (attempts-scratched _ T ∙ alone) (omega arith) (λ ok U k. k)
 
 -- Inside.
 
@@ -90,22 +78,22 @@ open-still T h = h
 pub fewer : (p : Code → Bool) (T : Tokenizer) → Here p T → codes_left (consumed T) + 1 ≡ codes_left T
 fewer p T b = omega (arith, left-ahead T, left-ahead (consumed T), ap length b.whole)
 
-pub inside-law : (ready : StateName → Tokenizer → Type 0) (ends : StateName → Tokenizer → Bool → Tokenizer → Type 0) (weight : StateName → Tokenizer → ℕ) → Within ready ends weight → (T : Tokenizer) → T.attempts ≡ [] → IsOpen T.tokenize_state.space_or_tab_token T → GoesOn ready ends weight (weight_at 2 T) (inside_ends T) (inside_step T)
-inside-law ready ends weight within T alone token =
+pub inside-law : (W : Words) → Within states W → Law W inside_words
+inside-law W within T alone token =
     let s : TokenizeState = T.tokenize_state in
     let n : ℕ = weight_at 2 T in
-    let P : Stepped → Type 0 = GoesOn ready ends weight n (inside_ends T) in
+    let P : Stepped → Type 0 = GoesIn W n (inside_ends T) in
     if-step P (at_blank (current_of T) && nat_lt s.space_or_tab_size s.space_or_tab_max) _ _
     (λ h. let b : Here is_blank T = here is_blank T (sym (blank-ahead T) ∙ and-left _ _ h) in
-    Goes-plain ready ends weight n (inside_ends T) (Next SpaceOrTabInside) (more T) (attempts-scratched _ (consumed T) ∙ attempts-applied Consume T ∙ alone) (within.inside_ready (more T) (open-still T token))
-    (rw within.inside_weight (omega (arith, fewer is_blank T b, left-scratched (sized (s.space_or_tab_size + 1) s) (consumed T))))
-    (λ ok U k. inside-more T (lt-true _ _ (and-right _ _ h)) b ok U (within.inside_end (more T) ok U k)))
+    Goes-plain W n (inside_ends T) (Next SpaceOrTabInside) (within SpaceOrTabInside) (more T) (attempts-scratched _ (consumed T) ∙ attempts-applied Consume T ∙ alone) (open-still T token)
+    (omega (arith, fewer is_blank T b, left-scratched (sized (s.space_or_tab_size + 1) s) (consumed T)))
+    (λ ok U k. inside-more T (lt-true _ _ (and-right _ _ h)) b ok U k))
     (λ h. let none : taken s (ahead T) ≡ [] =
     taken-none (s.space_or_tab_max - s.space_or_tab_size) is_blank (ahead T) (ap (λ b. b && nat_lt 0 (s.space_or_tab_max - s.space_or_tab_size)) (sym (blank-ahead T)) ∙ ap (λ b. at_blank (current_of T) && b) (sym (lt-gap s.space_or_tab_size s.space_or_tab_max)) ∙ h) in
     let V : Tokenizer = exited s.space_or_tab_token T in
-    Goes-plain ready ends weight n (inside_ends T) (Retry SpaceOrTabAfter) V (attempts-applied (Exit s.space_or_tab_token) T ∙ alone) (within.after_ready V)
-    (rw within.after_weight (omega (arith, left-applied (Exit s.space_or_tab_token) T refl)))
-    (λ ok U k. inside-stop T none ok U (within.after_end V ok U k)))
+    Goes-plain W n (inside_ends T) (Retry SpaceOrTabAfter) (within SpaceOrTabAfter) V (attempts-applied (Exit s.space_or_tab_token) T ∙ alone) tt
+    (omega (arith, left-applied (Exit s.space_or_tab_token) T refl))
+    (λ ok U k. inside-stop T none ok U k))
 
 -- From the start.
 
@@ -165,17 +153,17 @@ open-entered T =
     let P : TokenizeState → Type 0 = λ q. IsOpen q.space_or_tab_token E in
     subst P (sym (entered-scratch s.space_or_tab_token s.space_or_tab_content s.space_or_tab_connect T)) (entered-open s.space_or_tab_token s.space_or_tab_content s.space_or_tab_connect T)
 
-pub start-law : (ready : StateName → Tokenizer → Type 0) (ends : StateName → Tokenizer → Bool → Tokenizer → Type 0) (weight : StateName → Tokenizer → ℕ) → Within ready ends weight → (T : Tokenizer) → T.attempts ≡ [] → StartReady T → GoesOn ready ends weight (weight_at 3 T) (start_ends T) (start_step T)
-start-law ready ends weight within T alone on =
+pub start-law : (W : Words) → Within states W → Law W start_words
+start-law W within T alone on =
     let s : TokenizeState = T.tokenize_state in
     let n : ℕ = weight_at 3 T in
-    let P : Stepped → Type 0 = GoesOn ready ends weight n (start_ends T) in
+    let P : Stepped → Type 0 = GoesIn W n (start_ends T) in
     let E : Tokenizer = entered_space s T in
     let same : codes_left E ≡ codes_left T = entered-left s.space_or_tab_token s.space_or_tab_content s.space_or_tab_connect T in
     if-step P (at_blank (current_of T) && nat_lt 0 s.space_or_tab_max) _ _
     (λ h. let b : Here is_blank T = here is_blank T (sym (blank-ahead T) ∙ and-left _ _ h) in
-    Goes-plain ready ends weight n (start_ends T) (Retry SpaceOrTabInside) E (entered-attempts s.space_or_tab_token s.space_or_tab_content s.space_or_tab_connect T ∙ alone) (within.inside_ready E (open-entered T))
-    (rw within.inside_weight (omega (arith, same)))
-    (λ ok U k. start-inside T (lt-true _ _ (and-right _ _ h)) on.none_yet b ok U (within.inside_end E ok U k)))
+    Goes-plain W n (start_ends T) (Retry SpaceOrTabInside) (within SpaceOrTabInside) E (entered-attempts s.space_or_tab_token s.space_or_tab_content s.space_or_tab_connect T ∙ alone) (open-entered T)
+    (omega (arith, same))
+    (λ ok U k. start-inside T (lt-true _ _ (and-right _ _ h)) on.none_yet b ok U k))
     (λ h. let none : take s.space_or_tab_max (span is_blank (ahead T)).0 ≡ [] = taken-none s.space_or_tab_max is_blank (ahead T) (ap (λ b. b && nat_lt 0 s.space_or_tab_max) (sym (blank-ahead T)) ∙ h) in
-    Goes-plain ready ends weight n (start_ends T) (Retry SpaceOrTabAfter) T alone (within.after_ready T) (rw within.after_weight (omega arith)) (λ ok U k. start-after T on.none_yet none ok U (within.after_end T ok U k)))
+    Goes-plain W n (start_ends T) (Retry SpaceOrTabAfter) (within SpaceOrTabAfter) T alone tt (omega arith) (λ ok U k. start-after T on.none_yet none ok U k))

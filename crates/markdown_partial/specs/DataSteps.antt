@@ -2,7 +2,7 @@
 use Rattle.std.specs.Prelude.{ℕ, Bool, ◌||◌, not, ◌==◌, if◌then◌else◌, Option, Some, None, List, [], ◌∷◌}
 use Rattle.std.specs.List.{list_any}
 use Rattle.markdown_engine.specs.Codes.{Code, is_line_ending}
-use Rattle.markdown_engine.specs.Ops.{Op, Enter, Exit, Consume, done, current_of, ahead, exited}
+use Rattle.markdown_engine.specs.Ops.{Op, Enter, Exit, Consume, done, current_of, ahead, exited, IsOpen}
 use Rattle.markdown_engine.specs.Past.{EndsAs, TreeReading, passed}
 use Rattle.markdown_engine.specs.Runs.{Stepped, stepped}
 use Rattle.markdown_model.specs.CodeTests.{is_among}
@@ -11,8 +11,10 @@ use Rattle.markdown_model.specs.Lines.{data_up_to, line_leaves, lines_of}
 use Rattle.markdown_engine.specs.declared.event.Name.TheVariants as N
 use Rattle.markdown_engine.specs.declared.state.State.TheVariants.{Next, Retry}
 use Rattle.markdown_engine.specs.declared.state.State.TheVariants as State
-use Rattle.markdown_engine.specs.declared.state.StateName.TheVariants.{DataAtBreak, DataInside}
+use Rattle.markdown_engine.specs.declared.state.StateName.TheVariants.{DataAtBreak, DataInside, DataStart}
 use Rattle.markdown_engine.specs.declared.tokenizer.Tokenizer.{Tokenizer}
+use Rattle.markdown_engine.specs.StateWords.{StateWords}
+use Rattle.markdown_engine.specs.declared.state.StateName.{StateName}
 
 -- one of these markers
 abbrev pub marks : List ℕ → ℕ → Bool
@@ -85,3 +87,21 @@ at_break_ends T ok U = EndsAs (more_data (markers_of T)) None T.tokenize_state T
 
 abbrev pub inside_ends : Tokenizer → Bool → Tokenizer → Type 0
 inside_ends T ok U = at_break_ends (past_stretch T) ok U
+
+-- The states.
+
+abbrev pub start_words : StateWords
+start_words = record { ready = λ T. Unit {0}; step = start_step; ends = start_ends; rank = 1 }
+
+abbrev pub at_break_words : StateWords
+at_break_words = record { ready = λ T. Unit {0}; step = at_break_step; ends = at_break_ends; rank = 1 }
+
+abbrev pub inside_words : StateWords
+inside_words = record { ready = IsOpen N.Data; step = inside_step; ends = inside_ends; rank = 2 }
+
+-- these states as they are said, and any other as it is given
+abbrev pub states : (StateName → StateWords) → StateName → StateWords
+states other DataStart = start_words
+states other DataAtBreak = at_break_words
+states other DataInside = inside_words
+states other s = other s

@@ -9,13 +9,16 @@ use Rattle.markdown_engine.specs.Weights.{codes_left}
 use Rattle.markdown_model.specs.Grammar.{span}
 use Rattle.markdown_model.specs.Lines.{linked_leaf}
 use Rattle.markdown_model.specs.Whitespace.{spacing, begins_filled_line}
+use Rattle.markdown_partial.specs.SpaceSteps as S
 use Rattle.markdown_partial.specs.SpaceSteps.{most, asked, rested, at_blank, ended}
 use Rattle.markdown_engine.specs.declared.event.Content.{Content}
 use Rattle.markdown_engine.specs.declared.event.Name.TheVariants as N
 use Rattle.markdown_engine.specs.declared.state.State.TheVariants.{Next, Retry, Nok}
-use Rattle.markdown_engine.specs.declared.state.StateName.TheVariants.{SpaceOrTabStart, SpaceOrTabEolAfterFirst, SpaceOrTabEolAtEol, SpaceOrTabEolAfterEol, SpaceOrTabEolAfterMore}
+use Rattle.markdown_engine.specs.declared.state.StateName.TheVariants.{SpaceOrTabStart, SpaceOrTabEolAfterFirst, SpaceOrTabEolAtEol, SpaceOrTabEolAfterEol, SpaceOrTabEolAfterMore, SpaceOrTabEolStart}
 use Rattle.markdown_engine.specs.declared.tokenizer.TokenizeState.{TokenizeState}
 use Rattle.markdown_engine.specs.declared.tokenizer.Tokenizer.{Tokenizer}
+use Rattle.markdown_engine.specs.StateWords.{StateWords}
+use Rattle.markdown_engine.specs.declared.state.StateName.{StateName}
 
 -- with whitespace with a line ending asked for
 abbrev pub eol_asked : Bool → Option Content → TokenizeState → TokenizeState
@@ -152,3 +155,30 @@ after_eol_ends T ok U =
 
 abbrev pub after_more_ends : Tokenizer → Bool → Tokenizer → Type 0
 after_more_ends T ok U = (ok ≡ begins_filled_line (ahead T)) × (U ≡ scratched (eol_rested T.tokenize_state) T)
+
+-- The states.
+
+abbrev pub start_words : StateWords
+start_words = record { ready = StartReady; step = start_step; ends = start_ends; rank = 8 }
+
+abbrev pub after_first_words : StateWords
+after_first_words = record { ready = AfterFirstReady; step = after_first_step; ends = after_first_ends; rank = 7 }
+
+abbrev pub at_eol_words : StateWords
+at_eol_words = record { ready = EolReady; step = at_eol_step; ends = at_eol_ends; rank = 6 }
+
+abbrev pub after_eol_words : StateWords
+after_eol_words = record { ready = EolReady; step = after_eol_step; ends = after_eol_ends; rank = 5 }
+
+abbrev pub after_more_words : StateWords
+after_more_words = record { ready = λ T. Unit {0}; step = after_more_step; ends = after_more_ends; rank = 4 }
+
+-- these states as they are said, and any other as it is given
+abbrev pub states : (StateName → StateWords) → StateName → StateWords
+states other SpaceOrTabEolStart = start_words
+states other SpaceOrTabEolAfterFirst = after_first_words
+states other SpaceOrTabEolAtEol = at_eol_words
+states other SpaceOrTabEolAfterEol = after_eol_words
+states other SpaceOrTabEolAfterMore = after_more_words
+states other SpaceOrTabStart = S.start_words
+states other s = other s

@@ -1,7 +1,7 @@
 -- What the states of whitespace on one line do, and how runs from them end.
 use Rattle.std.specs.Prelude.{◌≡◌, ℕ, ◌+◌, ◌-◌, Bool, true, false, ◌&&◌, ◌||◌, ◌==◌, nat_lt, nat_le, if◌then◌else◌, List, length, take, Option, Some, None}
 use Rattle.markdown_engine.specs.Codes.{Code, is_blank, space_value, tab_value}
-use Rattle.markdown_engine.specs.Ops.{consumed, exited, scratched, current_of, ahead, LinkedBefore}
+use Rattle.markdown_engine.specs.Ops.{consumed, exited, scratched, current_of, ahead, LinkedBefore, IsOpen}
 use Rattle.markdown_engine.specs.Past.{EndsAs, entered_leaf, link_before, passed}
 use Rattle.markdown_engine.specs.Runs.{Stepped, stepped}
 use Rattle.markdown_model.specs.Grammar.{span}
@@ -11,9 +11,11 @@ use Rattle.markdown_engine.specs.declared.event.Name.{Name}
 use Rattle.markdown_engine.specs.declared.event.Name.TheVariants as N
 use Rattle.markdown_engine.specs.declared.state.State.{State}
 use Rattle.markdown_engine.specs.declared.state.State.TheVariants.{Next, Retry, Ok, Nok}
-use Rattle.markdown_engine.specs.declared.state.StateName.TheVariants.{SpaceOrTabInside, SpaceOrTabAfter}
+use Rattle.markdown_engine.specs.declared.state.StateName.TheVariants.{SpaceOrTabInside, SpaceOrTabAfter, SpaceOrTabStart}
 use Rattle.markdown_engine.specs.declared.tokenizer.TokenizeState.{TokenizeState}
 use Rattle.markdown_engine.specs.declared.tokenizer.Tokenizer.{Tokenizer}
+use Rattle.markdown_engine.specs.StateWords.{StateWords}
+use Rattle.markdown_engine.specs.declared.state.StateName.{StateName}
 
 -- no bound on the number of codes: the greatest `usize`
 abbrev pub most : ℕ
@@ -88,3 +90,21 @@ inside_ends T ok U =
 abbrev pub after_ends : Tokenizer → Bool → Tokenizer → Type 0
 after_ends T ok U =
     (ok ≡ nat_le T.tokenize_state.space_or_tab_min T.tokenize_state.space_or_tab_size) × (U ≡ scratched (rested T.tokenize_state) T)
+
+-- The states.
+
+abbrev pub start_words : StateWords
+start_words = record { ready = StartReady; step = start_step; ends = start_ends; rank = 3 }
+
+abbrev pub inside_words : StateWords
+inside_words = record { ready = λ T. IsOpen T.tokenize_state.space_or_tab_token T; step = inside_step; ends = inside_ends; rank = 2 }
+
+abbrev pub after_words : StateWords
+after_words = record { ready = λ T. Unit {0}; step = after_step; ends = after_ends; rank = 1 }
+
+-- these states as they are said, and any other as it is given
+abbrev pub states : (StateName → StateWords) → StateName → StateWords
+states other SpaceOrTabStart = start_words
+states other SpaceOrTabInside = inside_words
+states other SpaceOrTabAfter = after_words
+states other s = other s

@@ -3,12 +3,11 @@ use Rattle.std.proofs.Common.{◌≡◌, ℕ, ◌+◌, ◌-◌, ◌≤◌, ◌==
 use Rattle.markdown_engine.specs.Codes.{Code}
 use Rattle.markdown_engine.specs.Lists.{rest_of}
 use Rattle.markdown_engine.specs.Ops.{Op, Consume, current_of, ahead, applied, done, scratched}
-use Rattle.markdown_engine.specs.Runs.{Stepped, GoesOn, stepped}
+use Rattle.markdown_engine.specs.Runs.{Stepped, stepped}
 use Rattle.markdown_engine.specs.Weights.{weight_at}
 use Rattle.markdown_engine.specs.declared.event.Name.{Name}
 use Rattle.markdown_engine.specs.declared.event.Name.TheVariants as N
 use Rattle.markdown_engine.specs.declared.state.State.TheVariants.{Next, Retry}
-use Rattle.markdown_engine.specs.declared.state.StateName.{StateName}
 use Rattle.markdown_engine.specs.declared.state.StateName.TheVariants.{DestinationEnclosedBefore, DestinationEnclosed, DestinationEnclosedEscape, DestinationRaw, DestinationRawEscape}
 use Rattle.markdown_engine.specs.declared.tokenizer.TokenizeState.{TokenizeState}
 use Rattle.markdown_engine.specs.declared.tokenizer.Tokenizer.{Tokenizer}
@@ -19,31 +18,16 @@ use Rattle.markdown_model.specs.Grammar.{with_first}
 use Rattle.markdown_model.specs.Resource.{DestinationNames, destination, raw_from}
 use Rattle.markdown_construct.specs.Plan.{Plan, preceded, DoesAs, KeepsAs}
 use Rattle.markdown_construct.specs.Scratch.{with_size}
-use Rattle.markdown_construct.proofs.PlanLemmas.{preceded-nil, GoesOn-map, Goes-on, Goes-kept, Goes-next, Goes-ok, Goes-yes, Goes-nok, Goes-no, no-codes}
-use Rattle.markdown_string.specs.Destination.{refused, raw_on, raw_plain, raw_opens, nested, finished, names_in, control_value, bars_value, stops_value, opening, raw_opening, text_opening, closing, ending, raw_ending, start_at, start_step, entering, enclosed_before_at, enclosed_before_step, enclosed_at, enclosed_step, escapes_enclosed, enclosed_escape_at, enclosed_escape_step, raw_at, raw_step, escapes_raw, raw_escape_at, raw_escape_step, StartReady, BeforeReady, EnclosedReady, RawReady, start_ends, text_then, enclosed_plan, before_plan, raw_plan, enclosed_before_ends, enclosed_ends, enclosed_escape_ends, raw_ends, raw_escape_ends}
+use Rattle.markdown_construct.proofs.PlanLemmas.{preceded-nil, no-codes}
+use Rattle.markdown_string.specs.Destination.{refused, raw_on, raw_plain, raw_opens, nested, finished, names_in, control_value, bars_value, stops_value, opening, raw_opening, text_opening, closing, ending, raw_ending, start_at, start_step, entering, enclosed_before_at, enclosed_before_step, enclosed_at, enclosed_step, escapes_enclosed, enclosed_escape_at, enclosed_escape_step, raw_at, raw_step, escapes_raw, raw_escape_at, raw_escape_step, StartReady, BeforeReady, EnclosedReady, RawReady, start_ends, text_then, enclosed_plan, before_plan, raw_plan, enclosed_before_ends, enclosed_ends, enclosed_escape_ends, raw_ends, raw_escape_ends, states, enclosed_before_words, enclosed_escape_words, enclosed_words, raw_escape_words, raw_words, start_words}
 use Rattle.markdown_string.specs.LinkedOps.{plan_of}
 use Rattle.markdown_string.proofs.DestinationReadings.{enclosed-none, enclosed-close, enclosed-refused, enclosed-next, enclosed-taken, enclosed-bare, text-first, destination-bracket, raw-end, raw-open-end, raw-taken, raw-bare, stops, raw-stop, raw-space, raw-control, raw-open, raw-deep, raw-close, raw-next, destination-raw, destination-end, destination-stops, destination-control, destination-covers}
 use Rattle.markdown_string.proofs.LinkedLemmas.{EndsAs-linked}
 use Rattle.markdown_string.proofs.BoolLemmas.{same-value, or-left, or-right, or-first}
 use Rattle.markdown_model.proofs.ReadingSteps.{if-true, if-false}
-
--- what the layer says of these states
-pub record Within (ready : StateName → Tokenizer → Type 0) (ends : StateName → Tokenizer → Bool → Tokenizer → Type 0) (weight : StateName → Tokenizer → ℕ) : Type 0 where
-  pub before_ready : (T : Tokenizer) → BeforeReady T → ready DestinationEnclosedBefore T
-  pub before_end : (T : Tokenizer) (ok : Bool) (U : Tokenizer) → ends DestinationEnclosedBefore T ok U → enclosed_before_ends T ok U
-  pub before_weight : (T : Tokenizer) → weight DestinationEnclosedBefore T ≡ weight_at 3 T
-  pub enclosed_ready : (T : Tokenizer) → EnclosedReady T → ready DestinationEnclosed T
-  pub enclosed_end : (T : Tokenizer) (ok : Bool) (U : Tokenizer) → ends DestinationEnclosed T ok U → enclosed_ends T ok U
-  pub enclosed_weight : (T : Tokenizer) → weight DestinationEnclosed T ≡ weight_at 1 T
-  pub enclosed_escape_ready : (T : Tokenizer) → EnclosedReady T → ready DestinationEnclosedEscape T
-  pub enclosed_escape_end : (T : Tokenizer) (ok : Bool) (U : Tokenizer) → ends DestinationEnclosedEscape T ok U → enclosed_escape_ends T ok U
-  pub enclosed_escape_weight : (T : Tokenizer) → weight DestinationEnclosedEscape T ≡ weight_at 2 T
-  pub raw_ready : (T : Tokenizer) → RawReady T → ready DestinationRaw T
-  pub raw_end : (T : Tokenizer) (ok : Bool) (U : Tokenizer) → ends DestinationRaw T ok U → raw_ends T ok U
-  pub raw_weight : (T : Tokenizer) → weight DestinationRaw T ≡ weight_at 1 T
-  pub raw_escape_ready : (T : Tokenizer) → RawReady T → ready DestinationRawEscape T
-  pub raw_escape_end : (T : Tokenizer) (ok : Bool) (U : Tokenizer) → ends DestinationRawEscape T ok U → raw_escape_ends T ok U
-  pub raw_escape_weight : (T : Tokenizer) → weight DestinationRawEscape T ≡ weight_at 2 T
+use Rattle.markdown_engine.specs.StateWords.{Words, Law, GoesIn}
+use Rattle.markdown_construct.proofs.StateLaws.{GoesOn-map, Goes-on, Goes-kept, Goes-next, Goes-ok, Goes-yes, Goes-nok, Goes-no}
+use Rattle.markdown_construct.specs.Within.{Within}
 
 -- The conditions.
 
@@ -145,93 +129,88 @@ refused-by false max depth c cs e h k g =
       or-first false true h e = cc
       or-first false false h e = cc
 
-module _ (ready : StateName → Tokenizer → Type 0) (ends : StateName → Tokenizer → Bool → Tokenizer → Type 0) (weight : StateName → Tokenizer → ℕ) (within : Within ready ends weight) where
+module _ (W : Words) (within : Within states W) where
   -- Between the brackets.
 
-  pub enclosed-law : (T : Tokenizer) → T.attempts ≡ [] → EnclosedReady T → GoesOn ready ends weight (weight_at 1 T) (enclosed_ends T) (enclosed_step T)
+  pub enclosed-law : Law W enclosed_words
   unfolding applied
   enclosed-law T alone k =
       let names : DestinationNames = names_in T.tokenize_state in
       let p : Plan = enclosed_plan names false in
-      let P : Stepped → Type 0 = GoesOn ready ends weight (weight_at 1 T) (enclosed_ends T) in
+      let P : Stepped → Type 0 = GoesIn W (weight_at 1 T) (enclosed_ends T) in
       code-step P (current_of T) (λ o. enclosed_at o T)
-      (λ e. Goes-no ready ends weight 1 4 p T alone (ap p (ahead-none T e) ∙ enclosed-none names false))
+      (λ e. Goes-no W 1 4 p T alone (ap p (ahead-none T e) ∙ enclosed-none names false))
       (λ c e.
       let b : Begins c (ahead T) = ahead-some T c e in
       let cs : List Code = rest_of (ahead T) in
       let more : 1 ≤ length (ahead T) = some-codes T c e in
       if-step P (c == 62) _ _
-      (λ h. Goes-yes ready ends weight 1 4 p (ending names) T alone (ap p b.whole ∙ enclosed-close names b.code cs (ap (λ v. v == 62) b.value ∙ h)))
+      (λ h. Goes-yes W 1 4 p (ending names) T alone (ap p b.whole ∙ enclosed-close names b.code cs (ap (λ v. v == 62) b.value ∙ h)))
       (λ h. if-step P (c == 60 || c == 10) _ _
-      (λ g. Goes-no ready ends weight 1 4 p T alone (ap p b.whole ∙ enclosed-refused names b.code cs (ap (λ v. v == 62) b.value ∙ h) (ap (λ v. v == 60 || v == 10) b.value ∙ g)))
+      (λ g. Goes-no W 1 4 p T alone (ap p b.whole ∙ enclosed-refused names b.code cs (ap (λ v. v == 62) b.value ∙ h) (ap (λ v. v == 60 || v == 10) b.value ∙ g)))
       (λ g. if-step P (c == 92) _ _
-      (λ f. Goes-next ready ends weight 1 2 4 p (enclosed_plan names true) (Consume ∷ []) T (Next DestinationEnclosedEscape) alone refl more (omega arith)
+      (λ f. Goes-next W 1 4 p (enclosed_plan names true) (Consume ∷ []) T (Next DestinationEnclosedEscape) (within DestinationEnclosedEscape) alone refl more (omega arith)
       (ap p b.whole ∙ enclosed-next names true b.code cs (ap (λ v. v == 62) b.value ∙ h) (ap (λ v. v == 60 || v == 10) b.value ∙ g) (ap (λ v. v == 92) b.value ∙ f))
-      (within.enclosed_escape_ready _ (enclosed-past T k))
-      (within.enclosed_escape_weight _)
-      (λ ok U x. within.enclosed_escape_end _ ok U x))
-      (λ f. Goes-next ready ends weight 1 1 4 p p (Consume ∷ []) T (Next DestinationEnclosed) alone refl more (omega arith)
+      (enclosed-past T k)
+      (λ ok U x. x))
+      (λ f. Goes-next W 1 4 p p (Consume ∷ []) T (Next DestinationEnclosed) (within DestinationEnclosed) alone refl more (omega arith)
       (ap p b.whole ∙ enclosed-next names false b.code cs (ap (λ v. v == 62) b.value ∙ h) (ap (λ v. v == 60 || v == 10) b.value ∙ g) (ap (λ v. v == 92) b.value ∙ f))
-      (within.enclosed_ready _ (enclosed-past T k))
-      (within.enclosed_weight _)
-      (λ ok U x. within.enclosed_end _ ok U x)))))
+      (enclosed-past T k)
+      (λ ok U x. x)))))
 
   -- the backslash means itself
-  enclosed-goes : (T : Tokenizer) → T.attempts ≡ [] → EnclosedReady T → enclosed_plan (names_in T.tokenize_state) true (ahead T) ≡ enclosed_plan (names_in T.tokenize_state) false (ahead T) → GoesOn ready ends weight (weight_at 2 T) (enclosed_escape_ends T) (stepped (Retry DestinationEnclosed) T)
+  enclosed-goes : (T : Tokenizer) → T.attempts ≡ [] → EnclosedReady T → enclosed_plan (names_in T.tokenize_state) true (ahead T) ≡ enclosed_plan (names_in T.tokenize_state) false (ahead T) → GoesIn W (weight_at 2 T) (enclosed_escape_ends T) (stepped (Retry DestinationEnclosed) T)
   enclosed-goes T alone k e =
       let names : DestinationNames = names_in T.tokenize_state in
-      Goes-next ready ends weight 2 1 4 (enclosed_plan names true) (enclosed_plan names false) [] T (Retry DestinationEnclosed) alone refl (no-codes T) (omega arith)
+      Goes-next W 2 4 (enclosed_plan names true) (enclosed_plan names false) [] T (Retry DestinationEnclosed) (within DestinationEnclosed) alone refl (no-codes T) (omega arith)
       (e ∙ preceded-nil (enclosed_plan names false (ahead T)))
-      (within.enclosed_ready _ k)
-      (within.enclosed_weight _)
-      (λ ok U x. within.enclosed_end _ ok U x)
+      k
+      (λ ok U x. x)
 
-  pub enclosed_escape-law : (T : Tokenizer) → T.attempts ≡ [] → EnclosedReady T → GoesOn ready ends weight (weight_at 2 T) (enclosed_escape_ends T) (enclosed_escape_step T)
+  pub enclosed_escape-law : Law W enclosed_escape_words
   unfolding applied
   enclosed_escape-law T alone k =
       let names : DestinationNames = names_in T.tokenize_state in
       let p : Plan = enclosed_plan names true in
-      let P : Stepped → Type 0 = GoesOn ready ends weight (weight_at 2 T) (enclosed_escape_ends T) in
+      let P : Stepped → Type 0 = GoesIn W (weight_at 2 T) (enclosed_escape_ends T) in
       code-step P (current_of T) (λ o. enclosed_escape_at o T)
       (λ e. enclosed-goes T alone k (ap p (ahead-none T e) ∙ enclosed-none names true ∙ sym (enclosed-none names false) ∙ ap (enclosed_plan names false) (sym (ahead-none T e))))
       (λ c e.
       let b : Begins c (ahead T) = ahead-some T c e in
       let cs : List Code = rest_of (ahead T) in
       if-step P (escapes_enclosed c) _ _
-      (λ h. Goes-next ready ends weight 2 1 4 p (enclosed_plan names false) (Consume ∷ []) T (Next DestinationEnclosed) alone refl (some-codes T c e) (omega arith)
+      (λ h. Goes-next W 2 4 p (enclosed_plan names false) (Consume ∷ []) T (Next DestinationEnclosed) (within DestinationEnclosed) alone refl (some-codes T c e) (omega arith)
       (ap p b.whole ∙ enclosed-taken names b.code cs (ap escapes_enclosed b.value ∙ h))
-      (within.enclosed_ready _ (enclosed-past T k))
-      (within.enclosed_weight _)
-      (λ ok U x. within.enclosed_end _ ok U x))
+      (enclosed-past T k)
+      (λ ok U x. x))
       (λ h. enclosed-goes T alone k (ap p b.whole ∙ enclosed-bare names b.code cs (ap escapes_enclosed b.value ∙ h) ∙ ap (enclosed_plan names false) (sym b.whole))))
 
-  before-enters : (T : Tokenizer) → T.attempts ≡ [] → BeforeReady T → next_is (is_value 62) (ahead T) ≡ false → GoesOn ready ends weight (weight_at 3 T) (enclosed_before_ends T) (entering T)
+  before-enters : (T : Tokenizer) → T.attempts ≡ [] → BeforeReady T → next_is (is_value 62) (ahead T) ≡ false → GoesIn W (weight_at 3 T) (enclosed_before_ends T) (entering T)
   unfolding applied
   before-enters T alone k h =
       let names : DestinationNames = names_in T.tokenize_state in
-      Goes-next ready ends weight 3 1 2 (before_plan names) (enclosed_plan names false) (text_opening names) T (Retry DestinationEnclosed) alone refl (no-codes T) (omega arith)
+      Goes-next W 3 2 (before_plan names) (enclosed_plan names false) (text_opening names) T (Retry DestinationEnclosed) (within DestinationEnclosed) alone refl (no-codes T) (omega arith)
       (if-false _ _ _ h)
-      (within.enclosed_ready _ (entered-text T k))
-      (within.enclosed_weight _)
-      (λ ok U x. within.enclosed_end _ ok U x)
+      (entered-text T k)
+      (λ ok U x. x)
 
-  pub enclosed_before-law : (T : Tokenizer) → T.attempts ≡ [] → BeforeReady T → GoesOn ready ends weight (weight_at 3 T) (enclosed_before_ends T) (enclosed_before_step T)
+  pub enclosed_before-law : Law W enclosed_before_words
   enclosed_before-law T alone k =
       let names : DestinationNames = names_in T.tokenize_state in
-      let P : Stepped → Type 0 = GoesOn ready ends weight (weight_at 3 T) (enclosed_before_ends T) in
+      let P : Stepped → Type 0 = GoesIn W (weight_at 3 T) (enclosed_before_ends T) in
       code-step P (current_of T) (λ o. enclosed_before_at o T)
       (λ e. before-enters T alone k (ap (next_is (is_value 62)) (ahead-none T e)))
       (λ c e.
       let b : Begins c (ahead T) = ahead-some T c e in
       let here : next_is (is_value 62) (ahead T) ≡ (c == 62) = ap (next_is (is_value 62)) b.whole ∙ ap (λ v. v == 62) b.value in
       if-step P (c == 62) _ _
-      (λ h. Goes-yes ready ends weight 3 2 (before_plan names) (closing names) T alone (if-true _ _ _ (here ∙ h)))
+      (λ h. Goes-yes W 3 2 (before_plan names) (closing names) T alone (if-true _ _ _ (here ∙ h)))
       (λ h. before-enters T alone k (here ∙ h)))
 
   -- Without brackets.
 
   -- a code that is no parenthesis
-  raw-plain-law : (T : Tokenizer) → T.attempts ≡ [] → RawReady T → (c : ℕ) → current_of T ≡ Some c → (T.tokenize_state.size == 0 && stops_value c) ≡ false → (c == 40) ≡ false → (c == 41) ≡ false → GoesOn ready ends weight (weight_at 1 T) (raw_ends T) (raw_plain c T)
+  raw-plain-law : (T : Tokenizer) → T.attempts ≡ [] → RawReady T → (c : ℕ) → current_of T ≡ Some c → (T.tokenize_state.size == 0 && stops_value c) ≡ false → (c == 40) ≡ false → (c == 41) ≡ false → GoesIn W (weight_at 1 T) (raw_ends T) (raw_plain c T)
   unfolding applied scratched white_value
   raw-plain-law T alone k c e h g f =
       let s : TokenizeState = T.tokenize_state in
@@ -240,14 +219,14 @@ module _ (ready : StateName → Tokenizer → Type 0) (ends : StateName → Toke
       let depth : ℕ = s.size in
       let p : Plan = raw_plan names max false depth in
       let at : Option (List Code × List Code) → Option (List Op) = text_then (raw_ending names) in
-      let P : Stepped → Type 0 = GoesOn ready ends weight (weight_at 1 T) (raw_ends T) in
+      let P : Stepped → Type 0 = GoesIn W (weight_at 1 T) (raw_ends T) in
       let b : Begins c (ahead T) = ahead-some T c e in
       let cs : List Code = rest_of (ahead T) in
       let more : 1 ≤ length (ahead T) = some-codes T c e in
       let tested : (q : ℕ → Bool) → q b.code.value ≡ q c = λ q. ap q b.value in
       let closer : is_value 41 b.code ≡ false = tested (λ v. v == 41) ∙ f in
       if-step P (control_value c || c == 32) (refused T) (if c == 92 then stepped (Next DestinationRawEscape) (done (Consume ∷ []) T) else stepped (Next DestinationRaw) (done (Consume ∷ []) T))
-      (λ j. Goes-nok ready ends weight 1 4 p (with_size 0 s) T alone
+      (λ j. Goes-nok W 1 4 p (with_size 0 s) T alone
       (ap p b.whole ∙ ap at (refused-by (white_value b.code.value) max depth b.code cs refl (tested (λ v. depth == 0 && stops_value v) ∙ h) closer (tested (λ v. control_value v || v == 32) ∙ j))))
       (λ j.
       let plain : control_value b.code.value || b.code.value == 32 ≡ false = tested (λ v. control_value v || v == 32) ∙ j in
@@ -257,19 +236,19 @@ module _ (ready : StateName → Tokenizer → Type 0) (ends : StateName → Toke
       let reads : (x : Bool) → (c == 92) ≡ x → p (ahead T) ≡ preceded (Consume ∷ []) (raw_plan names max x depth cs) =
       λ x i. ap p b.whole ∙ ap at next ∙ text-first (raw_ending names) b.code (raw_from max (b.code.value == 92) depth cs) ∙ ap (λ y. preceded (Consume ∷ []) (raw_plan names max y depth cs)) (tested (λ v. v == 92) ∙ i) in
       if-step P (c == 92) (stepped (Next DestinationRawEscape) (done (Consume ∷ []) T)) (stepped (Next DestinationRaw) (done (Consume ∷ []) T))
-      (λ i. Goes-kept ready ends weight 1 2 4 p (raw_plan names max true depth) (Consume ∷ []) (with_size 0 s) T (Next DestinationRawEscape) alone refl more (omega arith) (reads true i) (within.raw_escape_ready _ (raw-past T k)) (within.raw_escape_weight _) (λ ok U x. within.raw_escape_end _ ok U x))
-      (λ i. Goes-kept ready ends weight 1 1 4 p p (Consume ∷ []) (with_size 0 s) T (Next DestinationRaw) alone refl more (omega arith) (reads false i) (within.raw_ready _ (raw-past T k)) (within.raw_weight _) (λ ok U x. within.raw_end _ ok U x)))
+      (λ i. Goes-kept W 1 4 p (raw_plan names max true depth) (Consume ∷ []) (with_size 0 s) T (Next DestinationRawEscape) (within DestinationRawEscape) alone refl more (omega arith) (reads true i) (raw-past T k) (λ ok U x. x))
+      (λ i. Goes-kept W 1 4 p p (Consume ∷ []) (with_size 0 s) T (Next DestinationRaw) (within DestinationRaw) alone refl more (omega arith) (reads false i) (raw-past T k) (λ ok U x. x)))
 
   -- past a parenthesis, with so many open
-  nested-law : (n : ℕ) (T : Tokenizer) → T.attempts ≡ [] → RawReady T → 1 ≤ length (ahead T) → raw_plan (names_in T.tokenize_state) T.tokenize_state.size_b false T.tokenize_state.size (ahead T) ≡ preceded (Consume ∷ []) (raw_plan (names_in T.tokenize_state) T.tokenize_state.size_b false n (drop 1 (ahead T))) → GoesOn ready ends weight (weight_at 1 T) (raw_ends T) (nested n T)
+  nested-law : (n : ℕ) (T : Tokenizer) → T.attempts ≡ [] → RawReady T → 1 ≤ length (ahead T) → raw_plan (names_in T.tokenize_state) T.tokenize_state.size_b false T.tokenize_state.size (ahead T) ≡ preceded (Consume ∷ []) (raw_plan (names_in T.tokenize_state) T.tokenize_state.size_b false n (drop 1 (ahead T))) → GoesIn W (weight_at 1 T) (raw_ends T) (nested n T)
   unfolding applied scratched
   nested-law n T alone k more reads =
       let s : TokenizeState = T.tokenize_state in
       let q : ℕ → Plan = raw_plan (names_in s) s.size_b false in
-      Goes-on ready ends weight 1 1 4 (q s.size) (q n) (Consume ∷ []) (with_size 0 s) (with_size n s) T (Next DestinationRaw) alone refl more (omega arith) reads (within.raw_ready _ (nested-past n T k)) (within.raw_weight _) (λ ok U x. within.raw_end _ ok U x)
+      Goes-on W 1 4 (q s.size) (q n) (Consume ∷ []) (with_size 0 s) (with_size n s) T (Next DestinationRaw) (within DestinationRaw) alone refl more (omega arith) reads (nested-past n T k) (λ ok U x. x)
 
   -- a code that does not end the destination
-  raw-on-law : (T : Tokenizer) → T.attempts ≡ [] → RawReady T → (c : ℕ) → current_of T ≡ Some c → (T.tokenize_state.size == 0 && stops_value c) ≡ false → GoesOn ready ends weight (weight_at 1 T) (raw_ends T) (raw_on c T)
+  raw-on-law : (T : Tokenizer) → T.attempts ≡ [] → RawReady T → (c : ℕ) → current_of T ≡ Some c → (T.tokenize_state.size == 0 && stops_value c) ≡ false → GoesIn W (weight_at 1 T) (raw_ends T) (raw_on c T)
   unfolding white_value
   raw-on-law T alone k c e h =
       let s : TokenizeState = T.tokenize_state in
@@ -278,7 +257,7 @@ module _ (ready : StateName → Tokenizer → Type 0) (ends : StateName → Toke
       let depth : ℕ = s.size in
       let p : Plan = raw_plan names max false depth in
       let at : Option (List Code × List Code) → Option (List Op) = text_then (raw_ending names) in
-      let P : Stepped → Type 0 = GoesOn ready ends weight (weight_at 1 T) (raw_ends T) in
+      let P : Stepped → Type 0 = GoesIn W (weight_at 1 T) (raw_ends T) in
       let b : Begins c (ahead T) = ahead-some T c e in
       let cs : List Code = rest_of (ahead T) in
       let more : 1 ≤ length (ahead T) = some-codes T c e in
@@ -289,7 +268,7 @@ module _ (ready : StateName → Tokenizer → Type 0) (ends : StateName → Toke
       if-step P (nat_lt depth max) (nested (depth + 1) T) (refused T)
       (λ f. nested-law (depth + 1) T alone k more
       (ap p b.whole ∙ ap at (raw-open max depth b.code cs goes (is control_value) (is (λ v. v == 40)) f) ∙ text-first (raw_ending names) b.code (raw_from max false (suc depth) cs) ∙ ap (λ n. preceded (Consume ∷ []) (raw_plan names max false n cs)) (sym (add-one depth))))
-      (λ f. Goes-nok ready ends weight 1 4 p (with_size 0 s) T alone (ap p b.whole ∙ ap at (raw-deep max depth b.code cs goes (is control_value) (is (λ v. v == 40)) f))))
+      (λ f. Goes-nok W 1 4 p (with_size 0 s) T alone (ap p b.whole ∙ ap at (raw-deep max depth b.code cs goes (is control_value) (is (λ v. v == 40)) f))))
       (λ g. if-step P (c == 41) (nested (depth - 1) T) (raw_plain c T)
       (λ f.
       let is : (q : ℕ → Bool) → q b.code.value ≡ q 41 = λ q. ap q b.value ∙ same-value c 41 f q in
@@ -299,7 +278,7 @@ module _ (ready : StateName → Tokenizer → Type 0) (ends : StateName → Toke
       (ap p b.whole ∙ ap at (raw-close max depth b.code cs goes (is control_value) (is (λ v. v == 40)) (is (λ v. v == 41))) ∙ text-first (raw_ending names) b.code (raw_from max false (depth - 1) cs)))
       (λ f. raw-plain-law T alone k c e h g f))
 
-  pub raw-law : (T : Tokenizer) → T.attempts ≡ [] → RawReady T → GoesOn ready ends weight (weight_at 1 T) (raw_ends T) (raw_step T)
+  pub raw-law : Law W raw_words
   unfolding white_value
   raw-law T alone k =
       let s : TokenizeState = T.tokenize_state in
@@ -308,29 +287,28 @@ module _ (ready : StateName → Tokenizer → Type 0) (ends : StateName → Toke
       let depth : ℕ = s.size in
       let p : Plan = raw_plan names max false depth in
       let at : Option (List Code × List Code) → Option (List Op) = text_then (raw_ending names) in
-      let P : Stepped → Type 0 = GoesOn ready ends weight (weight_at 1 T) (raw_ends T) in
+      let P : Stepped → Type 0 = GoesIn W (weight_at 1 T) (raw_ends T) in
       code-step P (current_of T) (λ o. raw_at o T)
       (λ e. if-step P (depth == 0) (finished T) (refused T)
-      (λ h. Goes-ok ready ends weight 1 4 p (raw_ending names) (with_size 0 s) T alone (ap p (ahead-none T e) ∙ ap at (raw-end max false depth h)))
-      (λ h. Goes-nok ready ends weight 1 4 p (with_size 0 s) T alone (ap p (ahead-none T e) ∙ ap at (raw-open-end max false depth h))))
+      (λ h. Goes-ok W 1 4 p (raw_ending names) (with_size 0 s) T alone (ap p (ahead-none T e) ∙ ap at (raw-end max false depth h)))
+      (λ h. Goes-nok W 1 4 p (with_size 0 s) T alone (ap p (ahead-none T e) ∙ ap at (raw-open-end max false depth h))))
       (λ c e.
       let b : Begins c (ahead T) = ahead-some T c e in
       if-step P (depth == 0 && stops_value c) (finished T) (raw_on c T)
-      (λ h. Goes-ok ready ends weight 1 4 p (raw_ending names) (with_size 0 s) T alone
+      (λ h. Goes-ok W 1 4 p (raw_ending names) (with_size 0 s) T alone
       (ap p b.whole ∙ ap at (raw-stop max depth b.code (rest_of (ahead T)) (stops-here b.code.value (depth == 0) (ap (λ v. depth == 0 && stops_value v) b.value ∙ h)) (both-of (depth == 0) (stops_value c) h))))
       (λ h. raw-on-law T alone k c e h))
 
-  raw-goes : (T : Tokenizer) → T.attempts ≡ [] → RawReady T → raw_plan (names_in T.tokenize_state) T.tokenize_state.size_b true T.tokenize_state.size (ahead T) ≡ raw_plan (names_in T.tokenize_state) T.tokenize_state.size_b false T.tokenize_state.size (ahead T) → GoesOn ready ends weight (weight_at 2 T) (raw_escape_ends T) (stepped (Retry DestinationRaw) T)
+  raw-goes : (T : Tokenizer) → T.attempts ≡ [] → RawReady T → raw_plan (names_in T.tokenize_state) T.tokenize_state.size_b true T.tokenize_state.size (ahead T) ≡ raw_plan (names_in T.tokenize_state) T.tokenize_state.size_b false T.tokenize_state.size (ahead T) → GoesIn W (weight_at 2 T) (raw_escape_ends T) (stepped (Retry DestinationRaw) T)
   raw-goes T alone k e =
       let s : TokenizeState = T.tokenize_state in
       let names : DestinationNames = names_in s in
-      Goes-kept ready ends weight 2 1 4 (raw_plan names s.size_b true s.size) (raw_plan names s.size_b false s.size) [] (with_size 0 s) T (Retry DestinationRaw) alone refl (no-codes T) (omega arith)
+      Goes-kept W 2 4 (raw_plan names s.size_b true s.size) (raw_plan names s.size_b false s.size) [] (with_size 0 s) T (Retry DestinationRaw) (within DestinationRaw) alone refl (no-codes T) (omega arith)
       (e ∙ preceded-nil (raw_plan names s.size_b false s.size (ahead T)))
-      (within.raw_ready _ k)
-      (within.raw_weight _)
-      (λ ok U x. within.raw_end _ ok U x)
+      k
+      (λ ok U x. x)
 
-  pub raw_escape-law : (T : Tokenizer) → T.attempts ≡ [] → RawReady T → GoesOn ready ends weight (weight_at 2 T) (raw_escape_ends T) (raw_escape_step T)
+  pub raw_escape-law : Law W raw_escape_words
   unfolding applied
   raw_escape-law T alone k =
       let s : TokenizeState = T.tokenize_state in
@@ -338,18 +316,17 @@ module _ (ready : StateName → Tokenizer → Type 0) (ends : StateName → Toke
       let p : Plan = raw_plan names s.size_b true s.size in
       let q : Plan = raw_plan names s.size_b false s.size in
       let at : Option (List Code × List Code) → Option (List Op) = text_then (raw_ending names) in
-      let P : Stepped → Type 0 = GoesOn ready ends weight (weight_at 2 T) (raw_escape_ends T) in
+      let P : Stepped → Type 0 = GoesIn W (weight_at 2 T) (raw_escape_ends T) in
       code-step P (current_of T) (λ o. raw_escape_at o T)
       (λ e. raw-goes T alone k (ap p (ahead-none T e) ∙ same-end (s.size == 0) names s.size_b s.size refl ∙ ap q (sym (ahead-none T e))))
       (λ c e.
       let b : Begins c (ahead T) = ahead-some T c e in
       let cs : List Code = rest_of (ahead T) in
       if-step P (escapes_raw c) _ _
-      (λ h. Goes-kept ready ends weight 2 1 4 p q (Consume ∷ []) (with_size 0 s) T (Next DestinationRaw) alone refl (some-codes T c e) (omega arith)
+      (λ h. Goes-kept W 2 4 p q (Consume ∷ []) (with_size 0 s) T (Next DestinationRaw) (within DestinationRaw) alone refl (some-codes T c e) (omega arith)
       (ap p b.whole ∙ ap at (raw-taken s.size_b s.size b.code cs (ap escapes_raw b.value ∙ h)) ∙ text-first (raw_ending names) b.code _)
-      (within.raw_ready _ (raw-past T k))
-      (within.raw_weight _)
-      (λ ok U x. within.raw_end _ ok U x))
+      (raw-past T k)
+      (λ ok U x. x))
       (λ h. raw-goes T alone k (ap p b.whole ∙ ap at (raw-bare s.size_b s.size b.code cs (ap escapes_raw b.value ∙ h)) ∙ ap q (sym b.whole))))
     where
       same-end : (x : Bool) (names : DestinationNames) (max depth : ℕ) → (depth == 0) ≡ x → raw_plan names max true depth [] ≡ raw_plan names max false depth []
@@ -382,7 +359,7 @@ module _ (ready : StateName → Tokenizer → Type 0) (ends : StateName → Toke
         control-left false false true false false h e = cc
         control-left false false false x y h e = cc
 
-  pub start-law : (T : Tokenizer) → T.attempts ≡ [] → StartReady T → GoesOn ready ends weight (weight_at 4 T) (start_ends T) (start_step T)
+  pub start-law : Law W start_words
   unfolding applied white_value
   start-law T alone k =
       let s : TokenizeState = T.tokenize_state in
@@ -390,21 +367,20 @@ module _ (ready : StateName → Tokenizer → Type 0) (ends : StateName → Toke
       let max : ℕ = s.size_b in
       let p : Plan = plan_of (destination max names) in
       let E : Bool → Tokenizer → Type 0 = KeepsAs 0 p T in
-      let P : Stepped → Type 0 = GoesOn ready ends weight (weight_at 4 T) E in
-      GoesOn-map ready ends weight (weight_at 4 T) E (start_ends T) (start_step T) (λ ok U x. EndsAs-linked (destination max names) (destination-covers max names) s T ok U x)
+      let P : Stepped → Type 0 = GoesIn W (weight_at 4 T) E in
+      GoesOn-map W (weight_at 4 T) E (start_ends T) (start_step T) (λ ok U x. EndsAs-linked (destination max names) (destination-covers max names) s T ok U x)
       (code-step P (current_of T) (λ o. start_at o T)
-      (λ e. Goes-no ready ends weight 4 0 p T alone (ap p (ahead-none T e) ∙ destination-end max names))
+      (λ e. Goes-no W 4 0 p T alone (ap p (ahead-none T e) ∙ destination-end max names))
       (λ c e.
       let b : Begins c (ahead T) = ahead-some T c e in
       let cs : List Code = rest_of (ahead T) in
       if-step P (c == 60) _ _
-      (λ h. Goes-next ready ends weight 4 3 0 p (before_plan names) (opening names) T (Next DestinationEnclosedBefore) alone refl (some-codes T c e) (omega arith)
+      (λ h. Goes-next W 4 0 p (before_plan names) (opening names) T (Next DestinationEnclosedBefore) (within DestinationEnclosedBefore) alone refl (some-codes T c e) (omega arith)
       (ap p b.whole ∙ destination-bracket max names b.code cs (ap (λ v. v == 60) b.value ∙ h))
-      (within.before_ready _ (opened-before T))
-      (within.before_weight _)
-      (λ ok U x. within.before_end _ ok U x))
+      (opened-before T)
+      (λ ok U x. x))
       (λ h. if-step P (bars_value c) _ _
-      (λ g. Goes-no ready ends weight 4 0 p T alone
+      (λ g. Goes-no W 4 0 p T alone
       (ap p b.whole ∙ none-by (stops max 0 b.code) max names b.code cs refl (ap (λ v. v == 60) b.value ∙ h) (ap bars_value b.value ∙ g)))
       (λ g.
       let bars : bars_value b.code.value ≡ false = ap bars_value b.value ∙ g in
@@ -413,8 +389,7 @@ module _ (ready : StateName → Tokenizer → Type 0) (ends : StateName → Toke
       let others : (v == 32 || v == 41) ≡ false = or-right (control_value v) (v == 32 || v == 41) bars in
       let closer : is_value 41 b.code ≡ false = or-right (v == 32) (v == 41) others in
       let white : white_value v ≡ false = plain-value v (or-false (control_value v) (v == 32) plain (or-left (v == 32) (v == 41) others)) in
-      Goes-kept ready ends weight 4 1 0 p (raw_plan names max false 0) (raw_opening names) s T (Retry DestinationRaw) alone refl (no-codes T) (omega arith)
+      Goes-kept W 4 0 p (raw_plan names max false 0) (raw_opening names) s T (Retry DestinationRaw) (within DestinationRaw) alone refl (no-codes T) (omega arith)
       (ap p b.whole ∙ destination-raw max names b.code cs (ap (λ v. v == 60) b.value ∙ h) (or-false (white_value v) (is_value 41 b.code && true) white (ap (λ x. x && true) closer)) plain closer ∙ ap (λ xs. preceded (raw_opening names) (raw_plan names max false 0 xs)) (sym b.whole))
-      (within.raw_ready _ (opened-raw T))
-      (within.raw_weight _)
-      (λ ok U x. raw-says T k ok U (within.raw_end _ ok U x))))))
+      (opened-raw T)
+      (λ ok U x. raw-says T k ok U x)))))

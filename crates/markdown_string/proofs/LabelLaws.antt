@@ -6,51 +6,34 @@ use Rattle.std.proofs.lemmas.Grind.{common_steps}
 use Rattle.markdown_engine.specs.Codes.{Code, is_line_ending, is_blank}
 use Rattle.markdown_engine.specs.Lists.{rest_of}
 use Rattle.markdown_engine.specs.Ops.{Op, Exit, Consume, current_of, ahead, applied, done, scratched}
-use Rattle.markdown_engine.specs.Runs.{Stepped, GoesOn, stepped}
+use Rattle.markdown_engine.specs.Runs.{Stepped, stepped}
 use Rattle.markdown_engine.specs.Weights.{weight_at}
 use Rattle.markdown_engine.specs.declared.event.Name.TheVariants as N
 use Rattle.markdown_engine.specs.declared.state.State.TheVariants.{Next, Retry, Nok}
-use Rattle.markdown_engine.specs.declared.state.StateName.{StateName}
-use Rattle.markdown_engine.specs.declared.state.StateName.TheVariants.{LabelAtBreak, LabelEolAfter, LabelInside, LabelEscape, LabelNok}
+use Rattle.markdown_engine.specs.declared.state.StateName.TheVariants.{LabelAtBreak, LabelEolAfter, LabelInside, LabelEscape, LabelNok, SpaceOrTabEolStart}
 use Rattle.markdown_engine.specs.declared.tokenizer.TokenizeState.{TokenizeState}
 use Rattle.markdown_engine.specs.declared.tokenizer.Tokenizer.{Tokenizer}
-use Rattle.markdown_engine.proofs.Laws.{Goes-plain, Follows, if-step, code-step}
+use Rattle.markdown_engine.proofs.Laws.{if-step, code-step}
 use Rattle.markdown_engine.proofs.OpRules.{ahead-none, ahead-some, Begins, attempts-scratched, some-codes}
 use Rattle.markdown_model.specs.CodeTests.{is_value, is_among}
 use Rattle.markdown_model.specs.Resource.{StringNames, label}
 use Rattle.markdown_construct.specs.Plan.{Plan, preceded, DoesAs, KeepsAs}
 use Rattle.markdown_construct.specs.Scratch.{with_size}
-use Rattle.markdown_construct.proofs.PlanLemmas.{preceded-nil, GoesOn-map, Goes-on, Goes-kept, Goes-ok, Goes-no, done-scratched, no-codes}
+use Rattle.markdown_construct.proofs.PlanLemmas.{preceded-nil, done-scratched, no-codes}
 use Rattle.markdown_partial.specs.EolSteps.{WhitespaceAtRest}
 use Rattle.markdown_string.specs.LinkedOps.{plan_of}
 use Rattle.markdown_string.specs.Text.{ending, names_in, joined, enter_text, text_entered, TextReady, break_ops, inside_ops}
-use Rattle.markdown_string.specs.Label.{rested, sized, opening, start_at, start_step, closed, refused, next_state, passing, is_short, at_break_at, at_break_step, eol_after_step, nok_step, leaving, inside_at, inside_step, escapes, escape_at, escape_step, StartReady, BreakReady, EolAfterReady, InsideReady, EscapeReady, start_ends, text_from, fits, inside_plan, break_plan, at_break_ends, eol_after_ends, nok_ends, inside_ends, escape_ends}
+use Rattle.markdown_string.specs.Label.{rested, sized, opening, start_at, start_step, closed, refused, next_state, passing, is_short, at_break_at, at_break_step, eol_after_step, nok_step, leaving, inside_at, inside_step, escapes, escape_at, escape_step, StartReady, BreakReady, EolAfterReady, InsideReady, EscapeReady, start_ends, text_from, fits, inside_plan, break_plan, at_break_ends, eol_after_ends, nok_ends, inside_ends, escape_ends, states, at_break_words, eol_after_words, escape_words, inside_words, nok_words, start_words}
 use Rattle.markdown_string.proofs.LinkedLemmas.{EndsAs-linked}
 use Rattle.markdown_string.proofs.LabelReadings.{label-plain, fits-data, fits-ending, fits-none, fits-long, fits-seen, fits-unseen, label-here, label-none, label-covers}
-use Rattle.markdown_string.proofs.TextEnding.{EolWithin, Passed, DoesAs-ending, ending-law}
+use Rattle.markdown_string.proofs.TextEnding.{Passed, DoesAs-ending, ending-law}
 use Rattle.markdown_string.proofs.TextReadings.{answer-none, breaks-end, breaks-stop, breaks-unfit, breaks-refused, breaks-data, breaks-ending, breaks-blank, insides-end, insides-next, insides-taken, insides-bare, leave-end, leave-stop, leave-refused, leave-ending}
 use Rattle.markdown_string.proofs.TextRuns.{open-append, open-closed, open-rest, text-after, text-same, text-kept, rest-joined, DoesAs-fails, state-by, stays-data, moves-data, depth-data}
 use Rattle.markdown_string.proofs.BoolLemmas.{or-left, or-right, or-by, or-true, not-true, not-false}
 use Rattle.markdown_model.proofs.ReadingSteps.{and-left, and-right}
-
--- what the layer says of these states
-pub record Within (ready : StateName → Tokenizer → Type 0) (ends : StateName → Tokenizer → Bool → Tokenizer → Type 0) (weight : StateName → Tokenizer → ℕ) : Type 0 where
-  pub eol : EolWithin ready ends weight
-  pub at_break_ready : (T : Tokenizer) → BreakReady T → ready LabelAtBreak T
-  pub at_break_end : (T : Tokenizer) (ok : Bool) (U : Tokenizer) → ends LabelAtBreak T ok U → at_break_ends T ok U
-  pub at_break_weight : (T : Tokenizer) → weight LabelAtBreak T ≡ weight_at 9 T
-  pub eol_after_ready : (T : Tokenizer) → EolAfterReady T → ready LabelEolAfter T
-  pub eol_after_end : (T : Tokenizer) (ok : Bool) (U : Tokenizer) → ends LabelEolAfter T ok U → eol_after_ends T ok U
-  pub eol_after_weight : (T : Tokenizer) → weight LabelEolAfter T ≡ weight_at 10 T
-  pub nok_ready : (T : Tokenizer) → ready LabelNok T
-  pub nok_end : (T : Tokenizer) (ok : Bool) (U : Tokenizer) → ends LabelNok T ok U → nok_ends T ok U
-  pub nok_weight : (T : Tokenizer) → weight LabelNok T ≡ weight_at 1 T
-  pub inside_ready : (T : Tokenizer) → InsideReady T → ready LabelInside T
-  pub inside_end : (T : Tokenizer) (ok : Bool) (U : Tokenizer) → ends LabelInside T ok U → inside_ends T ok U
-  pub inside_weight : (T : Tokenizer) → weight LabelInside T ≡ weight_at 10 T
-  pub escape_ready : (T : Tokenizer) → EscapeReady T → ready LabelEscape T
-  pub escape_end : (T : Tokenizer) (ok : Bool) (U : Tokenizer) → ends LabelEscape T ok U → escape_ends T ok U
-  pub escape_weight : (T : Tokenizer) → weight LabelEscape T ≡ weight_at 11 T
+use Rattle.markdown_engine.specs.StateWords.{Words, Law, GoesIn}
+use Rattle.markdown_construct.proofs.StateLaws.{GoesOn-map, Goes-plain, Goes-end, Goes-on, Goes-kept, Goes-ok, Goes-no, FollowsIn, follows}
+use Rattle.markdown_construct.specs.Within.{Within}
 
 -- The conditions.
 
@@ -172,24 +155,23 @@ taken-line c h =
     or-by (c.value == 92) _ g (λ f. ap (λ v. v == 10) (eqb-true c.value 92 f)) (λ f.
     or-by (c.value == 93) false f (λ e. ap (λ v. v == 10) (eqb-true c.value 93 e)) (λ e. let no : false ≡ true = e in cc)))
 
-module _ (ready : StateName → Tokenizer → Type 0) (ends : StateName → Tokenizer → Bool → Tokenizer → Type 0) (weight : StateName → Tokenizer → ℕ) (within : Within ready ends weight) where
-  pub nok-law : (T : Tokenizer) → T.attempts ≡ [] → GoesOn ready ends weight (weight_at 1 T) (nok_ends T) (nok_step T)
-  nok-law T alone =
-      Goes-plain ready ends weight (weight_at 1 T) (nok_ends T) Nok (scratched (rested T.tokenize_state) T) (attempts-scratched _ T ∙ alone) tt (omega arith) (λ ok U k. k)
+module _ (W : Words) (within : Within states W) where
+  pub nok-law : Law W nok_words
+  nok-law T alone _ =
+      Goes-end W (weight_at 1 T) (nok_ends T) false (scratched (rested T.tokenize_state) T) (attempts-scratched _ T ∙ alone) (omega arith) (λ ok U k. k)
 
   eol-says : (T : Tokenizer) (ok : Bool) (U : Tokenizer) → at_break_ends (scratched (joined T.tokenize_state) T) ok U → DoesAs 2 (break_plan (names_in T.tokenize_state) T.tokenize_state.size T.tokenize_state.seen true) (rested T.tokenize_state) (scratched (joined T.tokenize_state) T) ok U
   unfolding scratched
   eol-says T ok U k = k
 
-  pub eol_after-law : (T : Tokenizer) → T.attempts ≡ [] → EolAfterReady T → GoesOn ready ends weight (weight_at 10 T) (eol_after_ends T) (eol_after_step T)
+  pub eol_after-law : Law W eol_after_words
   eol_after-law T alone k =
       let s : TokenizeState = T.tokenize_state in
       let q : Plan = break_plan (names_in s) s.size s.seen true in
-      Goes-on ready ends weight 10 9 2 q q [] (rested s) (joined s) T (Retry LabelAtBreak) alone refl (no-codes T) (omega arith)
+      Goes-on W 10 2 q q [] (rested s) (joined s) T (Retry LabelAtBreak) (within LabelAtBreak) alone refl (no-codes T) (omega arith)
       (preceded-nil (q (ahead T)))
-      (within.at_break_ready _ (joined-ready T k))
-      (within.at_break_weight _)
-      (λ ok U x. eol-says T ok U (within.at_break_end _ ok U x))
+      (joined-ready T k)
+      (λ ok U x. eol-says T ok U x)
 
   -- In a stretch.
 
@@ -202,42 +184,39 @@ module _ (ready : StateName → Tokenizer → Type 0) (ends : StateName → Toke
   sized-escape c T ok U k = k
 
   -- on past a code that passes
-  goes-inside : (T : Tokenizer) → T.attempts ≡ [] → InsideReady T → T.tokenize_state.size + 1 ≤ 1000 → (c : ℕ) → current_of T ≡ Some c → inside_plan (names_in T.tokenize_state) T.tokenize_state.size T.tokenize_state.seen false (ahead T) ≡ preceded (Consume ∷ []) (inside_plan (names_in T.tokenize_state) (T.tokenize_state.size + 1) (sized c T.tokenize_state).seen (c == 92) (drop 1 (ahead T))) → GoesOn ready ends weight (weight_at 10 T) (inside_ends T) (passing c T)
+  goes-inside : (T : Tokenizer) → T.attempts ≡ [] → InsideReady T → T.tokenize_state.size + 1 ≤ 1000 → (c : ℕ) → current_of T ≡ Some c → inside_plan (names_in T.tokenize_state) T.tokenize_state.size T.tokenize_state.seen false (ahead T) ≡ preceded (Consume ∷ []) (inside_plan (names_in T.tokenize_state) (T.tokenize_state.size + 1) (sized c T.tokenize_state).seen (c == 92) (drop 1 (ahead T))) → GoesIn W (weight_at 10 T) (inside_ends T) (passing c T)
   goes-inside T alone k small c h same =
       let s : TokenizeState = T.tokenize_state in
       let p : Plan = inside_plan (names_in s) s.size s.seen false in
       let q : Bool → Plan = inside_plan (names_in s) (s.size + 1) (sized c s).seen in
       let V : Tokenizer = scratched (sized c s) (done (Consume ∷ []) T) in
       let more : 1 ≤ length (ahead T) = some-codes T c h in
-      state-by (λ st. GoesOn ready ends weight (weight_at 10 T) (inside_ends T) (stepped st V)) (c == 92) (Next LabelEscape) (Next LabelInside)
-      (λ f. Goes-on ready ends weight 10 11 3 p (q true) (Consume ∷ []) (rested s) (sized c s) T (Next LabelEscape) alone refl more (omega arith)
+      state-by (λ st. GoesIn W (weight_at 10 T) (inside_ends T) (stepped st V)) (c == 92) (Next LabelEscape) (Next LabelInside)
+      (λ f. Goes-on W 10 3 p (q true) (Consume ∷ []) (rested s) (sized c s) T (Next LabelEscape) (within LabelEscape) alone refl more (omega arith)
       (same ∙ ap (λ b. preceded (Consume ∷ []) (q b (drop 1 (ahead T)))) f)
-      (within.escape_ready _ (slash-ready c T more small f k))
-      (within.escape_weight _)
-      (λ ok U x. sized-escape c T ok U (within.escape_end _ ok U x)))
-      (λ f. Goes-on ready ends weight 10 10 3 p (q false) (Consume ∷ []) (rested s) (sized c s) T (Next LabelInside) alone refl more (omega arith)
+      (slash-ready c T more small f k)
+      (λ ok U x. sized-escape c T ok U x))
+      (λ f. Goes-on W 10 3 p (q false) (Consume ∷ []) (rested s) (sized c s) T (Next LabelInside) (within LabelInside) alone refl more (omega arith)
       (same ∙ ap (λ b. preceded (Consume ∷ []) (q b (drop 1 (ahead T)))) f)
-      (within.inside_ready _ (passed-ready c T more small k))
-      (within.inside_weight _)
-      (λ ok U x. sized-inside c T ok U (within.inside_end _ ok U x)))
+      (passed-ready c T more small k)
+      (λ ok U x. sized-inside c T ok U x))
 
-  goes-leave : (T : Tokenizer) → T.attempts ≡ [] → InsideReady T → inside_plan (names_in T.tokenize_state) T.tokenize_state.size T.tokenize_state.seen false (ahead T) ≡ preceded (Exit N.Data ∷ []) (break_plan (names_in T.tokenize_state) T.tokenize_state.size T.tokenize_state.seen true (ahead T)) → GoesOn ready ends weight (weight_at 10 T) (inside_ends T) (leaving T)
+  goes-leave : (T : Tokenizer) → T.attempts ≡ [] → InsideReady T → inside_plan (names_in T.tokenize_state) T.tokenize_state.size T.tokenize_state.seen false (ahead T) ≡ preceded (Exit N.Data ∷ []) (break_plan (names_in T.tokenize_state) T.tokenize_state.size T.tokenize_state.seen true (ahead T)) → GoesIn W (weight_at 10 T) (inside_ends T) (leaving T)
   unfolding applied
   goes-leave T alone k same =
       let s : TokenizeState = T.tokenize_state in
       let q : Plan = break_plan (names_in s) s.size s.seen s.connect in
-      Goes-kept ready ends weight 10 9 3 (inside_plan (names_in s) s.size s.seen false) q (Exit N.Data ∷ []) (rested s) T (Retry LabelAtBreak) alone refl (no-codes T) (omega arith)
+      Goes-kept W 10 3 (inside_plan (names_in s) s.size s.seen false) q (Exit N.Data ∷ []) (rested s) T (Retry LabelAtBreak) (within LabelAtBreak) alone refl (no-codes T) (omega arith)
       (same ∙ ap (λ b. preceded (Exit N.Data ∷ []) (break_plan (names_in s) s.size s.seen b (ahead T))) (sym k.connect))
-      (within.at_break_ready _ (left-ready T k))
-      (within.at_break_weight _)
-      (λ ok U x. within.at_break_end _ ok U x)
+      (left-ready T k)
+      (λ ok U x. x)
 
-  pub inside-law : (T : Tokenizer) → T.attempts ≡ [] → InsideReady T → GoesOn ready ends weight (weight_at 10 T) (inside_ends T) (inside_step T)
+  pub inside-law : Law W inside_words
   inside-law T alone k =
       let s : TokenizeState = T.tokenize_state in
       let names : StringNames = names_in s in
       let p : Plan = inside_plan names s.size s.seen false in
-      let P : Stepped → Type 0 = GoesOn ready ends weight (weight_at 10 T) (inside_ends T) in
+      let P : Stepped → Type 0 = GoesIn W (weight_at 10 T) (inside_ends T) in
       let here : List Code → Type 0 = λ xs. p xs ≡ preceded (Exit N.Data ∷ []) (break_plan names s.size s.seen true xs) in
       code-step P (current_of T) (λ o. inside_at o T)
       (λ e. goes-leave T alone k (subst here (sym (ahead-none T e)) (leave-end (is_value 93) takes (is_value 91) label-plain (ending names) (fits s.size s.seen))))
@@ -256,27 +235,26 @@ module _ (ready : StateName → Tokenizer → Type 0) (ends : StateName → Toke
       (λ g. goes-leave T alone k (subst here (sym b.whole) (leaves-here names s.size s.seen b.code cs (ap (λ v. v == 10 || (v == 91 || v == 93)) b.value ∙ not-false _ g))))
       (λ g. goes-leave T alone k (leaves-long names s.size s.seen (ahead T) g))))
 
-  escape-goes : (T : Tokenizer) → T.attempts ≡ [] → EscapeReady T → inside_plan (names_in T.tokenize_state) T.tokenize_state.size T.tokenize_state.seen true (ahead T) ≡ inside_plan (names_in T.tokenize_state) T.tokenize_state.size T.tokenize_state.seen false (ahead T) → GoesOn ready ends weight (weight_at 11 T) (escape_ends T) (stepped (Retry LabelInside) T)
+  escape-goes : (T : Tokenizer) → T.attempts ≡ [] → EscapeReady T → inside_plan (names_in T.tokenize_state) T.tokenize_state.size T.tokenize_state.seen true (ahead T) ≡ inside_plan (names_in T.tokenize_state) T.tokenize_state.size T.tokenize_state.seen false (ahead T) → GoesIn W (weight_at 11 T) (escape_ends T) (stepped (Retry LabelInside) T)
   escape-goes T alone k same =
       let s : TokenizeState = T.tokenize_state in
       let q : Bool → Plan = inside_plan (names_in s) s.size s.seen in
-      Goes-kept ready ends weight 11 10 3 (q true) (q false) [] (rested s) T (Retry LabelInside) alone refl (no-codes T) (omega arith)
+      Goes-kept W 11 3 (q true) (q false) [] (rested s) T (Retry LabelInside) (within LabelInside) alone refl (no-codes T) (omega arith)
       (same ∙ preceded-nil (q false (ahead T)))
-      (within.inside_ready _ k.inside)
-      (within.inside_weight _)
-      (λ ok U x. within.inside_end _ ok U x)
+      k.inside
+      (λ ok U x. x)
 
   taken-says : (T : Tokenizer) (ok : Bool) (U : Tokenizer) → inside_ends (scratched (with_size (T.tokenize_state.size + 1) T.tokenize_state) (done (Consume ∷ []) T)) ok U → DoesAs 3 (inside_plan (names_in T.tokenize_state) (T.tokenize_state.size + 1) T.tokenize_state.seen false) (rested T.tokenize_state) (scratched (with_size (T.tokenize_state.size + 1) T.tokenize_state) (done (Consume ∷ []) T)) ok U
   unfolding scratched
   taken-says T ok U k = k
 
-  pub escape-law : (T : Tokenizer) → T.attempts ≡ [] → EscapeReady T → GoesOn ready ends weight (weight_at 11 T) (escape_ends T) (escape_step T)
+  pub escape-law : Law W escape_words
   escape-law T alone k =
       let s : TokenizeState = T.tokenize_state in
       let names : StringNames = names_in s in
       let p : Plan = inside_plan names s.size s.seen true in
       let q : Plan = inside_plan names (s.size + 1) s.seen false in
-      let P : Stepped → Type 0 = GoesOn ready ends weight (weight_at 11 T) (escape_ends T) in
+      let P : Stepped → Type 0 = GoesIn W (weight_at 11 T) (escape_ends T) in
       let same : List Code → Type 0 = λ xs. p xs ≡ inside_plan names s.size s.seen false xs in
       code-step P (current_of T) (λ o. escape_at o T)
       (λ e. escape-goes T alone k (subst same (sym (ahead-none T e)) (insides-end (is_value 93) takes (is_value 91) label-plain (ending names) (fits s.size s.seen) true ∙ sym (insides-end (is_value 93) takes (is_value 91) label-plain (ending names) (fits s.size s.seen) false))))
@@ -288,25 +266,22 @@ module _ (ready : StateName → Tokenizer → Type 0) (ends : StateName → Toke
       let taken : takes b.code ≡ true = ap escapes b.value ∙ h in
       let line : is_line_ending b.code ≡ false = taken-line b.code taken in
       let seen : (s.seen || not (is_blank b.code)) ≡ s.seen = ap (λ x. x || not (is_blank b.code)) k.seen ∙ sym k.seen in
-      Goes-on ready ends weight 11 10 3 p q (Consume ∷ []) (rested s) (with_size (s.size + 1) s) T (Next LabelInside) alone refl (some-codes T c e) (omega arith)
+      Goes-on W 11 3 p q (Consume ∷ []) (rested s) (with_size (s.size + 1) s) T (Next LabelInside) (within LabelInside) alone refl (some-codes T c e) (omega arith)
       (ap p b.whole ∙ insides-taken (is_value 93) takes (is_value 91) label-plain (ending names) (fits s.size s.seen) (fits (s.size + 1) s.seen) b.code cs taken line (λ text. fits-data s.size s.seen b.code text line ∙ ap (λ x. fits (s.size + 1) x text) seen))
-      (within.inside_ready _ (taken-ready T (some-codes T c e) k))
-      (within.inside_weight _)
-      (λ ok U x. taken-says T ok U (within.inside_end _ ok U x)))
+      (taken-ready T (some-codes T c e) k)
+      (λ ok U x. taken-says T ok U x))
       (λ h. escape-goes T alone k (subst same (sym b.whole) (insides-bare (is_value 93) takes (is_value 91) label-plain (ending names) (fits s.size s.seen) b.code cs (ap escapes b.value ∙ h)))))
 
   -- Between two stretches.
 
-  nok-goes : (T : Tokenizer) → break_plan (names_in T.tokenize_state) T.tokenize_state.size T.tokenize_state.seen T.tokenize_state.connect (ahead T) ≡ None → Follows ready ends weight (weight_at 9 T) (at_break_ends T) (Next LabelNok) T
-  nok-goes T e =
-      record {
-        goes_on = within.nok_ready T;
-        falls = rw within.nok_weight (omega arith);
-        closed = λ ok U x. DoesAs-fails 2 (break_plan (names_in T.tokenize_state) T.tokenize_state.size T.tokenize_state.seen T.tokenize_state.connect) (rested T.tokenize_state) T e ok U (within.nok_end T ok U x);
-      }
+  nok-says : (T : Tokenizer) → break_plan (names_in T.tokenize_state) T.tokenize_state.size T.tokenize_state.seen T.tokenize_state.connect (ahead T) ≡ None → (ok : Bool) (U : Tokenizer) → nok_ends T ok U → at_break_ends T ok U
+  nok-says T e ok U x = DoesAs-fails 2 (break_plan (names_in T.tokenize_state) T.tokenize_state.size T.tokenize_state.seen T.tokenize_state.connect) (rested T.tokenize_state) T e ok U x
 
-  refuses-here : (T : Tokenizer) → T.attempts ≡ [] → break_plan (names_in T.tokenize_state) T.tokenize_state.size T.tokenize_state.seen T.tokenize_state.connect (ahead T) ≡ None → GoesOn ready ends weight (weight_at 9 T) (at_break_ends T) (refused T)
-  refuses-here T alone e = let f = nok-goes T e in Goes-plain ready ends weight (weight_at 9 T) (at_break_ends T) (Retry LabelNok) T alone f.goes_on f.falls f.closed
+  nok-goes : (T : Tokenizer) → break_plan (names_in T.tokenize_state) T.tokenize_state.size T.tokenize_state.seen T.tokenize_state.connect (ahead T) ≡ None → FollowsIn W (weight_at 9 T) (at_break_ends T) (Next LabelNok) T
+  nok-goes T e = follows W _ _ (Next LabelNok) (within LabelNok) T tt (omega arith) (nok-says T e)
+
+  refuses-here : (T : Tokenizer) → T.attempts ≡ [] → break_plan (names_in T.tokenize_state) T.tokenize_state.size T.tokenize_state.seen T.tokenize_state.connect (ahead T) ≡ None → GoesIn W (weight_at 9 T) (at_break_ends T) (refused T)
+  refuses-here T alone e = Goes-plain W (weight_at 9 T) (at_break_ends T) (Retry LabelNok) (within LabelNok) T alone tt (omega arith) (nok-says T e)
 
   inside-says : (b : Bool) (c : ℕ) (T : Tokenizer) (ok : Bool) (U : Tokenizer) → inside_ends (scratched (sized c (joined T.tokenize_state)) (done (enter_text b ∷ Consume ∷ []) T)) ok U → DoesAs 3 (inside_plan (names_in T.tokenize_state) (T.tokenize_state.size + 1) (sized c T.tokenize_state).seen false) (rested T.tokenize_state) (scratched (sized c (joined T.tokenize_state)) (done (enter_text b ∷ Consume ∷ []) T)) ok U
   unfolding scratched
@@ -322,7 +297,7 @@ module _ (ready : StateName → Tokenizer → Type 0) (ends : StateName → Toke
       ap (λ (x : Tokenizer). scratched (sized c (joined T.tokenize_state)) x) (sym (done-scratched (Consume ∷ []) (joined T.tokenize_state) (done (enter_text T.tokenize_state.connect ∷ []) T)))
 
   -- data begins
-  data-goes : (T : Tokenizer) → T.attempts ≡ [] → BreakReady T → T.tokenize_state.size + 1 ≤ 1000 → (c : ℕ) → current_of T ≡ Some c → break_plan (names_in T.tokenize_state) T.tokenize_state.size T.tokenize_state.seen T.tokenize_state.connect (ahead T) ≡ preceded (enter_text T.tokenize_state.connect ∷ Consume ∷ []) (inside_plan (names_in T.tokenize_state) (T.tokenize_state.size + 1) (sized c T.tokenize_state).seen (c == 92) (drop 1 (ahead T))) → GoesOn ready ends weight (weight_at 9 T) (at_break_ends T) (passing c (text_entered T))
+  data-goes : (T : Tokenizer) → T.attempts ≡ [] → BreakReady T → T.tokenize_state.size + 1 ≤ 1000 → (c : ℕ) → current_of T ≡ Some c → break_plan (names_in T.tokenize_state) T.tokenize_state.size T.tokenize_state.seen T.tokenize_state.connect (ahead T) ≡ preceded (enter_text T.tokenize_state.connect ∷ Consume ∷ []) (inside_plan (names_in T.tokenize_state) (T.tokenize_state.size + 1) (sized c T.tokenize_state).seen (c == 92) (drop 1 (ahead T))) → GoesIn W (weight_at 9 T) (at_break_ends T) (passing c (text_entered T))
   data-goes T alone k small c e same =
       let s : TokenizeState = T.tokenize_state in
       let connect : Bool = s.connect in
@@ -332,21 +307,19 @@ module _ (ready : StateName → Tokenizer → Type 0) (ends : StateName → Toke
       let more : 1 ≤ length (ahead T) = some-codes T c e in
       let r : TokenizeState = sized c (joined s) in
       let V : Tokenizer = scratched r (done os T) in
-      subst (λ (x : Tokenizer). GoesOn ready ends weight (weight_at 9 T) (at_break_ends T) (stepped (next_state c) x)) (entered-sized c T)
-      (state-by (λ st. GoesOn ready ends weight (weight_at 9 T) (at_break_ends T) (stepped st V)) (c == 92) (Next LabelEscape) (Next LabelInside)
-      (λ f. Goes-on ready ends weight 9 11 2 p (q true) os (rested s) r T (Next LabelEscape) alone (stays-data connect) (moves-data connect (λ n. n ≤ length (ahead T)) more) (moves-data connect (λ n. 11 < 256 * n + 9) (omega arith))
+      subst (λ (x : Tokenizer). GoesIn W (weight_at 9 T) (at_break_ends T) (stepped (next_state c) x)) (entered-sized c T)
+      (state-by (λ st. GoesIn W (weight_at 9 T) (at_break_ends T) (stepped st V)) (c == 92) (Next LabelEscape) (Next LabelInside)
+      (λ f. Goes-on W 9 2 p (q true) os (rested s) r T (Next LabelEscape) (within LabelEscape) alone (stays-data connect) (moves-data connect (λ n. n ≤ length (ahead T)) more) (moves-data connect (λ n. 11 < 256 * n + 9) (omega arith))
       (same ∙ ap (λ b. preceded os (q b (drop 1 (ahead T)))) f ∙ moves-data connect (λ n. preceded os (q true (drop 1 (ahead T))) ≡ preceded os (q true (drop n (ahead T)))) refl)
-      (within.escape_ready _ (data-slash connect c T more small f k))
-      (within.escape_weight _)
-      (λ ok U x. depth-data connect (λ d. DoesAs d (q true) (rested s) V ok U) (escape-says connect c T ok U (within.escape_end _ ok U x))))
-      (λ f. Goes-on ready ends weight 9 10 2 p (q false) os (rested s) r T (Next LabelInside) alone (stays-data connect) (moves-data connect (λ n. n ≤ length (ahead T)) more) (moves-data connect (λ n. 10 < 256 * n + 9) (omega arith))
+      (data-slash connect c T more small f k)
+      (λ ok U x. depth-data connect (λ d. DoesAs d (q true) (rested s) V ok U) (escape-says connect c T ok U x)))
+      (λ f. Goes-on W 9 2 p (q false) os (rested s) r T (Next LabelInside) (within LabelInside) alone (stays-data connect) (moves-data connect (λ n. n ≤ length (ahead T)) more) (moves-data connect (λ n. 10 < 256 * n + 9) (omega arith))
       (same ∙ ap (λ b. preceded os (q b (drop 1 (ahead T)))) f ∙ moves-data connect (λ n. preceded os (q false (drop 1 (ahead T))) ≡ preceded os (q false (drop n (ahead T)))) refl)
-      (within.inside_ready _ (data-ready connect c T more small k))
-      (within.inside_weight _)
-      (λ ok U x. depth-data connect (λ d. DoesAs d (q false) (rested s) V ok U) (inside-says connect c T ok U (within.inside_end _ ok U x)))))
+      (data-ready connect c T more small k)
+      (λ ok U x. depth-data connect (λ d. DoesAs d (q false) (rested s) V ok U) (inside-says connect c T ok U x))))
 
   -- behind a line ending and blank codes
-  eol-goes : (T : Tokenizer) → BreakReady T → (c : Code) (cs : List Code) → ahead T ≡ c ∷ cs → is_line_ending c ≡ true → (U : Tokenizer) → Passed T.tokenize_state.connect c cs T U → Follows ready ends weight (weight_at 9 T) (at_break_ends T) (Next LabelEolAfter) U
+  eol-goes : (T : Tokenizer) → BreakReady T → (c : Code) (cs : List Code) → ahead T ≡ c ∷ cs → is_line_ending c ≡ true → (U : Tokenizer) → Passed T.tokenize_state.connect c cs T U → FollowsIn W (weight_at 9 T) (at_break_ends T) (Next LabelEolAfter) U
   eol-goes T k c cs whole line U j =
       let s : TokenizeState = T.tokenize_state in
       let names : StringNames = names_in s in
@@ -354,31 +327,28 @@ module _ (ready : StateName → Tokenizer → Type 0) (ends : StateName → Toke
       let q : Plan = break_plan names s.size s.seen true in
       let reads : p (ahead T) ≡ _ =
       ap p whole ∙ breaks-ending (is_value 93) takes (is_value 91) label-plain (ending names) (fits s.size s.seen) s.connect c cs line j.filled (λ ws text w b. fits-ending s.size s.seen c ws text line w b) in
-      record {
-        goes_on = within.eol_after_ready U (eol-ready c cs T U k j);
-        falls = rw within.eol_after_weight (omega (arith, j.fewer));
-        closed = λ ok V x. DoesAs-ending p q s.connect c cs (rested s) T U j reads ok V (subst (λ (r : TokenizeState). DoesAs 2 (break_plan (names_in r) r.size r.seen true) (rested r) U ok V) j.scratch (within.eol_after_end U ok V x));
-      }
+      follows W _ _ (Next LabelEolAfter) (within LabelEolAfter) U (eol-ready c cs T U k j) (omega (arith, j.fewer))
+      (λ ok V x. DoesAs-ending p q s.connect c cs (rested s) T U j reads ok V (subst (λ (r : TokenizeState). DoesAs 2 (break_plan (names_in r) r.size r.seen true) (rested r) U ok V) j.scratch x))
 
   -- at the closing bracket
-  closes-by : (seen : Bool) (T : Tokenizer) → T.attempts ≡ [] → T.tokenize_state.seen ≡ seen → nat_le T.tokenize_state.size 999 ≡ true → (c : Code) (cs : List Code) → ahead T ≡ c ∷ cs → is_value 93 c ≡ true → GoesOn ready ends weight (weight_at 9 T) (at_break_ends T) (if seen then closed T else refused T)
+  closes-by : (seen : Bool) (T : Tokenizer) → T.attempts ≡ [] → T.tokenize_state.seen ≡ seen → nat_le T.tokenize_state.size 999 ≡ true → (c : Code) (cs : List Code) → ahead T ≡ c ∷ cs → is_value 93 c ≡ true → GoesIn W (weight_at 9 T) (at_break_ends T) (if seen then closed T else refused T)
   closes-by true T alone e short c cs whole h =
       let s : TokenizeState = T.tokenize_state in
       let p : Plan = break_plan (names_in s) s.size s.seen s.connect in
-      Goes-ok ready ends weight 9 2 p (ending (names_in s)) (rested s) T alone
+      Goes-ok W 9 2 p (ending (names_in s)) (rested s) T alone
       (ap p whole ∙ breaks-stop (is_value 93) takes (is_value 91) label-plain (ending (names_in s)) (fits s.size s.seen) s.connect c cs h (ap (λ x. fits s.size x []) e ∙ fits-seen s.size short))
   closes-by false T alone e short c cs whole h =
       let s : TokenizeState = T.tokenize_state in
       refuses-here T alone (ap (break_plan (names_in s) s.size s.seen s.connect) whole
       ∙ breaks-unfit (is_value 93) takes (is_value 91) label-plain (ending (names_in s)) (fits s.size s.seen) s.connect c cs h (ap (λ x. fits s.size x []) e ∙ fits-unseen s.size))
 
-  pub at_break-law : (T : Tokenizer) → T.attempts ≡ [] → BreakReady T → GoesOn ready ends weight (weight_at 9 T) (at_break_ends T) (at_break_step T)
+  pub at_break-law : Law W at_break_words
   at_break-law T alone k =
       let s : TokenizeState = T.tokenize_state in
       let names : StringNames = names_in s in
       let connect : Bool = s.connect in
       let p : Plan = break_plan names s.size s.seen connect in
-      let P : Stepped → Type 0 = GoesOn ready ends weight (weight_at 9 T) (at_break_ends T) in
+      let P : Stepped → Type 0 = GoesIn W (weight_at 9 T) (at_break_ends T) in
       code-step P (current_of T) (λ o. at_break_at o T)
       (λ e. refuses-here T alone (ap p (ahead-none T e) ∙ breaks-end (is_value 93) takes (is_value 91) label-plain (ending names) (fits s.size s.seen) connect))
       (λ c e.
@@ -393,7 +363,7 @@ module _ (ready : StateName → Tokenizer → Type 0) (ends : StateName → Toke
       (λ g. if-step P (c == 10) _ _
       (λ f.
       let line : is_line_ending b.code ≡ true = ap (λ v. v == 10) b.value ∙ f in
-      ending-law ready ends weight within.eol (weight_at 9 T) (at_break_ends T) LabelEolAfter LabelNok T c b alone k.text k.linked line (omega arith) (
+      ending-law W (within SpaceOrTabEolStart) (weight_at 9 T) (at_break_ends T) LabelEolAfter LabelNok T c b alone k.text k.linked line (omega arith) (
         λ U now j. eol-goes T k b.code cs b.whole line U j,
         λ u. nok-goes T (ap p b.whole ∙ breaks-blank (is_value 93) takes (is_value 91) label-plain (ending names) (fits s.size s.seen) connect b.code cs line u (λ ws d text w l. fits-none s.size s.seen b.code ws d text line w l)),
       ))
@@ -420,24 +390,23 @@ module _ (ready : StateName → Tokenizer → Type 0) (ends : StateName → Toke
       let S : TokenizeState → Type 0 = λ q. DoesAs 2 (break_plan (names_in s) 0 false false) q V ok U in
       subst S k.rest (subst R (sym k.rest) x)
 
-  pub start-law : (T : Tokenizer) → T.attempts ≡ [] → StartReady T → GoesOn ready ends weight (weight_at 11 T) (start_ends T) (start_step T)
+  pub start-law : Law W start_words
   start-law T alone k =
       let s : TokenizeState = T.tokenize_state in
       let names : StringNames = names_in s in
       let p : Plan = plan_of (label names) in
       let E : Bool → Tokenizer → Type 0 = KeepsAs 0 p T in
-      let P : Stepped → Type 0 = GoesOn ready ends weight (weight_at 11 T) E in
-      GoesOn-map ready ends weight (weight_at 11 T) E (start_ends T) (start_step T) (λ ok U x. EndsAs-linked (label names) (label-covers names) s T ok U x)
+      let P : Stepped → Type 0 = GoesIn W (weight_at 11 T) E in
+      GoesOn-map W (weight_at 11 T) E (start_ends T) (start_step T) (λ ok U x. EndsAs-linked (label names) (label-covers names) s T ok U x)
       (code-step P (current_of T) (λ o. start_at o T)
-      (λ e. Goes-no ready ends weight 11 0 p T alone (ap p (ahead-none T e) ∙ label-none names [] refl))
+      (λ e. Goes-no W 11 0 p T alone (ap p (ahead-none T e) ∙ label-none names [] refl))
       (λ c e.
       let b : Begins c (ahead T) = ahead-some T c e in
       let cs : List Code = rest_of (ahead T) in
       let more : 1 ≤ length (ahead T) = some-codes T c e in
       if-step P (c == 91) _ _
-      (λ h. Goes-kept ready ends weight 11 9 0 p (break_plan names 0 false false) (opening names) s T (Next LabelAtBreak) alone refl more (omega arith)
+      (λ h. Goes-kept W 11 0 p (break_plan names 0 false false) (opening names) s T (Next LabelAtBreak) (within LabelAtBreak) alone refl more (omega arith)
       (ap p b.whole ∙ label-here names b.code cs (ap (λ v. v == 91) b.value ∙ h))
-      (within.at_break_ready _ (opened-ready T more k))
-      (within.at_break_weight _)
-      (λ ok U x. start-says T k ok U (within.at_break_end _ ok U x)))
-      (λ h. Goes-no ready ends weight 11 0 p T alone (ap p b.whole ∙ label-none names (b.code ∷ cs) (ap (λ v. v == 91) b.value ∙ h)))))
+      (opened-ready T more k)
+      (λ ok U x. start-says T k ok U x))
+      (λ h. Goes-no W 11 0 p T alone (ap p b.whole ∙ label-none names (b.code ∷ cs) (ap (λ v. v == 91) b.value ∙ h)))))

@@ -6,7 +6,7 @@ use Rattle.markdown_engine.specs.Grown.{Fails}
 use Rattle.markdown_engine.specs.Lists.{rest_of}
 use Rattle.markdown_engine.specs.Ops.{Op, Exit, current_of, ahead, done, scratched, attempted, frame_of, stays, moves, ends_linked, LinkedBefore}
 use Rattle.markdown_engine.specs.Past.{EndsAs, Reads, past, link_before, behind, appended_from}
-use Rattle.markdown_engine.specs.Runs.{GoesOn, stepped, restored}
+use Rattle.markdown_engine.specs.Runs.{stepped, restored}
 use Rattle.markdown_engine.specs.Tree.{Forest, leaf_codes}
 use Rattle.markdown_engine.specs.TreeOps.{consumes}
 use Rattle.markdown_engine.specs.Weights.{codes_left, weight_at}
@@ -14,12 +14,11 @@ use Rattle.markdown_engine.specs.declared.event.Event.{Event}
 use Rattle.markdown_engine.specs.declared.event.Name.TheVariants as N
 use Rattle.markdown_engine.specs.declared.state.State.{State}
 use Rattle.markdown_engine.specs.declared.state.State.TheVariants.{Next, Retry}
-use Rattle.markdown_engine.specs.declared.state.StateName.{StateName}
 use Rattle.markdown_engine.specs.declared.state.StateName.TheVariants.{SpaceOrTabEolStart}
 use Rattle.markdown_engine.specs.declared.tokenizer.TokenizeState.{TokenizeState}
 use Rattle.markdown_engine.specs.declared.tokenizer.Tokenizer.{Tokenizer}
 use Rattle.markdown_engine.proofs.EndsLemmas.{scratched-same}
-use Rattle.markdown_engine.proofs.Laws.{Goes-attempt, Follows, restored-fails}
+use Rattle.markdown_engine.proofs.Laws.{restored-fails}
 use Rattle.markdown_engine.proofs.OpRules.{Begins, attempts-scratched, left-scratched, left-ahead}
 use Rattle.markdown_engine.proofs.OpsLemmas.{ahead-done}
 use Rattle.markdown_model.specs.CodeTests.{next_is}
@@ -41,12 +40,9 @@ use Rattle.markdown_string.proofs.LinkedLemmas.{linked-past}
 use Rattle.markdown_string.proofs.TextLines.{ending_leaves, Row-ending}
 use Rattle.markdown_string.proofs.BoolLemmas.{same-value}
 use Rattle.markdown_model.proofs.Leaves.{span-append}
-
--- what the layer says of the start of whitespace with a line ending
-pub record EolWithin (ready : StateName → Tokenizer → Type 0) (ends : StateName → Tokenizer → Bool → Tokenizer → Type 0) (weight : StateName → Tokenizer → ℕ) : Type 0 where
-  pub eol_ready : (T : Tokenizer) → E.StartReady T → ready SpaceOrTabEolStart T
-  pub eol_end : (T : Tokenizer) (ok : Bool) (U : Tokenizer) → ends SpaceOrTabEolStart T ok U → E.start_ends T ok U
-  pub eol_weight : (T : Tokenizer) → weight SpaceOrTabEolStart T ≡ weight_at 8 T
+use Rattle.markdown_engine.specs.StateWords.{Words, GoesIn, words_in}
+use Rattle.markdown_construct.proofs.StateLaws.{Goes-attempt, FollowsIn}
+use Rattle.markdown_engine.specs.declared.state.StateName.{StateName}
 
 -- What is read there.
 
@@ -165,24 +161,24 @@ frame-same ok nok q T U = refl
 refused-same : (ok nok : State) (q : TokenizeState) (T U : Tokenizer) → Fails T.tokenize_state T U → restored (frame_of false ok nok (scratched q T)) U ≡ T
 refused-same ok nok q T U f = frame-same ok nok q T U ∙ restored-fails false ok nok T.tokenize_state T U f ∙ scratched-same T
 
-module _ (ready : StateName → Tokenizer → Type 0) (ends : StateName → Tokenizer → Bool → Tokenizer → Type 0) (weight : StateName → Tokenizer → ℕ) (within : EolWithin ready ends weight) where
+module _ (W : Words) (within : words_in W SpaceOrTabEolStart ≡ E.start_words) where
   abbrev pub AtEnding : ℕ → (Bool → Tokenizer → Type 0) → StateName → StateName → Code → Tokenizer → Type 0
   AtEnding n End after none c T =
-      ((U : Tokenizer) → U.attempts ≡ [] → Passed T.tokenize_state.connect c (rest_of (ahead T)) T U → Follows ready ends weight n End (Next after) U)
-      × (begins_filled_line (span is_blank (rest_of (ahead T))).1 ≡ false → Follows ready ends weight n End (Next none) T)
+      ((U : Tokenizer) → U.attempts ≡ [] → Passed T.tokenize_state.connect c (rest_of (ahead T)) T U → FollowsIn W n End (Next after) U)
+      × (begins_filled_line (span is_blank (rest_of (ahead T))).1 ≡ false → FollowsIn W n End (Next none) T)
 
-  pub ending-law : (n : ℕ) (End : Bool → Tokenizer → Type 0) (after none : StateName) (T : Tokenizer) (c : ℕ) (b : Begins c (ahead T)) → T.attempts ≡ [] → TextReady T → (T.tokenize_state.connect ≡ true → LinkedBefore T) → is_line_ending b.code ≡ true → weight_at 8 T < n → AtEnding n End after none b.code T → GoesOn ready ends weight n End (stepped (Retry SpaceOrTabEolStart) (attempted false (Next after) (Next none) (scratched (eol_asked_for T.tokenize_state) T)))
+  pub ending-law : (n : ℕ) (End : Bool → Tokenizer → Type 0) (after none : StateName) (T : Tokenizer) (c : ℕ) (b : Begins c (ahead T)) → T.attempts ≡ [] → TextReady T → (T.tokenize_state.connect ≡ true → LinkedBefore T) → is_line_ending b.code ≡ true → weight_at 8 T < n → AtEnding n End after none b.code T → GoesIn W n End (stepped (Retry SpaceOrTabEolStart) (attempted false (Next after) (Next none) (scratched (eol_asked_for T.tokenize_state) T)))
   ending-law n End after none T c b alone r linked e less k =
       let s : TokenizeState = T.tokenize_state in
       let connect : Bool = s.connect in
       let A : Tokenizer = scratched (eol_asked_for s) T in
       let blank : at_blank (current_of T) ≡ false = blank-ahead T ∙ ap (next_is is_blank) b.whole ∙ not-blank b.code e in
       let asked : E.StartReady A = eol-asked-ready connect string T r.short r.resting linked (λ h. refl) (λ h. let no : false ≡ true = sym blank ∙ h in cc) in
-      let said : (ok : Bool) (U : Tokenizer) → ends SpaceOrTabEolStart A ok U → EndsAs (spacing string) (link_before connect T) s T ok U = λ ok U x. eol-asked-ends connect string T r.resting ok U (within.eol_end A ok U x) in
-      Goes-attempt ready ends weight n End (Retry SpaceOrTabEolStart) (Next after) (Next none) A (attempts-scratched _ T ∙ alone) (within.eol_ready A asked)
-      (rw within.eol_weight (omega (arith, less, left-scratched (eol_asked_for s) T)))
+      let said : (ok : Bool) (U : Tokenizer) → E.start_ends A ok U → EndsAs (spacing string) (link_before connect T) s T ok U = λ ok U x. eol-asked-ends connect string T r.resting ok U x in
+      Goes-attempt W n End (Retry SpaceOrTabEolStart) within (Next after) (Next none) A (attempts-scratched _ T ∙ alone) asked
+      (omega (arith, less, left-scratched (eol_asked_for s) T))
       (λ U now x. k.0 U now (passed-read connect b.code (rest_of (ahead T)) T U e b.whole (said true U x)))
       (λ U now x.
       let f = said false U x in
-      subst (λ (V : Tokenizer). Follows ready ends weight n End (Next none) V) (sym (refused-same (Next after) (Next none) (eol_asked_for s) T U f.fails))
+      subst (λ (V : Tokenizer). FollowsIn W n End (Next none) V) (sym (refused-same (Next after) (Next none) (eol_asked_for s) T U f.fails))
       (k.1 (unread (begins_filled_line (span is_blank (rest_of (ahead T))).1) b.code (rest_of (ahead T)) e refl (ap (spacing string) (sym b.whole) ∙ f.refused))))

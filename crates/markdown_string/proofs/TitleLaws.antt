@@ -4,53 +4,33 @@ use Rattle.std.proofs.lemmas.Bool.{eqb-true}
 use Rattle.markdown_engine.specs.Codes.{Code, is_line_ending}
 use Rattle.markdown_engine.specs.Lists.{rest_of}
 use Rattle.markdown_engine.specs.Ops.{Op, Enter, Exit, Consume, current_of, ahead, applied, done, scratched}
-use Rattle.markdown_engine.specs.Runs.{Stepped, GoesOn, stepped}
+use Rattle.markdown_engine.specs.Runs.{Stepped, stepped}
 use Rattle.markdown_engine.specs.Weights.{weight_at}
 use Rattle.markdown_engine.specs.declared.event.Name.TheVariants as N
 use Rattle.markdown_engine.specs.declared.state.State.TheVariants.{Next, Retry, Nok}
-use Rattle.markdown_engine.specs.declared.state.StateName.{StateName}
-use Rattle.markdown_engine.specs.declared.state.StateName.TheVariants.{TitleBegin, TitleAtBreak, TitleAfterEol, TitleInside, TitleEscape, TitleNok}
+use Rattle.markdown_engine.specs.declared.state.StateName.TheVariants.{TitleBegin, TitleAtBreak, TitleAfterEol, TitleInside, TitleEscape, TitleNok, SpaceOrTabEolStart}
 use Rattle.markdown_engine.specs.declared.tokenizer.TokenizeState.{TokenizeState}
 use Rattle.markdown_engine.specs.declared.tokenizer.Tokenizer.{Tokenizer}
-use Rattle.markdown_engine.proofs.Laws.{Goes-plain, Follows, if-step, code-step}
+use Rattle.markdown_engine.proofs.Laws.{if-step, code-step}
 use Rattle.markdown_engine.proofs.OpRules.{ahead-none, ahead-some, Begins, attempts-scratched, some-codes}
 use Rattle.markdown_model.specs.CodeTests.{is_value, is_among, next_is}
 use Rattle.markdown_model.specs.Resource.{StringNames, title}
 use Rattle.markdown_construct.specs.Plan.{Plan, preceded, DoesAs, KeepsAs}
-use Rattle.markdown_construct.proofs.PlanLemmas.{preceded-nil, GoesOn-map, Goes-on, Goes-kept, Goes-ok, Goes-no, done-scratched, no-codes}
+use Rattle.markdown_construct.proofs.PlanLemmas.{preceded-nil, done-scratched, no-codes}
 use Rattle.markdown_partial.specs.EolSteps.{WhitespaceAtRest}
 use Rattle.markdown_string.specs.LinkedOps.{plan_of}
 use Rattle.markdown_string.specs.Text.{closing, ending, names_in, joined, enter_text, text_entered, TextReady, ends_filled}
-use Rattle.markdown_string.specs.Title.{begun, rested, opening, opened, start_at, start_step, beginning, begin_at, begin_step, next_state, passing, at_break_at, at_break_step, after_eol_step, nok_step, leaving, inside_at, inside_step, escapes, escape_at, escape_step, is_closer, StartReady, BeginReady, BreakReady, AfterEolReady, InsideReady, start_ends, inside_plan, break_plan, begin_plan, begin_ends, at_break_ends, after_eol_ends, nok_ends, inside_ends, escape_ends}
+use Rattle.markdown_string.specs.Title.{begun, rested, opening, opened, start_at, start_step, beginning, begin_at, begin_step, next_state, passing, at_break_at, at_break_step, after_eol_step, nok_step, leaving, inside_at, inside_step, escapes, escape_at, escape_step, is_closer, StartReady, BeginReady, BreakReady, AfterEolReady, InsideReady, start_ends, inside_plan, break_plan, begin_plan, begin_ends, at_break_ends, after_eol_ends, nok_ends, inside_ends, escape_ends, states, after_eol_words, at_break_words, begin_words, escape_words, inside_words, nok_words, start_words}
 use Rattle.markdown_string.proofs.LinkedLemmas.{EndsAs-linked}
-use Rattle.markdown_string.proofs.TextEnding.{EolWithin, Passed, DoesAs-ending, ending-law}
+use Rattle.markdown_string.proofs.TextEnding.{Passed, DoesAs-ending, ending-law}
 use Rattle.markdown_string.proofs.TextReadings.{filled-data, filled-ending, filled-none, breaks-end, breaks-stop, breaks-data, breaks-ending, breaks-blank, insides-end, insides-next, insides-taken, insides-bare, leave-end, leave-stop, leave-ending}
 use Rattle.markdown_string.proofs.TextRuns.{open-append, open-closed, open-rest, text-after, text-same, text-kept, rest-joined, DoesAs-fails, state-by, stays-data, moves-data, depth-data}
 use Rattle.markdown_string.proofs.TitleReadings.{title-plain, closer-line, title-none, title-double, title-single, title-paren, title-covers}
 use Rattle.markdown_string.proofs.BoolLemmas.{or-left, or-right, or-by}
 use Rattle.markdown_model.proofs.ReadingSteps.{if-true, if-false}
-
--- what the layer says of these states
-pub record Within (ready : StateName → Tokenizer → Type 0) (ends : StateName → Tokenizer → Bool → Tokenizer → Type 0) (weight : StateName → Tokenizer → ℕ) : Type 0 where
-  pub eol : EolWithin ready ends weight
-  pub begin_ready : (T : Tokenizer) → BeginReady T → ready TitleBegin T
-  pub begin_end : (T : Tokenizer) (ok : Bool) (U : Tokenizer) → ends TitleBegin T ok U → begin_ends T ok U
-  pub begin_weight : (T : Tokenizer) → weight TitleBegin T ≡ weight_at 10 T
-  pub at_break_ready : (T : Tokenizer) → BreakReady T → ready TitleAtBreak T
-  pub at_break_end : (T : Tokenizer) (ok : Bool) (U : Tokenizer) → ends TitleAtBreak T ok U → at_break_ends T ok U
-  pub at_break_weight : (T : Tokenizer) → weight TitleAtBreak T ≡ weight_at 9 T
-  pub after_eol_ready : (T : Tokenizer) → AfterEolReady T → ready TitleAfterEol T
-  pub after_eol_end : (T : Tokenizer) (ok : Bool) (U : Tokenizer) → ends TitleAfterEol T ok U → after_eol_ends T ok U
-  pub after_eol_weight : (T : Tokenizer) → weight TitleAfterEol T ≡ weight_at 10 T
-  pub nok_ready : (T : Tokenizer) → ready TitleNok T
-  pub nok_end : (T : Tokenizer) (ok : Bool) (U : Tokenizer) → ends TitleNok T ok U → nok_ends T ok U
-  pub nok_weight : (T : Tokenizer) → weight TitleNok T ≡ weight_at 1 T
-  pub inside_ready : (T : Tokenizer) → InsideReady T → ready TitleInside T
-  pub inside_end : (T : Tokenizer) (ok : Bool) (U : Tokenizer) → ends TitleInside T ok U → inside_ends T ok U
-  pub inside_weight : (T : Tokenizer) → weight TitleInside T ≡ weight_at 10 T
-  pub escape_ready : (T : Tokenizer) → InsideReady T → ready TitleEscape T
-  pub escape_end : (T : Tokenizer) (ok : Bool) (U : Tokenizer) → ends TitleEscape T ok U → escape_ends T ok U
-  pub escape_weight : (T : Tokenizer) → weight TitleEscape T ≡ weight_at 11 T
+use Rattle.markdown_engine.specs.StateWords.{Words, Law, GoesIn}
+use Rattle.markdown_construct.proofs.StateLaws.{GoesOn-map, Goes-plain, Goes-end, Goes-on, Goes-kept, Goes-ok, Goes-no, FollowsIn, follows}
+use Rattle.markdown_construct.specs.Within.{Within}
 
 -- The conditions.
 
@@ -115,65 +95,61 @@ joined-ready T k = record { text = record { short = k.text.short; resting = rest
 
 -- Tests.
 
-module _ (ready : StateName → Tokenizer → Type 0) (ends : StateName → Tokenizer → Bool → Tokenizer → Type 0) (weight : StateName → Tokenizer → ℕ) (within : Within ready ends weight) where
-  pub nok-law : (T : Tokenizer) → T.attempts ≡ [] → GoesOn ready ends weight (weight_at 1 T) (nok_ends T) (nok_step T)
-  nok-law T alone =
-      Goes-plain ready ends weight (weight_at 1 T) (nok_ends T) Nok (scratched (rested T.tokenize_state) T) (attempts-scratched _ T ∙ alone) tt (omega arith) (λ ok U k. k)
+module _ (W : Words) (within : Within states W) where
+  pub nok-law : Law W nok_words
+  nok-law T alone _ =
+      Goes-end W (weight_at 1 T) (nok_ends T) false (scratched (rested T.tokenize_state) T) (attempts-scratched _ T ∙ alone) (omega arith) (λ ok U k. k)
 
   eol-says : (T : Tokenizer) (ok : Bool) (U : Tokenizer) → at_break_ends (scratched (joined T.tokenize_state) T) ok U → DoesAs 2 (break_plan T.tokenize_state.marker (names_in T.tokenize_state) true) (rested T.tokenize_state) (scratched (joined T.tokenize_state) T) ok U
   unfolding scratched
   eol-says T ok U k = k
 
-  pub after_eol-law : (T : Tokenizer) → T.attempts ≡ [] → AfterEolReady T → GoesOn ready ends weight (weight_at 10 T) (after_eol_ends T) (after_eol_step T)
+  pub after_eol-law : Law W after_eol_words
   after_eol-law T alone k =
       let s : TokenizeState = T.tokenize_state in
       let q : Plan = break_plan s.marker (names_in s) true in
-      Goes-on ready ends weight 10 9 2 q q [] (rested s) (joined s) T (Retry TitleAtBreak) alone refl (no-codes T) (omega arith)
+      Goes-on W 10 2 q q [] (rested s) (joined s) T (Retry TitleAtBreak) (within TitleAtBreak) alone refl (no-codes T) (omega arith)
       (preceded-nil (q (ahead T)))
-      (within.at_break_ready _ (joined-ready T k))
-      (within.at_break_weight _)
-      (λ ok U x. eol-says T ok U (within.at_break_end _ ok U x))
+      (joined-ready T k)
+      (λ ok U x. eol-says T ok U x)
 
   -- In a stretch.
 
   -- on past a code that passes
-  goes-inside : (T : Tokenizer) → T.attempts ≡ [] → InsideReady T → (c : ℕ) → current_of T ≡ Some c → inside_plan T.tokenize_state.marker (names_in T.tokenize_state) false (ahead T) ≡ preceded (Consume ∷ []) (inside_plan T.tokenize_state.marker (names_in T.tokenize_state) (c == 92) (drop 1 (ahead T))) → GoesOn ready ends weight (weight_at 10 T) (inside_ends T) (passing c T)
+  goes-inside : (T : Tokenizer) → T.attempts ≡ [] → InsideReady T → (c : ℕ) → current_of T ≡ Some c → inside_plan T.tokenize_state.marker (names_in T.tokenize_state) false (ahead T) ≡ preceded (Consume ∷ []) (inside_plan T.tokenize_state.marker (names_in T.tokenize_state) (c == 92) (drop 1 (ahead T))) → GoesIn W (weight_at 10 T) (inside_ends T) (passing c T)
   unfolding applied
   goes-inside T alone k c h same =
       let s : TokenizeState = T.tokenize_state in
       let q : Bool → Plan = inside_plan s.marker (names_in s) in
       let V : Tokenizer = done (Consume ∷ []) T in
-      state-by (λ st. GoesOn ready ends weight (weight_at 10 T) (inside_ends T) (stepped st V)) (c == 92) (Next TitleEscape) (Next TitleInside)
-      (λ f. Goes-kept ready ends weight 10 11 3 (q false) (q true) (Consume ∷ []) (rested s) T (Next TitleEscape) alone refl (some-codes T c h) (omega arith)
+      state-by (λ st. GoesIn W (weight_at 10 T) (inside_ends T) (stepped st V)) (c == 92) (Next TitleEscape) (Next TitleInside)
+      (λ f. Goes-kept W 10 3 (q false) (q true) (Consume ∷ []) (rested s) T (Next TitleEscape) (within TitleEscape) alone refl (some-codes T c h) (omega arith)
       (same ∙ ap (λ b. preceded (Consume ∷ []) (q b (drop 1 (ahead T)))) f)
-      (within.escape_ready _ (passed-ready T (some-codes T c h) k))
-      (within.escape_weight _)
-      (λ ok U x. within.escape_end _ ok U x))
-      (λ f. Goes-kept ready ends weight 10 10 3 (q false) (q false) (Consume ∷ []) (rested s) T (Next TitleInside) alone refl (some-codes T c h) (omega arith)
+      (passed-ready T (some-codes T c h) k)
+      (λ ok U x. x))
+      (λ f. Goes-kept W 10 3 (q false) (q false) (Consume ∷ []) (rested s) T (Next TitleInside) (within TitleInside) alone refl (some-codes T c h) (omega arith)
       (same ∙ ap (λ b. preceded (Consume ∷ []) (q b (drop 1 (ahead T)))) f)
-      (within.inside_ready _ (passed-ready T (some-codes T c h) k))
-      (within.inside_weight _)
-      (λ ok U x. within.inside_end _ ok U x))
+      (passed-ready T (some-codes T c h) k)
+      (λ ok U x. x))
 
-  goes-leave : (T : Tokenizer) → T.attempts ≡ [] → InsideReady T → inside_plan T.tokenize_state.marker (names_in T.tokenize_state) false (ahead T) ≡ preceded (Exit N.Data ∷ []) (break_plan T.tokenize_state.marker (names_in T.tokenize_state) true (ahead T)) → GoesOn ready ends weight (weight_at 10 T) (inside_ends T) (leaving T)
+  goes-leave : (T : Tokenizer) → T.attempts ≡ [] → InsideReady T → inside_plan T.tokenize_state.marker (names_in T.tokenize_state) false (ahead T) ≡ preceded (Exit N.Data ∷ []) (break_plan T.tokenize_state.marker (names_in T.tokenize_state) true (ahead T)) → GoesIn W (weight_at 10 T) (inside_ends T) (leaving T)
   unfolding applied
   goes-leave T alone k same =
       let s : TokenizeState = T.tokenize_state in
       let q : Plan = break_plan s.marker (names_in s) s.connect in
-      Goes-kept ready ends weight 10 9 3 (inside_plan s.marker (names_in s) false) q (Exit N.Data ∷ []) (rested s) T (Retry TitleAtBreak) alone refl (no-codes T) (omega arith)
+      Goes-kept W 10 3 (inside_plan s.marker (names_in s) false) q (Exit N.Data ∷ []) (rested s) T (Retry TitleAtBreak) (within TitleAtBreak) alone refl (no-codes T) (omega arith)
       (same ∙ ap (λ b. preceded (Exit N.Data ∷ []) (break_plan s.marker (names_in s) b (ahead T))) (sym k.connect))
-      (within.at_break_ready _ (left-ready T k))
-      (within.at_break_weight _)
-      (λ ok U x. within.at_break_end _ ok U x)
+      (left-ready T k)
+      (λ ok U x. x)
 
-  pub inside-law : (T : Tokenizer) → T.attempts ≡ [] → InsideReady T → GoesOn ready ends weight (weight_at 10 T) (inside_ends T) (inside_step T)
+  pub inside-law : Law W inside_words
   inside-law T alone k =
       let s : TokenizeState = T.tokenize_state in
       let m : ℕ = s.marker in
       let names : StringNames = names_in s in
       let takes : Code → Bool = is_among (92 ∷ m ∷ []) in
       let p : Plan = inside_plan m names false in
-      let P : Stepped → Type 0 = GoesOn ready ends weight (weight_at 10 T) (inside_ends T) in
+      let P : Stepped → Type 0 = GoesIn W (weight_at 10 T) (inside_ends T) in
       let here : List Code → Type 0 = λ xs. p xs ≡ preceded (Exit N.Data ∷ []) (break_plan m names true xs) in
       code-step P (current_of T) (λ o. inside_at o T)
       (λ e. goes-leave T alone k (subst here (sym (ahead-none T e)) (leave-end (is_value m) takes (λ x. false) (title-plain m k.closer) (ending names) (ends_filled true))))
@@ -189,17 +165,16 @@ module _ (ready : StateName → Tokenizer → Type 0) (ends : StateName → Toke
       goes-inside T alone k c e
       (ap p b.whole ∙ insides-next (is_value m) takes (λ x. false) (title-plain m k.closer) (ending names) (ends_filled true) (ends_filled true) (c == 92) b.code cs (ap (λ v. v == m) b.value ∙ or-right _ _ h) refl line (ap (λ v. v == 92) b.value) (λ text. filled-data b.code text line))))
 
-  escape-goes : (T : Tokenizer) → T.attempts ≡ [] → InsideReady T → inside_plan T.tokenize_state.marker (names_in T.tokenize_state) true (ahead T) ≡ inside_plan T.tokenize_state.marker (names_in T.tokenize_state) false (ahead T) → GoesOn ready ends weight (weight_at 11 T) (escape_ends T) (stepped (Retry TitleInside) T)
+  escape-goes : (T : Tokenizer) → T.attempts ≡ [] → InsideReady T → inside_plan T.tokenize_state.marker (names_in T.tokenize_state) true (ahead T) ≡ inside_plan T.tokenize_state.marker (names_in T.tokenize_state) false (ahead T) → GoesIn W (weight_at 11 T) (escape_ends T) (stepped (Retry TitleInside) T)
   escape-goes T alone k same =
       let s : TokenizeState = T.tokenize_state in
       let q : Bool → Plan = inside_plan s.marker (names_in s) in
-      Goes-kept ready ends weight 11 10 3 (q true) (q false) [] (rested s) T (Retry TitleInside) alone refl (no-codes T) (omega arith)
+      Goes-kept W 11 3 (q true) (q false) [] (rested s) T (Retry TitleInside) (within TitleInside) alone refl (no-codes T) (omega arith)
       (same ∙ preceded-nil (q false (ahead T)))
-      (within.inside_ready _ k)
-      (within.inside_weight _)
-      (λ ok U x. within.inside_end _ ok U x)
+      k
+      (λ ok U x. x)
 
-  pub escape-law : (T : Tokenizer) → T.attempts ≡ [] → InsideReady T → GoesOn ready ends weight (weight_at 11 T) (escape_ends T) (escape_step T)
+  pub escape-law : Law W escape_words
   unfolding applied
   escape-law T alone k =
       let s : TokenizeState = T.tokenize_state in
@@ -207,7 +182,7 @@ module _ (ready : StateName → Tokenizer → Type 0) (ends : StateName → Toke
       let names : StringNames = names_in s in
       let takes : Code → Bool = is_among (92 ∷ m ∷ []) in
       let q : Bool → Plan = inside_plan m names in
-      let P : Stepped → Type 0 = GoesOn ready ends weight (weight_at 11 T) (escape_ends T) in
+      let P : Stepped → Type 0 = GoesIn W (weight_at 11 T) (escape_ends T) in
       let same : List Code → Type 0 = λ xs. q true xs ≡ q false xs in
       code-step P (current_of T) (λ o. escape_at o T)
       (λ e. escape-goes T alone k (subst same (sym (ahead-none T e)) (insides-end (is_value m) takes (λ x. false) (title-plain m k.closer) (ending names) (ends_filled true) true ∙ sym (insides-end (is_value m) takes (λ x. false) (title-plain m k.closer) (ending names) (ends_filled true) false))))
@@ -218,11 +193,10 @@ module _ (ready : StateName → Tokenizer → Type 0) (ends : StateName → Toke
       (λ h.
       let taken : takes b.code ≡ true = ap (escapes m) b.value ∙ h in
       let line : is_line_ending b.code ≡ false = taken-line m k.closer b.code taken in
-      Goes-kept ready ends weight 11 10 3 (q true) (q false) (Consume ∷ []) (rested s) T (Next TitleInside) alone refl (some-codes T c e) (omega arith)
+      Goes-kept W 11 3 (q true) (q false) (Consume ∷ []) (rested s) T (Next TitleInside) (within TitleInside) alone refl (some-codes T c e) (omega arith)
       (ap (q true) b.whole ∙ insides-taken (is_value m) takes (λ x. false) (title-plain m k.closer) (ending names) (ends_filled true) (ends_filled true) b.code cs taken line (λ text. filled-data b.code text line))
-      (within.inside_ready _ (passed-ready T (some-codes T c e) k))
-      (within.inside_weight _)
-      (λ ok U x. within.inside_end _ ok U x))
+      (passed-ready T (some-codes T c e) k)
+      (λ ok U x. x))
       (λ h. escape-goes T alone k (subst same (sym b.whole) (insides-bare (is_value m) takes (λ x. false) (title-plain m k.closer) (ending names) (ends_filled true) b.code cs (ap (escapes m) b.value ∙ h))))) where
         taken-line : (m : ℕ) → is_closer m ≡ true → (c : Code) → is_among (92 ∷ m ∷ []) c ≡ true → is_line_ending c ≡ false
         taken-line m k c h =
@@ -232,13 +206,11 @@ module _ (ready : StateName → Tokenizer → Type 0) (ends : StateName → Toke
 
   -- Between two stretches.
 
-  nok-goes : (T : Tokenizer) → T.attempts ≡ [] → break_plan T.tokenize_state.marker (names_in T.tokenize_state) T.tokenize_state.connect (ahead T) ≡ None → Follows ready ends weight (weight_at 9 T) (at_break_ends T) (Next TitleNok) T
-  nok-goes T alone e =
-      record {
-        goes_on = within.nok_ready T;
-        falls = rw within.nok_weight (omega arith);
-        closed = λ ok U x. DoesAs-fails 2 (break_plan T.tokenize_state.marker (names_in T.tokenize_state) T.tokenize_state.connect) (rested T.tokenize_state) T e ok U (within.nok_end T ok U x);
-      }
+  nok-says : (T : Tokenizer) → break_plan T.tokenize_state.marker (names_in T.tokenize_state) T.tokenize_state.connect (ahead T) ≡ None → (ok : Bool) (U : Tokenizer) → nok_ends T ok U → at_break_ends T ok U
+  nok-says T e ok U x = DoesAs-fails 2 (break_plan T.tokenize_state.marker (names_in T.tokenize_state) T.tokenize_state.connect) (rested T.tokenize_state) T e ok U x
+
+  nok-goes : (T : Tokenizer) → break_plan T.tokenize_state.marker (names_in T.tokenize_state) T.tokenize_state.connect (ahead T) ≡ None → FollowsIn W (weight_at 9 T) (at_break_ends T) (Next TitleNok) T
+  nok-goes T e = follows W _ _ (Next TitleNok) (within TitleNok) T tt (omega arith) (nok-says T e)
 
   inside-says : (b : Bool) (T : Tokenizer) (ok : Bool) (U : Tokenizer) → inside_ends (scratched (joined T.tokenize_state) (done (enter_text b ∷ Consume ∷ []) T)) ok U → DoesAs 3 (inside_plan T.tokenize_state.marker (names_in T.tokenize_state) false) (rested T.tokenize_state) (scratched (joined T.tokenize_state) (done (enter_text b ∷ Consume ∷ []) T)) ok U
   unfolding scratched
@@ -249,7 +221,7 @@ module _ (ready : StateName → Tokenizer → Type 0) (ends : StateName → Toke
   escape-says b T ok U k = k
 
   -- data begins
-  data-goes : (T : Tokenizer) → T.attempts ≡ [] → BreakReady T → (c : ℕ) → current_of T ≡ Some c → break_plan T.tokenize_state.marker (names_in T.tokenize_state) T.tokenize_state.connect (ahead T) ≡ preceded (enter_text T.tokenize_state.connect ∷ Consume ∷ []) (inside_plan T.tokenize_state.marker (names_in T.tokenize_state) (c == 92) (drop 1 (ahead T))) → GoesOn ready ends weight (weight_at 9 T) (at_break_ends T) (passing c (text_entered T))
+  data-goes : (T : Tokenizer) → T.attempts ≡ [] → BreakReady T → (c : ℕ) → current_of T ≡ Some c → break_plan T.tokenize_state.marker (names_in T.tokenize_state) T.tokenize_state.connect (ahead T) ≡ preceded (enter_text T.tokenize_state.connect ∷ Consume ∷ []) (inside_plan T.tokenize_state.marker (names_in T.tokenize_state) (c == 92) (drop 1 (ahead T))) → GoesIn W (weight_at 9 T) (at_break_ends T) (passing c (text_entered T))
   data-goes T alone k c e same =
       let s : TokenizeState = T.tokenize_state in
       let connect : Bool = s.connect in
@@ -259,21 +231,19 @@ module _ (ready : StateName → Tokenizer → Type 0) (ends : StateName → Toke
       let more : 1 ≤ length (ahead T) = some-codes T c e in
       let V : Tokenizer = scratched (joined s) (done os T) in
       let there : V ≡ done (Consume ∷ []) (text_entered T) = sym (done-scratched (Consume ∷ []) (joined s) (done (enter_text connect ∷ []) T)) in
-      subst (λ (x : Tokenizer). GoesOn ready ends weight (weight_at 9 T) (at_break_ends T) (stepped (next_state c) x)) there
-      (state-by (λ st. GoesOn ready ends weight (weight_at 9 T) (at_break_ends T) (stepped st V)) (c == 92) (Next TitleEscape) (Next TitleInside)
-      (λ f. Goes-on ready ends weight 9 11 2 p (q true) os (rested s) (joined s) T (Next TitleEscape) alone (stays-data connect) (moves-data connect (λ n. n ≤ length (ahead T)) more) (moves-data connect (λ n. 11 < 256 * n + 9) (omega arith))
+      subst (λ (x : Tokenizer). GoesIn W (weight_at 9 T) (at_break_ends T) (stepped (next_state c) x)) there
+      (state-by (λ st. GoesIn W (weight_at 9 T) (at_break_ends T) (stepped st V)) (c == 92) (Next TitleEscape) (Next TitleInside)
+      (λ f. Goes-on W 9 2 p (q true) os (rested s) (joined s) T (Next TitleEscape) (within TitleEscape) alone (stays-data connect) (moves-data connect (λ n. n ≤ length (ahead T)) more) (moves-data connect (λ n. 11 < 256 * n + 9) (omega arith))
       (same ∙ ap (λ b. preceded os (q b (drop 1 (ahead T)))) f ∙ moves-data connect (λ n. preceded os (q true (drop 1 (ahead T))) ≡ preceded os (q true (drop n (ahead T)))) refl)
-      (within.escape_ready _ (data-ready connect T more k))
-      (within.escape_weight _)
-      (λ ok U x. depth-data connect (λ d. DoesAs d (q true) (rested s) V ok U) (escape-says connect T ok U (within.escape_end _ ok U x))))
-      (λ f. Goes-on ready ends weight 9 10 2 p (q false) os (rested s) (joined s) T (Next TitleInside) alone (stays-data connect) (moves-data connect (λ n. n ≤ length (ahead T)) more) (moves-data connect (λ n. 10 < 256 * n + 9) (omega arith))
+      (data-ready connect T more k)
+      (λ ok U x. depth-data connect (λ d. DoesAs d (q true) (rested s) V ok U) (escape-says connect T ok U x)))
+      (λ f. Goes-on W 9 2 p (q false) os (rested s) (joined s) T (Next TitleInside) (within TitleInside) alone (stays-data connect) (moves-data connect (λ n. n ≤ length (ahead T)) more) (moves-data connect (λ n. 10 < 256 * n + 9) (omega arith))
       (same ∙ ap (λ b. preceded os (q b (drop 1 (ahead T)))) f ∙ moves-data connect (λ n. preceded os (q false (drop 1 (ahead T))) ≡ preceded os (q false (drop n (ahead T)))) refl)
-      (within.inside_ready _ (data-ready connect T more k))
-      (within.inside_weight _)
-      (λ ok U x. depth-data connect (λ d. DoesAs d (q false) (rested s) V ok U) (inside-says connect T ok U (within.inside_end _ ok U x)))))
+      (data-ready connect T more k)
+      (λ ok U x. depth-data connect (λ d. DoesAs d (q false) (rested s) V ok U) (inside-says connect T ok U x))))
 
   -- behind a line ending and blank codes
-  eol-goes : (T : Tokenizer) → BreakReady T → (c : Code) (cs : List Code) → ahead T ≡ c ∷ cs → is_line_ending c ≡ true → (U : Tokenizer) → Passed T.tokenize_state.connect c cs T U → Follows ready ends weight (weight_at 9 T) (at_break_ends T) (Next TitleAfterEol) U
+  eol-goes : (T : Tokenizer) → BreakReady T → (c : Code) (cs : List Code) → ahead T ≡ c ∷ cs → is_line_ending c ≡ true → (U : Tokenizer) → Passed T.tokenize_state.connect c cs T U → FollowsIn W (weight_at 9 T) (at_break_ends T) (Next TitleAfterEol) U
   eol-goes T k c cs whole line U j =
       let s : TokenizeState = T.tokenize_state in
       let m : ℕ = s.marker in
@@ -282,13 +252,10 @@ module _ (ready : StateName → Tokenizer → Type 0) (ends : StateName → Toke
       let q : Plan = break_plan m names true in
       let reads : p (ahead T) ≡ _ =
       ap p whole ∙ breaks-ending (is_value m) (is_among (92 ∷ m ∷ [])) (λ x. false) (title-plain m k.closer) (ending names) (ends_filled true) s.connect c cs line j.filled (λ ws text w b. filled-ending c ws text line w b) in
-      record {
-        goes_on = within.after_eol_ready U (eol-ready c cs T U k j);
-        falls = rw within.after_eol_weight (omega (arith, j.fewer));
-        closed = λ ok V x. DoesAs-ending p q s.connect c cs (rested s) T U j reads ok V (subst (λ (r : TokenizeState). DoesAs 2 (break_plan r.marker (names_in r) true) (rested r) U ok V) j.scratch (within.after_eol_end U ok V x));
-      }
+      follows W _ _ (Next TitleAfterEol) (within TitleAfterEol) U (eol-ready c cs T U k j) (omega (arith, j.fewer))
+      (λ ok V x. DoesAs-ending p q s.connect c cs (rested s) T U j reads ok V (subst (λ (r : TokenizeState). DoesAs 2 (break_plan r.marker (names_in r) true) (rested r) U ok V) j.scratch x))
 
-  pub at_break-law : (T : Tokenizer) → T.attempts ≡ [] → BreakReady T → GoesOn ready ends weight (weight_at 9 T) (at_break_ends T) (at_break_step T)
+  pub at_break-law : Law W at_break_words
   at_break-law T alone k =
       let s : TokenizeState = T.tokenize_state in
       let m : ℕ = s.marker in
@@ -296,23 +263,22 @@ module _ (ready : StateName → Tokenizer → Type 0) (ends : StateName → Toke
       let connect : Bool = s.connect in
       let takes : Code → Bool = is_among (92 ∷ m ∷ []) in
       let p : Plan = break_plan m names connect in
-      let P : Stepped → Type 0 = GoesOn ready ends weight (weight_at 9 T) (at_break_ends T) in
+      let P : Stepped → Type 0 = GoesIn W (weight_at 9 T) (at_break_ends T) in
       code-step P (current_of T) (λ o. at_break_at o T)
-      (λ e.
-      let f = nok-goes T alone (ap p (ahead-none T e) ∙ breaks-end (is_value m) takes (λ x. false) (title-plain m k.closer) (ending names) (ends_filled true) connect) in
-      Goes-plain ready ends weight (weight_at 9 T) (at_break_ends T) (Retry TitleNok) T alone f.goes_on f.falls f.closed)
+      (λ e. Goes-plain W (weight_at 9 T) (at_break_ends T) (Retry TitleNok) (within TitleNok) T alone tt (omega arith)
+      (nok-says T (ap p (ahead-none T e) ∙ breaks-end (is_value m) takes (λ x. false) (title-plain m k.closer) (ending names) (ends_filled true) connect)))
       (λ c e.
       let b : Begins c (ahead T) = ahead-some T c e in
       let cs : List Code = rest_of (ahead T) in
       if-step P (c == m) _ _
-      (λ h. Goes-ok ready ends weight 9 2 p (ending names) (rested s) T alone
+      (λ h. Goes-ok W 9 2 p (ending names) (rested s) T alone
       (ap p b.whole ∙ breaks-stop (is_value m) takes (λ x. false) (title-plain m k.closer) (ending names) (ends_filled true) connect b.code cs (ap (λ v. v == m) b.value ∙ h) refl))
       (λ h. if-step P (c == 10) _ _
       (λ g.
       let line : is_line_ending b.code ≡ true = ap (λ v. v == 10) b.value ∙ g in
-      ending-law ready ends weight within.eol (weight_at 9 T) (at_break_ends T) TitleAfterEol TitleNok T c b alone k.text k.linked line (omega arith) (
+      ending-law W (within SpaceOrTabEolStart) (weight_at 9 T) (at_break_ends T) TitleAfterEol TitleNok T c b alone k.text k.linked line (omega arith) (
         λ U now j. eol-goes T k b.code cs b.whole line U j,
-        λ u. nok-goes T alone (ap p b.whole ∙ breaks-blank (is_value m) takes (λ x. false) (title-plain m k.closer) (ending names) (ends_filled true) connect b.code cs line u (λ ws d text w l. filled-none b.code ws d text line w l)),
+        λ u. nok-goes T (ap p b.whole ∙ breaks-blank (is_value m) takes (λ x. false) (title-plain m k.closer) (ending names) (ends_filled true) connect b.code cs line u (λ ws d text w l. filled-none b.code ws d text line w l)),
       ))
       (λ g.
       let line : is_line_ending b.code ≡ false = ap (λ v. v == 10) b.value ∙ g in
@@ -321,56 +287,54 @@ module _ (ready : StateName → Tokenizer → Type 0) (ends : StateName → Toke
 
   -- From the start.
 
-  begin-goes : (T : Tokenizer) → T.attempts ≡ [] → BeginReady T → next_is (is_value T.tokenize_state.marker) (ahead T) ≡ false → GoesOn ready ends weight (weight_at 10 T) (begin_ends T) (beginning T)
+  begin-goes : (T : Tokenizer) → T.attempts ≡ [] → BeginReady T → next_is (is_value T.tokenize_state.marker) (ahead T) ≡ false → GoesIn W (weight_at 10 T) (begin_ends T) (beginning T)
   unfolding applied
   begin-goes T alone k h =
       let s : TokenizeState = T.tokenize_state in
       let names : StringNames = names_in s in
-      Goes-kept ready ends weight 10 9 1 (begin_plan s.marker names) (break_plan s.marker names s.connect) (Enter names.text ∷ []) (rested s) T (Retry TitleAtBreak) alone refl (no-codes T) (omega arith)
+      Goes-kept W 10 1 (begin_plan s.marker names) (break_plan s.marker names s.connect) (Enter names.text ∷ []) (rested s) T (Retry TitleAtBreak) (within TitleAtBreak) alone refl (no-codes T) (omega arith)
       (if-false _ _ _ h ∙ ap (λ b. preceded (Enter names.text ∷ []) (break_plan s.marker names b (ahead T))) (sym k.first))
-      (within.at_break_ready _ (entered-ready T k))
-      (within.at_break_weight _)
-      (λ ok U x. within.at_break_end _ ok U x)
+      (entered-ready T k)
+      (λ ok U x. x)
 
-  pub begin-law : (T : Tokenizer) → T.attempts ≡ [] → BeginReady T → GoesOn ready ends weight (weight_at 10 T) (begin_ends T) (begin_step T)
+  pub begin-law : Law W begin_words
   begin-law T alone k =
       let s : TokenizeState = T.tokenize_state in
       let m : ℕ = s.marker in
       let names : StringNames = names_in s in
-      let P : Stepped → Type 0 = GoesOn ready ends weight (weight_at 10 T) (begin_ends T) in
+      let P : Stepped → Type 0 = GoesIn W (weight_at 10 T) (begin_ends T) in
       code-step P (current_of T) (λ o. begin_at o T)
       (λ e. begin-goes T alone k (ap (next_is (is_value m)) (ahead-none T e)))
       (λ c e.
       let b : Begins c (ahead T) = ahead-some T c e in
       let here : next_is (is_value m) (ahead T) ≡ (c == m) = ap (next_is (is_value m)) b.whole ∙ ap (λ v. v == m) b.value in
       if-step P (c == m) _ _
-      (λ h. Goes-ok ready ends weight 10 1 (begin_plan m names) (closing names) (rested s) T alone (if-true _ _ _ (here ∙ h)))
+      (λ h. Goes-ok W 10 1 (begin_plan m names) (closing names) (rested s) T alone (if-true _ _ _ (here ∙ h)))
       (λ h. begin-goes T alone k (here ∙ h)))
 
   begin-says : (m : ℕ) (T : Tokenizer) → rested T.tokenize_state ≡ T.tokenize_state → (ok : Bool) (U : Tokenizer) → begin_ends (scratched (begun m T.tokenize_state) (done (opening (names_in T.tokenize_state)) T)) ok U → DoesAs 1 (begin_plan m (names_in T.tokenize_state)) T.tokenize_state (scratched (begun m T.tokenize_state) (done (opening (names_in T.tokenize_state)) T)) ok U
   unfolding scratched
   begin-says m T e ok U k = subst (λ q. DoesAs 1 (begin_plan m (names_in T.tokenize_state)) q (scratched (begun m T.tokenize_state) (done (opening (names_in T.tokenize_state)) T)) ok U) e k
 
-  opens : (m : ℕ) (T : Tokenizer) → T.attempts ≡ [] → StartReady T → 1 ≤ length (ahead T) → is_closer m ≡ true → plan_of (title (names_in T.tokenize_state)) (ahead T) ≡ preceded (opening (names_in T.tokenize_state)) (begin_plan m (names_in T.tokenize_state) (drop 1 (ahead T))) → GoesOn ready ends weight (weight_at 11 T) (KeepsAs 0 (plan_of (title (names_in T.tokenize_state))) T) (opened m T)
+  opens : (m : ℕ) (T : Tokenizer) → T.attempts ≡ [] → StartReady T → 1 ≤ length (ahead T) → is_closer m ≡ true → plan_of (title (names_in T.tokenize_state)) (ahead T) ≡ preceded (opening (names_in T.tokenize_state)) (begin_plan m (names_in T.tokenize_state) (drop 1 (ahead T))) → GoesIn W (weight_at 11 T) (KeepsAs 0 (plan_of (title (names_in T.tokenize_state))) T) (opened m T)
   opens m T alone k more h same =
       let s : TokenizeState = T.tokenize_state in
       let names : StringNames = names_in s in
-      Goes-on ready ends weight 11 10 0 (plan_of (title names)) (begin_plan m names) (opening names) s (begun m s) T (Next TitleBegin) alone refl more (omega arith)
+      Goes-on W 11 0 (plan_of (title names)) (begin_plan m names) (opening names) s (begun m s) T (Next TitleBegin) (within TitleBegin) alone refl more (omega arith)
       same
-      (within.begin_ready _ (begun-ready m T more h k))
-      (within.begin_weight _)
-      (λ ok U x. begin-says m T k.rest ok U (within.begin_end _ ok U x))
+      (begun-ready m T more h k)
+      (λ ok U x. begin-says m T k.rest ok U x)
 
-  pub start-law : (T : Tokenizer) → T.attempts ≡ [] → StartReady T → GoesOn ready ends weight (weight_at 11 T) (start_ends T) (start_step T)
+  pub start-law : Law W start_words
   start-law T alone k =
       let s : TokenizeState = T.tokenize_state in
       let names : StringNames = names_in s in
       let p : Plan = plan_of (title names) in
       let E : Bool → Tokenizer → Type 0 = KeepsAs 0 p T in
-      let P : Stepped → Type 0 = GoesOn ready ends weight (weight_at 11 T) E in
-      GoesOn-map ready ends weight (weight_at 11 T) E (start_ends T) (start_step T) (λ ok U x. EndsAs-linked (title names) (title-covers names) s T ok U x)
+      let P : Stepped → Type 0 = GoesIn W (weight_at 11 T) E in
+      GoesOn-map W (weight_at 11 T) E (start_ends T) (start_step T) (λ ok U x. EndsAs-linked (title names) (title-covers names) s T ok U x)
       (code-step P (current_of T) (λ o. start_at o T)
-      (λ e. Goes-no ready ends weight 11 0 p T alone (ap p (ahead-none T e) ∙ title-none names [] refl refl refl))
+      (λ e. Goes-no W 11 0 p T alone (ap p (ahead-none T e) ∙ title-none names [] refl refl refl))
       (λ c e.
       let b : Begins c (ahead T) = ahead-some T c e in
       let cs : List Code = rest_of (ahead T) in
@@ -381,5 +345,5 @@ module _ (ready : StateName → Tokenizer → Type 0) (ends : StateName → Toke
       (λ g. opens 39 T alone k more refl (ap p b.whole ∙ title-single names b.code cs (ap (λ v. v == 39) b.value ∙ g)))
       (λ g. if-step P (c == 40) _ _
       (λ f. opens 41 T alone k more refl (ap p b.whole ∙ title-paren names b.code cs (ap (λ v. v == 40) b.value ∙ f)))
-      (λ f. Goes-no ready ends weight 11 0 p T alone
+      (λ f. Goes-no W 11 0 p T alone
       (ap p b.whole ∙ title-none names (b.code ∷ cs) (ap (λ v. v == 34) b.value ∙ h) (ap (λ v. v == 39) b.value ∙ g) (ap (λ v. v == 40) b.value ∙ f)))))))

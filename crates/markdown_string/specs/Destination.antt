@@ -10,7 +10,7 @@ use Rattle.markdown_engine.specs.declared.event.Name.{Name}
 use Rattle.markdown_engine.specs.declared.event.Name.TheVariants as N
 use Rattle.markdown_engine.specs.declared.state.State.TheVariants.{Next, Retry, Nok}
 use Rattle.markdown_engine.specs.declared.state.State.TheVariants as State
-use Rattle.markdown_engine.specs.declared.state.StateName.TheVariants.{DestinationEnclosedBefore, DestinationEnclosed, DestinationEnclosedEscape, DestinationRaw, DestinationRawEscape}
+use Rattle.markdown_engine.specs.declared.state.StateName.TheVariants.{DestinationEnclosedBefore, DestinationEnclosed, DestinationEnclosedEscape, DestinationRaw, DestinationRawEscape, DestinationStart}
 use Rattle.markdown_engine.specs.declared.tokenizer.TokenizeState.{TokenizeState}
 use Rattle.markdown_engine.specs.declared.tokenizer.Tokenizer.{Tokenizer}
 use Rattle.markdown_model.specs.CodeTests.{is_value, is_among, is_between, next_is}
@@ -18,6 +18,8 @@ use Rattle.markdown_model.specs.Grammar.{escaped_from}
 use Rattle.markdown_model.specs.Resource.{DestinationNames, destination, raw_from}
 use Rattle.markdown_construct.specs.Plan.{Plan, preceded, DoesAs, KeepsAs}
 use Rattle.markdown_construct.specs.Scratch.{AreOpen, with_size}
+use Rattle.markdown_engine.specs.StateWords.{StateWords}
+use Rattle.markdown_engine.specs.declared.state.StateName.{StateName}
 
 abbrev pub names_in : TokenizeState → DestinationNames
 names_in s = record { whole = s.token_1; literal = s.token_2; marker = s.token_3; raw = s.token_4; text = s.token_5 }
@@ -207,3 +209,33 @@ abbrev pub raw_escape_ends : Tokenizer → Bool → Tokenizer → Type 0
 raw_escape_ends T ok U =
     let s : TokenizeState = T.tokenize_state in
     DoesAs 4 (raw_plan (names_in s) s.size_b true s.size) (with_size 0 s) T ok U
+
+-- The states.
+
+abbrev pub start_words : StateWords
+start_words = record { ready = StartReady; step = start_step; ends = start_ends; rank = 4 }
+
+abbrev pub enclosed_before_words : StateWords
+enclosed_before_words = record { ready = BeforeReady; step = enclosed_before_step; ends = enclosed_before_ends; rank = 3 }
+
+abbrev pub enclosed_words : StateWords
+enclosed_words = record { ready = EnclosedReady; step = enclosed_step; ends = enclosed_ends; rank = 1 }
+
+abbrev pub enclosed_escape_words : StateWords
+enclosed_escape_words = record { ready = EnclosedReady; step = enclosed_escape_step; ends = enclosed_escape_ends; rank = 2 }
+
+abbrev pub raw_words : StateWords
+raw_words = record { ready = RawReady; step = raw_step; ends = raw_ends; rank = 1 }
+
+abbrev pub raw_escape_words : StateWords
+raw_escape_words = record { ready = RawReady; step = raw_escape_step; ends = raw_escape_ends; rank = 2 }
+
+-- these states as they are said, and any other as it is given
+abbrev pub states : (StateName → StateWords) → StateName → StateWords
+states other DestinationStart = start_words
+states other DestinationEnclosedBefore = enclosed_before_words
+states other DestinationEnclosed = enclosed_words
+states other DestinationEnclosedEscape = enclosed_escape_words
+states other DestinationRaw = raw_words
+states other DestinationRawEscape = raw_escape_words
+states other s = other s

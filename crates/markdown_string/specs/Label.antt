@@ -8,7 +8,7 @@ use Rattle.markdown_engine.specs.Runs.{Stepped, stepped}
 use Rattle.markdown_engine.specs.declared.event.Name.TheVariants as N
 use Rattle.markdown_engine.specs.declared.state.State.{State}
 use Rattle.markdown_engine.specs.declared.state.State.TheVariants.{Next, Retry, Ok, Nok}
-use Rattle.markdown_engine.specs.declared.state.StateName.TheVariants.{SpaceOrTabEolStart, LabelAtBreak, LabelEolAfter, LabelInside, LabelEscape, LabelNok}
+use Rattle.markdown_engine.specs.declared.state.StateName.TheVariants.{SpaceOrTabEolStart, LabelAtBreak, LabelEolAfter, LabelInside, LabelEscape, LabelNok, LabelStart}
 use Rattle.markdown_engine.specs.declared.tokenizer.TokenizeState.{TokenizeState}
 use Rattle.markdown_engine.specs.declared.tokenizer.Tokenizer.{Tokenizer}
 use Rattle.markdown_model.specs.CodeTests.{is_value, is_among, is_whitespace_code}
@@ -17,6 +17,9 @@ use Rattle.markdown_model.specs.Resource.{StringNames, counted, label}
 use Rattle.markdown_construct.specs.Plan.{Plan, DoesAs}
 use Rattle.markdown_construct.specs.Scratch.{AreOpen, with_size}
 use Rattle.markdown_string.specs.Text.{names_in, joined, text_entered, ending, eol_asked_for, ends_open, TextReady, break_ops, inside_ops, ends_filled, answer}
+use Rattle.markdown_engine.specs.StateWords.{StateWords}
+use Rattle.markdown_partial.specs.EolSteps as E
+use Rattle.markdown_engine.specs.declared.state.StateName.{StateName}
 
 -- The scratch fields.
 
@@ -174,3 +177,34 @@ abbrev pub escape_ends : Tokenizer → Bool → Tokenizer → Type 0
 escape_ends T ok U =
     let s : TokenizeState = T.tokenize_state in
     DoesAs 3 (inside_plan (names_in s) s.size s.seen true) (rested s) T ok U
+
+-- The states.
+
+abbrev pub start_words : StateWords
+start_words = record { ready = StartReady; step = start_step; ends = start_ends; rank = 11 }
+
+abbrev pub at_break_words : StateWords
+at_break_words = record { ready = BreakReady; step = at_break_step; ends = at_break_ends; rank = 9 }
+
+abbrev pub eol_after_words : StateWords
+eol_after_words = record { ready = EolAfterReady; step = eol_after_step; ends = eol_after_ends; rank = 10 }
+
+abbrev pub inside_words : StateWords
+inside_words = record { ready = InsideReady; step = inside_step; ends = inside_ends; rank = 10 }
+
+abbrev pub escape_words : StateWords
+escape_words = record { ready = EscapeReady; step = escape_step; ends = escape_ends; rank = 11 }
+
+abbrev pub nok_words : StateWords
+nok_words = record { ready = λ T. Unit {0}; step = nok_step; ends = nok_ends; rank = 1 }
+
+-- these states as they are said, and any other as it is given
+abbrev pub states : (StateName → StateWords) → StateName → StateWords
+states other LabelStart = start_words
+states other LabelAtBreak = at_break_words
+states other LabelEolAfter = eol_after_words
+states other LabelInside = inside_words
+states other LabelEscape = escape_words
+states other LabelNok = nok_words
+states other SpaceOrTabEolStart = E.start_words
+states other s = other s

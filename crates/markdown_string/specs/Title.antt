@@ -7,7 +7,7 @@ use Rattle.markdown_engine.specs.Runs.{Stepped, stepped}
 use Rattle.markdown_engine.specs.declared.event.Name.TheVariants as N
 use Rattle.markdown_engine.specs.declared.state.State.{State}
 use Rattle.markdown_engine.specs.declared.state.State.TheVariants.{Next, Retry, Ok, Nok}
-use Rattle.markdown_engine.specs.declared.state.StateName.TheVariants.{SpaceOrTabEolStart, TitleBegin, TitleAtBreak, TitleAfterEol, TitleInside, TitleEscape, TitleNok}
+use Rattle.markdown_engine.specs.declared.state.StateName.TheVariants.{SpaceOrTabEolStart, TitleBegin, TitleAtBreak, TitleAfterEol, TitleInside, TitleEscape, TitleNok, TitleStart}
 use Rattle.markdown_engine.specs.declared.tokenizer.TokenizeState.{TokenizeState}
 use Rattle.markdown_engine.specs.declared.tokenizer.Tokenizer.{Tokenizer}
 use Rattle.markdown_model.specs.CodeTests.{is_value, is_among, next_is}
@@ -16,6 +16,9 @@ use Rattle.markdown_model.specs.Resource.{StringNames, title}
 use Rattle.markdown_construct.specs.Plan.{Plan, preceded, DoesAs}
 use Rattle.markdown_construct.specs.Scratch.{AreOpen}
 use Rattle.markdown_string.specs.Text.{names_in, joined, text_entered, closing, ending, eol_asked_for, ends_open, TextReady, break_ops, inside_ops, ends_filled, answer}
+use Rattle.markdown_engine.specs.StateWords.{StateWords}
+use Rattle.markdown_partial.specs.EolSteps as E
+use Rattle.markdown_engine.specs.declared.state.StateName.{StateName}
 
 -- The scratch fields.
 
@@ -189,3 +192,38 @@ abbrev pub escape_ends : Tokenizer → Bool → Tokenizer → Type 0
 escape_ends T ok U =
     let s : TokenizeState = T.tokenize_state in
     DoesAs 3 (inside_plan s.marker (names_in s) true) (rested s) T ok U
+
+-- The states.
+
+abbrev pub start_words : StateWords
+start_words = record { ready = StartReady; step = start_step; ends = start_ends; rank = 11 }
+
+abbrev pub begin_words : StateWords
+begin_words = record { ready = BeginReady; step = begin_step; ends = begin_ends; rank = 10 }
+
+abbrev pub at_break_words : StateWords
+at_break_words = record { ready = BreakReady; step = at_break_step; ends = at_break_ends; rank = 9 }
+
+abbrev pub after_eol_words : StateWords
+after_eol_words = record { ready = AfterEolReady; step = after_eol_step; ends = after_eol_ends; rank = 10 }
+
+abbrev pub inside_words : StateWords
+inside_words = record { ready = InsideReady; step = inside_step; ends = inside_ends; rank = 10 }
+
+abbrev pub escape_words : StateWords
+escape_words = record { ready = InsideReady; step = escape_step; ends = escape_ends; rank = 11 }
+
+abbrev pub nok_words : StateWords
+nok_words = record { ready = λ T. Unit {0}; step = nok_step; ends = nok_ends; rank = 1 }
+
+-- these states as they are said, and any other as it is given
+abbrev pub states : (StateName → StateWords) → StateName → StateWords
+states other TitleStart = start_words
+states other TitleBegin = begin_words
+states other TitleAtBreak = at_break_words
+states other TitleAfterEol = after_eol_words
+states other TitleInside = inside_words
+states other TitleEscape = escape_words
+states other TitleNok = nok_words
+states other SpaceOrTabEolStart = E.start_words
+states other s = other s
