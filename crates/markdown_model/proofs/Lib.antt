@@ -22,3 +22,4 @@ pub mod MergeLaws
 pub mod DataLaws
 pub mod MergedData
 pub mod NoRuns
+pub mod Counts

@@ -1,13 +1,18 @@
 -- Laws on the definitions.
 use Rattle.std.specs.Prelude.{◌≡◌, ◌↔◌, ℕ, zero, suc, ◌*◌, ◌<◌, ◌≤◌, List, [], ◌∷◌, ◌++◌, length, reverse, map, sum_by, Bool, true, false, ◌&&◌, ◌||◌, not, drop, Contains, Option, Some, None}
+use Rattle.std.specs.Str.{byte}
 use Rattle.markdown_engine.specs.declared.event.Name.{Name}
 use Rattle.markdown_engine.specs.declared.event.Event.{Event}
 use Rattle.markdown_engine.specs.declared.event.Kind.{Kind}
 use Rattle.markdown_engine.specs.declared.tokenizer.LabelKind.{LabelKind}
 use Rattle.markdown_engine.specs.Codes.{Code}
 use Rattle.markdown_engine.specs.Tree.{Forest, empty, leaf_then, group_then, leaf_codes, events_of}
-use Rattle.markdown_model.specs.Grammar.{Reading}
+use Rattle.markdown_model.specs.CodeTests.{is_value}
+use Rattle.markdown_model.specs.Grammar.{Reading, one, ◌then_◌, repeatedly}
 use Rattle.markdown_model.specs.Resource.{StringNames, DestinationNames, label, title, destination, resource}
+use Rattle.markdown_model.specs.Leaf.{domain_label}
+use Rattle.markdown_model.specs.Html.{spaces, attribute}
+use Rattle.markdown_model.specs.Email.{email_leaves, with_emails}
 use Rattle.markdown_model.specs.Setting.{Setting}
 use Rattle.markdown_model.specs.LabelEnd.{Element, plain, starts, ends, Label, label_before, is_image, makes_link, is_barred, after_label}
 use Rattle.markdown_model.specs.Element.{AreElements, AreStringElements, elements_of, string_elements_of}
@@ -62,6 +67,20 @@ pub record OneEnd : Type 0 where
   pub a_destination : (depth : ℕ) (names : DestinationNames) → HasOneEnd (destination depth names)
   pub a_resource : HasOneEnd resource
   pub what_follows_a_label : (s : Setting) → HasOneEnd (after_label s true) × HasOneEnd (after_label s false)
+
+-- where the reading holds it reads a code at least
+abbrev pub ReadsACode : Reading (List Code) → Type 0
+ReadsACode a = (cs text rest : List Code) → a cs ≡ Some (text, rest) → length rest < length cs
+
+-- The numbers of steps that definitions count down are enough.
+pub record CountsSuffice : Type 0 where
+  -- what is repeated stops only where it no longer holds
+  pub repeats : (a : Reading (List Code)) → ReadsACode a → (cs text rest : List Code) → repeatedly a cs ≡ Some (text, rest) → a rest ≡ None
+  -- so do the attributes of a tag, and the labels of an address
+  pub an_attribute : ReadsACode (spaces then_ attribute)
+  pub a_label : ReadsACode (one (is_value (byte ".")) then_ domain_label)
+  -- with more steps no more emails are found
+  pub emails : (n : ℕ) (cs : List Code) → length cs ≤ n → email_leaves n [] cs ≡ with_emails cs
 
 -- Labels: after these elements, last one first, an end closes this label. What stands inside it is
 -- balanced: it has as many ends as starts, and no end before its start.

@@ -1,5 +1,5 @@
 // Laws on the definitions.
-ghost use Rattle.markdown_model.specs.Laws.{OnePairList, OneElementList, OneTree, EventsNest, LeavesCover, OneEnd, LabelsMatch, EndsTakeTheNearest, LinksDoNotNest, MergedDataIsApart, NoRunIsLeft, PairsAreSound, PairsAreLocal};
+ghost use Rattle.markdown_model.specs.Laws.{OnePairList, OneElementList, OneTree, EventsNest, LeavesCover, OneEnd, LabelsMatch, EndsTakeTheNearest, LinksDoNotNest, CountsSuffice, MergedDataIsApart, NoRunIsLeft, PairsAreSound, PairsAreLocal};
 
 /// Each container has exactly one pair list, whatever sizes the rule of three reads.
 pub fn one_pair_list()
@@ -30,6 +30,12 @@ pub fn leaves_cover()
 /// tree covers the codes up to the end.
 pub fn one_end()
     ensures { OneEnd }
+{}
+
+/// The numbers of steps that definitions count down are enough: what is repeated stops only where it no longer holds,
+/// and with more steps no more emails are found.
+pub fn counts_suffice()
+    ensures { CountsSuffice }
 {}
 
 /// An end of a label closes the start before it between which and it the starts and ends are balanced, and no other.

@@ -1,0 +1,5 @@
+use Rattle.markdown_model.proofs.Counts.{counts_suffice}
+use Rattle.markdown_model.proofs.laws.counts_suffice.Goals as goal
+
+pub returns : goal.returns
+returns c = counts_suffice
