@@ -138,3 +138,6 @@ pub fn resolve(tokenizer: &mut Tokenizer) -> Result<Option<Subresult>, AllocErro
     tokenizer.tokenize_state.probes = probes;
     Ok(None)
 }
+
+#[cfg(test)]
+mod tests;
