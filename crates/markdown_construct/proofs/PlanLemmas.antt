@@ -55,9 +55,6 @@ Grown-after d (o ∷ os) T U e g = Grown-applied d o T U (and-left (op_stays d o
 
 -- One part of a plan, and then another.
 
-none-preceded : (os : List Op) (o : Option (List Op)) → o ≡ None → preceded os o ≡ None
-none-preceded os o e = ap (preceded os) e
-
 pub DoesAs-then : (d : ℕ) (p q : Plan) (os : List Op) (s r : TokenizeState) (T : Tokenizer) → stays d os ≡ true → p (ahead T) ≡ preceded os (q (drop (moves os) (ahead T))) → (ok : Bool) (U : Tokenizer) → DoesAs (depth_after d os) q s (scratched r (done os T)) ok U → DoesAs d p s T ok U
 DoesAs-then d p q os s r T st e true U k =
     let there : q (drop (moves os) (ahead T)) ≡ Some k.ops = ap q (sym (ahead-after os r T)) ∙ k.holds in

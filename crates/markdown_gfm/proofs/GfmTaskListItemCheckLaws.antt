@@ -31,7 +31,7 @@ use Rattle.markdown_partial.proofs.SpacingLemmas.{space-all}
 use Rattle.markdown_construct.specs.Plan.{Plan, preceded, tree_ops, plan_of, KeepsAs}
 use Rattle.markdown_construct.proofs.PlanLemmas.{EndsAs-plan}
 use Rattle.markdown_construct.proofs.WholeReadings.{Gives, Covers, IsSome, Gives-bind, Gives-before, Gives-switched, Gives-one, Gives-gives, Covers-group, Covers-row, Covers-leaf, some-first}
-use Rattle.markdown_gfm.specs.GfmTaskListItemCheck.{opening, value, closing, is_mark, is_space, may_begin, start_at, start_step, inside_at, inside_step, close_at, close_step, space_asked, looked, after_at, after_step, after_space_or_tab_at, after_space_or_tab_step, MayLook, IsOpened, check_here, start_ends, after_plan, close_plan, inside_plan, inside_ends, close_ends, after_ends, after_space_or_tab_ends, states, after_space_or_tab_words, after_words, close_words, inside_words, start_words}
+use Rattle.markdown_gfm.specs.GfmTaskListItemCheck.{opening, value, closing, is_mark, is_space, may_begin, start_at, start_step, inside_at, close_at, space_asked, looked, after_at, after_space_or_tab_at, MayLook, IsOpened, check_here, start_ends, after_plan, close_plan, inside_plan, inside_ends, close_ends, after_ends, after_space_or_tab_ends, states, after_space_or_tab_words, after_words, close_words, inside_words, start_words}
 use Rattle.markdown_gfm.proofs.LookLemmas.{Goes-looked, goes-then}
 use Rattle.markdown_model.proofs.ReadingSteps.{span-takes, bind-some, bind-none, before-some, before-none, before-other, one-here, one-not, switched-on, switched-off, and-left, and-right, and-false, if-true, if-false}
 use Rattle.markdown_engine.specs.StateWords.{Words, Law, GoesIn, weight_in}

@@ -1,56 +1,36 @@
 -- The laws of the states in the domain and the path of a literal.
-use Rattle.std.proofs.Common.{◌≡◌, ℕ, ◌+◌, ◌<◌, ◌≤◌, ◌==◌, ◌&&◌, ◌||◌, not, nat_lt, Bool, true, false, if◌then◌else◌, Option, Some, None, List, [], ◌∷◌, refl, sym, ap, subst, ◌∙◌, arith}
+use Rattle.std.proofs.Common.{◌≡◌, ℕ, ◌+◌, ◌<◌, ◌≤◌, ◌==◌, ◌&&◌, ◌||◌, not, nat_lt, Bool, true, false, if◌then◌else◌, Some, None, List, [], ◌∷◌, refl, sym, ap, subst, ◌∙◌, arith}
 use Rattle.std.specs.Prelude.{codes, IsSome}
 use Rattle.std.proofs.lemmas.Bool.{eqb-true}
 use Rattle.std.proofs.lemmas.Bool.Decides.{nat_tests}
 use Rattle.markdown_engine.specs.Codes.{Code}
 use Rattle.markdown_engine.specs.Lists.{rest_of}
-use Rattle.markdown_engine.specs.Ops.{Op, Consume, HasCode, ahead, applied, current_of, done, scratched}
+use Rattle.markdown_engine.specs.Ops.{Consume, HasCode, ahead, applied, current_of, done, scratched}
 use Rattle.markdown_engine.specs.Place.{moved}
-use Rattle.markdown_engine.specs.Runs.{Stepped, stepped, GoesOn}
+use Rattle.markdown_engine.specs.Runs.{Stepped, stepped}
 use Rattle.markdown_engine.specs.Weights.{weight_at}
 use Rattle.markdown_engine.specs.declared.state.State.TheVariants.{Next, Retry}
-use Rattle.markdown_engine.specs.declared.state.StateName.{StateName}
 use Rattle.markdown_engine.specs.declared.state.StateName.TheVariants.{GfmAutolinkLiteralDomainAfter, GfmAutolinkLiteralDomainAtPunctuation, GfmAutolinkLiteralDomainInside, GfmAutolinkLiteralPathAfter, GfmAutolinkLiteralPathAtPunctuation, GfmAutolinkLiteralPathInside, GfmAutolinkLiteralTrail}
 use Rattle.markdown_engine.specs.declared.tokenizer.TokenizeState.{TokenizeState}
 use Rattle.markdown_engine.specs.declared.tokenizer.Tokenizer.{Tokenizer}
-use Rattle.markdown_engine.proofs.Laws.{if-step, code-step, Goes-plain, Goes-check, Follows}
+use Rattle.markdown_engine.proofs.Laws.{if-step, code-step}
 use Rattle.markdown_engine.proofs.OpRules.{ahead-none, ahead-some, left-consumed, left-scratched, some-codes}
 use Rattle.markdown_model.specs.CodeTests.{is_value, is_among, is_later_byte}
 use Rattle.markdown_model.specs.Literal.{is_other, is_space, trails, trails_in, is_domain_code, ends_path, count_if}
 use Rattle.markdown_util.specs.Neighbours.{class_of, after_index}
 use Rattle.markdown_construct.specs.Values.{among_values}
 use Rattle.markdown_construct.specs.Plan.{Plan, preceded, DoesAs}
-use Rattle.markdown_construct.proofs.PlanLemmas.{preceded-nil, Goes-on, Goes-kept, Goes-ok, Goes-nok, no-codes}
-use Rattle.markdown_gfm.specs.GfmAutolinkLiteral.{end_of, kind_here, mark_value, rested, sized, closed, saw, underscored, dotted, domain_rested, looked, domain_at, domain_step, domain_punctuation_at, domain_punctuation_step, is_well, domain_after_step, path_at, path_step, path_punctuation_at, path_punctuation_step, path_after_step, LiteralReady, CodeReady, LookReady, passed_code, path_plan, path_punctuation_plan, domain_plan, domain_after_plan, domain_punctuation_plan, nothing_more, domain_ends, domain_punctuation_ends, domain_after_ends, path_ends, path_punctuation_ends, path_after_ends}
-use Rattle.markdown_construct.specs.Characters.{bytes_of, later_value, at_later}
+use Rattle.markdown_construct.proofs.PlanLemmas.{preceded-nil, no-codes}
+use Rattle.markdown_construct.specs.Characters.{at_later, bytes_of, later_value}
+use Rattle.markdown_construct.proofs.TextPasses.{text-consumed, text-passed}
+use Rattle.markdown_gfm.specs.GfmAutolinkLiteral.{end_of, kind_here, mark_value, rested, sized, closed, saw, underscored, dotted, domain_rested, looked, domain_at, domain_punctuation_at, is_well, path_at, path_punctuation_at, LiteralReady, CodeReady, LookReady, passed_code, path_plan, path_punctuation_plan, domain_plan, domain_after_plan, domain_punctuation_plan, nothing_more, domain_ends, domain_punctuation_ends, domain_after_ends, path_ends, path_punctuation_ends, states, domain_after_words, domain_punctuation_words, domain_words, path_after_words, path_punctuation_words, path_words}
 use Rattle.markdown_gfm.proofs.LiteralReadings.{domain-more, domain-stop, domain-end, path-more, path-stop}
 use Rattle.markdown_gfm.proofs.LiteralLooks.{space-here, looked-back}
-use Rattle.markdown_construct.proofs.TextPasses.{text-consumed, text-passed}
-use Rattle.markdown_gfm.proofs.LiteralTrailLaws as T
 use Rattle.markdown_model.proofs.ReadingSteps.{if-true, if-false}
-
--- what the layer says of these states
-pub record Within (ready : StateName → Tokenizer → Type 0) (ends : StateName → Tokenizer → Bool → Tokenizer → Type 0) (weight : StateName → Tokenizer → ℕ) : Type 0 where
-  pub trails : T.Within ready ends weight
-  pub domain_ready : (T : Tokenizer) → LiteralReady T → ready GfmAutolinkLiteralDomainInside T
-  pub domain_end : (T : Tokenizer) (ok : Bool) (U : Tokenizer) → ends GfmAutolinkLiteralDomainInside T ok U → domain_ends T ok U
-  pub domain_weight : (T : Tokenizer) → weight GfmAutolinkLiteralDomainInside T ≡ weight_at 5 T
-  pub domain_punctuation_ready : (T : Tokenizer) → CodeReady T → ready GfmAutolinkLiteralDomainAtPunctuation T
-  pub domain_punctuation_end : (T : Tokenizer) (ok : Bool) (U : Tokenizer) → ends GfmAutolinkLiteralDomainAtPunctuation T ok U → domain_punctuation_ends T ok U
-  pub domain_punctuation_weight : (T : Tokenizer) → weight GfmAutolinkLiteralDomainAtPunctuation T ≡ weight_at 1 T
-  pub domain_after_ready : (T : Tokenizer) → LiteralReady T → ready GfmAutolinkLiteralDomainAfter T
-  pub domain_after_end : (T : Tokenizer) (ok : Bool) (U : Tokenizer) → ends GfmAutolinkLiteralDomainAfter T ok U → domain_after_ends T ok U
-  pub domain_after_weight : (T : Tokenizer) → weight GfmAutolinkLiteralDomainAfter T ≡ weight_at 4 T
-  pub path_ready : (T : Tokenizer) → LiteralReady T → ready GfmAutolinkLiteralPathInside T
-  pub path_end : (T : Tokenizer) (ok : Bool) (U : Tokenizer) → ends GfmAutolinkLiteralPathInside T ok U → path_ends T ok U
-  pub path_weight : (T : Tokenizer) → weight GfmAutolinkLiteralPathInside T ≡ weight_at 3 T
-  pub path_punctuation_ready : (T : Tokenizer) → CodeReady T → ready GfmAutolinkLiteralPathAtPunctuation T
-  pub path_punctuation_end : (T : Tokenizer) (ok : Bool) (U : Tokenizer) → ends GfmAutolinkLiteralPathAtPunctuation T ok U → path_punctuation_ends T ok U
-  pub path_punctuation_weight : (T : Tokenizer) → weight GfmAutolinkLiteralPathAtPunctuation T ≡ weight_at 1 T
-  pub path_after_ready : (T : Tokenizer) → ready GfmAutolinkLiteralPathAfter T
-  pub path_after_end : (T : Tokenizer) (ok : Bool) (U : Tokenizer) → ends GfmAutolinkLiteralPathAfter T ok U → path_after_ends T ok U
-  pub path_after_weight : (T : Tokenizer) → weight GfmAutolinkLiteralPathAfter T ≡ weight_at 1 T
+use Rattle.markdown_engine.specs.StateWords.{Words, Law, GoesIn, StateWords, words_in}
+use Rattle.markdown_construct.proofs.StateLaws.{Goes-plain, Goes-check, Goes-on, Goes-kept, Goes-ok, Goes-nok, follows, FollowsIn}
+use Rattle.markdown_construct.specs.Within.{Within}
+use Rattle.markdown_engine.specs.declared.state.StateName.{StateName}
 
 -- The conditions go on.
 
@@ -95,27 +75,25 @@ pub does-same : (p q : Plan) (s : TokenizeState) (T : Tokenizer) (ok : Bool) (U 
 does-same p q s T true U e k = record { ops = k.ops; holds = e ∙ k.holds; left = k.left }
 does-same p q s T false U e k = record { none = e ∙ k.none; grown = k.grown; scratch = k.scratch }
 
-module _ (ready : StateName → Tokenizer → Type 0) (ends : StateName → Tokenizer → Bool → Tokenizer → Type 0) (weight : StateName → Tokenizer → ℕ) where
+module _ (W : Words) where
   -- another state takes over here
-  over : (k j : ℕ) (p q : Plan) (s : TokenizeState) (T : Tokenizer) (st : StateName) → T.attempts ≡ [] → j < k → p (ahead T) ≡ q (ahead T) → ready st T → weight st T ≡ weight_at j T → ((ok : Bool) (U : Tokenizer) → ends st T ok U → DoesAs 0 q s T ok U) → GoesOn ready ends weight (weight_at k T) (DoesAs 0 p s T) (stepped (Retry st) T)
-  over k j p q s T st alone less e on w closed =
-      Goes-plain ready ends weight (weight_at k T) (DoesAs 0 p s T) (Retry st) T alone on (rw w (omega (arith, less))) (λ ok U x. does-same p q s T ok U e (closed ok U x))
+  over : (k : ℕ) (p q : Plan) (s : TokenizeState) (T : Tokenizer) (st : StateName) {w : StateWords} → words_in W st ≡ w → T.attempts ≡ [] → w.rank < k → p (ahead T) ≡ q (ahead T) → w.ready T → ((ok : Bool) (U : Tokenizer) → w.ends T ok U → DoesAs 0 q s T ok U) → GoesIn W (weight_at k T) (DoesAs 0 p s T) (stepped (Retry st) T)
+  over k p q s T st {w} say alone less e on closed =
+      Goes-plain W (weight_at k T) (DoesAs 0 p s T) (Retry st) {w = w} say T alone on (omega (arith, less)) (λ ok U x. does-same p q s T ok U e (closed ok U x))
 
-  pub follows : (k j : ℕ) (p q : Plan) (s : TokenizeState) (T U : Tokenizer) (st : StateName) → U ≡ T → j < k → p (ahead T) ≡ q (ahead T) → ready st T → weight st T ≡ weight_at j T → ((ok : Bool) (V : Tokenizer) → ends st T ok V → DoesAs 0 q s T ok V) → Follows ready ends weight (weight_at k T) (DoesAs 0 p s T) (Next st) U
-  follows k j p q s T U st same less e on w closed =
-      subst (λ (x : Tokenizer). Follows ready ends weight (weight_at k T) (DoesAs 0 p s T) (Next st) x) (sym same)
-      (record { goes_on = on; falls = rw w (omega (arith, less)); closed = λ ok V x. does-same p q s T ok V e (closed ok V x) })
+  pub follows-here : (k : ℕ) (p q : Plan) (s : TokenizeState) (T U : Tokenizer) (st : StateName) {w : StateWords} → words_in W st ≡ w → U ≡ T → w.rank < k → p (ahead T) ≡ q (ahead T) → w.ready T → ((ok : Bool) (V : Tokenizer) → w.ends T ok V → DoesAs 0 q s T ok V) → FollowsIn W (weight_at k T) (DoesAs 0 p s T) (Next st) U
+  follows-here k p q s T U st {w} say same less e on closed =
+      subst (λ (x : Tokenizer). FollowsIn W (weight_at k T) (DoesAs 0 p s T) (Next st) x) (sym same)
+      (follows W _ _ (Next st) {w = w} say T on (omega (arith, less)) (λ ok V x. does-same p q s T ok V e (closed ok V x)))
 
   -- one of two states takes over, by whether a trail begins here
-  over-look : T.Within ready ends weight → (k j1 j2 : ℕ) (p q1 q2 : Plan) (s : TokenizeState) (T : Tokenizer) (held failed : StateName) → T.attempts ≡ [] → LookReady T → 1 < k → j1 < k → j2 < k → (trails_in (bytes_of T) (end_of T) None (ahead T) ≡ true → p (ahead T) ≡ q1 (ahead T)) → (trails_in (bytes_of T) (end_of T) None (ahead T) ≡ false → p (ahead T) ≡ q2 (ahead T)) → ready held T → weight held T ≡ weight_at j1 T → ((ok : Bool) (U : Tokenizer) → ends held T ok U → DoesAs 0 q1 s T ok U) → ready failed T → weight failed T ≡ weight_at j2 T → ((ok : Bool) (U : Tokenizer) → ends failed T ok U → DoesAs 0 q2 s T ok U) → GoesOn ready ends weight (weight_at k T) (DoesAs 0 p s T) (looked held failed T)
-  over-look within k j1 j2 p q1 q2 s T held failed alone look one less1 less2 e1 e2 on1 w1 closed1 on2 w2 closed2 =
+  over-look : Within states W → (k : ℕ) (p q1 q2 : Plan) (s : TokenizeState) (T : Tokenizer) (held : StateName) {v : StateWords} → words_in W held ≡ v → (failed : StateName) {w : StateWords} → words_in W failed ≡ w → T.attempts ≡ [] → LookReady T → 1 < k → v.rank < k → w.rank < k → (trails_in (bytes_of T) (end_of T) None (ahead T) ≡ true → p (ahead T) ≡ q1 (ahead T)) → (trails_in (bytes_of T) (end_of T) None (ahead T) ≡ false → p (ahead T) ≡ q2 (ahead T)) → v.ready T → ((ok : Bool) (U : Tokenizer) → v.ends T ok U → DoesAs 0 q1 s T ok U) → w.ready T → ((ok : Bool) (U : Tokenizer) → w.ends T ok U → DoesAs 0 q2 s T ok U) → GoesIn W (weight_at k T) (DoesAs 0 p s T) (looked held failed T)
+  over-look within k p q1 q2 s T held {v} say1 failed {w} say2 alone look one less1 less2 e1 e2 on1 closed1 on2 closed2 =
       let test : Bool = trails_in (bytes_of T) (end_of T) None (ahead T) in
-      Goes-check ready ends weight (weight_at k T) (DoesAs 0 p s T) (Retry GfmAutolinkLiteralTrail) (Next held) (Next failed) T alone (within.trail_ready T look)
-      (rw within.trail_weight (omega (arith, one)))
-      (λ U now x. let l = within.trail_end T true U x in
-      follows k j1 p q1 s T _ held (looked-back test (Next held) (Next failed) T true U l) less1 (e1 (sym l.answer)) on1 w1 closed1)
-      (λ U now x. let l = within.trail_end T false U x in
-      follows k j2 p q2 s T _ failed (looked-back test (Next held) (Next failed) T false U l) less2 (e2 (sym l.answer)) on2 w2 closed2)
+      Goes-check W (weight_at k T) (DoesAs 0 p s T) (Retry GfmAutolinkLiteralTrail) (within GfmAutolinkLiteralTrail) (Next held) (Next failed) T alone look
+      (omega (arith, one))
+      (λ U now x. follows-here k p q1 s T _ held {w = v} say1 (looked-back test (Next held) (Next failed) T true U x) less1 (e1 (sym x.answer)) on1 closed1)
+      (λ U now x. follows-here k p q2 s T _ failed {w = w} say2 (looked-back test (Next held) (Next failed) T false U x) less2 (e2 (sym x.answer)) on2 closed2)
 
 -- Tests.
 
@@ -182,31 +160,31 @@ none-here T e h = let no : false ≡ true = subst IsSome e h in cc
 
 -- Domains.
 
-module _ (ready : StateName → Tokenizer → Type 0) (ends : StateName → Tokenizer → Bool → Tokenizer → Type 0) (weight : StateName → Tokenizer → ℕ) (within : Within ready ends weight) where
-  pub domain-law : (T : Tokenizer) → T.attempts ≡ [] → LiteralReady T → GoesOn ready ends weight (weight_at 5 T) (domain_ends T) (domain_step T)
+module _ (W : Words) (within : Within states W) where
+  pub domain-law : Law W domain_words
   unfolding marked
   domain-law T alone on =
-      let P : Stepped → Type 0 = GoesOn ready ends weight (weight_at 5 T) (domain_ends T) in
+      let P : Stepped → Type 0 = GoesIn W (weight_at 5 T) (domain_ends T) in
       let s : TokenizeState = T.tokenize_state in
       let p : Plan = domain_plan (bytes_of T) (end_of T) s in
       let q : Plan = domain_after_plan (bytes_of T) (end_of T) s in
       code-step P (current_of T) (λ o. domain_at o T)
       (λ e. let none : ahead T ≡ [] = ahead-none T e in
-      over ready ends weight 5 4 p q (rested s) T GfmAutolinkLiteralDomainAfter alone (omega arith) (ap p none ∙ domain-end (bytes_of T) (end_of T) s ∙ ap q (sym none)) (within.domain_after_ready T on) (within.domain_after_weight T) (within.domain_after_end T))
+      over W 5 p q (rested s) T GfmAutolinkLiteralDomainAfter (within GfmAutolinkLiteralDomainAfter) alone (omega arith) (ap p none ∙ domain-end (bytes_of T) (end_of T) s ∙ ap q (sym none)) on (λ ok U x. x))
       (λ c e. let b = ahead-some T c e in
       let more : List Code = rest_of (ahead T) in
       if-step P (among_values (codes "._") c) _ _
       (λ h. let mark : is_among (codes "._") b.code ≡ true = ap (among_values (codes "._")) b.value ∙ h in
       let code : is_domain_code (bytes_of T) (end_of T) (b.code ∷ more) ≡ not (trails_in (bytes_of T) (end_of T) None (ahead T)) =
       mark-by (bytes_of T) (end_of T) b.code more mark ∙ ap (λ cs. not (trails_in (bytes_of T) (end_of T) None cs)) (sym b.whole) in
-      over-look ready ends weight within.trails 5 4 1 p q (domain_punctuation_plan (bytes_of T) (end_of T) s) (rested s) T GfmAutolinkLiteralDomainAfter GfmAutolinkLiteralDomainAtPunctuation alone
+      over-look W within 5 p q (domain_punctuation_plan (bytes_of T) (end_of T) s) (rested s) T GfmAutolinkLiteralDomainAfter (within GfmAutolinkLiteralDomainAfter) GfmAutolinkLiteralDomainAtPunctuation (within GfmAutolinkLiteralDomainAtPunctuation) alone
       (record { text = on.text; begins = early T c e (mark-early c h) }) (omega arith) (omega arith) (omega arith)
       (λ t. ap p b.whole ∙ domain-stop (bytes_of T) (end_of T) s b.code more (code ∙ ap not t) ∙ ap q (sym b.whole))
       (λ t. ap p b.whole
       ∙ domain-more (bytes_of T) (end_of T) s (marked b.code.value s) b.code more (code ∙ ap not t) (mark-fields s b.code mark) (marked-size (b.code.value == 95) s) (marked-size_b (b.code.value == 95) s)
       ∙ ap (domain_punctuation_plan (bytes_of T) (end_of T) s) (sym b.whole))
-      (within.domain_after_ready T on) (within.domain_after_weight T) (within.domain_after_end T)
-      (within.domain_punctuation_ready T (record { goes_on = on; code = some-here T c e })) (within.domain_punctuation_weight T) (within.domain_punctuation_end T))
+      on (λ ok U x. x)
+      (record { goes_on = on; code = some-here T c e }) (λ ok U x. x))
       (λ h. let mark : is_among (codes "._") b.code ≡ false = ap (among_values (codes "._")) b.value ∙ h in
       let plain = no-mark b.code.value mark in
       let code : is_domain_code (bytes_of T) (end_of T) (b.code ∷ more) ≡ ((b.code.value == 45 || is_later_byte b.code) || is_other (kind_here T)) =
@@ -214,21 +192,21 @@ module _ (ready : StateName → Tokenizer → Type 0) (ends : StateName → Toke
       let fields : passed_code b.code s ≡ _ = plain-fields s b.code plain.0 plain.1 in
       if-step P (c == 45) _ _
       (λ f. let hyphen : (b.code.value == 45) ≡ true = ap (λ v. v == 45) b.value ∙ f in
-      Goes-kept ready ends weight 5 5 0 p p (Consume ∷ []) (rested s) T (Next GfmAutolinkLiteralDomainInside) alone refl (some-codes T c e) (omega arith)
+      Goes-kept W 5 0 p p (Consume ∷ []) (rested s) T (Next GfmAutolinkLiteralDomainInside) (within GfmAutolinkLiteralDomainInside) alone refl (some-codes T c e) (omega arith)
       (ap p b.whole ∙ domain-more (bytes_of T) (end_of T) s s b.code more (code ∙ or-left _ _ (or-left _ _ hyphen)) (fields ∙ if-true _ _ _ hyphen) refl refl)
-      (within.domain_ready _ (ready-passed T c on e)) (within.domain_weight _) (λ ok U k. domain-passed T ok U (within.domain_end _ ok U k)))
+      (ready-passed T c on e) (λ ok U k. domain-passed T ok U k))
       (λ f. let hyphen : (b.code.value == 45) ≡ false = ap (λ v. v == 45) b.value ∙ f in
       let code2 : is_domain_code (bytes_of T) (end_of T) (b.code ∷ more) ≡ (later_value c || is_other (kind_here T)) =
       code ∙ ap (λ x. (x || is_later_byte b.code) || is_other (kind_here T)) hyphen ∙ ap (λ v. later_value v || is_other (kind_here T)) b.value in
       if-step P (later_value c || is_other (kind_here T)) _ _
-      (λ g. Goes-on ready ends weight 5 5 0 p (domain_plan (bytes_of T) (end_of T) (saw s)) (Consume ∷ []) (rested s) (saw s) T (Next GfmAutolinkLiteralDomainInside) alone refl (some-codes T c e) (omega arith)
+      (λ g. Goes-on W 5 0 p (domain_plan (bytes_of T) (end_of T) (saw s)) (Consume ∷ []) (rested s) (saw s) T (Next GfmAutolinkLiteralDomainInside) (within GfmAutolinkLiteralDomainInside) alone refl (some-codes T c e) (omega arith)
       (ap p b.whole ∙ domain-more (bytes_of T) (end_of T) s (saw s) b.code more (code2 ∙ g) (fields ∙ if-false _ _ _ hyphen) refl refl)
-      (within.domain_ready _ (ready-next (saw s) T c on e (omega arith) (omega arith))) (within.domain_weight _) (λ ok U k. domain-then (saw s) T ok U (within.domain_end _ ok U k)))
-      (λ g. over ready ends weight 5 4 p q (rested s) T GfmAutolinkLiteralDomainAfter alone (omega arith) (ap p b.whole ∙ domain-stop (bytes_of T) (end_of T) s b.code more (code2 ∙ g) ∙ ap q (sym b.whole)) (within.domain_after_ready T on) (within.domain_after_weight T) (within.domain_after_end T)))))
+      (ready-next (saw s) T c on e (omega arith) (omega arith)) (λ ok U k. domain-then (saw s) T ok U k))
+      (λ g. over W 5 p q (rested s) T GfmAutolinkLiteralDomainAfter (within GfmAutolinkLiteralDomainAfter) alone (omega arith) (ap p b.whole ∙ domain-stop (bytes_of T) (end_of T) s b.code more (code2 ∙ g) ∙ ap q (sym b.whole)) on (λ ok U x. x)))))
 
-  pub domain_punctuation-law : (T : Tokenizer) → T.attempts ≡ [] → CodeReady T → GoesOn ready ends weight (weight_at 1 T) (domain_punctuation_ends T) (domain_punctuation_step T)
+  pub domain_punctuation-law : Law W domain_punctuation_words
   domain_punctuation-law T alone on =
-      let P : Stepped → Type 0 = GoesOn ready ends weight (weight_at 1 T) (domain_punctuation_ends T) in
+      let P : Stepped → Type 0 = GoesIn W (weight_at 1 T) (domain_punctuation_ends T) in
       let s : TokenizeState = T.tokenize_state in
       let p : Plan = domain_punctuation_plan (bytes_of T) (end_of T) s in
       code-step P (current_of T) (λ o. domain_punctuation_at o T)
@@ -236,28 +214,28 @@ module _ (ready : StateName → Tokenizer → Type 0) (ends : StateName → Toke
       (λ c e. let b = ahead-some T c e in
       let more : List Code = rest_of (ahead T) in
       if-step P (c == 95) _ _
-      (λ h. Goes-on ready ends weight 1 5 0 p (domain_plan (bytes_of T) (end_of T) (underscored s)) (Consume ∷ []) (rested s) (underscored s) T (Next GfmAutolinkLiteralDomainInside) alone refl (some-codes T c e) (omega arith)
+      (λ h. Goes-on W 1 0 p (domain_plan (bytes_of T) (end_of T) (underscored s)) (Consume ∷ []) (rested s) (underscored s) T (Next GfmAutolinkLiteralDomainInside) (within GfmAutolinkLiteralDomainInside) alone refl (some-codes T c e) (omega arith)
       (ap p b.whole ∙ ap (λ (r : TokenizeState). preceded (Consume ∷ []) (domain_plan (bytes_of T) (end_of T) r more)) (if-true _ _ _ (ap (λ v. v == 95) b.value ∙ h)))
-      (within.domain_ready _ (ready-next (underscored s) T c on.goes_on e (omega arith) (omega arith))) (within.domain_weight _) (λ ok U k. domain-then (underscored s) T ok U (within.domain_end _ ok U k)))
-      (λ h. Goes-on ready ends weight 1 5 0 p (domain_plan (bytes_of T) (end_of T) (dotted s)) (Consume ∷ []) (rested s) (dotted s) T (Next GfmAutolinkLiteralDomainInside) alone refl (some-codes T c e) (omega arith)
+      (ready-next (underscored s) T c on.goes_on e (omega arith) (omega arith)) (λ ok U k. domain-then (underscored s) T ok U k))
+      (λ h. Goes-on W 1 0 p (domain_plan (bytes_of T) (end_of T) (dotted s)) (Consume ∷ []) (rested s) (dotted s) T (Next GfmAutolinkLiteralDomainInside) (within GfmAutolinkLiteralDomainInside) alone refl (some-codes T c e) (omega arith)
       (ap p b.whole ∙ ap (λ (r : TokenizeState). preceded (Consume ∷ []) (domain_plan (bytes_of T) (end_of T) r more)) (if-false _ _ _ (ap (λ v. v == 95) b.value ∙ h)))
-      (within.domain_ready _ (ready-next (dotted s) T c on.goes_on e (omega arith) (omega arith))) (within.domain_weight _) (λ ok U k. domain-then (dotted s) T ok U (within.domain_end _ ok U k))))
+      (ready-next (dotted s) T c on.goes_on e (omega arith) (omega arith)) (λ ok U k. domain-then (dotted s) T ok U k)))
 
   rested-ready : (T : Tokenizer) → LiteralReady T → LiteralReady (scratched (domain_rested T.tokenize_state) T)
   unfolding scratched
   rested-ready T on = record { text = on.text; opened = omega (arith, on.opened); closed = omega (arith, on.closed) }
 
-  pub domain_after-law : (T : Tokenizer) → T.attempts ≡ [] → LiteralReady T → GoesOn ready ends weight (weight_at 4 T) (domain_after_ends T) (domain_after_step T)
+  pub domain_after-law : Law W domain_after_words
   domain_after-law T alone on =
-      let P : Stepped → Type 0 = GoesOn ready ends weight (weight_at 4 T) (domain_after_ends T) in
+      let P : Stepped → Type 0 = GoesIn W (weight_at 4 T) (domain_after_ends T) in
       let s : TokenizeState = T.tokenize_state in
       let p : Plan = domain_after_plan (bytes_of T) (end_of T) s in
       let q : Plan = path_plan (bytes_of T) (end_of T) s.size s.size_b in
       if-step P (is_well s) _ _
-      (λ h. Goes-on ready ends weight 4 3 0 p q [] (rested s) (domain_rested s) T (Retry GfmAutolinkLiteralPathInside) alone refl (no-codes T) (omega arith)
+      (λ h. Goes-on W 4 0 p q [] (rested s) (domain_rested s) T (Retry GfmAutolinkLiteralPathInside) (within GfmAutolinkLiteralPathInside) alone refl (no-codes T) (omega arith)
       (if-true _ _ _ h ∙ preceded-nil (q (ahead T)))
-      (within.path_ready _ (rested-ready T on)) (within.path_weight _) (λ ok U k. path-rested T ok U (within.path_end _ ok U k)))
-      (λ h. Goes-nok ready ends weight 4 0 p (rested s) T alone (if-false _ _ _ h))
+      (rested-ready T on) (λ ok U k. path-rested T ok U k))
+      (λ h. Goes-nok W 4 0 p (rested s) T alone (if-false _ _ _ h))
 
 -- Where a path ends, by the tests on a code.
 
@@ -353,11 +331,11 @@ module _ (bytes : List ℕ) (end : ℕ) where
 
 -- Paths.
 
-module _ (ready : StateName → Tokenizer → Type 0) (ends : StateName → Tokenizer → Bool → Tokenizer → Type 0) (weight : StateName → Tokenizer → ℕ) (within : Within ready ends weight) where
-  pub path-law : (T : Tokenizer) → T.attempts ≡ [] → LiteralReady T → GoesOn ready ends weight (weight_at 3 T) (path_ends T) (path_step T)
+module _ (W : Words) (within : Within states W) where
+  pub path-law : Law W path_words
   unfolding trails
   path-law T alone on =
-      let P : Stepped → Type 0 = GoesOn ready ends weight (weight_at 3 T) (path_ends T) in
+      let P : Stepped → Type 0 = GoesIn W (weight_at 3 T) (path_ends T) in
       let s : TokenizeState = T.tokenize_state in
       let B : List ℕ = bytes_of T in
       let E : ℕ = end_of T in
@@ -366,52 +344,52 @@ module _ (ready : StateName → Tokenizer → Type 0) (ends : StateName → Toke
       let p : Plan = path_plan B E o k in
       let q : Plan = path_punctuation_plan B E o k in
       code-step P (current_of T) (λ x. path_at x T)
-      (λ e. over ready ends weight 3 1 p nothing_more (rested s) T GfmAutolinkLiteralPathAfter alone (omega arith) (ap p (ahead-none T e)) (within.path_after_ready T) (within.path_after_weight T) (within.path_after_end T))
+      (λ e. over W 3 p nothing_more (rested s) T GfmAutolinkLiteralPathAfter (within GfmAutolinkLiteralPathAfter) alone (omega arith) (ap p (ahead-none T e)) tt (λ ok U x. x))
       (λ c e. let b = ahead-some T c e in
       let d : Code = b.code in
       let more : List Code = rest_of (ahead T) in
       let class : is_space (class_of (after_index B d.start.index)) ≡ is_space (kind_here T) = ap is_space (sym (space-here T d more b.whole)) in
       if-step P (later_value c) _ _
       (λ h. let later : later_value d.value ≡ true = ap later_value b.value ∙ h in
-      Goes-kept ready ends weight 3 3 0 p p (Consume ∷ []) (rested s) T (Next GfmAutolinkLiteralPathInside) alone refl (some-codes T c e) (omega arith)
+      Goes-kept W 3 0 p p (Consume ∷ []) (rested s) T (Next GfmAutolinkLiteralPathInside) (within GfmAutolinkLiteralPathInside) alone refl (some-codes T c e) (omega arith)
       (ap p b.whole ∙ goes-on B E o k o k d more (path-later B E o k d more later (later-mark d.value later)) (count-no 40 d o (later-not d.value 40 later refl)) (count-no 41 d k (later-not d.value 41 later refl)))
-      (within.path_ready _ (ready-passed T c on e)) (within.path_weight _) (λ ok U x. path-passed T ok U (within.path_end _ ok U x)))
+      (ready-passed T c on e) (λ ok U x. path-passed T ok U x))
       (λ h. let later : later_value d.value ≡ false = ap later_value b.value ∙ h in
       if-step P (is_space (kind_here T)) _ _
-      (λ f. over ready ends weight 3 1 p nothing_more (rested s) T GfmAutolinkLiteralPathAfter alone (omega arith)
+      (λ f. over W 3 p nothing_more (rested s) T GfmAutolinkLiteralPathAfter (within GfmAutolinkLiteralPathAfter) alone (omega arith)
       (ap p b.whole ∙ path-stop B E o k d more (path-space B E o k d more later (class ∙ f)))
-      (within.path_after_ready T) (within.path_after_weight T) (within.path_after_end T))
+      tt (λ ok U x. x))
       (λ f. let space : is_space (class_of (after_index B d.start.index)) ≡ false = class ∙ f in
       if-step P (c == 40) _ _
       (λ g. let opens : (d.value == 40) ≡ true = ap (λ v. v == 40) b.value ∙ g in
       let is : d.value ≡ 40 = eqb-true d.value 40 opens in
-      Goes-on ready ends weight 3 3 0 p (path_plan B E (o + 1) k) (Consume ∷ []) (rested s) (sized (o + 1) s) T (Next GfmAutolinkLiteralPathInside) alone refl (some-codes T c e) (omega arith)
+      Goes-on W 3 0 p (path_plan B E (o + 1) k) (Consume ∷ []) (rested s) (sized (o + 1) s) T (Next GfmAutolinkLiteralPathInside) (within GfmAutolinkLiteralPathInside) alone refl (some-codes T c e) (omega arith)
       (ap p b.whole ∙ goes-on B E o k (o + 1) k d more (path-free B E o k d more later space (ap mark_value is)) (count-yes 40 d o opens) (count-no 41 d k (ap (λ v. v == 41) is)))
-      (within.path_ready _ (ready-next (sized (o + 1) s) T c on e (omega arith) (omega arith))) (within.path_weight _) (λ ok U x. path-then (sized (o + 1) s) T ok U (within.path_end _ ok U x)))
+      (ready-next (sized (o + 1) s) T c on e (omega arith) (omega arith)) (λ ok U x. path-then (sized (o + 1) s) T ok U x))
       (λ g. let opens : (d.value == 40) ≡ false = ap (λ v. v == 40) b.value ∙ g in
       let code : CodeReady T = record { goes_on = on; code = some-here T c e } in
       if-step P ((c == 41) && nat_lt k o) _ _
-      (λ i. over ready ends weight 3 1 p q (rested s) T GfmAutolinkLiteralPathAtPunctuation alone (omega arith)
+      (λ i. over W 3 p q (rested s) T GfmAutolinkLiteralPathAtPunctuation (within GfmAutolinkLiteralPathAtPunctuation) alone (omega arith)
       (ap p b.whole ∙ goes-past B E o k d more (path-closing B E o k d more later space (ap (λ v. v == 41 && nat_lt k o) b.value ∙ i)) opens ∙ ap q (sym b.whole))
-      (within.path_punctuation_ready T code) (within.path_punctuation_weight T) (within.path_punctuation_end T))
+      code (λ ok U x. x))
       (λ i. let closes : (d.value == 41 && nat_lt k o) ≡ false = ap (λ v. v == 41 && nat_lt k o) b.value ∙ i in
       if-step P (mark_value c) _ _
       (λ m. let mark : mark_value d.value ≡ true = ap mark_value b.value ∙ m in
       let test : ends_path B E o k (d ∷ more) ≡ trails_in B E None (ahead T) = path-mark B E o k d more later space mark closes ∙ ap (trails_in B E None) (sym b.whole) in
-      over-look ready ends weight within.trails 3 1 1 p nothing_more q (rested s) T GfmAutolinkLiteralPathAfter GfmAutolinkLiteralPathAtPunctuation alone
+      over-look W within 3 p nothing_more q (rested s) T GfmAutolinkLiteralPathAfter (within GfmAutolinkLiteralPathAfter) GfmAutolinkLiteralPathAtPunctuation (within GfmAutolinkLiteralPathAtPunctuation) alone
       (record { text = on.text; begins = early T c e (mark-later c m) }) (omega arith) (omega arith) (omega arith)
       (λ t. ap p b.whole ∙ path-stop B E o k d more (test ∙ t))
       (λ t. ap p b.whole ∙ goes-past B E o k d more (test ∙ t) opens ∙ ap q (sym b.whole))
-      (within.path_after_ready T) (within.path_after_weight T) (within.path_after_end T)
-      (within.path_punctuation_ready T code) (within.path_punctuation_weight T) (within.path_punctuation_end T))
+      tt (λ ok U x. x)
+      code (λ ok U x. x))
       (λ m. let mark : mark_value d.value ≡ false = ap mark_value b.value ∙ m in
-      Goes-kept ready ends weight 3 3 0 p p (Consume ∷ []) (rested s) T (Next GfmAutolinkLiteralPathInside) alone refl (some-codes T c e) (omega arith)
+      Goes-kept W 3 0 p p (Consume ∷ []) (rested s) T (Next GfmAutolinkLiteralPathInside) (within GfmAutolinkLiteralPathInside) alone refl (some-codes T c e) (omega arith)
       (ap p b.whole ∙ goes-on B E o k o k d more (path-free B E o k d more later space mark) (count-no 40 d o opens) (count-no 41 d k (closing-mark d.value mark)))
-      (within.path_ready _ (ready-passed T c on e)) (within.path_weight _) (λ ok U x. path-passed T ok U (within.path_end _ ok U x))))))))
+      (ready-passed T c on e) (λ ok U x. path-passed T ok U x)))))))
 
-  pub path_punctuation-law : (T : Tokenizer) → T.attempts ≡ [] → CodeReady T → GoesOn ready ends weight (weight_at 1 T) (path_punctuation_ends T) (path_punctuation_step T)
+  pub path_punctuation-law : Law W path_punctuation_words
   path_punctuation-law T alone on =
-      let P : Stepped → Type 0 = GoesOn ready ends weight (weight_at 1 T) (path_punctuation_ends T) in
+      let P : Stepped → Type 0 = GoesIn W (weight_at 1 T) (path_punctuation_ends T) in
       let s : TokenizeState = T.tokenize_state in
       let k : ℕ = s.size_b in
       let p : Plan = path_punctuation_plan (bytes_of T) (end_of T) s.size k in
@@ -420,12 +398,12 @@ module _ (ready : StateName → Tokenizer → Type 0) (ends : StateName → Toke
       (λ c e. let b = ahead-some T c e in
       let more : List Code = rest_of (ahead T) in
       if-step P (c == 41) _ _
-      (λ h. Goes-on ready ends weight 1 3 0 p (path_plan (bytes_of T) (end_of T) s.size (k + 1)) (Consume ∷ []) (rested s) (closed (k + 1) s) T (Next GfmAutolinkLiteralPathInside) alone refl (some-codes T c e) (omega arith)
+      (λ h. Goes-on W 1 0 p (path_plan (bytes_of T) (end_of T) s.size (k + 1)) (Consume ∷ []) (rested s) (closed (k + 1) s) T (Next GfmAutolinkLiteralPathInside) (within GfmAutolinkLiteralPathInside) alone refl (some-codes T c e) (omega arith)
       (ap p b.whole ∙ ap (λ n. preceded (Consume ∷ []) (path_plan (bytes_of T) (end_of T) s.size n more)) (if-true _ _ _ (ap (λ v. v == 41) b.value ∙ h)))
-      (within.path_ready _ (ready-next (closed (k + 1) s) T c on.goes_on e (omega arith) (omega arith))) (within.path_weight _) (λ ok U x. path-then (closed (k + 1) s) T ok U (within.path_end _ ok U x)))
-      (λ h. Goes-kept ready ends weight 1 3 0 p (path_plan (bytes_of T) (end_of T) s.size k) (Consume ∷ []) (rested s) T (Next GfmAutolinkLiteralPathInside) alone refl (some-codes T c e) (omega arith)
+      (ready-next (closed (k + 1) s) T c on.goes_on e (omega arith) (omega arith)) (λ ok U x. path-then (closed (k + 1) s) T ok U x))
+      (λ h. Goes-kept W 1 0 p (path_plan (bytes_of T) (end_of T) s.size k) (Consume ∷ []) (rested s) T (Next GfmAutolinkLiteralPathInside) (within GfmAutolinkLiteralPathInside) alone refl (some-codes T c e) (omega arith)
       (ap p b.whole ∙ ap (λ n. preceded (Consume ∷ []) (path_plan (bytes_of T) (end_of T) s.size n more)) (if-false _ _ _ (ap (λ v. v == 41) b.value ∙ h)))
-      (within.path_ready _ (ready-passed T c on.goes_on e)) (within.path_weight _) (λ ok U x. path-passed T ok U (within.path_end _ ok U x))))
+      (ready-passed T c on.goes_on e) (λ ok U x. path-passed T ok U x)))
 
-pub path_after-law : (ready : StateName → Tokenizer → Type 0) (ends : StateName → Tokenizer → Bool → Tokenizer → Type 0) (weight : StateName → Tokenizer → ℕ) (T : Tokenizer) → T.attempts ≡ [] → GoesOn ready ends weight (weight_at 1 T) (path_after_ends T) (path_after_step T)
-path_after-law ready ends weight T alone = Goes-ok ready ends weight 1 0 nothing_more [] (rested T.tokenize_state) T alone refl
+pub path_after-law : (W : Words) → Law W path_after_words
+path_after-law W T alone _ = Goes-ok W 1 0 nothing_more [] (rested T.tokenize_state) T alone refl

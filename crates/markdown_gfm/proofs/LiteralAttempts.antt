@@ -4,16 +4,15 @@ use Rattle.markdown_engine.specs.Codes.{Code}
 use Rattle.markdown_engine.specs.Grown.{Grown}
 use Rattle.markdown_engine.specs.Lists.{rest_of}
 use Rattle.markdown_engine.specs.Ops.{Op, Enter, Exit, Consume, IsOpen, ahead, applied, done, frame_of, moves, scratched, attempted}
-use Rattle.markdown_engine.specs.Runs.{stepped, GoesOn, restored}
+use Rattle.markdown_engine.specs.Runs.{stepped, restored}
 use Rattle.markdown_engine.specs.TreeOps.{consumes}
 use Rattle.markdown_engine.specs.Weights.{codes_left, weight_at}
 use Rattle.markdown_engine.specs.declared.event.Name.{Name}
 use Rattle.markdown_engine.specs.declared.state.State.TheVariants.{Next, Retry, Nok}
-use Rattle.markdown_engine.specs.declared.state.StateName.{StateName}
 use Rattle.markdown_engine.specs.declared.tokenizer.TokenizeState.{TokenizeState}
 use Rattle.markdown_engine.specs.declared.tokenizer.Tokenizer.{Tokenizer}
 use Rattle.markdown_engine.proofs.EndsLemmas.{scratched-same}
-use Rattle.markdown_engine.proofs.Laws.{Goes-attempt, restored-grown}
+use Rattle.markdown_engine.proofs.Laws.{restored-grown}
 use Rattle.markdown_engine.proofs.OpRules.{attempts-applied, left-ahead, left-applied, stack-applied}
 use Rattle.markdown_engine.proofs.OpsLemmas.{Grown-done, ahead-done, scratch-done}
 use Rattle.markdown_engine.proofs.TreeLemmas.{done-append}
@@ -21,6 +20,9 @@ use Rattle.markdown_model.specs.Grammar.{Reading}
 use Rattle.markdown_construct.specs.Plan.{Plan, preceded, DoesAs}
 use Rattle.markdown_gfm.specs.GfmAutolinkLiteral.{rested, entered_literal, pass_ops}
 use Rattle.markdown_gfm.proofs.LiteralWhole.{leaf_ops, ops-leaf}
+use Rattle.markdown_engine.specs.StateWords.{Words, GoesIn, StateWords, words_in}
+use Rattle.markdown_construct.proofs.StateLaws.{Goes-attempt, follows}
+use Rattle.markdown_engine.specs.declared.state.StateName.{StateName}
 
 stack-consumes : (cs : List Code) (T : Tokenizer) → (done (consumes cs) T).stack ≡ T.stack
 stack-consumes [] T = refl
@@ -55,7 +57,7 @@ begins-first (Some xs) os e = (xs, cc)
 enter-same : (name : Name) (T : Tokenizer) → rested T.tokenize_state ≡ T.tokenize_state → scratched (rested T.tokenize_state) (entered_literal name T) ≡ entered_literal name T
 enter-same name T e = ap (λ (x : TokenizeState). scratched x (entered_literal name T)) (e ∙ sym (scratch-done (Enter name ∷ []) T)) ∙ scratched-same (entered_literal name T)
 
-module _ (ready : StateName → Tokenizer → Type 0) (ends : StateName → Tokenizer → Bool → Tokenizer → Type 0) (weight : StateName → Tokenizer → ℕ) (name : Name) (st last : StateName) (reading : Reading (List Code)) (p : Plan) (T : Tokenizer) (resting : rested T.tokenize_state ≡ T.tokenize_state) (same : p (ahead T) ≡ leaf_ops name (reading (ahead T))) where
+module _ (W : Words) (name : Name) (st last : StateName) (reading : Reading (List Code)) (p : Plan) (T : Tokenizer) (resting : rested T.tokenize_state ≡ T.tokenize_state) (same : p (ahead T) ≡ leaf_ops name (reading (ahead T))) where
   abbrev inside : Plan
   inside cs = pass_ops (reading cs)
 
@@ -102,19 +104,16 @@ module _ (ready : StateName → Tokenizer → Type 0) (ends : StateName → Toke
         scratch = ap (λ (x : Tokenizer). x.tokenize_state) e ∙ scratch-done (Enter name ∷ []) T;
       }
 
-  pub literal-law : (k j : ℕ) → T.attempts ≡ [] → j < k → 1 < k → Begins (inside (ahead T)) → ready st (entered_literal name T) → weight st (entered_literal name T) ≡ weight_at j (entered_literal name T) → ((ok : Bool) (U : Tokenizer) → ends st (entered_literal name T) ok U → DoesAs 0 inside (rested T.tokenize_state) (entered_literal name T) ok U) → ((U : Tokenizer) → IsOpen name U → ready last U) → ((U : Tokenizer) → weight last U ≡ weight_at 1 U) → ((U : Tokenizer) (ok : Bool) (V : Tokenizer) → ends last U ok V → (ok ≡ true) × (V ≡ done (Exit name ∷ []) U)) → GoesOn ready ends weight (weight_at k T) (DoesAs 0 p T.tokenize_state T) (stepped (Retry st) (attempted false (Next last) Nok (entered_literal name T)))
-  literal-law k j alone less one some on w closed last_ready last_weight last_end =
+  pub literal-law : (k : ℕ) {v w : StateWords} → words_in W st ≡ v → words_in W last ≡ w → T.attempts ≡ [] → v.rank < k → w.rank < k → Begins (inside (ahead T)) → v.ready (entered_literal name T) → ((ok : Bool) (U : Tokenizer) → v.ends (entered_literal name T) ok U → DoesAs 0 inside (rested T.tokenize_state) (entered_literal name T) ok U) → ((U : Tokenizer) → IsOpen name U → w.ready U) → ((U : Tokenizer) (ok : Bool) (V : Tokenizer) → w.ends U ok V → (ok ≡ true) × (V ≡ done (Exit name ∷ []) U)) → GoesIn W (weight_at k T) (DoesAs 0 p T.tokenize_state T) (stepped (Retry st) (attempted false (Next last) Nok (entered_literal name T)))
+  literal-law k {v} {w} say_first say_last alone less one some on closed last_ready last_end =
       let A : Tokenizer = entered_literal name T in
       let n : ℕ = weight_at k T in
       let E : Bool → Tokenizer → Type 0 = DoesAs 0 p T.tokenize_state T in
-      Goes-attempt ready ends weight n E (Retry st) (Next last) Nok A (attempts-applied (Enter name) T ∙ alone) on
-      (rw w (omega (arith, less, left-applied (Enter name) T refl)))
+      Goes-attempt W n E (Retry st) {w = v} say_first (Next last) Nok A (attempts-applied (Enter name) T ∙ alone) on
+      (omega (arith, less, left-applied (Enter name) T refl))
       (λ U now x. let y = closed true U x in
-      record {
-        goes_on = last_ready U (opens-still U y);
-        falls = rw last_weight (omega (arith, one, left-literal U y));
-        closed = λ ok V z. (let e = last_end U ok V z in subst (λ b. E b V) (sym e.0) (passed-literal U V some y e.1));
-      })
+      follows W n E (Next last) {w = w} say_last U (last_ready U (opens-still U y)) (omega (arith, one, left-literal U y))
+      (λ ok V z. (let e = last_end U ok V z in subst (λ b. E b V) (sym e.0) (passed-literal U V some y e.1))))
       (λ U now x. let y = closed false U x in
       record {
         goes_on = tt;

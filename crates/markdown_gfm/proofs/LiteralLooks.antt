@@ -6,24 +6,26 @@ use Rattle.markdown_engine.specs.Codes.{Code}
 use Rattle.markdown_engine.specs.Grown.{Grown}
 use Rattle.markdown_engine.specs.Ops.{Consume, HasCode, ahead, applied, current_of, done, frame_of, scratched}
 use Rattle.markdown_engine.specs.Place.{Place, moved, code_at, point_of, value_of, start_or}
-use Rattle.markdown_engine.specs.Runs.{stepped, GoesOn, restored}
+use Rattle.markdown_engine.specs.Runs.{stepped, restored}
 use Rattle.markdown_engine.specs.Weights.{weight_at}
 use Rattle.markdown_engine.specs.declared.state.State.{State}
-use Rattle.markdown_engine.specs.declared.state.State.TheVariants.{Next, Retry, Nok}
-use Rattle.markdown_engine.specs.declared.state.StateName.{StateName}
+use Rattle.markdown_engine.specs.declared.state.State.TheVariants.{Next, Retry}
 use Rattle.markdown_engine.specs.declared.tokenizer.TokenizeState.{TokenizeState}
 use Rattle.markdown_engine.specs.declared.tokenizer.Tokenizer.{Tokenizer}
 use Rattle.markdown_engine.proofs.EndsLemmas.{scratched-same}
-use Rattle.markdown_engine.proofs.Laws.{Goes-plain, Grown-refl, restored-grown}
+use Rattle.markdown_engine.proofs.Laws.{Grown-refl, restored-grown}
 use Rattle.markdown_engine.proofs.OpRules.{attempts-applied, left-consumed, left-ahead, some-codes}
 use Rattle.markdown_engine.proofs.OpsLemmas.{Grown-applied, scratch-done}
 use Rattle.markdown_engine.proofs.PlaceRules.{point_ahead, point_end}
 use Rattle.markdown_model.specs.CodeTests.{is_among, is_letter}
 use Rattle.markdown_model.specs.Literal.{is_space, trails_in}
 use Rattle.markdown_util.specs.Neighbours.{class_of, after_index}
+use Rattle.markdown_construct.specs.Characters.{IsText, ReadsText, at_later, bytes_of}
 use Rattle.markdown_construct.proofs.TextPasses.{text-moved}
 use Rattle.markdown_gfm.specs.GfmAutolinkLiteral.{end_of, kind_here, ended, MayClass, MayCount, TrailReady, LiteralReady, LookReady, Looks, trails_on}
-use Rattle.markdown_construct.specs.Characters.{bytes_of, at_later, IsText, ReadsText}
+use Rattle.markdown_engine.specs.StateWords.{Words, GoesIn, StateWords, words_in}
+use Rattle.markdown_construct.proofs.StateLaws.{Goes-plain, Goes-end}
+use Rattle.markdown_engine.specs.declared.state.StateName.{StateName}
 
 -- Characters.
 
@@ -139,18 +141,18 @@ looks-past test then1 T ok U e k =
 pub looked-back : (test : Bool) (held failed : State) (T : Tokenizer) (ok : Bool) (U : Tokenizer) → Looks test T ok U → restored (frame_of true held failed T) U ≡ T
 looked-back test held failed T ok U k = restored-grown true held failed T U k.grown ∙ ap (λ (s : TokenizeState). scratched s T) k.scratch ∙ scratched-same T
 
-module _ (ready : StateName → Tokenizer → Type 0) (ends : StateName → Tokenizer → Bool → Tokenizer → Type 0) (weight : StateName → Tokenizer → ℕ) where
-  pub look-ended : (k : ℕ) (test b : Bool) (T : Tokenizer) → T.attempts ≡ [] → b ≡ test → GoesOn ready ends weight (weight_at k T) (Looks test T) (ended b T)
-  look-ended k test true T alone e = Goes-plain ready ends weight (weight_at k T) (Looks test T) State.Ok T alone tt (omega arith) (λ ok U x. looks-here test T ok U (x.0 ∙ e) x.1)
-  look-ended k test false T alone e = Goes-plain ready ends weight (weight_at k T) (Looks test T) Nok T alone tt (omega arith) (λ ok U x. looks-here test T ok U (x.0 ∙ e) x.1)
+module _ (W : Words) where
+  pub look-ended : (k : ℕ) (test b : Bool) (T : Tokenizer) → T.attempts ≡ [] → b ≡ test → GoesIn W (weight_at k T) (Looks test T) (ended b T)
+  look-ended k test true T alone e = Goes-end W (weight_at k T) (Looks test T) true T alone (omega arith) (λ ok U x. looks-here test T ok U (x.0 ∙ e) x.1)
+  look-ended k test false T alone e = Goes-end W (weight_at k T) (Looks test T) false T alone (omega arith) (λ ok U x. looks-here test T ok U (x.0 ∙ e) x.1)
 
-  pub look-next : (k j : ℕ) (test then1 : Bool) (st : StateName) (T : Tokenizer) (c : ℕ) → T.attempts ≡ [] → current_of T ≡ Some c → j ≤ 9 → then1 ≡ test → ready st (done (Consume ∷ []) T) → weight st (done (Consume ∷ []) T) ≡ weight_at j (done (Consume ∷ []) T) → ((ok : Bool) (U : Tokenizer) → ends st (done (Consume ∷ []) T) ok U → Looks then1 (done (Consume ∷ []) T) ok U) → GoesOn ready ends weight (weight_at k T) (Looks test T) (stepped (Next st) (done (Consume ∷ []) T))
-  look-next k j test then1 st T c alone e small same on w closed =
-      Goes-plain ready ends weight (weight_at k T) (Looks test T) (Next st) (done (Consume ∷ []) T) (attempts-applied Consume T ∙ alone) on
-      (rw w (omega (arith, left-consumed T c e, small)))
+  pub look-next : (k : ℕ) (test then1 : Bool) (st : StateName) {w : StateWords} → words_in W st ≡ w → (T : Tokenizer) (c : ℕ) → T.attempts ≡ [] → current_of T ≡ Some c → w.rank ≤ 9 → then1 ≡ test → w.ready (done (Consume ∷ []) T) → ((ok : Bool) (U : Tokenizer) → w.ends (done (Consume ∷ []) T) ok U → Looks then1 (done (Consume ∷ []) T) ok U) → GoesIn W (weight_at k T) (Looks test T) (stepped (Next st) (done (Consume ∷ []) T))
+  look-next k test then1 st {w} say T c alone e small same on closed =
+      Goes-plain W (weight_at k T) (Looks test T) (Next st) {w = w} say (done (Consume ∷ []) T) (attempts-applied Consume T ∙ alone) on
+      (omega (arith, left-consumed T c e, small))
       (λ ok U x. looks-past test then1 T ok U same (closed ok U x))
 
-  pub look-retry : (k j : ℕ) (test then1 : Bool) (st : StateName) (T : Tokenizer) → T.attempts ≡ [] → j < k → then1 ≡ test → ready st T → weight st T ≡ weight_at j T → ((ok : Bool) (U : Tokenizer) → ends st T ok U → Looks then1 T ok U) → GoesOn ready ends weight (weight_at k T) (Looks test T) (stepped (Retry st) T)
-  look-retry k j test then1 st T alone less same on w closed =
-      Goes-plain ready ends weight (weight_at k T) (Looks test T) (Retry st) T alone on (rw w (omega (arith, less)))
+  pub look-retry : (k : ℕ) (test then1 : Bool) (st : StateName) {w : StateWords} → words_in W st ≡ w → (T : Tokenizer) → T.attempts ≡ [] → w.rank < k → then1 ≡ test → w.ready T → ((ok : Bool) (U : Tokenizer) → w.ends T ok U → Looks then1 T ok U) → GoesIn W (weight_at k T) (Looks test T) (stepped (Retry st) T)
+  look-retry k test then1 st {w} say T alone less same on closed =
+      Goes-plain W (weight_at k T) (Looks test T) (Retry st) {w = w} say T alone on (omega (arith, less))
       (λ ok U x. let l = closed ok U x in record { answer = l.answer ∙ same; grown = l.grown; scratch = l.scratch })

@@ -2,44 +2,31 @@
 use Rattle.std.proofs.Common.{◌≡◌, ℕ, ◌+◌, ◌==◌, ◌&&◌, ◌||◌, not, nat_le, Bool, true, false, if◌then◌else◌, Option, Some, None, List, [], ◌∷◌, refl, sym, ap, subst, ◌∙◌, arith}
 use Rattle.markdown_engine.specs.Codes.{Code}
 use Rattle.markdown_engine.specs.Lists.{rest_of}
-use Rattle.markdown_engine.specs.Ops.{Exit, Consume, IsOpen, ahead, applied, current_of, previous_of, done, scratched}
+use Rattle.markdown_engine.specs.Ops.{Exit, Consume, ahead, applied, current_of, previous_of, done, scratched}
 use Rattle.markdown_engine.specs.Place.{moved, code_before, last_of, value_of}
-use Rattle.markdown_engine.specs.Runs.{Stepped, GoesOn}
+use Rattle.markdown_engine.specs.Runs.{Stepped}
 use Rattle.markdown_engine.specs.Weights.{weight_at}
 use Rattle.markdown_engine.specs.declared.event.Name.TheVariants as N
-use Rattle.markdown_engine.specs.declared.state.State.{State}
 use Rattle.markdown_engine.specs.declared.state.State.TheVariants.{Next}
-use Rattle.markdown_engine.specs.declared.state.StateName.{StateName}
 use Rattle.markdown_engine.specs.declared.state.StateName.TheVariants.{GfmAutolinkLiteralProtocolAfter, GfmAutolinkLiteralProtocolPrefixInside, GfmAutolinkLiteralProtocolSlashesInside, GfmAutolinkLiteralDomainInside}
 use Rattle.markdown_engine.specs.declared.tokenizer.TokenizeState.{TokenizeState}
 use Rattle.markdown_engine.specs.declared.tokenizer.Tokenizer.{Tokenizer}
-use Rattle.markdown_engine.proofs.Laws.{if-step, code-step, Goes-plain}
+use Rattle.markdown_engine.proofs.Laws.{if-step, code-step}
 use Rattle.markdown_engine.proofs.OpRules.{ahead-none, ahead-some, attempts-applied, left-consumed, left-scratched, some-codes}
 use Rattle.markdown_model.specs.CodeTests.{is_letter, is_some_code, next_is}
 use Rattle.markdown_construct.specs.Plan.{Plan, plan_of, DoesAs}
-use Rattle.markdown_construct.proofs.PlanLemmas.{GoesOn-map, Goes-on, Goes-no, Goes-nok, EndsAs-plan}
-use Rattle.markdown_gfm.specs.GfmAutolinkLiteral.{end_of, before_of, is_on, may_begin, is_letter_before, scheme_letter, rested, sized, protocol_start_at, protocol_start_step, protocol_after_step, prefix_at, prefix_step, slashes_at, slashes_step, entered_literal, WordReady, LiteralReady, StartReady, pass_ops, prefix_reading, prefix_plan, slashes_plan, domain_plan, protocol_here, protocol_start_ends, protocol_after_ends, prefix_ends, slashes_ends}
+use Rattle.markdown_construct.proofs.PlanLemmas.{EndsAs-plan}
 use Rattle.markdown_construct.specs.Characters.{bytes_of}
+use Rattle.markdown_gfm.specs.GfmAutolinkLiteral.{end_of, before_of, is_on, may_begin, is_letter_before, scheme_letter, rested, sized, protocol_start_at, protocol_start_step, prefix_at, slashes_at, entered_literal, WordReady, LiteralReady, StartReady, pass_ops, prefix_reading, prefix_plan, slashes_plan, domain_plan, protocol_here, protocol_start_ends, protocol_after_ends, prefix_ends, slashes_ends, states, prefix_words, protocol_after_words, protocol_start_words, slashes_words}
 use Rattle.markdown_gfm.proofs.LiteralReadings.{prefix-more, prefix-colon, prefix-none, slashes-more, slashes-last, slashes-none}
 use Rattle.markdown_construct.proofs.TextPasses.{text-consumed}
 use Rattle.markdown_gfm.proofs.LiteralWhole.{leaf_ops, protocol-is, whole-protocol}
 use Rattle.markdown_gfm.proofs.LiteralAttempts.{Begins, begins-first, literal-law}
-use Rattle.markdown_gfm.proofs.LiteralAddressLaws as A
 use Rattle.markdown_gfm.proofs.LiteralAddressLaws.{domain-then}
 use Rattle.markdown_model.proofs.ReadingSteps.{if-true, if-false, and-left, and-right, and-false}
-
--- what the layer says of these states
-pub record Within (ready : StateName → Tokenizer → Type 0) (ends : StateName → Tokenizer → Bool → Tokenizer → Type 0) (weight : StateName → Tokenizer → ℕ) : Type 0 where
-  pub address : A.Within ready ends weight
-  pub prefix_ready : (T : Tokenizer) → WordReady T → ready GfmAutolinkLiteralProtocolPrefixInside T
-  pub prefix_end : (T : Tokenizer) (ok : Bool) (U : Tokenizer) → ends GfmAutolinkLiteralProtocolPrefixInside T ok U → prefix_ends T ok U
-  pub prefix_weight : (T : Tokenizer) → weight GfmAutolinkLiteralProtocolPrefixInside T ≡ weight_at 1 T
-  pub slashes_ready : (T : Tokenizer) → WordReady T → ready GfmAutolinkLiteralProtocolSlashesInside T
-  pub slashes_end : (T : Tokenizer) (ok : Bool) (U : Tokenizer) → ends GfmAutolinkLiteralProtocolSlashesInside T ok U → slashes_ends T ok U
-  pub slashes_weight : (T : Tokenizer) → weight GfmAutolinkLiteralProtocolSlashesInside T ≡ weight_at 1 T
-  pub protocol_after_ready : (T : Tokenizer) → IsOpen N.GfmAutolinkLiteralProtocol T → ready GfmAutolinkLiteralProtocolAfter T
-  pub protocol_after_end : (T : Tokenizer) (ok : Bool) (U : Tokenizer) → ends GfmAutolinkLiteralProtocolAfter T ok U → protocol_after_ends T ok U
-  pub protocol_after_weight : (T : Tokenizer) → weight GfmAutolinkLiteralProtocolAfter T ≡ weight_at 1 T
+use Rattle.markdown_engine.specs.StateWords.{Words, Law, GoesIn}
+use Rattle.markdown_construct.proofs.StateLaws.{GoesOn-map, Goes-end, Goes-on, Goes-nok, Goes-no}
+use Rattle.markdown_construct.specs.Within.{Within}
 
 -- The conditions go on.
 
@@ -71,52 +58,52 @@ slashes-then : (n : ℕ) (T : Tokenizer) (ok : Bool) (U : Tokenizer) → slashes
 unfolding scratched applied moved
 slashes-then n T ok U k = k
 
-module _ (ready : StateName → Tokenizer → Type 0) (ends : StateName → Tokenizer → Bool → Tokenizer → Type 0) (weight : StateName → Tokenizer → ℕ) (within : Within ready ends weight) where
-  pub prefix-law : (T : Tokenizer) → T.attempts ≡ [] → WordReady T → GoesOn ready ends weight (weight_at 1 T) (prefix_ends T) (prefix_step T)
+module _ (W : Words) (within : Within states W) where
+  pub prefix-law : Law W prefix_words
   prefix-law T alone on =
-      let P : Stepped → Type 0 = GoesOn ready ends weight (weight_at 1 T) (prefix_ends T) in
+      let P : Stepped → Type 0 = GoesIn W (weight_at 1 T) (prefix_ends T) in
       let s : TokenizeState = T.tokenize_state in
       let n : ℕ = s.size in
       let p : Plan = prefix_plan (bytes_of T) (end_of T) n in
       code-step P (current_of T) (λ o. prefix_at o T)
-      (λ e. Goes-nok ready ends weight 1 0 p (rested s) T alone (ap p (ahead-none T e) ∙ prefix-none (bytes_of T) (end_of T) n [] refl (and-false (nat_le 4 n))))
+      (λ e. Goes-nok W 1 0 p (rested s) T alone (ap p (ahead-none T e) ∙ prefix-none (bytes_of T) (end_of T) n [] refl (and-false (nat_le 4 n))))
       (λ c e. let b = ahead-some T c e in
       let more : List Code = rest_of (ahead T) in
       if-step P (scheme_letter n c) _ _
-      (λ h. Goes-on ready ends weight 1 1 0 p (prefix_plan (bytes_of T) (end_of T) (n + 1)) (Consume ∷ []) (rested s) (sized (n + 1) s) T (Next GfmAutolinkLiteralProtocolPrefixInside) alone refl (some-codes T c e) (omega arith)
+      (λ h. Goes-on W 1 0 p (prefix_plan (bytes_of T) (end_of T) (n + 1)) (Consume ∷ []) (rested s) (sized (n + 1) s) T (Next GfmAutolinkLiteralProtocolPrefixInside) (within GfmAutolinkLiteralProtocolPrefixInside) alone refl (some-codes T c e) (omega arith)
       (ap p b.whole ∙ prefix-more (bytes_of T) (end_of T) n b.code more (ap (scheme_letter n) b.value ∙ h))
-      (within.prefix_ready _ (word-next (n + 1) T c on e)) (within.prefix_weight _) (λ ok U x. prefix-then (n + 1) T ok U (within.prefix_end _ ok U x)))
+      (word-next (n + 1) T c on e) (λ ok U x. prefix-then (n + 1) T ok U x))
       (λ h. let other : scheme_letter n b.code.value ≡ false = ap (scheme_letter n) b.value ∙ h in
       if-step P (nat_le 4 n && (c == 58)) _ _
-      (λ f. Goes-on ready ends weight 1 1 0 p (slashes_plan (bytes_of T) (end_of T) 0) (Consume ∷ []) (rested s) (sized 0 s) T (Next GfmAutolinkLiteralProtocolSlashesInside) alone refl (some-codes T c e) (omega arith)
+      (λ f. Goes-on W 1 0 p (slashes_plan (bytes_of T) (end_of T) 0) (Consume ∷ []) (rested s) (sized 0 s) T (Next GfmAutolinkLiteralProtocolSlashesInside) (within GfmAutolinkLiteralProtocolSlashesInside) alone refl (some-codes T c e) (omega arith)
       (ap p b.whole ∙ prefix-colon (bytes_of T) (end_of T) n b.code more other (ap (λ v. nat_le 4 n && (v == 58)) b.value ∙ f))
-      (within.slashes_ready _ (word-next 0 T c on e)) (within.slashes_weight _) (λ ok U x. slashes-then 0 T ok U (within.slashes_end _ ok U x)))
-      (λ f. Goes-nok ready ends weight 1 0 p (rested s) T alone (ap p b.whole ∙ prefix-none (bytes_of T) (end_of T) n (b.code ∷ more) other (ap (λ v. nat_le 4 n && (v == 58)) b.value ∙ f)))))
+      (word-next 0 T c on e) (λ ok U x. slashes-then 0 T ok U x))
+      (λ f. Goes-nok W 1 0 p (rested s) T alone (ap p b.whole ∙ prefix-none (bytes_of T) (end_of T) n (b.code ∷ more) other (ap (λ v. nat_le 4 n && (v == 58)) b.value ∙ f)))))
 
-  pub slashes-law : (T : Tokenizer) → T.attempts ≡ [] → WordReady T → GoesOn ready ends weight (weight_at 1 T) (slashes_ends T) (slashes_step T)
+  pub slashes-law : Law W slashes_words
   slashes-law T alone on =
-      let P : Stepped → Type 0 = GoesOn ready ends weight (weight_at 1 T) (slashes_ends T) in
+      let P : Stepped → Type 0 = GoesIn W (weight_at 1 T) (slashes_ends T) in
       let s : TokenizeState = T.tokenize_state in
       let n : ℕ = s.size in
       let p : Plan = slashes_plan (bytes_of T) (end_of T) n in
       code-step P (current_of T) (λ o. slashes_at o T)
-      (λ e. Goes-nok ready ends weight 1 0 p (rested s) T alone (ap p (ahead-none T e) ∙ slashes-none (bytes_of T) (end_of T) n [] refl))
+      (λ e. Goes-nok W 1 0 p (rested s) T alone (ap p (ahead-none T e) ∙ slashes-none (bytes_of T) (end_of T) n [] refl))
       (λ c e. let b = ahead-some T c e in
       let more : List Code = rest_of (ahead T) in
       if-step P (c == 47) _ _
       (λ h. let slash : (b.code.value == 47) ≡ true = ap (λ v. v == 47) b.value ∙ h in
       if-step P (n == 0) _ _
-      (λ f. Goes-on ready ends weight 1 1 0 p (slashes_plan (bytes_of T) (end_of T) 1) (Consume ∷ []) (rested s) (sized 1 s) T (Next GfmAutolinkLiteralProtocolSlashesInside) alone refl (some-codes T c e) (omega arith)
+      (λ f. Goes-on W 1 0 p (slashes_plan (bytes_of T) (end_of T) 1) (Consume ∷ []) (rested s) (sized 1 s) T (Next GfmAutolinkLiteralProtocolSlashesInside) (within GfmAutolinkLiteralProtocolSlashesInside) alone refl (some-codes T c e) (omega arith)
       (ap p b.whole ∙ slashes-more (bytes_of T) (end_of T) n b.code more slash f)
-      (within.slashes_ready _ (word-next 1 T c on e)) (within.slashes_weight _) (λ ok U x. slashes-then 1 T ok U (within.slashes_end _ ok U x)))
-      (λ f. Goes-on ready ends weight 1 5 0 p (domain_plan (bytes_of T) (end_of T) (sized 0 s)) (Consume ∷ []) (rested s) (sized 0 s) T (Next GfmAutolinkLiteralDomainInside) alone refl (some-codes T c e) (omega arith)
+      (word-next 1 T c on e) (λ ok U x. slashes-then 1 T ok U x))
+      (λ f. Goes-on W 1 0 p (domain_plan (bytes_of T) (end_of T) (sized 0 s)) (Consume ∷ []) (rested s) (sized 0 s) T (Next GfmAutolinkLiteralDomainInside) (within GfmAutolinkLiteralDomainInside) alone refl (some-codes T c e) (omega arith)
       (ap p b.whole ∙ slashes-last (bytes_of T) (end_of T) n b.code more (sized 0 s) slash f (sym on.fresh))
-      (within.address.domain_ready _ (address-ready T c on e)) (within.address.domain_weight _) (λ ok U x. domain-then (sized 0 s) T ok U (within.address.domain_end _ ok U x))))
-      (λ h. Goes-nok ready ends weight 1 0 p (rested s) T alone (ap p b.whole ∙ slashes-none (bytes_of T) (end_of T) n (b.code ∷ more) (ap (λ v. v == 47) b.value ∙ h))))
+      (address-ready T c on e) (λ ok U x. domain-then (sized 0 s) T ok U x)))
+      (λ h. Goes-nok W 1 0 p (rested s) T alone (ap p b.whole ∙ slashes-none (bytes_of T) (end_of T) n (b.code ∷ more) (ap (λ v. v == 47) b.value ∙ h))))
 
-pub protocol_after-law : (ready : StateName → Tokenizer → Type 0) (ends : StateName → Tokenizer → Bool → Tokenizer → Type 0) (weight : StateName → Tokenizer → ℕ) (T : Tokenizer) → T.attempts ≡ [] → GoesOn ready ends weight (weight_at 1 T) (protocol_after_ends T) (protocol_after_step T)
-protocol_after-law ready ends weight T alone =
-    Goes-plain ready ends weight (weight_at 1 T) (protocol_after_ends T) State.Ok (done (Exit N.GfmAutolinkLiteralProtocol ∷ []) T) (attempts-applied (Exit N.GfmAutolinkLiteralProtocol) T ∙ alone) tt (omega arith) (λ ok U k. k)
+pub protocol_after-law : (W : Words) → Law W protocol_after_words
+protocol_after-law W T alone _ =
+    Goes-end W (weight_at 1 T) (protocol_after_ends T) true (done (Exit N.GfmAutolinkLiteralProtocol ∷ []) T) (attempts-applied (Exit N.GfmAutolinkLiteralProtocol) T ∙ alone) (omega arith) (λ ok U k. k)
 
 -- The start.
 
@@ -149,26 +136,26 @@ prefix-entered : (T : Tokenizer) → T.tokenize_state.size ≡ 0 → (ok : Bool)
 unfolding applied
 prefix-entered T e ok U k = subst (λ n. DoesAs 0 (λ cs. pass_ops (prefix_reading (bytes_of T) (end_of T) n cs)) (rested T.tokenize_state) (entered_literal N.GfmAutolinkLiteralProtocol T) ok U) e k
 
-pub protocol_start-law : (ready : StateName → Tokenizer → Type 0) (ends : StateName → Tokenizer → Bool → Tokenizer → Type 0) (weight : StateName → Tokenizer → ℕ) → Within ready ends weight → (T : Tokenizer) → T.attempts ≡ [] → StartReady T → GoesOn ready ends weight (weight_at 2 T) (protocol_start_ends T) (protocol_start_step T)
-protocol_start-law ready ends weight within T alone on =
+pub protocol_start-law : (W : Words) → Within states W → Law W protocol_start_words
+protocol_start-law W within T alone on =
     let s : TokenizeState = T.tokenize_state in
     let p : Plan = plan_of (protocol_here T) in
     let F : Bool → Tokenizer → Type 0 = DoesAs 0 p s T in
-    let P : Stepped → Type 0 = GoesOn ready ends weight (weight_at 2 T) F in
+    let P : Stepped → Type 0 = GoesIn W (weight_at 2 T) F in
     let reading : List Code → Option (List Code × List Code) = prefix_reading (bytes_of T) (end_of T) 0 in
-    GoesOn-map ready ends weight (weight_at 2 T) F (protocol_start_ends T) (protocol_start_step T) (λ ok U k. EndsAs-plan (protocol_here T) (whole-protocol (bytes_of T) (end_of T) (is_on T) (before_of T)) s T ok U k)
+    GoesOn-map W (weight_at 2 T) F (protocol_start_ends T) (protocol_start_step T) (λ ok U k. EndsAs-plan (protocol_here T) (whole-protocol (bytes_of T) (end_of T) (is_on T) (before_of T)) s T ok U k)
     (code-step P (current_of T) (λ o. protocol_start_at (may_begin T) o T)
-    (λ e. Goes-no ready ends weight 2 0 p T alone (ap p (ahead-none T e) ∙ no-literal T [] (may_begin T) refl (and-false (may_begin T))))
+    (λ e. Goes-no W 2 0 p T alone (ap p (ahead-none T e) ∙ no-literal T [] (may_begin T) refl (and-false (may_begin T))))
     (λ c e. let b = ahead-some T c e in
     let more : List Code = rest_of (ahead T) in
     if-step P (may_begin T && (c == 104 || c == 72)) _ _
     (λ h. let may : may_begin T ≡ true = and-left (may_begin T) (c == 104 || c == 72) h in
     let first : scheme_letter 0 b.code.value ≡ true = ap (scheme_letter 0) b.value ∙ and-right (may_begin T) (c == 104 || c == 72) h in
-    literal-law ready ends weight N.GfmAutolinkLiteralProtocol GfmAutolinkLiteralProtocolPrefixInside GfmAutolinkLiteralProtocolAfter reading p T on.resting
+    literal-law W N.GfmAutolinkLiteralProtocol GfmAutolinkLiteralProtocolPrefixInside GfmAutolinkLiteralProtocolAfter reading p T on.resting
     (here-is T (ahead T) ∙ if-true (may_begin T) _ None may)
-    2 1 alone (omega arith) (omega arith)
+    2 (within GfmAutolinkLiteralProtocolPrefixInside) (within GfmAutolinkLiteralProtocolAfter) alone (omega arith) (omega arith)
     (subst Begins (sym (ap (λ cs. pass_ops (reading cs)) b.whole ∙ prefix-more (bytes_of T) (end_of T) 0 b.code more first)) (begins-first _))
-    (within.prefix_ready _ (word-ready T on)) (within.prefix_weight _)
-    (λ ok U k. prefix-entered T (ap (λ (x : TokenizeState). x.size) (sym on.resting)) ok U (within.prefix_end _ ok U k))
-    within.protocol_after_ready within.protocol_after_weight within.protocol_after_end)
-    (λ h. Goes-no ready ends weight 2 0 p T alone (ap p b.whole ∙ no-literal T (b.code ∷ more) (may_begin T) refl (ap (λ v. may_begin T && (v == 104 || v == 72)) b.value ∙ h)))))
+    (word-ready T on)
+    (λ ok U k. prefix-entered T (ap (λ (x : TokenizeState). x.size) (sym on.resting)) ok U k)
+    (λ U x. x) (λ U ok V x. x))
+    (λ h. Goes-no W 2 0 p T alone (ap p b.whole ∙ no-literal T (b.code ∷ more) (may_begin T) refl (ap (λ v. may_begin T && (v == 104 || v == 72)) b.value ∙ h)))))

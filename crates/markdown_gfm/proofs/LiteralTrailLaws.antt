@@ -7,9 +7,8 @@ use Rattle.markdown_engine.specs.Codes.{Code}
 use Rattle.markdown_engine.specs.Lists.{rest_of, first_of}
 use Rattle.markdown_engine.specs.Ops.{Consume, ahead, applied, current_of, done}
 use Rattle.markdown_engine.specs.Place.{moved, value_of}
-use Rattle.markdown_engine.specs.Runs.{Stepped, GoesOn}
+use Rattle.markdown_engine.specs.Runs.{Stepped}
 use Rattle.markdown_engine.specs.Weights.{weight_at}
-use Rattle.markdown_engine.specs.declared.state.StateName.{StateName}
 use Rattle.markdown_engine.specs.declared.state.StateName.TheVariants.{GfmAutolinkLiteralTrail, GfmAutolinkLiteralTrailBracketAfter, GfmAutolinkLiteralTrailCharRefInside, GfmAutolinkLiteralTrailCharRefStart}
 use Rattle.markdown_engine.specs.declared.tokenizer.Tokenizer.{Tokenizer}
 use Rattle.markdown_engine.proofs.Laws.{if-step, code-step}
@@ -17,25 +16,12 @@ use Rattle.markdown_engine.proofs.OpRules.{ahead-none, ahead-some, ahead-consume
 use Rattle.markdown_model.specs.CodeTests.{is_among, is_empty, next_is, is_whitespace_code}
 use Rattle.markdown_model.specs.Literal.{is_space, trails_in}
 use Rattle.markdown_construct.specs.Values.{letter_value}
-use Rattle.markdown_gfm.specs.GfmAutolinkLiteral.{end_of, kind_here, trail_value, trail_at, trail_step, ends_bracket, bracket_after_step, reference_start_at, reference_start_step, reference_at, reference_step, LookReady, trails_on, trail_ends, bracket_after_ends, reference_start_ends, reference_ends}
-use Rattle.markdown_construct.specs.Characters.{bytes_of, ReadsText}
-use Rattle.markdown_gfm.proofs.LiteralLooks.{look-passed, space-here, space-end, trails-mark, trails-and, trails-angle, trails-bracket, trails-else, trails-end, name-letter, name-closed, name-other, name-none, name-end, look-ended, look-next, look-retry}
+use Rattle.markdown_construct.specs.Characters.{bytes_of}
 use Rattle.markdown_construct.proofs.TextPasses.{text-passed}
-
--- what the layer says of these states
-pub record Within (ready : StateName → Tokenizer → Type 0) (ends : StateName → Tokenizer → Bool → Tokenizer → Type 0) (weight : StateName → Tokenizer → ℕ) : Type 0 where
-  pub trail_ready : (T : Tokenizer) → LookReady T → ready GfmAutolinkLiteralTrail T
-  pub trail_end : (T : Tokenizer) (ok : Bool) (U : Tokenizer) → ends GfmAutolinkLiteralTrail T ok U → trail_ends T ok U
-  pub trail_weight : (T : Tokenizer) → weight GfmAutolinkLiteralTrail T ≡ weight_at 1 T
-  pub bracket_after_ready : (T : Tokenizer) → LookReady T → ready GfmAutolinkLiteralTrailBracketAfter T
-  pub bracket_after_end : (T : Tokenizer) (ok : Bool) (U : Tokenizer) → ends GfmAutolinkLiteralTrailBracketAfter T ok U → bracket_after_ends T ok U
-  pub bracket_after_weight : (T : Tokenizer) → weight GfmAutolinkLiteralTrailBracketAfter T ≡ weight_at 2 T
-  pub reference_start_ready : (T : Tokenizer) → ReadsText T → ready GfmAutolinkLiteralTrailCharRefStart T
-  pub reference_start_end : (T : Tokenizer) (ok : Bool) (U : Tokenizer) → ends GfmAutolinkLiteralTrailCharRefStart T ok U → reference_start_ends T ok U
-  pub reference_start_weight : (T : Tokenizer) → weight GfmAutolinkLiteralTrailCharRefStart T ≡ weight_at 2 T
-  pub reference_ready : (T : Tokenizer) → ReadsText T → ready GfmAutolinkLiteralTrailCharRefInside T
-  pub reference_end : (T : Tokenizer) (ok : Bool) (U : Tokenizer) → ends GfmAutolinkLiteralTrailCharRefInside T ok U → reference_ends T ok U
-  pub reference_weight : (T : Tokenizer) → weight GfmAutolinkLiteralTrailCharRefInside T ≡ weight_at 1 T
+use Rattle.markdown_gfm.specs.GfmAutolinkLiteral.{end_of, kind_here, trail_value, trail_at, ends_bracket, reference_start_at, reference_at, trails_on, trail_ends, bracket_after_ends, reference_start_ends, reference_ends, states, bracket_after_words, reference_start_words, reference_words, trail_words}
+use Rattle.markdown_gfm.proofs.LiteralLooks.{look-passed, space-here, space-end, trails-mark, trails-and, trails-angle, trails-bracket, trails-else, trails-end, name-letter, name-closed, name-other, name-none, name-end, look-ended, look-next, look-retry}
+use Rattle.markdown_engine.specs.StateWords.{Words, Law, GoesIn}
+use Rattle.markdown_construct.specs.Within.{Within}
 
 -- past a code the document and the content's end are the same
 trails-then : (mode : Option Bool) (T : Tokenizer) → trails_in (bytes_of (done (Consume ∷ []) T)) (end_of (done (Consume ∷ []) T)) mode (ahead (done (Consume ∷ []) T)) ≡ trails_in (bytes_of T) (end_of T) mode (rest_of (ahead T))
@@ -53,38 +39,35 @@ low-by v n e h = ap (λ k. nat_lt k 128) (eqb-true v n e) ∙ h
 trail-low : (v : ℕ) → trail_value v ≡ true → nat_lt v 128 ≡ true
 trail-low v e = grind (arith, nat_tests)
 
-pub trail-law : (ready : StateName → Tokenizer → Type 0) (ends : StateName → Tokenizer → Bool → Tokenizer → Type 0) (weight : StateName → Tokenizer → ℕ) → Within ready ends weight → (T : Tokenizer) → T.attempts ≡ [] → LookReady T → GoesOn ready ends weight (weight_at 1 T) (trail_ends T) (trail_step T)
-trail-law ready ends weight within T alone look =
-    let P : Stepped → Type 0 = GoesOn ready ends weight (weight_at 1 T) (trail_ends T) in
+pub trail-law : (W : Words) → Within states W → Law W trail_words
+trail-law W within T alone look =
+    let P : Stepped → Type 0 = GoesIn W (weight_at 1 T) (trail_ends T) in
     let at : List Code → Bool = trails_in (bytes_of T) (end_of T) None in
     code-step P (current_of T) (λ o. trail_at o T)
     (λ e. let none : ahead T ≡ [] = ahead-none T e in
-    look-ended ready ends weight 1 (at (ahead T)) (is_space (kind_here T)) T alone
+    look-ended W 1 (at (ahead T)) (is_space (kind_here T)) T alone
     (ap is_space (space-end T none) ∙ sym (trails-end (bytes_of T) (end_of T)) ∙ ap at (sym none)))
     (λ c e. let b = ahead-some T c e in
     let more : List Code = rest_of (ahead T) in
     let back : at (b.code ∷ more) ≡ at (ahead T) = ap at (sym b.whole) in
     if-step P (trail_value c) _ _
-    (λ h. look-next ready ends weight 1 1 (at (ahead T)) _ GfmAutolinkLiteralTrail T c alone e (omega arith)
+    (λ h. look-next W 1 (at (ahead T)) _ GfmAutolinkLiteralTrail (within GfmAutolinkLiteralTrail) T c alone e (omega arith)
     (trails-then None T ∙ sym (trails-mark (bytes_of T) (end_of T) b.code more (ap trail_value b.value ∙ h)) ∙ back)
-    (within.trail_ready _ (look-passed T c look.text e (trail-low c h)))
-    (within.trail_weight _) (within.trail_end _))
+    (look-passed T c look.text e (trail-low c h)) (λ ok U x. x))
     (λ h1. let m1 : trail_value b.code.value ≡ false = ap trail_value b.value ∙ h1 in
     if-step P (c == 38) _ _
-    (λ h. look-next ready ends weight 1 2 (at (ahead T)) _ GfmAutolinkLiteralTrailCharRefStart T c alone e (omega arith)
+    (λ h. look-next W 1 (at (ahead T)) _ GfmAutolinkLiteralTrailCharRefStart (within GfmAutolinkLiteralTrailCharRefStart) T c alone e (omega arith)
     (trails-then (Some false) T ∙ sym (trails-and (bytes_of T) (end_of T) b.code more m1 (ap (λ v. v == 38) b.value ∙ h)) ∙ back)
-    (within.reference_start_ready _ (text-passed T look.text))
-    (within.reference_start_weight _) (within.reference_start_end _))
+    (text-passed T look.text) (λ ok U x. x))
     (λ h2. let m2 : (b.code.value == 38) ≡ false = ap (λ v. v == 38) b.value ∙ h2 in
     if-step P (c == 60) _ _
-    (λ h. look-ended ready ends weight 1 (at (ahead T)) true T alone (sym (trails-angle (bytes_of T) (end_of T) b.code more m1 m2 (ap (λ v. v == 60) b.value ∙ h)) ∙ back))
+    (λ h. look-ended W 1 (at (ahead T)) true T alone (sym (trails-angle (bytes_of T) (end_of T) b.code more m1 m2 (ap (λ v. v == 60) b.value ∙ h)) ∙ back))
     (λ h3. let m3 : (b.code.value == 60) ≡ false = ap (λ v. v == 60) b.value ∙ h3 in
     if-step P (c == 93) _ _
-    (λ h. look-next ready ends weight 1 2 (at (ahead T)) _ GfmAutolinkLiteralTrailBracketAfter T c alone e (omega arith)
+    (λ h. look-next W 1 (at (ahead T)) _ GfmAutolinkLiteralTrailBracketAfter (within GfmAutolinkLiteralTrailBracketAfter) T c alone e (omega arith)
     (on-then T ∙ sym (trails-bracket (bytes_of T) (end_of T) b.code more m1 m2 m3 (ap (λ v. v == 93) b.value ∙ h)) ∙ back)
-    (within.bracket_after_ready _ (look-passed T c look.text e (low-by c 93 h refl)))
-    (within.bracket_after_weight _) (within.bracket_after_end _))
-    (λ h4. look-ended ready ends weight 1 (at (ahead T)) (is_space (kind_here T)) T alone
+    (look-passed T c look.text e (low-by c 93 h refl)) (λ ok U x. x))
+    (λ h4. look-ended W 1 (at (ahead T)) (is_space (kind_here T)) T alone
     (ap is_space (space-here T b.code more b.whole)
     ∙ sym (trails-else (bytes_of T) (end_of T) b.code more m1 m2 m3 (ap (λ v. v == 93) b.value ∙ h4))
     ∙ back))))))
@@ -102,46 +85,46 @@ or-false : (a b : Bool) → a ≡ false → a || b ≡ b
 or-false true b e = cc
 or-false false b e = refl
 
-pub bracket_after-law : (ready : StateName → Tokenizer → Type 0) (ends : StateName → Tokenizer → Bool → Tokenizer → Type 0) (weight : StateName → Tokenizer → ℕ) → Within ready ends weight → (T : Tokenizer) → T.attempts ≡ [] → LookReady T → GoesOn ready ends weight (weight_at 2 T) (bracket_after_ends T) (bracket_after_step T)
-bracket_after-law ready ends weight within T alone look =
-    let P : Stepped → Type 0 = GoesOn ready ends weight (weight_at 2 T) (bracket_after_ends T) in
+pub bracket_after-law : (W : Words) → Within states W → Law W bracket_after_words
+bracket_after-law W within T alone look =
+    let P : Stepped → Type 0 = GoesIn W (weight_at 2 T) (bracket_after_ends T) in
     let test : Bool = trails_on (bytes_of T) (end_of T) (ahead T) in
     let here : ends_bracket (current_of T) ≡ _ = ap ends_bracket (current-ahead T) ∙ bracket-ahead (ahead T) in
     if-step P (ends_bracket (current_of T)) _ _
-    (λ h. look-ended ready ends weight 2 test true T alone (sym (or-true _ _ (sym here ∙ h))))
-    (λ h. look-retry ready ends weight 2 1 test _ GfmAutolinkLiteralTrail T alone (omega arith) (sym (or-false _ _ (sym here ∙ h))) (within.trail_ready T look) (within.trail_weight T) (within.trail_end T))
+    (λ h. look-ended W 2 test true T alone (sym (or-true _ _ (sym here ∙ h))))
+    (λ h. look-retry W 2 test _ GfmAutolinkLiteralTrail (within GfmAutolinkLiteralTrail) T alone (omega arith) (sym (or-false _ _ (sym here ∙ h))) look (λ ok U x. x))
 
-pub reference_start-law : (ready : StateName → Tokenizer → Type 0) (ends : StateName → Tokenizer → Bool → Tokenizer → Type 0) (weight : StateName → Tokenizer → ℕ) → Within ready ends weight → (T : Tokenizer) → T.attempts ≡ [] → ReadsText T → GoesOn ready ends weight (weight_at 2 T) (reference_start_ends T) (reference_start_step T)
-reference_start-law ready ends weight within T alone text =
-    let P : Stepped → Type 0 = GoesOn ready ends weight (weight_at 2 T) (reference_start_ends T) in
+pub reference_start-law : (W : Words) → Within states W → Law W reference_start_words
+reference_start-law W within T alone text =
+    let P : Stepped → Type 0 = GoesIn W (weight_at 2 T) (reference_start_ends T) in
     let at : Bool → List Code → Bool = λ seen. trails_in (bytes_of T) (end_of T) (Some seen) in
     code-step P (current_of T) (λ o. reference_start_at o T)
-    (λ e. look-ended ready ends weight 2 (at false (ahead T)) false T alone (sym (ap (at false) (ahead-none T e) ∙ name-end (bytes_of T) (end_of T) false)))
+    (λ e. look-ended W 2 (at false (ahead T)) false T alone (sym (ap (at false) (ahead-none T e) ∙ name-end (bytes_of T) (end_of T) false)))
     (λ c e. let b = ahead-some T c e in
     let more : List Code = rest_of (ahead T) in
     if-step P (letter_value c) _ _
     (λ h. let letter : letter_value b.code.value ≡ true = ap letter_value b.value ∙ h in
-    look-retry ready ends weight 2 1 (at false (ahead T)) (at true (ahead T)) GfmAutolinkLiteralTrailCharRefInside T alone (omega arith)
+    look-retry W 2 (at false (ahead T)) (at true (ahead T)) GfmAutolinkLiteralTrailCharRefInside (within GfmAutolinkLiteralTrailCharRefInside) T alone (omega arith)
     (ap (at true) b.whole ∙ name-letter (bytes_of T) (end_of T) true b.code more letter ∙ sym (name-letter (bytes_of T) (end_of T) false b.code more letter) ∙ ap (at false) (sym b.whole))
-    (within.reference_ready T text) (within.reference_weight T) (within.reference_end T))
-    (λ h. look-ended ready ends weight 2 (at false (ahead T)) false T alone (sym (ap (at false) b.whole ∙ name-none (bytes_of T) (end_of T) b.code more (ap letter_value b.value ∙ h)))))
+    text (λ ok U x. x))
+    (λ h. look-ended W 2 (at false (ahead T)) false T alone (sym (ap (at false) b.whole ∙ name-none (bytes_of T) (end_of T) b.code more (ap letter_value b.value ∙ h)))))
 
-pub reference-law : (ready : StateName → Tokenizer → Type 0) (ends : StateName → Tokenizer → Bool → Tokenizer → Type 0) (weight : StateName → Tokenizer → ℕ) → Within ready ends weight → (T : Tokenizer) → T.attempts ≡ [] → ReadsText T → GoesOn ready ends weight (weight_at 1 T) (reference_ends T) (reference_step T)
-reference-law ready ends weight within T alone text =
-    let P : Stepped → Type 0 = GoesOn ready ends weight (weight_at 1 T) (reference_ends T) in
+pub reference-law : (W : Words) → Within states W → Law W reference_words
+reference-law W within T alone text =
+    let P : Stepped → Type 0 = GoesIn W (weight_at 1 T) (reference_ends T) in
     let at : List Code → Bool = trails_in (bytes_of T) (end_of T) (Some true) in
     code-step P (current_of T) (λ o. reference_at o T)
-    (λ e. look-ended ready ends weight 1 (at (ahead T)) false T alone (sym (ap at (ahead-none T e) ∙ name-end (bytes_of T) (end_of T) true)))
+    (λ e. look-ended W 1 (at (ahead T)) false T alone (sym (ap at (ahead-none T e) ∙ name-end (bytes_of T) (end_of T) true)))
     (λ c e. let b = ahead-some T c e in
     let more : List Code = rest_of (ahead T) in
     let back : at (b.code ∷ more) ≡ at (ahead T) = ap at (sym b.whole) in
     if-step P (letter_value c) _ _
-    (λ h. look-next ready ends weight 1 1 (at (ahead T)) _ GfmAutolinkLiteralTrailCharRefInside T c alone e (omega arith)
+    (λ h. look-next W 1 (at (ahead T)) _ GfmAutolinkLiteralTrailCharRefInside (within GfmAutolinkLiteralTrailCharRefInside) T c alone e (omega arith)
     (trails-then (Some true) T ∙ sym (name-letter (bytes_of T) (end_of T) true b.code more (ap letter_value b.value ∙ h)) ∙ back)
-    (within.reference_ready _ (text-passed T text)) (within.reference_weight _) (within.reference_end _))
+    (text-passed T text) (λ ok U x. x))
     (λ h1. let letter : letter_value b.code.value ≡ false = ap letter_value b.value ∙ h1 in
     if-step P (c == 59) _ _
-    (λ h. look-next ready ends weight 1 1 (at (ahead T)) _ GfmAutolinkLiteralTrail T c alone e (omega arith)
+    (λ h. look-next W 1 (at (ahead T)) _ GfmAutolinkLiteralTrail (within GfmAutolinkLiteralTrail) T c alone e (omega arith)
     (trails-then None T ∙ sym (name-closed (bytes_of T) (end_of T) b.code more letter (ap (λ v. v == 59) b.value ∙ h)) ∙ back)
-    (within.trail_ready _ (look-passed T c text e (low-by c 59 h refl))) (within.trail_weight _) (within.trail_end _))
-    (λ h. look-ended ready ends weight 1 (at (ahead T)) false T alone (sym (ap at b.whole ∙ name-other (bytes_of T) (end_of T) b.code more letter (ap (λ v. v == 59) b.value ∙ h))))))
+    (look-passed T c text e (low-by c 59 h refl)) (λ ok U x. x))
+    (λ h. look-ended W 1 (at (ahead T)) false T alone (sym (ap at b.whole ∙ name-other (bytes_of T) (end_of T) b.code more letter (ap (λ v. v == 59) b.value ∙ h))))))

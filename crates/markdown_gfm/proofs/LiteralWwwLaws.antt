@@ -5,47 +5,34 @@ use Rattle.std.proofs.lemmas.Bool.Decides.{nat_tests}
 use Rattle.markdown_engine.specs.Codes.{Code}
 use Rattle.markdown_engine.specs.Grown.{Grown}
 use Rattle.markdown_engine.specs.Lists.{rest_of}
-use Rattle.markdown_engine.specs.Ops.{Op, Exit, Consume, IsOpen, ahead, applied, current_of, previous_of, done, frame_of, scratched}
+use Rattle.markdown_engine.specs.Ops.{Op, Exit, Consume, ahead, applied, current_of, previous_of, done, frame_of, scratched}
 use Rattle.markdown_engine.specs.Place.{code_before, last_of, value_of}
-use Rattle.markdown_engine.specs.Runs.{Stepped, GoesOn, restored}
+use Rattle.markdown_engine.specs.Runs.{Stepped, restored}
 use Rattle.markdown_engine.specs.TreeOps.{consumes}
 use Rattle.markdown_engine.specs.Weights.{weight_at}
 use Rattle.markdown_engine.specs.declared.event.Name.TheVariants as N
-use Rattle.markdown_engine.specs.declared.state.State.{State}
 use Rattle.markdown_engine.specs.declared.state.State.TheVariants.{Next, Retry, Nok}
-use Rattle.markdown_engine.specs.declared.state.StateName.{StateName}
 use Rattle.markdown_engine.specs.declared.state.StateName.TheVariants.{GfmAutolinkLiteralDomainInside, GfmAutolinkLiteralWwwAfter, GfmAutolinkLiteralWwwPrefixAfter, GfmAutolinkLiteralWwwPrefixInside}
 use Rattle.markdown_engine.specs.declared.tokenizer.TokenizeState.{TokenizeState}
 use Rattle.markdown_engine.specs.declared.tokenizer.Tokenizer.{Tokenizer}
 use Rattle.markdown_engine.proofs.EndsLemmas.{scratched-same}
-use Rattle.markdown_engine.proofs.Laws.{if-step, code-step, Goes-plain, Goes-check, Grown-refl, restored-grown}
+use Rattle.markdown_engine.proofs.Laws.{if-step, code-step, Grown-refl, restored-grown}
 use Rattle.markdown_engine.proofs.OpRules.{ahead-none, ahead-some, ahead-consumed, attempts-applied, attempts-scratched, left-consumed, left-scratched, scratch-scratched}
 use Rattle.markdown_engine.proofs.OpsLemmas.{Grown-applied, Grown-scratched}
 use Rattle.markdown_model.specs.CodeTests.{is_empty}
 use Rattle.markdown_model.specs.Literal.{domain_from, path_from, may_precede_www, begins_with_www, www_from_here}
 use Rattle.markdown_construct.specs.Plan.{Plan, plan_of, DoesAs}
-use Rattle.markdown_construct.proofs.PlanLemmas.{GoesOn-map, Goes-no, EndsAs-plan}
-use Rattle.markdown_gfm.specs.GfmAutolinkLiteral.{end_of, before_of, is_on, rested, sized, refused, precedes_www, www_letter, may_begin_www, www_start_at, www_start_step, www_prefix_at, www_prefix_step, www_prefix_after_step, www_after_step, entered_literal, StartReady, LiteralReady, WwwReady, Tries, is_well, fields_after, domain_plan, address, pass_ops, domain_ends, www_test, www_prefix_ends, www_prefix_after_ends, www_after_ends, www_here, www_start_ends}
+use Rattle.markdown_construct.proofs.PlanLemmas.{EndsAs-plan}
 use Rattle.markdown_construct.specs.Characters.{bytes_of}
+use Rattle.markdown_gfm.specs.GfmAutolinkLiteral.{end_of, before_of, is_on, rested, sized, refused, precedes_www, www_letter, may_begin_www, www_start_at, www_start_step, www_prefix_at, entered_literal, StartReady, LiteralReady, WwwReady, Tries, is_well, fields_after, domain_plan, address, pass_ops, domain_ends, www_test, www_prefix_ends, www_after_ends, www_here, www_start_ends, states, www_after_words, www_prefix_after_words, www_prefix_words, www_start_words}
 use Rattle.markdown_gfm.proofs.LiteralReadings.{address-is, www-more, www-other, www-left}
 use Rattle.markdown_gfm.proofs.LiteralWhole.{from-here-is, whole-www, www-is, www-none}
 use Rattle.markdown_gfm.proofs.LiteralAttempts.{Begins, literal-law}
-use Rattle.markdown_gfm.proofs.LiteralAddressLaws as A
-use Rattle.markdown_gfm.proofs.LiteralAddressLaws.{does-same, follows}
+use Rattle.markdown_gfm.proofs.LiteralAddressLaws.{does-same, follows-here}
 use Rattle.markdown_model.proofs.ReadingSteps.{if-false, and-left}
-
--- what the layer says of these states
-pub record Within (ready : StateName → Tokenizer → Type 0) (ends : StateName → Tokenizer → Bool → Tokenizer → Type 0) (weight : StateName → Tokenizer → ℕ) : Type 0 where
-  pub address : A.Within ready ends weight
-  pub www_prefix_ready : (T : Tokenizer) → WwwReady T → ready GfmAutolinkLiteralWwwPrefixInside T
-  pub www_prefix_end : (T : Tokenizer) (ok : Bool) (U : Tokenizer) → ends GfmAutolinkLiteralWwwPrefixInside T ok U → www_prefix_ends T ok U
-  pub www_prefix_weight : (T : Tokenizer) → weight GfmAutolinkLiteralWwwPrefixInside T ≡ weight_at 1 T
-  pub www_prefix_after_ready : (T : Tokenizer) → StartReady T → ready GfmAutolinkLiteralWwwPrefixAfter T
-  pub www_prefix_after_end : (T : Tokenizer) (ok : Bool) (U : Tokenizer) → ends GfmAutolinkLiteralWwwPrefixAfter T ok U → www_prefix_after_ends T ok U
-  pub www_prefix_after_weight : (T : Tokenizer) → weight GfmAutolinkLiteralWwwPrefixAfter T ≡ weight_at 6 T
-  pub www_after_ready : (T : Tokenizer) → IsOpen N.GfmAutolinkLiteralWww T → ready GfmAutolinkLiteralWwwAfter T
-  pub www_after_end : (T : Tokenizer) (ok : Bool) (U : Tokenizer) → ends GfmAutolinkLiteralWwwAfter T ok U → www_after_ends T ok U
-  pub www_after_weight : (T : Tokenizer) → weight GfmAutolinkLiteralWwwAfter T ≡ weight_at 1 T
+use Rattle.markdown_engine.specs.StateWords.{Words, Law, GoesIn}
+use Rattle.markdown_construct.proofs.StateLaws.{GoesOn-map, Goes-plain, Goes-end, Goes-check, Goes-no}
+use Rattle.markdown_construct.specs.Within.{Within}
 
 -- In the word.
 
@@ -85,14 +72,14 @@ www-end : (n : ℕ) (b : Bool) → n ≤ 4 → (n == 4) ≡ b → www_test n [] 
 www-end n true h e = ap (λ k. www_test k []) (eqb-true n 4 e) ∙ www-left []
 www-end n false h e = www-other n [] (not-four n h e) refl
 
-module _ (ready : StateName → Tokenizer → Type 0) (ends : StateName → Tokenizer → Bool → Tokenizer → Type 0) (weight : StateName → Tokenizer → ℕ) (within : Within ready ends weight) where
-  tries-ended : (T : Tokenizer) (test : Bool) → T.attempts ≡ [] → test ≡ false → GoesOn ready ends weight (weight_at 1 T) (Tries test T) (refused T)
+module _ (W : Words) (within : Within states W) where
+  tries-ended : (T : Tokenizer) (test : Bool) → T.attempts ≡ [] → test ≡ false → GoesIn W (weight_at 1 T) (Tries test T) (refused T)
   tries-ended T test alone e =
-      Goes-plain ready ends weight (weight_at 1 T) (Tries test T) Nok (scratched (rested T.tokenize_state) T) (attempts-scratched (rested T.tokenize_state) T ∙ alone) tt (omega arith) (λ ok U x. tries-here test T ok U (x.0 ∙ sym e) x.1)
+      Goes-end W (weight_at 1 T) (Tries test T) false (scratched (rested T.tokenize_state) T) (attempts-scratched (rested T.tokenize_state) T ∙ alone) (omega arith) (λ ok U x. tries-here test T ok U (x.0 ∙ sym e) x.1)
 
-  pub www_prefix-law : (T : Tokenizer) → T.attempts ≡ [] → WwwReady T → GoesOn ready ends weight (weight_at 1 T) (www_prefix_ends T) (www_prefix_step T)
+  pub www_prefix-law : Law W www_prefix_words
   www_prefix-law T alone on =
-      let P : Stepped → Type 0 = GoesOn ready ends weight (weight_at 1 T) (www_prefix_ends T) in
+      let P : Stepped → Type 0 = GoesIn W (weight_at 1 T) (www_prefix_ends T) in
       let s : TokenizeState = T.tokenize_state in
       let n : ℕ = s.size in
       let test : Bool = www_test n (ahead T) in
@@ -102,12 +89,12 @@ module _ (ready : StateName → Tokenizer → Type 0) (ends : StateName → Toke
       let more : List Code = rest_of (ahead T) in
       if-step P (www_letter n c) _ _
       (λ h. let V : Tokenizer = scratched (sized (n + 1) s) (done (Consume ∷ []) T) in
-      Goes-plain ready ends weight (weight_at 1 T) (www_prefix_ends T) (Next GfmAutolinkLiteralWwwPrefixInside) V (attempts-scratched (sized (n + 1) s) (done (Consume ∷ []) T) ∙ attempts-applied Consume T ∙ alone)
-      (within.www_prefix_ready V (www-ready (n + 1) T (omega (arith, few-letters n c h))))
-      (rw within.www_prefix_weight (omega (arith, left-scratched (sized (n + 1) s) (done (Consume ∷ []) T), left-consumed T c e)))
-      (λ ok U x. tries-past (n + 1) test _ T ok U (sym (ap (www_test n) b.whole ∙ www-more n b.code more (ap (www_letter n) b.value ∙ h))) (www-then (n + 1) T ok U (within.www_prefix_end V ok U x))))
+      Goes-plain W (weight_at 1 T) (www_prefix_ends T) (Next GfmAutolinkLiteralWwwPrefixInside) (within GfmAutolinkLiteralWwwPrefixInside) V (attempts-scratched (sized (n + 1) s) (done (Consume ∷ []) T) ∙ attempts-applied Consume T ∙ alone)
+      (www-ready (n + 1) T (omega (arith, few-letters n c h)))
+      (omega (arith, left-scratched (sized (n + 1) s) (done (Consume ∷ []) T), left-consumed T c e))
+      (λ ok U x. tries-past (n + 1) test _ T ok U (sym (ap (www_test n) b.whole ∙ www-more n b.code more (ap (www_letter n) b.value ∙ h))) (www-then (n + 1) T ok U x)))
       (λ h. if-step P (n == 4) _ _
-      (λ f. Goes-plain ready ends weight (weight_at 1 T) (www_prefix_ends T) State.Ok (scratched (rested s) T) (attempts-scratched (rested s) T ∙ alone) tt (omega arith)
+      (λ f. Goes-end W (weight_at 1 T) (www_prefix_ends T) true (scratched (rested s) T) (attempts-scratched (rested s) T ∙ alone) (omega arith)
       (λ ok U x. tries-here test T ok U (x.0 ∙ sym (ap (λ k. www_test k (ahead T)) (eqb-true n 4 f) ∙ www-left (ahead T) ∙ ap (λ cs. not (is_empty cs)) b.whole)) x.1))
       (λ f. tries-ended T test alone (ap (www_test n) b.whole ∙ www-other n (b.code ∷ more) (not-four n on.few f) (ap (www_letter n) b.value ∙ h)))))
 
@@ -138,15 +125,15 @@ module _ (ready : StateName → Tokenizer → Type 0) (ends : StateName → Toke
       let A : Tokenizer = entered_literal N.GfmAutolinkLiteralWww T in
       does-same (λ cs. pass_ops (address (bytes_of T) (end_of T) cs)) (domain_plan (bytes_of T) (end_of T) T.tokenize_state) (rested T.tokenize_state) A ok U (address-is (bytes_of T) (end_of T) T.tokenize_state (ahead A) e) k
 
-  pub www_prefix_after-law : (T : Tokenizer) → T.attempts ≡ [] → StartReady T → GoesOn ready ends weight (weight_at 6 T) (www_prefix_after_ends T) (www_prefix_after_step T)
+  pub www_prefix_after-law : Law W www_prefix_after_words
   www_prefix_after-law T alone on =
-      literal-law ready ends weight N.GfmAutolinkLiteralWww GfmAutolinkLiteralDomainInside GfmAutolinkLiteralWwwAfter (address (bytes_of T) (end_of T)) (plan_of (www_from_here (bytes_of T) (end_of T))) T on.resting
+      literal-law W N.GfmAutolinkLiteralWww GfmAutolinkLiteralDomainInside GfmAutolinkLiteralWwwAfter (address (bytes_of T) (end_of T)) (plan_of (www_from_here (bytes_of T) (end_of T))) T on.resting
       (from-here-is (bytes_of T) (end_of T) (ahead T))
-      6 5 alone (omega arith) (omega arith)
+      6 (within GfmAutolinkLiteralDomainInside) (within GfmAutolinkLiteralWwwAfter) alone (omega arith) (omega arith)
       (begins-address (bytes_of T) (end_of T) T.tokenize_state (ahead T) on.resting)
-      (within.address.domain_ready _ (address-ready T on)) (within.address.domain_weight _)
-      (λ ok U k. address-entered T on.resting ok U (within.address.domain_end _ ok U k))
-      within.www_after_ready within.www_after_weight within.www_after_end
+      (address-ready T on)
+      (λ ok U k. address-entered T on.resting ok U k)
+      (λ U x. x) (λ U ok V x. x)
 
   -- The start.
 
@@ -194,38 +181,38 @@ module _ (ready : StateName → Tokenizer → Type 0) (ends : StateName → Toke
   no-word true b w e h = h e
   no-word false b w e h = refl
 
-  pub www_start-law : (T : Tokenizer) → T.attempts ≡ [] → StartReady T → GoesOn ready ends weight (weight_at 7 T) (www_start_ends T) (www_start_step T)
+  pub www_start-law : Law W www_start_words
   www_start-law T alone on =
       let s : TokenizeState = T.tokenize_state in
       let p : Plan = plan_of (www_here T) in
       let q : Plan = plan_of (www_from_here (bytes_of T) (end_of T)) in
       let n : ℕ = weight_at 7 T in
       let F : Bool → Tokenizer → Type 0 = DoesAs 0 p s T in
-      let P : Stepped → Type 0 = GoesOn ready ends weight n F in
+      let P : Stepped → Type 0 = GoesIn W n F in
       let size : s.size ≡ 0 = ap (λ (x : TokenizeState). x.size) (sym on.resting) in
-      GoesOn-map ready ends weight n F (www_start_ends T) (www_start_step T) (λ ok U k. EndsAs-plan (www_here T) (whole-www (bytes_of T) (end_of T) (is_on T) (before_of T)) s T ok U k)
+      GoesOn-map W n F (www_start_ends T) (www_start_step T) (λ ok U k. EndsAs-plan (www_here T) (whole-www (bytes_of T) (end_of T) (is_on T) (before_of T)) s T ok U k)
       (code-step P (current_of T) (λ o. www_start_at (may_begin_www T) o T)
-      (λ e. Goes-no ready ends weight 7 0 p T alone (ap p (ahead-none T e) ∙ www-fails T [] (second-false (may_begin_www T) (www_test 0 []) (www-other 0 [] (omega arith) refl))))
+      (λ e. Goes-no W 7 0 p T alone (ap p (ahead-none T e) ∙ www-fails T [] (second-false (may_begin_www T) (www_test 0 []) (www-other 0 [] (omega arith) refl))))
       (λ c e. let b = ahead-some T c e in
       let more : List Code = rest_of (ahead T) in
       if-step P (may_begin_www T && (c == 119 || c == 87)) _ _
       (λ h. let may : may_begin_www T ≡ true = and-left (may_begin_www T) (c == 119 || c == 87) h in
-      Goes-check ready ends weight n F (Retry GfmAutolinkLiteralWwwPrefixInside) (Next GfmAutolinkLiteralWwwPrefixAfter) Nok T alone (within.www_prefix_ready T (record { few = omega (arith, size) }))
-      (rw within.www_prefix_weight (omega arith))
-      (λ U now x. let k = within.www_prefix_end T true U x in
+      Goes-check W n F (Retry GfmAutolinkLiteralWwwPrefixInside) (within GfmAutolinkLiteralWwwPrefixInside) (Next GfmAutolinkLiteralWwwPrefixAfter) Nok T alone (record { few = omega (arith, size) })
+      (omega arith)
+      (λ U now x. let k = x in
       let seen : www_test 0 (ahead T) ≡ true = ap (λ m. www_test m (ahead T)) (sym size) ∙ sym k.answer in
-      follows ready ends weight 7 6 p q s T _ GfmAutolinkLiteralWwwPrefixAfter (back-here T U _ true on.resting k) (omega arith) (www-stands T (ahead T) (both-true (may_begin_www T) (www_test 0 (ahead T)) may seen))
-      (within.www_prefix_after_ready T on) (within.www_prefix_after_weight T) (within.www_prefix_after_end T))
-      (λ U now x. let k = within.www_prefix_end T false U x in
+      follows-here W 7 p q s T _ GfmAutolinkLiteralWwwPrefixAfter (within GfmAutolinkLiteralWwwPrefixAfter) (back-here T U _ true on.resting k) (omega arith) (www-stands T (ahead T) (both-true (may_begin_www T) (www_test 0 (ahead T)) may seen))
+      on (λ ok U x. x))
+      (λ U now x. let k = x in
       let seen : www_test 0 (ahead T) ≡ false = ap (λ m. www_test m (ahead T)) (sym size) ∙ sym k.answer in
       record {
         goes_on = tt;
         falls = omega arith;
         closed = λ ok V z. no-fall T p (www-fails T (ahead T) (second-false (may_begin_www T) (www_test 0 (ahead T)) seen)) ok V (z.0, z.1 ∙ back-here T U _ false on.resting k);
       }))
-      (λ h. Goes-no ready ends weight 7 0 p T alone
+      (λ h. Goes-no W 7 0 p T alone
       (ap p b.whole ∙ www-fails T (b.code ∷ more) (no-word (may_begin_www T) (c == 119 || c == 87) (www_test 0 (b.code ∷ more)) h (λ f. www-other 0 (b.code ∷ more) (omega arith) (ap (λ v. v == 119 || v == 87) b.value ∙ f)))))))
 
-pub www_after-law : (ready : StateName → Tokenizer → Type 0) (ends : StateName → Tokenizer → Bool → Tokenizer → Type 0) (weight : StateName → Tokenizer → ℕ) (T : Tokenizer) → T.attempts ≡ [] → GoesOn ready ends weight (weight_at 1 T) (www_after_ends T) (www_after_step T)
-www_after-law ready ends weight T alone =
-    Goes-plain ready ends weight (weight_at 1 T) (www_after_ends T) State.Ok (done (Exit N.GfmAutolinkLiteralWww ∷ []) T) (attempts-applied (Exit N.GfmAutolinkLiteralWww) T ∙ alone) tt (omega arith) (λ ok U k. k)
+pub www_after-law : (W : Words) → Law W www_after_words
+www_after-law W T alone _ =
+    Goes-end W (weight_at 1 T) (www_after_ends T) true (done (Exit N.GfmAutolinkLiteralWww ∷ []) T) (attempts-applied (Exit N.GfmAutolinkLiteralWww) T ∙ alone) (omega arith) (λ ok U k. k)

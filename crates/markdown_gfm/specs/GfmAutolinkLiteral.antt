@@ -1,9 +1,9 @@
 -- What the states of autolink literals do, and how runs from them end.
 use Rattle.std.specs.Prelude.{◌≡◌, ◌<◌, ◌≤◌, ◌+◌, ℕ, suc, Bool, true, false, ◌&&◌, ◌||◌, not, ◌==◌, nat_le, nat_lt, if◌then◌else◌, Option, Some, None, List, [], ◌∷◌, ◌++◌, drop, codes, slice_get, IsUtf8}
-use Rattle.std.specs.Str.{IsCharBoundary}
+use Rattle.std.specs.Str.{IsCharBoundary, byte}
 use Rattle.markdown_engine.specs.Codes.{Code}
 use Rattle.markdown_engine.specs.Grown.{Grown}
-use Rattle.markdown_engine.specs.Ops.{Op, Enter, Exit, Consume, HasCode, ahead, attempted, done, current_of, previous_of, scratched}
+use Rattle.markdown_engine.specs.Ops.{Op, Enter, Exit, Consume, HasCode, ahead, attempted, done, current_of, previous_of, scratched, IsOpen}
 use Rattle.markdown_engine.specs.Past.{EndsAs, TreeReading}
 use Rattle.markdown_engine.specs.Place.{Place, point_of, last_of}
 use Rattle.markdown_engine.specs.Runs.{Stepped, stepped}
@@ -23,9 +23,10 @@ use Rattle.markdown_engine.specs.declared.event.Name.TheVariants as N
 use Rattle.markdown_engine.specs.declared.state.State.TheVariants.{Next, Retry, Nok}
 use Rattle.markdown_engine.specs.declared.state.State.TheVariants as State
 use Rattle.markdown_engine.specs.declared.state.StateName.{StateName}
-use Rattle.markdown_engine.specs.declared.state.StateName.TheVariants.{GfmAutolinkLiteralDomainAfter, GfmAutolinkLiteralDomainAtPunctuation, GfmAutolinkLiteralDomainInside, GfmAutolinkLiteralPathAfter, GfmAutolinkLiteralPathAtPunctuation, GfmAutolinkLiteralPathInside, GfmAutolinkLiteralProtocolAfter, GfmAutolinkLiteralProtocolPrefixInside, GfmAutolinkLiteralProtocolSlashesInside, GfmAutolinkLiteralTrail, GfmAutolinkLiteralTrailBracketAfter, GfmAutolinkLiteralTrailCharRefInside, GfmAutolinkLiteralTrailCharRefStart, GfmAutolinkLiteralWwwAfter, GfmAutolinkLiteralWwwPrefixAfter, GfmAutolinkLiteralWwwPrefixInside}
+use Rattle.markdown_engine.specs.declared.state.StateName.TheVariants.{GfmAutolinkLiteralDomainAfter, GfmAutolinkLiteralDomainAtPunctuation, GfmAutolinkLiteralDomainInside, GfmAutolinkLiteralPathAfter, GfmAutolinkLiteralPathAtPunctuation, GfmAutolinkLiteralPathInside, GfmAutolinkLiteralProtocolAfter, GfmAutolinkLiteralProtocolPrefixInside, GfmAutolinkLiteralProtocolSlashesInside, GfmAutolinkLiteralTrail, GfmAutolinkLiteralTrailBracketAfter, GfmAutolinkLiteralTrailCharRefInside, GfmAutolinkLiteralTrailCharRefStart, GfmAutolinkLiteralWwwAfter, GfmAutolinkLiteralWwwPrefixAfter, GfmAutolinkLiteralWwwPrefixInside, GfmAutolinkLiteralProtocolStart, GfmAutolinkLiteralWwwStart}
 use Rattle.markdown_engine.specs.declared.tokenizer.TokenizeState.{TokenizeState}
 use Rattle.markdown_engine.specs.declared.tokenizer.Tokenizer.{Tokenizer}
+use Rattle.markdown_engine.specs.StateWords.{StateWords}
 
 -- What is looked at.
 
@@ -40,11 +41,11 @@ kind_here T = class_of (after_index (bytes_of T) (point_of T.cursor).index)
 -- the letter of this number of `https` in either case
 abbrev pub scheme_letter : ℕ → ℕ → Bool
 scheme_letter n v =
-    if n == 0 then v == 104 || v == 72
-    else (if n == 1 then v == 116 || v == 84
-    else (if n == 2 then v == 116 || v == 84
-    else (if n == 3 then v == 112 || v == 80
-    else (n == 4 && (v == 115 || v == 83)))))
+    if n == 0 then v == byte "h" || v == byte "H"
+    else (if n == 1 then v == byte "t" || v == byte "T"
+    else (if n == 2 then v == byte "t" || v == byte "T"
+    else (if n == 3 then v == byte "p" || v == byte "P"
+    else (n == 4 && (v == byte "s" || v == byte "S")))))
 
 -- trailing punctuation that is one code
 abbrev pub trail_value : ℕ → Bool
@@ -99,7 +100,7 @@ entered_literal name T = done (Enter name ∷ []) T
 abbrev pub protocol_start_at : Bool → Option ℕ → Tokenizer → Stepped
 protocol_start_at may None T = stepped Nok T
 protocol_start_at may (Some c) T =
-    if may && (c == 104 || c == 72)
+    if may && (c == byte "h" || c == byte "H")
     then stepped (Retry GfmAutolinkLiteralProtocolPrefixInside) (attempted false (Next GfmAutolinkLiteralProtocolAfter) Nok (entered_literal N.GfmAutolinkLiteralProtocol T))
     else stepped Nok T
 
@@ -115,7 +116,7 @@ prefix_at (Some c) T =
     let s = T.tokenize_state in
     if scheme_letter s.size c
     then stepped (Next GfmAutolinkLiteralProtocolPrefixInside) (scratched (sized (s.size + 1) s) (done (Consume ∷ []) T))
-    else (if nat_le 4 s.size && (c == 58)
+    else (if nat_le 4 s.size && (c == byte ":")
     then stepped (Next GfmAutolinkLiteralProtocolSlashesInside) (scratched (sized 0 s) (done (Consume ∷ []) T))
     else refused T)
 
@@ -126,7 +127,7 @@ abbrev pub slashes_at : Option ℕ → Tokenizer → Stepped
 slashes_at None T = refused T
 slashes_at (Some c) T =
     let s = T.tokenize_state in
-    if c == 47
+    if c == byte "/"
     then (if s.size == 0
     then stepped (Next GfmAutolinkLiteralProtocolSlashesInside) (scratched (sized 1 s) (done (Consume ∷ []) T))
     else stepped (Next GfmAutolinkLiteralDomainInside) (scratched (sized 0 s) (done (Consume ∷ []) T)))
@@ -143,7 +144,7 @@ abbrev pub domain_at : Option ℕ → Tokenizer → Stepped
 domain_at None T = stepped (Retry GfmAutolinkLiteralDomainAfter) T
 domain_at (Some c) T =
     if among_values (codes "._") c then looked GfmAutolinkLiteralDomainAfter GfmAutolinkLiteralDomainAtPunctuation T
-    else (if c == 45 then stepped (Next GfmAutolinkLiteralDomainInside) (done (Consume ∷ []) T)
+    else (if c == byte "-" then stepped (Next GfmAutolinkLiteralDomainInside) (done (Consume ∷ []) T)
     else (if later_value c || is_other (kind_here T)
     then stepped (Next GfmAutolinkLiteralDomainInside) (scratched (saw T.tokenize_state) (done (Consume ∷ []) T))
     else stepped (Retry GfmAutolinkLiteralDomainAfter) T))
@@ -154,7 +155,7 @@ domain_step T = domain_at (current_of T) T
 abbrev pub domain_punctuation_at : Option ℕ → Tokenizer → Stepped
 domain_punctuation_at None T = stepped (Next GfmAutolinkLiteralDomainInside) (scratched (dotted T.tokenize_state) (done (Consume ∷ []) T))
 domain_punctuation_at (Some c) T =
-    if c == 95
+    if c == byte "_"
     then stepped (Next GfmAutolinkLiteralDomainInside) (scratched (underscored T.tokenize_state) (done (Consume ∷ []) T))
     else stepped (Next GfmAutolinkLiteralDomainInside) (scratched (dotted T.tokenize_state) (done (Consume ∷ []) T))
 
@@ -163,7 +164,7 @@ domain_punctuation_step T = domain_punctuation_at (current_of T) T
 
 -- a domain with these fields is one
 abbrev pub is_well : TokenizeState → Bool
-is_well s = s.seen && (not (s.marker == 95) && not (s.marker_b == 95))
+is_well s = s.seen && (not (s.marker == byte "_") && not (s.marker_b == byte "_"))
 
 abbrev pub domain_after_step : Tokenizer → Stepped
 domain_after_step T =
@@ -175,8 +176,8 @@ path_at (Some c) T =
     let s = T.tokenize_state in
     if later_value c then stepped (Next GfmAutolinkLiteralPathInside) (done (Consume ∷ []) T)
     else (if is_space (kind_here T) then stepped (Retry GfmAutolinkLiteralPathAfter) T
-    else (if c == 40 then stepped (Next GfmAutolinkLiteralPathInside) (scratched (sized (s.size + 1) s) (done (Consume ∷ []) T))
-    else (if (c == 41) && nat_lt s.size_b s.size then stepped (Retry GfmAutolinkLiteralPathAtPunctuation) T
+    else (if c == byte "(" then stepped (Next GfmAutolinkLiteralPathInside) (scratched (sized (s.size + 1) s) (done (Consume ∷ []) T))
+    else (if (c == byte ")") && nat_lt s.size_b s.size then stepped (Retry GfmAutolinkLiteralPathAtPunctuation) T
     else (if mark_value c then looked GfmAutolinkLiteralPathAfter GfmAutolinkLiteralPathAtPunctuation T
     else stepped (Next GfmAutolinkLiteralPathInside) (done (Consume ∷ []) T)))))
 
@@ -187,7 +188,7 @@ abbrev pub path_punctuation_at : Option ℕ → Tokenizer → Stepped
 path_punctuation_at None T = stepped (Next GfmAutolinkLiteralPathInside) (done (Consume ∷ []) T)
 path_punctuation_at (Some c) T =
     let s = T.tokenize_state in
-    if c == 41
+    if c == byte ")"
     then stepped (Next GfmAutolinkLiteralPathInside) (scratched (closed (s.size_b + 1) s) (done (Consume ∷ []) T))
     else stepped (Next GfmAutolinkLiteralPathInside) (done (Consume ∷ []) T)
 
@@ -204,9 +205,9 @@ abbrev pub trail_at : Option ℕ → Tokenizer → Stepped
 trail_at None T = ended (is_space (kind_here T)) T
 trail_at (Some c) T =
     if trail_value c then stepped (Next GfmAutolinkLiteralTrail) (done (Consume ∷ []) T)
-    else (if c == 38 then stepped (Next GfmAutolinkLiteralTrailCharRefStart) (done (Consume ∷ []) T)
-    else (if c == 60 then stepped State.Ok T
-    else (if c == 93 then stepped (Next GfmAutolinkLiteralTrailBracketAfter) (done (Consume ∷ []) T)
+    else (if c == byte "&" then stepped (Next GfmAutolinkLiteralTrailCharRefStart) (done (Consume ∷ []) T)
+    else (if c == byte "<" then stepped State.Ok T
+    else (if c == byte "]" then stepped (Next GfmAutolinkLiteralTrailBracketAfter) (done (Consume ∷ []) T)
     else ended (is_space (kind_here T)) T)))
 
 abbrev pub trail_step : Tokenizer → Stepped
@@ -215,7 +216,7 @@ trail_step T = trail_at (current_of T) T
 -- after a closing bracket whitespace, the end, or what begins a resource or a reference
 abbrev pub ends_bracket : Option ℕ → Bool
 ends_bracket None = true
-ends_bracket (Some c) = ((c == 32 || c == 9) || c == 10) || among_values (codes "([") c
+ends_bracket (Some c) = ((c == byte " " || c == byte "\t") || c == byte "\n") || among_values (codes "([") c
 
 abbrev pub bracket_after_step : Tokenizer → Stepped
 bracket_after_step T = if ends_bracket (current_of T) then stepped State.Ok T else stepped (Retry GfmAutolinkLiteralTrail) T
@@ -231,7 +232,7 @@ abbrev pub reference_at : Option ℕ → Tokenizer → Stepped
 reference_at None T = stepped Nok T
 reference_at (Some c) T =
     if letter_value c then stepped (Next GfmAutolinkLiteralTrailCharRefInside) (done (Consume ∷ []) T)
-    else (if c == 59 then stepped (Next GfmAutolinkLiteralTrail) (done (Consume ∷ []) T) else stepped Nok T)
+    else (if c == byte ";" then stepped (Next GfmAutolinkLiteralTrail) (done (Consume ∷ []) T) else stepped Nok T)
 
 abbrev pub reference_step : Tokenizer → Stepped
 reference_step T = reference_at (current_of T) T
@@ -239,11 +240,11 @@ reference_step T = reference_at (current_of T) T
 -- whitespace and some punctuation may stand before `www.`
 abbrev pub precedes_www : Option ℕ → Bool
 precedes_www None = true
-precedes_www (Some v) = ((v == 32 || v == 9) || v == 10) || among_values (codes "(*_[]~") v
+precedes_www (Some v) = ((v == byte " " || v == byte "\t") || v == byte "\n") || among_values (codes "(*_[]~") v
 
 -- the code of this number of `www.`, the letters in either case
 abbrev pub www_letter : ℕ → ℕ → Bool
-www_letter n v = if nat_lt n 3 then v == 119 || v == 87 else ((n == 3) && (v == 46))
+www_letter n v = if nat_lt n 3 then v == byte "w" || v == byte "W" else ((n == 3) && (v == byte "."))
 
 abbrev pub may_begin_www : Tokenizer → Bool
 may_begin_www T = is_on T && precedes_www (previous_of T)
@@ -251,7 +252,7 @@ may_begin_www T = is_on T && precedes_www (previous_of T)
 abbrev pub www_start_at : Bool → Option ℕ → Tokenizer → Stepped
 www_start_at may None T = stepped Nok T
 www_start_at may (Some c) T =
-    if may && (c == 119 || c == 87)
+    if may && (c == byte "w" || c == byte "W")
     then stepped (Retry GfmAutolinkLiteralWwwPrefixInside) (attempted true (Next GfmAutolinkLiteralWwwPrefixAfter) Nok T)
     else stepped Nok T
 
@@ -352,7 +353,7 @@ pass_ops (Some r) = Some (consumes r.0)
 
 -- the fields after a code of a domain
 abbrev pub passed_code : Code → TokenizeState → TokenizeState
-passed_code c s = if c.value == 46 then dotted s else (if c.value == 95 then underscored s else (if c.value == 45 then s else saw s))
+passed_code c s = if c.value == byte "." then dotted s else (if c.value == byte "_" then underscored s else (if c.value == byte "-" then s else saw s))
 
 abbrev pub fields_after : List Code → TokenizeState → TokenizeState
 fields_after [] s = s
@@ -371,7 +372,7 @@ module _ (bytes : List ℕ) (end : ℕ) where
   abbrev pub path_punctuation_plan : ℕ → ℕ → Plan
   path_punctuation_plan opened closed [] = None
   path_punctuation_plan opened closed (c ∷ cs) =
-      preceded (Consume ∷ []) (path_plan opened (if c.value == 41 then closed + 1 else closed) cs)
+      preceded (Consume ∷ []) (path_plan opened (if c.value == byte ")" then closed + 1 else closed) cs)
 
   -- after a domain
   abbrev pub domain_after_plan : TokenizeState → Plan
@@ -386,7 +387,7 @@ module _ (bytes : List ℕ) (end : ℕ) where
   -- at punctuation of a domain
   abbrev pub domain_punctuation_plan : TokenizeState → Plan
   domain_punctuation_plan s [] = None
-  domain_punctuation_plan s (c ∷ cs) = preceded (Consume ∷ []) (domain_plan (if c.value == 95 then underscored s else dotted s) cs)
+  domain_punctuation_plan s (c ∷ cs) = preceded (Consume ∷ []) (domain_plan (if c.value == byte "_" then underscored s else dotted s) cs)
 
   abbrev pub address : Reading (List Code)
   address = domain bytes end then_ path bytes end
@@ -478,3 +479,81 @@ www_here T = provided (is_on T) >> www_literal (bytes_of T) (end_of T) (before_o
 
 abbrev pub www_start_ends : Tokenizer → Bool → Tokenizer → Type 0
 www_start_ends T ok U = EndsAs (www_here T) None T.tokenize_state T ok U
+
+-- The states.
+
+abbrev pub protocol_start_words : StateWords
+protocol_start_words = record { ready = StartReady; step = protocol_start_step; ends = protocol_start_ends; rank = 2 }
+
+abbrev pub prefix_words : StateWords
+prefix_words = record { ready = WordReady; step = prefix_step; ends = prefix_ends; rank = 1 }
+
+abbrev pub slashes_words : StateWords
+slashes_words = record { ready = WordReady; step = slashes_step; ends = slashes_ends; rank = 1 }
+
+abbrev pub protocol_after_words : StateWords
+protocol_after_words = record { ready = IsOpen N.GfmAutolinkLiteralProtocol; step = protocol_after_step; ends = protocol_after_ends; rank = 1 }
+
+abbrev pub www_start_words : StateWords
+www_start_words = record { ready = StartReady; step = www_start_step; ends = www_start_ends; rank = 7 }
+
+abbrev pub www_prefix_words : StateWords
+www_prefix_words = record { ready = WwwReady; step = www_prefix_step; ends = www_prefix_ends; rank = 1 }
+
+abbrev pub www_prefix_after_words : StateWords
+www_prefix_after_words = record { ready = StartReady; step = www_prefix_after_step; ends = www_prefix_after_ends; rank = 6 }
+
+abbrev pub www_after_words : StateWords
+www_after_words = record { ready = IsOpen N.GfmAutolinkLiteralWww; step = www_after_step; ends = www_after_ends; rank = 1 }
+
+abbrev pub domain_words : StateWords
+domain_words = record { ready = LiteralReady; step = domain_step; ends = domain_ends; rank = 5 }
+
+abbrev pub domain_punctuation_words : StateWords
+domain_punctuation_words = record { ready = CodeReady; step = domain_punctuation_step; ends = domain_punctuation_ends; rank = 1 }
+
+abbrev pub domain_after_words : StateWords
+domain_after_words = record { ready = LiteralReady; step = domain_after_step; ends = domain_after_ends; rank = 4 }
+
+abbrev pub path_words : StateWords
+path_words = record { ready = LiteralReady; step = path_step; ends = path_ends; rank = 3 }
+
+abbrev pub path_punctuation_words : StateWords
+path_punctuation_words = record { ready = CodeReady; step = path_punctuation_step; ends = path_punctuation_ends; rank = 1 }
+
+abbrev pub path_after_words : StateWords
+path_after_words = record { ready = λ T. Unit {0}; step = path_after_step; ends = path_after_ends; rank = 1 }
+
+abbrev pub trail_words : StateWords
+trail_words = record { ready = LookReady; step = trail_step; ends = trail_ends; rank = 1 }
+
+abbrev pub bracket_after_words : StateWords
+bracket_after_words = record { ready = LookReady; step = bracket_after_step; ends = bracket_after_ends; rank = 2 }
+
+abbrev pub reference_start_words : StateWords
+reference_start_words = record { ready = ReadsText; step = reference_start_step; ends = reference_start_ends; rank = 2 }
+
+abbrev pub reference_words : StateWords
+reference_words = record { ready = ReadsText; step = reference_step; ends = reference_ends; rank = 1 }
+
+-- these states as they are said, and any other as it is given
+abbrev pub states : (StateName → StateWords) → StateName → StateWords
+states other GfmAutolinkLiteralProtocolStart = protocol_start_words
+states other GfmAutolinkLiteralProtocolPrefixInside = prefix_words
+states other GfmAutolinkLiteralProtocolSlashesInside = slashes_words
+states other GfmAutolinkLiteralProtocolAfter = protocol_after_words
+states other GfmAutolinkLiteralWwwStart = www_start_words
+states other GfmAutolinkLiteralWwwPrefixInside = www_prefix_words
+states other GfmAutolinkLiteralWwwPrefixAfter = www_prefix_after_words
+states other GfmAutolinkLiteralWwwAfter = www_after_words
+states other GfmAutolinkLiteralDomainInside = domain_words
+states other GfmAutolinkLiteralDomainAtPunctuation = domain_punctuation_words
+states other GfmAutolinkLiteralDomainAfter = domain_after_words
+states other GfmAutolinkLiteralPathInside = path_words
+states other GfmAutolinkLiteralPathAtPunctuation = path_punctuation_words
+states other GfmAutolinkLiteralPathAfter = path_after_words
+states other GfmAutolinkLiteralTrail = trail_words
+states other GfmAutolinkLiteralTrailBracketAfter = bracket_after_words
+states other GfmAutolinkLiteralTrailCharRefStart = reference_start_words
+states other GfmAutolinkLiteralTrailCharRefInside = reference_words
+states other s = other s

@@ -21,6 +21,7 @@ use Rattle.markdown_engine.specs.declared.tokenizer.TokenizeState.{TokenizeState
 use Rattle.markdown_engine.specs.declared.tokenizer.Tokenizer.{Tokenizer}
 use Rattle.markdown_engine.specs.StateWords.{StateWords}
 use Rattle.markdown_engine.specs.declared.state.StateName.{StateName}
+use Rattle.std.specs.Str.{byte}
 
 -- Operations.
 
@@ -39,7 +40,7 @@ abbrev pub is_mark : ℕ → Bool
 is_mark v = among_values (codes "xX") v
 
 abbrev pub is_space : ℕ → Bool
-is_space v = (v == 32 || v == 9) || v == 10
+is_space v = (v == byte " " || v == byte "\t") || v == byte "\n"
 
 -- The states, by the current code.
 
@@ -51,7 +52,7 @@ may_begin T =
 
 abbrev pub start_at : Bool → Option ℕ → Tokenizer → Stepped
 start_at may None T = stepped Nok T
-start_at may (Some c) T = if may && (c == 91) then stepped (Next GfmTaskListItemCheckInside) (done opening T) else stepped Nok T
+start_at may (Some c) T = if may && (c == byte "[") then stepped (Next GfmTaskListItemCheckInside) (done opening T) else stepped Nok T
 
 abbrev pub start_step : Tokenizer → Stepped
 start_step T = start_at (may_begin T) (current_of T) T
@@ -67,7 +68,7 @@ inside_step T = inside_at (current_of T) T
 
 abbrev pub close_at : Option ℕ → Tokenizer → Stepped
 close_at None T = stepped Nok T
-close_at (Some c) T = if c == 93 then stepped (Next GfmTaskListItemCheckAfter) (done closing T) else stepped Nok T
+close_at (Some c) T = if c == byte "]" then stepped (Next GfmTaskListItemCheckAfter) (done closing T) else stepped Nok T
 
 abbrev pub close_step : Tokenizer → Stepped
 close_step T = close_at (current_of T) T
@@ -83,7 +84,7 @@ looked T = attempted false (Next GfmTaskListItemCheckAfterSpaceOrTab) Nok (attem
 abbrev pub after_at : Option ℕ → Tokenizer → Stepped
 after_at None T = stepped Nok T
 after_at (Some c) T =
-    if c == 10 then stepped State.Ok T
+    if c == byte "\n" then stepped State.Ok T
     else (if at_blank (Some c) then stepped (Retry SpaceOrTabStart) (looked T) else stepped Nok T)
 
 abbrev pub after_step : Tokenizer → Stepped
@@ -122,7 +123,7 @@ abbrev pub after_plan : Plan
 after_plan cs = if begins_task_text cs then Some [] else None
 
 abbrev pub close_plan : Plan
-close_plan cs = if next_is (is_value 93) cs then preceded closing (after_plan (rest_of cs)) else None
+close_plan cs = if next_is (is_value (byte "]")) cs then preceded closing (after_plan (rest_of cs)) else None
 
 abbrev pub inside_plan : Plan
 inside_plan cs =

@@ -148,9 +148,6 @@ last-then n b c cs e = word-then n [] b c cs e ∙ ap (with_first c) (then-nothi
 
 -- Up to a word.
 
-up_by : Option (List Code × List Code) → Option (List Code × List Code) → Option (List Code × List Code)
-up_by o q = or_read o q
-
 up-is : (ns : List ℕ) (c : Code) (cs : List Code) → up_to_word ns (c ∷ cs) ≡ or_read (word_of ns (c ∷ cs)) (with_first c (up_to_word ns cs))
 unfolding up_to_word or_read
 up-is ns c cs = elim (word_of ns (c ∷ cs)) as (λ o. elim o as (λ _. Option (List Code × List Code)) [ Some r ↦ Some r | None ↦ with_first c (up_to_word ns cs) ] ≡ or_read o (with_first c (up_to_word ns cs))) [ None ↦ refl | Some r ↦ refl ]

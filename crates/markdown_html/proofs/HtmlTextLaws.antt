@@ -23,7 +23,7 @@ use Rattle.markdown_construct.specs.Scratch.{with_size}
 use Rattle.markdown_html.specs.LineOps.{InLine, break_from, text_from, text_of}
 use Rattle.markdown_html.specs.Rests.{Open, DeclarationOpen, CommentOpenInside, Comment, CommentClose, CommentEnd, Cdata, CdataClose, CdataEnd, Declaration, Instruction, InstructionClose, TagCloseStart, TagClose, TagCloseBetween, TagOpen, TagOpenBetween, AttributeName, AttributeNameAfter, ValueBefore, ValueQuotedAfter, ValueUnquoted, End, rank_of, tag_rest, tag_next, name_next, value_rest, quoted_rest, closing_between, comment_after_two, cdata_opening, cdata_after_two, instruction_after_one, declaration_rest}
 use Rattle.markdown_html.specs.Values.{blank_value, whitespace_value, name_value, attribute_first_value, attribute_rest_value, after_value, barred_value}
-use Rattle.markdown_html.specs.HtmlText.{rested, with_marker, closing, past_code, prefix_value, cdata_passed, starts_no_value, quote_value, quote_passed, PartReady, CdataReady, QuotedReady, part_ends, cdata_open_inside_ends, quoted_ends, open_at, open_step, declaration_open_at, declaration_open_step, comment_open_inside_at, comment_open_inside_step, comment_at, comment_step, comment_close_at, comment_close_step, comment_end_at, comment_end_step, cdata_open_inside_at, cdata_open_inside_step, cdata_at, cdata_step, cdata_close_at, cdata_close_step, cdata_end_at, cdata_end_step, declaration_at, declaration_step, instruction_at, instruction_step, instruction_close_at, instruction_close_step, tag_close_start_at, tag_close_start_step, tag_close_at, tag_close_step, tag_close_between_at, tag_close_between_step, tag_open_at, tag_open_step, tag_open_between_at, tag_open_between_step, tag_open_attribute_name_at, tag_open_attribute_name_step, tag_open_attribute_name_after_at, tag_open_attribute_name_after_step, tag_open_attribute_value_before_at, tag_open_attribute_value_before_step, tag_open_attribute_value_quoted_at, tag_open_attribute_value_quoted_step, tag_open_attribute_value_quoted_after_at, tag_open_attribute_value_quoted_after_step, tag_open_attribute_value_unquoted_at, tag_open_attribute_value_unquoted_step, end_at, end_step, cdata_open_inside_words, tag_open_attribute_value_quoted_words, part_words}
+use Rattle.markdown_html.specs.HtmlText.{rested, with_marker, closing, past_code, prefix_value, cdata_passed, starts_no_value, quote_value, quote_passed, PartReady, CdataReady, QuotedReady, part_ends, quoted_ends, open_at, declaration_open_at, comment_open_inside_at, comment_at, comment_close_at, comment_end_at, cdata_open_inside_at, cdata_open_inside_step, cdata_at, cdata_close_at, cdata_end_at, declaration_at, instruction_at, instruction_close_at, tag_close_start_at, tag_close_at, tag_close_between_at, tag_open_at, tag_open_between_at, tag_open_attribute_name_at, tag_open_attribute_name_after_at, tag_open_attribute_value_before_at, tag_open_attribute_value_quoted_at, tag_open_attribute_value_quoted_step, tag_open_attribute_value_quoted_after_at, tag_open_attribute_value_unquoted_at, end_at, cdata_open_inside_words, tag_open_attribute_value_quoted_words, part_words}
 use Rattle.markdown_html.proofs.LineLemmas.{from-data}
 use Rattle.markdown_html.proofs.CodeReadings.{then-nothing, word-end, word-then, word-then-none}
 use Rattle.markdown_html.proofs.KindReadings.{end-here, end-none, comment-goes, comment-end, comment-dash, comment-other, comment-one-dash, comment-one-other, comment-two-end, comment-two-one, comment-inside-dash, comment-inside-none, cdata-goes, cdata-end, cdata-bracket, cdata-other, cdata-one-bracket, cdata-one-other, cdata-two-end, cdata-two-one, declaration-goes, declaration-end, declaration-here, declaration-other, instruction-goes, instruction-end, instruction-mark, instruction-other, instruction-one-end, instruction-one-other, spaces-first, spaces-none, closing-goes, name-on, name-none, name-first, name-not, marked-none, marked-dash, marked-letter, marked-bracket, open-none, open-letter, open-slash, open-question, open-bang}

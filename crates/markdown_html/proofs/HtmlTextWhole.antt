@@ -16,7 +16,7 @@ use Rattle.markdown_model.proofs.Consuming.{html_text_takes}
 use Rattle.markdown_model.proofs.ReadingLaws.{read-codes, read-shorter}
 use Rattle.markdown_construct.specs.Plan.{preceded, tree_ops, plan_of}
 use Rattle.markdown_construct.proofs.WholeReadings as W
-use Rattle.markdown_construct.proofs.WholeReadings.{Gives, IsSome, Gives-bind, Gives-switched, Gives-gives, Covers-group, some-first}
+use Rattle.markdown_construct.proofs.WholeReadings.{Gives, IsSome, Gives-bind, Gives-switched, Gives-gives, Covers-group}
 use Rattle.markdown_html.specs.HtmlText.{opening}
 use Rattle.markdown_html.specs.LineOps.{InLine, text_from, text_of}
 use Rattle.markdown_html.specs.Rests.{tag_rest, closing_between, open_rest}

@@ -11,7 +11,6 @@ use Rattle.markdown_engine.specs.TreeOps.{ops_of, consumes, IsSolid}
 use Rattle.markdown_engine.specs.Weights.{codes_left, weight_at}
 use Rattle.markdown_engine.specs.declared.event.Name.TheVariants as N
 use Rattle.markdown_engine.specs.declared.state.State.TheVariants.{Next, Retry, Nok}
-use Rattle.markdown_engine.specs.declared.state.State.TheVariants as State
 use Rattle.markdown_engine.specs.declared.state.StateName.TheVariants as H
 use Rattle.markdown_engine.specs.declared.tokenizer.Tokenizer.{Tokenizer}
 use Rattle.markdown_engine.proofs.EndsLemmas.{scratched-same, left-read}
@@ -24,12 +23,12 @@ use Rattle.markdown_model.specs.Grammar.{span}
 use Rattle.markdown_model.specs.Lines.{linked_leaf}
 use Rattle.markdown_model.specs.Whitespace.{space_or_tab}
 use Rattle.markdown_partial.specs.SpaceSteps as S
-use Rattle.markdown_partial.specs.SpaceSteps.{most, asked}
+use Rattle.markdown_partial.specs.SpaceSteps.{most}
 use Rattle.markdown_partial.proofs.AskedLaws.{asked-ready, asked-ends}
 use Rattle.markdown_partial.proofs.SpacingLemmas.{space-all}
 use Rattle.markdown_html.specs.LineOps.{InLine, AtStart, InBlank, ending_ops, break_from, prefix_from}
-use Rattle.markdown_html.specs.Rests.{Part, state_of, rank_of}
-use Rattle.markdown_html.specs.HtmlText.{blank_asked, PartReady, CdataReady, QuotedReady, BeforeReady, AfterReady, part_ends, cdata_open_inside_ends, quoted_ends, line_ending_before_step, line_ending_before_ends, line_ending_after_at, line_ending_after_step, line_ending_after_ends, data_entered, line_ending_after_prefix_at, line_ending_after_prefix_step, line_ending_after_prefix_ends, line_ending_after_prefix_words, line_ending_after_words, line_ending_before_words, part_words, cdata_open_inside_words, tag_open_attribute_value_quoted_words}
+use Rattle.markdown_html.specs.Rests.{Part, state_of}
+use Rattle.markdown_html.specs.HtmlText.{blank_asked, AfterReady, line_ending_before_ends, line_ending_after_at, line_ending_after_ends, data_entered, line_ending_after_prefix_at, line_ending_after_prefix_ends, line_ending_after_prefix_words, line_ending_after_words, line_ending_before_words, part_words, cdata_open_inside_words, tag_open_attribute_value_quoted_words}
 use Rattle.markdown_html.specs.Values.{blank_value}
 use Rattle.markdown_html.proofs.BreakLemmas.{break-ending, break-blank, break-data}
 use Rattle.markdown_html.proofs.HtmlTextReady.{before-passed, ending-passed}

@@ -1,5 +1,5 @@
 -- How the states of HTML in text go on: past a code, at the same code, and past a line ending.
-use Rattle.std.proofs.Common.{◌≡◌, ℕ, ◌+◌, ◌<◌, ◌≤◌, ◌==◌, Bool, true, false, Option, Some, None, List, [], ◌∷◌, length, refl, sym, ap, subst, ◌∙◌, arith}
+use Rattle.std.proofs.Common.{◌≡◌, ℕ, ◌+◌, ◌<◌, ◌≤◌, ◌==◌, Bool, true, false, Some, None, List, [], ◌∷◌, length, refl, sym, ap, subst, ◌∙◌, arith}
 use Rattle.std.proofs.lemmas.Bool.{eqb-true}
 use Rattle.markdown_engine.specs.Codes.{Code}
 use Rattle.markdown_engine.specs.Lists.{rest_of}
@@ -17,7 +17,7 @@ use Rattle.markdown_construct.specs.Plan.{preceded, DoesAs}
 use Rattle.markdown_construct.proofs.PlanLemmas.{DoesAs-then, kept, preceded-nil}
 use Rattle.markdown_html.specs.LineOps.{InLine, break_from, text_from, text_of}
 use Rattle.markdown_html.specs.Rests.{Part, Open, DeclarationOpen, CommentOpenInside, Comment, CommentClose, CommentEnd, Cdata, CdataClose, CdataEnd, Declaration, Instruction, InstructionClose, TagCloseStart, TagClose, TagCloseBetween, TagOpen, TagOpenBetween, AttributeName, AttributeNameAfter, ValueBefore, ValueQuotedAfter, ValueUnquoted, End, state_of, reading_of, rank_of}
-use Rattle.markdown_html.specs.HtmlText.{past_code, over_to, broken, InsideReady, PartReady, part_ends, part_words}
+use Rattle.markdown_html.specs.HtmlText.{past_code, over_to, broken, InsideReady, PartReady, part_ends}
 use Rattle.markdown_html.proofs.BreakLemmas.{Goes, text-code, breaks, break-stays, break-depth, break-fits, break-moves}
 use Rattle.markdown_html.proofs.HtmlTextReady.{part-next, part-broken}
 use Rattle.markdown_html.proofs.LineEndingLaws.{Within}

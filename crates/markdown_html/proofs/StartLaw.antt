@@ -1,5 +1,5 @@
 -- The law of the start of HTML in text.
-use Rattle.std.proofs.Common.{◌≡◌, ℕ, ◌≤◌, ◌==◌, ◌&&◌, Bool, true, [], ◌∷◌, length, refl, ap, ◌∙◌, arith}
+use Rattle.std.proofs.Common.{◌≡◌, ◌≤◌, ◌==◌, ◌&&◌, Bool, true, [], ◌∷◌, length, refl, ap, ◌∙◌, arith}
 use Rattle.std.proofs.lemmas.Bool.{eqb-true}
 use Rattle.markdown_engine.specs.Lists.{rest_of}
 use Rattle.markdown_engine.specs.Ops.{current_of, ahead}
@@ -12,7 +12,7 @@ use Rattle.markdown_engine.proofs.Laws.{code-step, if-step}
 use Rattle.markdown_engine.proofs.OpRules.{ahead-none, ahead-some, Begins, some-codes}
 use Rattle.markdown_construct.specs.Plan.{Plan, plan_of, KeepsAs}
 use Rattle.markdown_construct.proofs.PlanLemmas.{EndsAs-plan}
-use Rattle.markdown_html.specs.HtmlText.{is_on, opening, start_at, start_step, StartReady, html_here, start_ends, start_words}
+use Rattle.markdown_html.specs.HtmlText.{is_on, opening, start_at, start_step, html_here, start_ends, start_words}
 use Rattle.markdown_html.specs.LineOps.{text_of}
 use Rattle.markdown_html.specs.Rests.{Open, open_rest}
 use Rattle.markdown_html.proofs.HtmlTextReady.{start-opened}

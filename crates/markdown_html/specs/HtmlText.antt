@@ -22,6 +22,7 @@ use Rattle.markdown_html.specs.LineOps.{InLine, AtStart, break_from, prefix_from
 use Rattle.markdown_html.specs.Rests.{Part, reading_of, quoted_rest, cdata_opening, rank_of, Open, DeclarationOpen, CommentOpenInside, Comment, CommentClose, CommentEnd, Cdata, CdataClose, CdataEnd, Declaration, Instruction, InstructionClose, TagCloseStart, TagClose, TagCloseBetween, TagOpen, TagOpenBetween, AttributeName, AttributeNameAfter, ValueBefore, ValueQuotedAfter, ValueUnquoted, End}
 use Rattle.markdown_html.specs.Values.{blank_value, whitespace_value, name_value, attribute_first_value, attribute_rest_value, after_value, barred_value}
 use Rattle.markdown_engine.specs.StateWords.{StateWords}
+use Rattle.std.specs.Str.{byte}
 
 abbrev pub is_on : Tokenizer → Bool
 is_on T = T.parse_state.now.options.now.constructs.html_text
@@ -57,7 +58,7 @@ closing = Consume ∷ Exit N.HtmlTextData ∷ Exit N.HtmlText ∷ []
 
 abbrev pub start_at : Option ℕ → Tokenizer → Stepped
 start_at None T = stepped Nok T
-start_at (Some c) T = if is_on T && (c == 60) then stepped (Next H.HtmlTextOpen) (done opening T) else stepped Nok T
+start_at (Some c) T = if is_on T && (c == byte "<") then stepped (Next H.HtmlTextOpen) (done opening T) else stepped Nok T
 
 abbrev pub start_step : Tokenizer → Stepped
 start_step T = start_at (current_of T) T
@@ -65,9 +66,9 @@ start_step T = start_at (current_of T) T
 abbrev pub open_at : Option ℕ → Tokenizer → Stepped
 open_at None T = stepped Nok T
 open_at (Some c) T =
-    if c == 33 then past_code H.HtmlTextDeclarationOpen T
-    else (if c == 47 then past_code H.HtmlTextTagCloseStart T
-    else (if c == 63 then past_code H.HtmlTextInstruction T
+    if c == byte "!" then past_code H.HtmlTextDeclarationOpen T
+    else (if c == byte "/" then past_code H.HtmlTextTagCloseStart T
+    else (if c == byte "?" then past_code H.HtmlTextInstruction T
     else (if letter_value c then past_code H.HtmlTextTagOpen T
     else stepped Nok T)))
 
@@ -77,9 +78,9 @@ open_step T = open_at (current_of T) T
 abbrev pub declaration_open_at : Option ℕ → Tokenizer → Stepped
 declaration_open_at None T = stepped Nok T
 declaration_open_at (Some c) T =
-    if c == 45 then past_code H.HtmlTextCommentOpenInside T
+    if c == byte "-" then past_code H.HtmlTextCommentOpenInside T
     else (if letter_value c then past_code H.HtmlTextDeclaration T
-    else (if c == 91 then past_code H.HtmlTextCdataOpenInside T
+    else (if c == byte "[" then past_code H.HtmlTextCdataOpenInside T
     else stepped Nok T))
 
 abbrev pub declaration_open_step : Tokenizer → Stepped
@@ -88,7 +89,7 @@ declaration_open_step T = declaration_open_at (current_of T) T
 abbrev pub comment_open_inside_at : Option ℕ → Tokenizer → Stepped
 comment_open_inside_at None T = stepped Nok T
 comment_open_inside_at (Some c) T =
-    if c == 45 then past_code H.HtmlTextCommentEnd T
+    if c == byte "-" then past_code H.HtmlTextCommentEnd T
     else stepped Nok T
 
 abbrev pub comment_open_inside_step : Tokenizer → Stepped
@@ -97,8 +98,8 @@ comment_open_inside_step T = comment_open_inside_at (current_of T) T
 abbrev pub comment_at : Option ℕ → Tokenizer → Stepped
 comment_at None T = stepped Nok T
 comment_at (Some c) T =
-    if c == 10 then broken H.HtmlTextComment T
-    else (if c == 45 then past_code H.HtmlTextCommentClose T
+    if c == byte "\n" then broken H.HtmlTextComment T
+    else (if c == byte "-" then past_code H.HtmlTextCommentClose T
     else past_code H.HtmlTextComment T)
 
 abbrev pub comment_step : Tokenizer → Stepped
@@ -107,7 +108,7 @@ comment_step T = comment_at (current_of T) T
 abbrev pub comment_close_at : Option ℕ → Tokenizer → Stepped
 comment_close_at None T = over_to H.HtmlTextComment T
 comment_close_at (Some c) T =
-    if c == 45 then past_code H.HtmlTextCommentEnd T
+    if c == byte "-" then past_code H.HtmlTextCommentEnd T
     else over_to H.HtmlTextComment T
 
 abbrev pub comment_close_step : Tokenizer → Stepped
@@ -116,8 +117,8 @@ comment_close_step T = comment_close_at (current_of T) T
 abbrev pub comment_end_at : Option ℕ → Tokenizer → Stepped
 comment_end_at None T = over_to H.HtmlTextComment T
 comment_end_at (Some c) T =
-    if c == 62 then over_to H.HtmlTextEnd T
-    else (if c == 45 then over_to H.HtmlTextCommentClose T
+    if c == byte ">" then over_to H.HtmlTextEnd T
+    else (if c == byte "-" then over_to H.HtmlTextCommentClose T
     else over_to H.HtmlTextComment T)
 
 abbrev pub comment_end_step : Tokenizer → Stepped
@@ -144,8 +145,8 @@ cdata_open_inside_step T = cdata_open_inside_at (current_of T) T
 abbrev pub cdata_at : Option ℕ → Tokenizer → Stepped
 cdata_at None T = stepped Nok T
 cdata_at (Some c) T =
-    if c == 10 then broken H.HtmlTextCdata T
-    else (if c == 93 then past_code H.HtmlTextCdataClose T
+    if c == byte "\n" then broken H.HtmlTextCdata T
+    else (if c == byte "]" then past_code H.HtmlTextCdataClose T
     else past_code H.HtmlTextCdata T)
 
 abbrev pub cdata_step : Tokenizer → Stepped
@@ -154,7 +155,7 @@ cdata_step T = cdata_at (current_of T) T
 abbrev pub cdata_close_at : Option ℕ → Tokenizer → Stepped
 cdata_close_at None T = over_to H.HtmlTextCdata T
 cdata_close_at (Some c) T =
-    if c == 93 then past_code H.HtmlTextCdataEnd T
+    if c == byte "]" then past_code H.HtmlTextCdataEnd T
     else over_to H.HtmlTextCdata T
 
 abbrev pub cdata_close_step : Tokenizer → Stepped
@@ -163,8 +164,8 @@ cdata_close_step T = cdata_close_at (current_of T) T
 abbrev pub cdata_end_at : Option ℕ → Tokenizer → Stepped
 cdata_end_at None T = over_to H.HtmlTextCdata T
 cdata_end_at (Some c) T =
-    if c == 62 then over_to H.HtmlTextEnd T
-    else (if c == 93 then over_to H.HtmlTextCdataClose T
+    if c == byte ">" then over_to H.HtmlTextEnd T
+    else (if c == byte "]" then over_to H.HtmlTextCdataClose T
     else over_to H.HtmlTextCdata T)
 
 abbrev pub cdata_end_step : Tokenizer → Stepped
@@ -173,8 +174,8 @@ cdata_end_step T = cdata_end_at (current_of T) T
 abbrev pub declaration_at : Option ℕ → Tokenizer → Stepped
 declaration_at None T = over_to H.HtmlTextEnd T
 declaration_at (Some c) T =
-    if c == 62 then over_to H.HtmlTextEnd T
-    else (if c == 10 then broken H.HtmlTextDeclaration T
+    if c == byte ">" then over_to H.HtmlTextEnd T
+    else (if c == byte "\n" then broken H.HtmlTextDeclaration T
     else past_code H.HtmlTextDeclaration T)
 
 abbrev pub declaration_step : Tokenizer → Stepped
@@ -183,8 +184,8 @@ declaration_step T = declaration_at (current_of T) T
 abbrev pub instruction_at : Option ℕ → Tokenizer → Stepped
 instruction_at None T = stepped Nok T
 instruction_at (Some c) T =
-    if c == 10 then broken H.HtmlTextInstruction T
-    else (if c == 63 then past_code H.HtmlTextInstructionClose T
+    if c == byte "\n" then broken H.HtmlTextInstruction T
+    else (if c == byte "?" then past_code H.HtmlTextInstructionClose T
     else past_code H.HtmlTextInstruction T)
 
 abbrev pub instruction_step : Tokenizer → Stepped
@@ -193,7 +194,7 @@ instruction_step T = instruction_at (current_of T) T
 abbrev pub instruction_close_at : Option ℕ → Tokenizer → Stepped
 instruction_close_at None T = over_to H.HtmlTextInstruction T
 instruction_close_at (Some c) T =
-    if c == 62 then over_to H.HtmlTextEnd T
+    if c == byte ">" then over_to H.HtmlTextEnd T
     else over_to H.HtmlTextInstruction T
 
 abbrev pub instruction_close_step : Tokenizer → Stepped
@@ -220,7 +221,7 @@ tag_close_step T = tag_close_at (current_of T) T
 abbrev pub tag_close_between_at : Option ℕ → Tokenizer → Stepped
 tag_close_between_at None T = over_to H.HtmlTextEnd T
 tag_close_between_at (Some c) T =
-    if c == 10 then broken H.HtmlTextTagCloseBetween T
+    if c == byte "\n" then broken H.HtmlTextTagCloseBetween T
     else (if blank_value c then past_code H.HtmlTextTagCloseBetween T
     else over_to H.HtmlTextEnd T)
 
@@ -240,9 +241,9 @@ tag_open_step T = tag_open_at (current_of T) T
 abbrev pub tag_open_between_at : Option ℕ → Tokenizer → Stepped
 tag_open_between_at None T = over_to H.HtmlTextEnd T
 tag_open_between_at (Some c) T =
-    if c == 10 then broken H.HtmlTextTagOpenBetween T
+    if c == byte "\n" then broken H.HtmlTextTagOpenBetween T
     else (if blank_value c then past_code H.HtmlTextTagOpenBetween T
-    else (if c == 47 then past_code H.HtmlTextEnd T
+    else (if c == byte "/" then past_code H.HtmlTextEnd T
     else (if attribute_first_value c then past_code H.HtmlTextTagOpenAttributeName T
     else over_to H.HtmlTextEnd T)))
 
@@ -261,9 +262,9 @@ tag_open_attribute_name_step T = tag_open_attribute_name_at (current_of T) T
 abbrev pub tag_open_attribute_name_after_at : Option ℕ → Tokenizer → Stepped
 tag_open_attribute_name_after_at None T = over_to H.HtmlTextTagOpenBetween T
 tag_open_attribute_name_after_at (Some c) T =
-    if c == 10 then broken H.HtmlTextTagOpenAttributeNameAfter T
+    if c == byte "\n" then broken H.HtmlTextTagOpenAttributeNameAfter T
     else (if blank_value c then past_code H.HtmlTextTagOpenAttributeNameAfter T
-    else (if c == 61 then past_code H.HtmlTextTagOpenAttributeValueBefore T
+    else (if c == byte "=" then past_code H.HtmlTextTagOpenAttributeValueBefore T
     else over_to H.HtmlTextTagOpenBetween T))
 
 abbrev pub tag_open_attribute_name_after_step : Tokenizer → Stepped
@@ -283,7 +284,7 @@ abbrev pub tag_open_attribute_value_before_at : Option ℕ → Tokenizer → Ste
 tag_open_attribute_value_before_at None T = stepped Nok T
 tag_open_attribute_value_before_at (Some c) T =
     if starts_no_value c then stepped Nok T
-    else (if c == 10 then broken H.HtmlTextTagOpenAttributeValueBefore T
+    else (if c == byte "\n" then broken H.HtmlTextTagOpenAttributeValueBefore T
     else (if blank_value c then past_code H.HtmlTextTagOpenAttributeValueBefore T
     else (if quote_value c then quote_passed c T
     else past_code H.HtmlTextTagOpenAttributeValueUnquoted T)))
@@ -295,7 +296,7 @@ abbrev pub tag_open_attribute_value_quoted_at : Option ℕ → Tokenizer → Ste
 tag_open_attribute_value_quoted_at None T = stepped Nok (scratched (with_marker 0 T.tokenize_state) T)
 tag_open_attribute_value_quoted_at (Some c) T =
     if c == T.tokenize_state.marker then stepped (Next H.HtmlTextTagOpenAttributeValueQuotedAfter) (scratched (with_marker 0 T.tokenize_state) (done (Consume ∷ []) T))
-    else (if c == 10 then broken H.HtmlTextTagOpenAttributeValueQuoted T
+    else (if c == byte "\n" then broken H.HtmlTextTagOpenAttributeValueQuoted T
     else past_code H.HtmlTextTagOpenAttributeValueQuoted T)
 
 abbrev pub tag_open_attribute_value_quoted_step : Tokenizer → Stepped
@@ -323,7 +324,7 @@ tag_open_attribute_value_unquoted_step T = tag_open_attribute_value_unquoted_at 
 abbrev pub end_at : Option ℕ → Tokenizer → Stepped
 end_at None T = stepped Nok T
 end_at (Some c) T =
-    if c == 62 then stepped State.Ok (done closing T)
+    if c == byte ">" then stepped State.Ok (done closing T)
     else stepped Nok T
 
 abbrev pub end_step : Tokenizer → Stepped
@@ -355,7 +356,7 @@ data_entered T = stepped State.Ok (done (Enter N.HtmlTextData ∷ []) T)
 abbrev pub line_ending_after_prefix_at : Option ℕ → Tokenizer → Stepped
 line_ending_after_prefix_at None T = data_entered T
 line_ending_after_prefix_at (Some c) T =
-    if c == 10 then ending_passed T else data_entered T
+    if c == byte "\n" then ending_passed T else data_entered T
 
 abbrev pub line_ending_after_prefix_step : Tokenizer → Stepped
 line_ending_after_prefix_step T = line_ending_after_prefix_at (current_of T) T

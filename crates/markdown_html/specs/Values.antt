@@ -1,18 +1,19 @@
 -- Tests on the values of the codes of HTML in text.
 use Rattle.std.specs.Prelude.{ℕ, Bool, ◌||◌, codes, ◌==◌}
 use Rattle.markdown_construct.specs.Values.{letter_value, alphanumeric_value, among_values}
+use Rattle.std.specs.Str.{byte}
 
 -- a space or a tab
 abbrev pub blank_value : ℕ → Bool
-blank_value v = v == 32 || v == 9
+blank_value v = v == byte " " || v == byte "\t"
 
 -- a space, a tab or a line ending
 abbrev pub whitespace_value : ℕ → Bool
-whitespace_value v = blank_value v || v == 10
+whitespace_value v = blank_value v || v == byte "\n"
 
 -- of a tag's name, but for its first code
 abbrev pub name_value : ℕ → Bool
-name_value v = alphanumeric_value v || v == 45
+name_value v = alphanumeric_value v || v == byte "-"
 
 -- the first code of an attribute's name
 abbrev pub attribute_first_value : ℕ → Bool

@@ -21,7 +21,7 @@ use Rattle.markdown_model.specs.CodeTests.{is_value, is_alphanumeric, is_letter,
 use Rattle.markdown_model.specs.Grammar.{any_number}
 use Rattle.markdown_model.specs.Leaf.{uri, email_address, is_scheme_code, is_uri_code, is_local_code}
 use Rattle.markdown_construct.specs.Values.{letter_value, alphanumeric_value}
-use Rattle.markdown_leaf.specs.Autolink.{scheme_value, local_value, uri_value, is_on, opening, ending, start_at, start_step, open_at, open_step, scheme_or_at, scheme_or_step, scheme_inside_at, scheme_inside_step, url_inside_at, url_inside_step, email_atext_at, email_atext_step, email_at_sign_or_dot_at, email_at_sign_or_dot_step, in_label_at, email_value_step, email_label_at, email_label_step, InsideReady, SchemeReady, LabelReady, link_here, start_ends, ended, up_to_bracket, or_else, scheme_rest, local_rest, domains, is_label_code, label_rest, open_naming, scheme_naming, open_ends, scheme_or_ends, scheme_inside_ends, url_inside_ends, email_atext_ends, email_at_sign_or_dot_ends, email_label_ends, email_value_ends, states, email_at_sign_or_dot_words, email_atext_words, email_label_words, email_value_words, open_words, scheme_inside_words, scheme_or_words, start_words, url_inside_words}
+use Rattle.markdown_leaf.specs.Autolink.{scheme_value, local_value, uri_value, is_on, opening, ending, start_at, start_step, open_at, scheme_or_at, scheme_inside_at, url_inside_at, email_atext_at, email_at_sign_or_dot_at, in_label_at, email_label_at, InsideReady, LabelReady, link_here, start_ends, ended, up_to_bracket, or_else, scheme_rest, local_rest, domains, is_label_code, label_rest, open_naming, scheme_naming, open_ends, scheme_or_ends, scheme_inside_ends, url_inside_ends, email_atext_ends, email_at_sign_or_dot_ends, email_label_ends, states, email_at_sign_or_dot_words, email_atext_words, email_label_words, email_value_words, open_words, scheme_inside_words, scheme_or_words, start_words, url_inside_words}
 use Rattle.markdown_construct.specs.Plan.{Plan, preceded, plan_of, DoesAs, KeepsAs}
 use Rattle.markdown_construct.specs.Scratch.{with_size}
 use Rattle.markdown_construct.specs.Renaming.{Naming, NamesAs, renamed, preceded_by, opening_of}

@@ -1,8 +1,8 @@
 -- The laws of the states of a character escape.
-use Rattle.std.proofs.Common.{◌≡◌, ℕ, ◌==◌, ◌&&◌, Bool, true, false, if◌then◌else◌, Some, None, List, [], ◌∷◌, ◌++◌, refl, sym, ap, ◌∙◌, arith, append-nil}
+use Rattle.std.proofs.Common.{◌≡◌, ◌==◌, ◌&&◌, Bool, true, false, if◌then◌else◌, Some, None, List, [], ◌∷◌, ◌++◌, refl, sym, ap, ◌∙◌, arith, append-nil}
 use Rattle.markdown_engine.specs.Codes.{Code}
 use Rattle.markdown_engine.specs.Lists.{rest_of}
-use Rattle.markdown_engine.specs.Ops.{current_of, ahead, IsOpen, done}
+use Rattle.markdown_engine.specs.Ops.{current_of, ahead}
 use Rattle.markdown_engine.specs.Runs.{Stepped}
 use Rattle.markdown_engine.specs.Weights.{weight_at}
 use Rattle.markdown_engine.specs.declared.event.Name.TheVariants as N
@@ -14,7 +14,7 @@ use Rattle.markdown_engine.proofs.OpRules.{law_rules, ahead-none, ahead-some, so
 use Rattle.markdown_model.specs.CodeTests.{is_value, is_ascii_punctuation, next_is}
 use Rattle.markdown_model.specs.Grammar.{◌>>◌, ◌>>=◌, provided, one, gives}
 use Rattle.markdown_model.specs.Leaf.{escape, escape_tree}
-use Rattle.markdown_leaf.specs.CharacterEscape.{is_punctuation, is_on, opening, value, start_at, start_step, inside_at, inside_step, escape_here, inside_plan, start_ends, inside_ends, states, inside_words, start_words}
+use Rattle.markdown_leaf.specs.CharacterEscape.{is_punctuation, is_on, opening, value, start_at, start_step, inside_at, escape_here, inside_plan, start_ends, inside_ends, states, inside_words, start_words}
 use Rattle.markdown_construct.specs.Plan.{preceded, tree_ops, plan_of, KeepsAs}
 use Rattle.markdown_construct.proofs.PlanLemmas.{EndsAs-plan}
 use Rattle.markdown_model.proofs.ReadingSteps.{bind-some, bind-none, one-here, one-not, switched-on, switched-off, and-left, and-right, and-false, if-true, if-false}

@@ -19,7 +19,7 @@ use Rattle.markdown_model.specs.CodeTests.{is_value, is_among, is_alphanumeric, 
 use Rattle.markdown_model.specs.Grammar.{◌>>◌, provided, some}
 use Rattle.markdown_model.specs.Leaf.{Parts, reference, reference_tree, named_parts, decimal_parts, hexadecimal_parts}
 use Rattle.markdown_util.specs.Reference.{html_5_rows, IsMarker, value_size_max}
-use Rattle.markdown_leaf.specs.CharacterReference.{IsAtRest, IsOpened, IsValue, is_on, marked, sized, rested, opening, number_sign, hexadecimal_sign, value_start, closing, begins_name, is_taken, start_at, start_step, named_step, open_at, open_step, decimal_step, numeric_at, numeric_step, value_at, value_step, reference_here, value_plan, numeric_plan, named_plan, open_plan, start_ends, open_ends, numeric_ends, value_ends, states, numeric_words, open_words, start_words, value_words}
+use Rattle.markdown_leaf.specs.CharacterReference.{IsAtRest, IsOpened, IsValue, is_on, marked, sized, rested, opening, number_sign, hexadecimal_sign, value_start, closing, begins_name, is_taken, start_at, start_step, named_step, open_at, decimal_step, numeric_at, value_at, reference_here, value_plan, numeric_plan, named_plan, open_plan, start_ends, open_ends, numeric_ends, value_ends, states, numeric_words, open_words, start_words, value_words}
 use Rattle.markdown_construct.specs.Plan.{Plan, preceded, plan_of, DoesAs, KeepsAs}
 use Rattle.markdown_leaf.proofs.CharacterReferenceReading.{reference-start, no-reference, value-close, value-more, value-end, value-stop}
 use Rattle.markdown_construct.proofs.PlanLemmas.{EndsAs-plan, no-codes}

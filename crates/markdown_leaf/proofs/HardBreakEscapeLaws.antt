@@ -1,8 +1,8 @@
 -- The laws of the states of a hard break by a backslash.
-use Rattle.std.proofs.Common.{◌≡◌, ℕ, ◌==◌, ◌&&◌, Bool, true, false, if◌then◌else◌, Some, None, List, [], ◌∷◌, ◌++◌, refl, sym, ap, ◌∙◌, arith, append-nil}
+use Rattle.std.proofs.Common.{◌≡◌, ◌==◌, ◌&&◌, Bool, true, false, if◌then◌else◌, Some, None, List, [], ◌∷◌, ◌++◌, refl, sym, ap, ◌∙◌, arith, append-nil}
 use Rattle.markdown_engine.specs.Codes.{Code, is_line_ending}
 use Rattle.markdown_engine.specs.Lists.{rest_of}
-use Rattle.markdown_engine.specs.Ops.{current_of, ahead, IsOpen, done}
+use Rattle.markdown_engine.specs.Ops.{current_of, ahead}
 use Rattle.markdown_engine.specs.Runs.{Stepped}
 use Rattle.markdown_engine.specs.Tree.{leaf}
 use Rattle.markdown_engine.specs.Weights.{weight_at}
@@ -15,7 +15,7 @@ use Rattle.markdown_engine.proofs.OpRules.{law_rules, ahead-none, ahead-some, so
 use Rattle.markdown_model.specs.CodeTests.{is_value, next_is}
 use Rattle.markdown_model.specs.Grammar.{◌>>◌, provided, gives}
 use Rattle.markdown_model.specs.Leaf.{hard_break_escape}
-use Rattle.markdown_leaf.specs.HardBreakEscape.{is_on, opening, closing, start_at, start_step, after_at, after_step, break_here, after_plan, start_ends, after_ends, states, after_words, start_words}
+use Rattle.markdown_leaf.specs.HardBreakEscape.{is_on, opening, closing, start_at, start_step, after_at, break_here, after_plan, start_ends, after_ends, states, after_words, start_words}
 use Rattle.markdown_construct.specs.Plan.{Plan, preceded, tree_ops, plan_of, KeepsAs}
 use Rattle.markdown_construct.proofs.PlanLemmas.{EndsAs-plan}
 use Rattle.markdown_model.proofs.ReadingSteps.{bind-some, bind-none, before-some, before-none, before-other, one-here, one-not, switched-on, switched-off, and-left, and-right, and-false, if-true, if-false}

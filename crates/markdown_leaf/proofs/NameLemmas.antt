@@ -38,9 +38,6 @@ name-utf8 bs e = IsUtf8-from_ascii bs (name-ascii bs e)
 
 -- What was passed.
 
-pub passing-start : (cs : List Code) (name : List ℕ) → IsPassing cs cs name 0
-passing-start cs name = record { passed = []; front = refl; back = refl; values = refl; count = refl; all = refl }
-
 -- what stands at the next number does not matter
 pub passing-set : (A B : List Code) (name : List ℕ) (n x : ℕ) → IsPassing A B name n → IsPassing A B (slice_set name n x) n
 passing-set A B name n x p = record { passed = p.passed; front = p.front; back = p.back; values = take-set name n x ∙ p.values; count = p.count; all = p.all }
@@ -196,6 +193,3 @@ other-value v h = grind arith
 
 pub stands-other : (A : List Code) (p : Place) (v : ℕ) (name : List ℕ) (n : ℕ) → HasPassed A (ahead_at p) name n → length name ≡ 31 → code_at p ≡ Some v → (v ≡ 59 → ⊥) → false ≡ begins_name A
 stands-other A p v name n k l e h = other-next A (ahead_at p) name n k l (semicolon-next (ahead_at p) v (sym (first-value p) ∙ e) ∙ other-value v h)
-
-pub passed-ascii : (A B : List Code) (name : List ℕ) (n : ℕ) → HasPassed A B name n → list_all is_ascii_alphanumeric (take n name) ≡ true
-passed-ascii A B name n k = ap (list_all is_ascii_alphanumeric) k.passing.values ∙ k.passing.all

@@ -20,6 +20,7 @@ use Rattle.markdown_engine.specs.declared.state.StateName.TheVariants.{AutolinkO
 use Rattle.markdown_engine.specs.declared.tokenizer.Tokenizer.{Tokenizer}
 use Rattle.markdown_engine.specs.StateWords.{StateWords}
 use Rattle.markdown_engine.specs.declared.state.StateName.{StateName}
+use Rattle.std.specs.Str.{byte}
 
 -- Tests on the value of a code.
 
@@ -52,7 +53,7 @@ finished name T = stepped State.Ok (scratched (with_size 0 T.tokenize_state) (do
 
 abbrev pub start_at : Option ℕ → Tokenizer → Stepped
 start_at None T = stepped Nok T
-start_at (Some c) T = if is_on T && (c == 60) then stepped (Next AutolinkOpen) (done opening T) else stepped Nok T
+start_at (Some c) T = if is_on T && (c == byte "<") then stepped (Next AutolinkOpen) (done opening T) else stepped Nok T
 
 abbrev pub start_step : Tokenizer → Stepped
 start_step T = start_at (current_of T) T
@@ -78,7 +79,7 @@ scheme_or_step T = scheme_or_at (current_of T) T
 abbrev pub scheme_inside_at : Option ℕ → Tokenizer → Stepped
 scheme_inside_at None T = stepped (Retry AutolinkEmailAtext) T
 scheme_inside_at (Some c) T =
-    if c == 58 then stepped (Next AutolinkUrlInside) (done (Consume ∷ []) T)
+    if c == byte ":" then stepped (Next AutolinkUrlInside) (done (Consume ∷ []) T)
     else (if scheme_value c && nat_lt T.tokenize_state.size 32
     then stepped (Next AutolinkSchemeInsideOrEmailAtext) (scratched (with_size (T.tokenize_state.size + 1) T.tokenize_state) (done (Consume ∷ []) T))
     else stepped (Retry AutolinkEmailAtext) T)
@@ -89,7 +90,7 @@ scheme_inside_step T = scheme_inside_at (current_of T) T
 abbrev pub url_inside_at : Option ℕ → Tokenizer → Stepped
 url_inside_at None T = refused T
 url_inside_at (Some c) T =
-    if c == 62 then finished N.AutolinkProtocol T
+    if c == byte ">" then finished N.AutolinkProtocol T
     else (if uri_value c then stepped (Next AutolinkUrlInside) (done (Consume ∷ []) T) else refused T)
 
 abbrev pub url_inside_step : Tokenizer → Stepped
@@ -98,7 +99,7 @@ url_inside_step T = url_inside_at (current_of T) T
 abbrev pub email_atext_at : Option ℕ → Tokenizer → Stepped
 email_atext_at None T = refused T
 email_atext_at (Some c) T =
-    if c == 64 then stepped (Next AutolinkEmailAtSignOrDot) (done (Consume ∷ []) T)
+    if c == byte "@" then stepped (Next AutolinkEmailAtSignOrDot) (done (Consume ∷ []) T)
     else (if local_value c then stepped (Next AutolinkEmailAtext) (done (Consume ∷ []) T) else refused T)
 
 abbrev pub email_atext_step : Tokenizer → Stepped
@@ -118,7 +119,7 @@ in_label_at None T = refused T
 in_label_at (Some c) T =
     if nat_lt T.tokenize_state.size 63 && alphanumeric_value c
     then stepped (Next AutolinkEmailLabel) (scratched (with_size (T.tokenize_state.size + 1) T.tokenize_state) (done (Consume ∷ []) T))
-    else (if nat_lt T.tokenize_state.size 63 && (c == 45)
+    else (if nat_lt T.tokenize_state.size 63 && (c == byte "-")
     then stepped (Next AutolinkEmailValue) (scratched (with_size (T.tokenize_state.size + 1) T.tokenize_state) (done (Consume ∷ []) T))
     else refused T)
 
@@ -128,8 +129,8 @@ email_value_step T = in_label_at (current_of T) T
 abbrev pub email_label_at : Option ℕ → Tokenizer → Stepped
 email_label_at None T = refused T
 email_label_at (Some c) T =
-    if c == 46 then stepped (Next AutolinkEmailAtSignOrDot) (done (Consume ∷ []) T)
-    else (if c == 62 then finished N.AutolinkEmail (renamed N.AutolinkEmail T)
+    if c == byte "." then stepped (Next AutolinkEmailAtSignOrDot) (done (Consume ∷ []) T)
+    else (if c == byte ">" then finished N.AutolinkEmail (renamed N.AutolinkEmail T)
     else in_label_at (Some c) T)
 
 abbrev pub email_label_step : Tokenizer → Stepped
@@ -164,10 +165,10 @@ start_ends T ok U = EndsAs (link_here T) None T.tokenize_state T ok U
 abbrev pub scheme_rest : ℕ → Reading (List Code)
 scheme_rest passed cs =
     let s = span is_scheme_code cs in
-    if is_between 2 32 (passed + length s.0) then after s.0 ((one (is_value 58) then_ any_number is_uri_code) s.1) else None
+    if is_between 2 32 (passed + length s.0) then after s.0 ((one (is_value (byte ":")) then_ any_number is_uri_code) s.1) else None
 
 abbrev pub more_labels : Reading (List Code)
-more_labels = repeatedly (one (is_value 46) then_ domain_label)
+more_labels = repeatedly (one (is_value (byte ".")) then_ domain_label)
 
 -- after the `@`
 abbrev pub domains : Reading (List Code)
@@ -175,10 +176,10 @@ domains = domain_label then_ more_labels
 
 -- an address after some codes before its `@`
 abbrev pub local_rest : Reading (List Code)
-local_rest cs = let s = span is_local_code cs in after s.0 ((one (is_value 64) then_ domains) s.1)
+local_rest cs = let s = span is_local_code cs in after s.0 ((one (is_value (byte "@")) then_ domains) s.1)
 
 abbrev pub is_label_code : Code → Bool
-is_label_code c = is_alphanumeric c || is_value 45 c
+is_label_code c = is_alphanumeric c || is_value (byte "-") c
 
 -- these codes do not end in a hyphen; `well` says so of those before, where there are none
 abbrev pub ends_well : Bool → List Code → Bool
@@ -194,7 +195,7 @@ label_rest passed well cs =
 -- what stands between the brackets from here on, and the end of the link
 abbrev pub ended : Name → Option (List Code × List Code) → Option (Name × List Op)
 ended name None = None
-ended name (Some r) = if next_is (is_value 62) r.1 then Some (name, consumes r.0 ++ ending name) else None
+ended name (Some r) = if next_is (is_value (byte ">")) r.1 then Some (name, consumes r.0 ++ ending name) else None
 
 abbrev pub up_to_bracket : Name → Reading (List Code) → Naming
 up_to_bracket name inside cs = ended name (inside cs)

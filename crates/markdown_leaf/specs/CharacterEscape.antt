@@ -14,6 +14,7 @@ use Rattle.markdown_engine.specs.declared.state.StateName.TheVariants.{Character
 use Rattle.markdown_engine.specs.declared.tokenizer.Tokenizer.{Tokenizer}
 use Rattle.markdown_engine.specs.StateWords.{StateWords}
 use Rattle.markdown_engine.specs.declared.state.StateName.{StateName}
+use Rattle.std.specs.Str.{byte}
 
 abbrev pub is_punctuation : ℕ → Bool
 is_punctuation c = (nat_le 33 c && nat_le c 47) || (nat_le 58 c && nat_le c 64) || (nat_le 91 c && nat_le c 96) || (nat_le 123 c && nat_le c 126)
@@ -30,7 +31,7 @@ is_on T = T.parse_state.now.options.now.constructs.character_escape
 -- by the current code
 abbrev pub start_at : Bool → Option ℕ → Tokenizer → Stepped
 start_at on None T = stepped Nok T
-start_at on (Some c) T = if on && (c == 92) then stepped (Next CharacterEscapeInside) (done opening T) else stepped Nok T
+start_at on (Some c) T = if on && (c == byte "\\") then stepped (Next CharacterEscapeInside) (done opening T) else stepped Nok T
 
 abbrev pub start_step : Tokenizer → Stepped
 start_step T = start_at (is_on T) (current_of T) T

@@ -21,6 +21,7 @@ use Rattle.markdown_engine.specs.declared.tokenizer.TokenizeState.{TokenizeState
 use Rattle.markdown_engine.specs.declared.tokenizer.Tokenizer.{Tokenizer}
 use Rattle.markdown_engine.specs.StateWords.{StateWords}
 use Rattle.markdown_engine.specs.declared.state.StateName.{StateName}
+use Rattle.std.specs.Str.{byte}
 
 -- The scratch fields: the kind of the value, and how many of its codes are passed.
 
@@ -76,7 +77,7 @@ has_value table name = is_some (named_value table name)
 
 -- the letters and digits at hand are a name of the table, and a `;` stands behind them
 abbrev pub begins_name : List Code → Bool
-begins_name cs = is_name html_5_rows (span is_alphanumeric cs).0 && next_is (is_value 59) (span is_alphanumeric cs).1
+begins_name cs = is_name html_5_rows (span is_alphanumeric cs).0 && next_is (is_value (byte ";")) (span is_alphanumeric cs).1
 
 -- a code of a name
 abbrev pub is_name_code : Code → Bool
@@ -104,7 +105,7 @@ is_on T = T.parse_state.now.options.now.constructs.character_reference
 
 abbrev pub start_at : Bool → Option ℕ → Tokenizer → Stepped
 start_at on None T = stepped Nok T
-start_at on (Some c) T = if on && (c == 38) then stepped (Next CharacterReferenceOpen) (done opening T) else stepped Nok T
+start_at on (Some c) T = if on && (c == byte "&") then stepped (Next CharacterReferenceOpen) (done opening T) else stepped Nok T
 
 abbrev pub start_step : Tokenizer → Stepped
 start_step T = start_at (is_on T) (current_of T) T
@@ -112,24 +113,24 @@ start_step T = start_at (is_on T) (current_of T) T
 abbrev pub named_step : Tokenizer → Stepped
 named_step T =
     if begins_name (ahead T)
-    then stepped (Retry CharacterReferenceValue) (scratched (marked 38 T.tokenize_state) (done value_start T))
+    then stepped (Retry CharacterReferenceValue) (scratched (marked (byte "&") T.tokenize_state) (done value_start T))
     else stepped Nok T
 
 abbrev pub open_at : Option ℕ → Tokenizer → Stepped
 open_at None T = named_step T
-open_at (Some c) T = if c == 35 then stepped (Next CharacterReferenceNumeric) (done number_sign T) else named_step T
+open_at (Some c) T = if c == byte "#" then stepped (Next CharacterReferenceNumeric) (done number_sign T) else named_step T
 
 abbrev pub open_step : Tokenizer → Stepped
 open_step T = open_at (current_of T) T
 
 abbrev pub decimal_step : Tokenizer → Stepped
-decimal_step T = stepped (Retry CharacterReferenceValue) (scratched (marked 35 T.tokenize_state) (done value_start T))
+decimal_step T = stepped (Retry CharacterReferenceValue) (scratched (marked (byte "#") T.tokenize_state) (done value_start T))
 
 abbrev pub numeric_at : Option ℕ → Tokenizer → Stepped
 numeric_at None T = decimal_step T
 numeric_at (Some c) T =
-    if c == 120 || c == 88
-    then stepped (Next CharacterReferenceValue) (scratched (marked 120 T.tokenize_state) (done hexadecimal_sign T))
+    if c == byte "x" || c == byte "X"
+    then stepped (Next CharacterReferenceValue) (scratched (marked (byte "x") T.tokenize_state) (done hexadecimal_sign T))
     else decimal_step T
 
 abbrev pub numeric_step : Tokenizer → Stepped
@@ -142,7 +143,7 @@ is_taken marker size c = nat_lt size (value_size_max marker) && is_value_byte ma
 abbrev pub value_at : Option ℕ → Tokenizer → Stepped
 value_at None T = stepped Nok (scratched (rested T.tokenize_state) T)
 value_at (Some c) T =
-    if (c == 59) && nat_lt 0 T.tokenize_state.size
+    if (c == byte ";") && nat_lt 0 T.tokenize_state.size
     then stepped State.Ok (scratched (rested T.tokenize_state) (done closing T))
     else (if is_taken T.tokenize_state.marker T.tokenize_state.size c
     then stepped (Next CharacterReferenceValue) (scratched (sized (T.tokenize_state.size + 1) T.tokenize_state) (done (Consume ∷ []) T))
@@ -166,7 +167,7 @@ is_value_code marker c = is_value_byte marker c.value
 -- the rest of a value of this kind, of so many codes: the codes that go on with it, and a `;`
 abbrev pub value_of : ℕ → ℕ → List Code × List Code → Option (List Op)
 value_of marker size s =
-    if is_between 1 (value_size_max marker) (size + length s.0) && next_is (is_value 59) s.1 then Some (consumes s.0 ++ closing) else None
+    if is_between 1 (value_size_max marker) (size + length s.0) && next_is (is_value (byte ";")) s.1 then Some (consumes s.0 ++ closing) else None
 
 abbrev pub value_plan : ℕ → ℕ → Plan
 value_plan marker size cs = value_of marker size (span (is_value_code marker) cs)
@@ -177,17 +178,17 @@ value_ends T ok U = DoesAs 2 (value_plan T.tokenize_state.marker T.tokenize_stat
 -- after the `#`: an `x` and hexadecimal digits, or decimal digits
 abbrev pub numeric_plan : Plan
 numeric_plan cs =
-    if next_is (is_among (codes "xX")) cs then preceded hexadecimal_sign (value_plan 120 0 (rest_of cs)) else preceded value_start (value_plan 35 0 cs)
+    if next_is (is_among (codes "xX")) cs then preceded hexadecimal_sign (value_plan (byte "x") 0 (rest_of cs)) else preceded value_start (value_plan (byte "#") 0 cs)
 
 abbrev pub numeric_ends : Tokenizer → Bool → Tokenizer → Type 0
 numeric_ends T ok U = DoesAs 1 numeric_plan (rested T.tokenize_state) T ok U
 
 -- after the `&`: a number, or a name
 abbrev pub named_plan : Plan
-named_plan cs = if begins_name cs then preceded value_start (value_plan 38 0 cs) else None
+named_plan cs = if begins_name cs then preceded value_start (value_plan (byte "&") 0 cs) else None
 
 abbrev pub open_plan : Plan
-open_plan cs = if next_is (is_value 35) cs then preceded number_sign (numeric_plan (rest_of cs)) else named_plan cs
+open_plan cs = if next_is (is_value (byte "#")) cs then preceded number_sign (numeric_plan (rest_of cs)) else named_plan cs
 
 abbrev pub open_ends : Tokenizer → Bool → Tokenizer → Type 0
 open_ends T ok U = DoesAs 1 open_plan (rested T.tokenize_state) T ok U

@@ -15,6 +15,7 @@ use Rattle.markdown_engine.specs.declared.state.StateName.TheVariants.{HardBreak
 use Rattle.markdown_engine.specs.declared.tokenizer.Tokenizer.{Tokenizer}
 use Rattle.markdown_engine.specs.StateWords.{StateWords}
 use Rattle.markdown_engine.specs.declared.state.StateName.{StateName}
+use Rattle.std.specs.Str.{byte}
 
 abbrev pub opening : List Op
 opening = Enter N.HardBreakEscape ∷ Consume ∷ []
@@ -28,14 +29,14 @@ is_on T = T.parse_state.now.options.now.constructs.hard_break_escape
 -- by the current code
 abbrev pub start_at : Bool → Option ℕ → Tokenizer → Stepped
 start_at on None T = stepped Nok T
-start_at on (Some c) T = if on && (c == 92) then stepped (Next HardBreakEscapeAfter) (done opening T) else stepped Nok T
+start_at on (Some c) T = if on && (c == byte "\\") then stepped (Next HardBreakEscapeAfter) (done opening T) else stepped Nok T
 
 abbrev pub start_step : Tokenizer → Stepped
 start_step T = start_at (is_on T) (current_of T) T
 
 abbrev pub after_at : Option ℕ → Tokenizer → Stepped
 after_at None T = stepped Nok T
-after_at (Some c) T = if c == 10 then stepped State.Ok (done closing T) else stepped Nok T
+after_at (Some c) T = if c == byte "\n" then stepped State.Ok (done closing T) else stepped Nok T
 
 abbrev pub after_step : Tokenizer → Stepped
 after_step T = after_at (current_of T) T

@@ -1,5 +1,5 @@
 -- What the states of code spans and math spans do, and how runs from them end.
-use Rattle.std.specs.Prelude.{◌≡◌, ℕ, ◌+◌, ◌<◌, ◌^◌, Bool, true, false, ◌&&◌, ◌||◌, not, nat_lt, ◌==◌, if◌then◌else◌, Option, Some, None, List, [], ◌∷◌, ◌++◌, length, drop}
+use Rattle.std.specs.Prelude.{◌≡◌, ℕ, ◌+◌, ◌<◌, ◌^◌, Bool, true, false, ◌&&◌, ◌||◌, not, nat_lt, ◌==◌, if◌then◌else◌, Option, Some, None, List, [], ◌∷◌, ◌++◌, length}
 use Rattle.markdown_engine.specs.Codes.{Code, is_line_ending}
 use Rattle.markdown_engine.specs.Ops.{Op, Enter, Exit, Consume, IsOpen, done, current_of, previous_of, scratched}
 use Rattle.markdown_engine.specs.Past.{EndsAs, TreeReading}
@@ -8,7 +8,6 @@ use Rattle.markdown_engine.specs.RunIndex.{last_runs, rules_out}
 use Rattle.markdown_engine.specs.Runs.{Stepped, stepped}
 use Rattle.markdown_engine.specs.Tree.{◌⊕◌, leaf}
 use Rattle.markdown_engine.specs.TreeOps.{consumes, ops_of}
-use Rattle.markdown_engine.specs.Weights.{codes_left}
 use Rattle.markdown_model.specs.CodeTests.{is_value}
 use Rattle.markdown_model.specs.Grammar.{◌>>◌, provided, either, span}
 use Rattle.markdown_model.specs.Leaf.{SpanNames, code_names, math_names, span_here, closing}
@@ -27,6 +26,7 @@ use Rattle.markdown_engine.specs.declared.tokenizer.TokenizeState.{TokenizeState
 use Rattle.markdown_engine.specs.declared.tokenizer.Tokenizer.{Tokenizer}
 use Rattle.markdown_engine.specs.StateWords.{StateWords}
 use Rattle.markdown_engine.specs.declared.state.StateName.{StateName}
+use Rattle.std.specs.Str.{byte}
 
 -- The scratch fields.
 
@@ -86,8 +86,8 @@ opened marker names T =
 abbrev pub start_at : Option ℕ → Tokenizer → Stepped
 start_at None T = stepped Nok T
 start_at (Some c) T =
-    if c == 96 && (code_is_on T && not (is_barred 96 T)) then opened 96 code_names T
-    else (if c == 36 && (math_is_on T && not (is_barred 36 T)) then opened 36 math_names T
+    if c == byte "`" && (code_is_on T && not (is_barred (byte "`") T)) then opened (byte "`") code_names T
+    else (if c == byte "$" && (math_is_on T && not (is_barred (byte "$") T)) then opened (byte "$") math_names T
     else stepped Nok T)
 
 abbrev pub start_step : Tokenizer → Stepped
@@ -95,7 +95,7 @@ start_step T = start_at (current_of T) T
 
 -- a dollar alone, where that opens nothing
 abbrev pub is_too_short : Bool → TokenizeState → Bool
-is_too_short single s = s.marker == 36 && (s.size == 1 && not single)
+is_too_short single s = s.marker == byte "$" && (s.size == 1 && not single)
 
 -- past the opening run: it is known that no run of its size follows
 abbrev pub is_hopeless : Tokenizer → Bool
@@ -119,7 +119,7 @@ sequence_open_step T = sequence_open_at (current_of T) T
 abbrev pub between_at : Option ℕ → Tokenizer → Stepped
 between_at None T = stepped Nok (scratched (rested T.tokenize_state) T)
 between_at (Some c) T =
-    if c == 10 then stepped (Next RawTextBetween) (done (Enter N.LineEnding ∷ Consume ∷ Exit N.LineEnding ∷ []) T)
+    if c == byte "\n" then stepped (Next RawTextBetween) (done (Enter N.LineEnding ∷ Consume ∷ Exit N.LineEnding ∷ []) T)
     else (if c == T.tokenize_state.marker
     then stepped (Next RawTextSequenceClose) (scratched (with_size_b 1 T.tokenize_state) (done (Enter T.tokenize_state.token_2 ∷ Consume ∷ []) T))
     else stepped (Next RawTextData) (done (Enter T.tokenize_state.token_3 ∷ Consume ∷ []) T))
@@ -133,7 +133,7 @@ after_data T = stepped (Retry RawTextBetween) (done (Exit T.tokenize_state.token
 abbrev pub data_at : Option ℕ → Tokenizer → Stepped
 data_at None T = after_data T
 data_at (Some c) T =
-    if c == 10 || c == T.tokenize_state.marker then after_data T
+    if c == byte "\n" || c == T.tokenize_state.marker then after_data T
     else stepped (Next RawTextData) (done (Consume ∷ []) T)
 
 abbrev pub data_step : Tokenizer → Stepped
@@ -168,7 +168,7 @@ pub record StartReady (T : Tokenizer) : Type 0 where
 
 -- the marker is no line ending
 abbrev pub HasMarker : Tokenizer → Type 0
-HasMarker T = (T.tokenize_state.marker == 10) ≡ false
+HasMarker T = (T.tokenize_state.marker == byte "\n") ≡ false
 
 pub record SequenceOpenReady (T : Tokenizer) : Type 0 where
   pub marker : HasMarker T
@@ -202,8 +202,8 @@ code_just_before T = last_of T.cursor.codes T.cursor.at
 -- the codes at hand read as a code span or as a math span, where these are on
 abbrev pub span_at : Tokenizer → TreeReading
 span_at T =
-    either (provided (code_is_on T) >> span_here 96 code_names (λ n. true) (follows_escape T.events) (code_just_before T))
-    (provided (math_is_on T) >> span_here 36 math_names (λ n. single_dollar T || nat_lt 1 n) (follows_escape T.events) (code_just_before T))
+    either (provided (code_is_on T) >> span_here (byte "`") code_names (λ n. true) (follows_escape T.events) (code_just_before T))
+    (provided (math_is_on T) >> span_here (byte "$") math_names (λ n. single_dollar T || nat_lt 1 n) (follows_escape T.events) (code_just_before T))
 
 abbrev pub start_ends : Tokenizer → Bool → Tokenizer → Type 0
 start_ends T ok U = EndsAs (span_at T) None T.tokenize_state T ok U
@@ -236,7 +236,7 @@ module _ (marker : ℕ) (names : SpanNames) (size : ℕ) where
 
 -- an opening run of this size will do
 abbrev pub opens : Bool → ℕ → ℕ → Bool
-opens single marker n = not (marker == 36 && (n == 1 && not single))
+opens single marker n = not (marker == byte "$" && (n == 1 && not single))
 
 -- inside the opening run, so many markers of which are passed
 abbrev pub opening_plan : Bool → ℕ → SpanNames → ℕ → Plan

@@ -14,7 +14,6 @@ pub mod PairFacts
 pub mod UnusedStarts
 pub mod ReadingLaws
 pub mod ReadingSteps
-pub mod EventNumbers
 pub mod LinkFree
 pub mod LinkPasses
 pub mod LinkLaws

@@ -19,7 +19,7 @@ use Rattle.markdown_engine.proofs.OpRules.{Begins, ahead-none, ahead-some, some-
 use Rattle.markdown_engine.proofs.OpsLemmas.{ahead-done, left-done, scratch-done}
 use Rattle.markdown_engine.proofs.TreeLemmas.{done-leaf, leaf-past, ahead-past}
 use Rattle.markdown_model.specs.Lines.{data_up_to}
-use Rattle.markdown_partial.specs.DataSteps.{marks, markers_of, ending, opening, passing, start_at, start_step, at_break_at, at_break_step, leaving, inside_at, inside_step, more_data, is_plain, stretch_of, past_stretch, start_ends, at_break_ends, inside_ends, states, at_break_words, inside_words, start_words}
+use Rattle.markdown_partial.specs.DataSteps.{marks, markers_of, ending, opening, passing, start_at, at_break_at, leaving, inside_at, more_data, is_plain, stretch_of, past_stretch, start_ends, at_break_ends, inside_ends, states, at_break_words, inside_words, start_words}
 use Rattle.markdown_partial.proofs.RunLemmas.{EndsAs-same, EndsAs-here}
 use Rattle.markdown_partial.proofs.LineLemmas.{up_to_break, data-then, ending-then, more-goes, more-stops, break-stops, break-goes}
 use Rattle.markdown_model.proofs.Leaves.{span-append}

@@ -4,13 +4,12 @@ use Rattle.markdown_engine.specs.Codes.{Code, is_blank}
 use Rattle.markdown_engine.specs.Ops.{current_of, consumed, exited, scratched, ahead, applied, Exit, Consume, IsOpen}
 use Rattle.markdown_engine.specs.Past.{EndsAs, entered_leaf, link_before, past, passed}
 use Rattle.markdown_engine.specs.Place.{ahead_at}
-use Rattle.markdown_engine.specs.Runs.{Stepped, stepped}
+use Rattle.markdown_engine.specs.Runs.{Stepped}
 use Rattle.markdown_engine.specs.Tree.{leaf_codes}
 use Rattle.markdown_engine.specs.Weights.{codes_left, weight_at}
 use Rattle.markdown_engine.specs.declared.event.Content.{Content}
 use Rattle.markdown_engine.specs.declared.event.Name.{Name}
-use Rattle.markdown_engine.specs.declared.state.State.TheVariants.{Next, Retry, Nok}
-use Rattle.markdown_engine.specs.declared.state.State.TheVariants as State
+use Rattle.markdown_engine.specs.declared.state.State.TheVariants.{Next, Retry}
 use Rattle.markdown_engine.specs.declared.state.StateName.TheVariants.{SpaceOrTabInside, SpaceOrTabAfter}
 use Rattle.markdown_engine.specs.declared.tokenizer.TokenizeState.{TokenizeState}
 use Rattle.markdown_engine.specs.declared.tokenizer.Tokenizer.{Tokenizer}
@@ -21,7 +20,7 @@ use Rattle.markdown_engine.proofs.TreeLemmas.{leaf-past, ahead-past, past-empty,
 use Rattle.markdown_model.specs.Grammar.{span}
 use Rattle.markdown_model.specs.Lines.{linked_leaf}
 use Rattle.markdown_model.specs.Whitespace.{space_or_tab}
-use Rattle.markdown_partial.specs.SpaceSteps.{at_blank, sized, rested, start_step, inside_step, ended, after_step, StartReady, start_ends, taken, inside_ends, after_ends, states, after_words, inside_words, start_words}
+use Rattle.markdown_partial.specs.SpaceSteps.{at_blank, sized, rested, start_ends, taken, inside_ends, after_ends, states, after_words, inside_words, start_words}
 use Rattle.markdown_partial.proofs.LeafLemmas.{entered-cursor, entered-scratch, entered-attempts, entered-open, entered-left}
 use Rattle.markdown_partial.proofs.BlankLemmas.{Here, here, blank-ahead, taken-parts, taken-first, taken-none}
 use Rattle.markdown_partial.proofs.SpacingLemmas.{space-holds, space-refused}
@@ -49,10 +48,6 @@ lt-gap a b = grind arith
 
 lt-true : (a b : ℕ) → nat_lt a b ≡ true → a < b
 lt-true a b e = grind arith
-
-ahead-more : (T : Tokenizer) → ahead (more T) ≡ ahead (consumed T)
-unfolding scratched
-ahead-more T = refl
 
 inside-more : (T : Tokenizer) → T.tokenize_state.space_or_tab_size < T.tokenize_state.space_or_tab_max → Here is_blank T → (ok : Bool) (U : Tokenizer) → inside_ends (more T) ok U → inside_ends T ok U
 unfolding scratched applied passed

@@ -11,24 +11,11 @@ use Rattle.markdown_engine.specs.declared.event.Event.{Event}
 use Rattle.markdown_engine.specs.declared.util.edit_map.Edit.{Edit}
 use Rattle.markdown_engine.proofs.EditFacts.{stays-where, goes-where}
 use Rattle.markdown_partial.specs.Merge.{is_enter, is_data, opens_data}
-use Rattle.markdown_partial.specs.Trim.{trimmed_events, IsStretch}
-use Rattle.markdown_partial.specs.TrimEvents.{opens_ending, closes_ending, goes_before, trim, trim_first, trims, ClosesAt, FirstHasPlaces, HasPlaces}
+use Rattle.markdown_partial.specs.Trim.{trimmed_events}
+use Rattle.markdown_partial.specs.TrimEvents.{closes_ending, goes_before, trim, trim_first, trims, ClosesAt, FirstHasPlaces, HasPlaces}
 use Rattle.markdown_partial.proofs.TrimWalks.{bool-clash}
 
 -- At the first event.
-
-pub goes-end : (whole : Bool) (i : ℕ) (es : List Event) → length es ≤ i → whole ≡ goes_before whole (drop i es)
-goes-end whole i es l = ap (goes_before whole) (sym (drop_all i es l))
-
-pub goes-here : (whole : Bool) (i : ℕ) (es : List Event) (e : Event) → i < length es → e ≡ get_or es i e → opens_ending e ≡ goes_before whole (drop i es)
-goes-here whole i es e l h = ap (goes_before whole) (sym (drop_more es i e l ∙ ap (λ x. x ∷ drop (i + 1) es) (sym h)))
-
-pub first-plain : (bytes : List ℕ) (hard whole : Bool) (n : ℕ) (front : Bool) (e : Event) (es : List Event) → opens_data e ≡ false → trim_first bytes hard whole n front (e ∷ es) ≡ []
-first-plain bytes hard whole n front e [] h = refl
-first-plain bytes hard whole n front e (x ∷ es) h = ap (λ b. if b then trim bytes hard whole n front e x es ∷ [] else []) h
-
-pub first-data : (bytes : List ℕ) (hard whole : Bool) (n : ℕ) (front : Bool) (e x : Event) (es : List Event) → opens_data e ≡ true → trim_first bytes hard whole n front (e ∷ x ∷ es) ≡ trim bytes hard whole n front e x es ∷ []
-first-data bytes hard whole n front e x es h = ap (λ b. if b then trim bytes hard whole n front e x es ∷ [] else []) h
 
 pub head-drop : (i : ℕ) (es : List Event) (e : Event) → i < length es → e ≡ get_or es i e → drop i es ≡ e ∷ drop (i + 1) es
 head-drop i es e l h = drop_more es i e l ∙ ap (λ x. x ∷ drop (i + 1) es) (sym h)
@@ -47,26 +34,7 @@ next-within bytes i es e h =
       | inr l ↦ absurd (let m = some-left bytes e (drop (i + 1) es) h in let none = ap length (drop_all (i + 1) es l) in omega (arith, none, m))
     ]
 
-pub next-stretch : (bytes : List ℕ) (i : ℕ) (es : List Event) (e x : Event) → ClosesAt bytes e (drop (i + 1) es) → i + 1 < length es → x ≡ get_or es (i + 1) x → IsStretch bytes e.point x.point
-next-stretch bytes i es e x h l k = (subst (λ (xs : List Event). ClosesAt bytes e xs) (head-drop (i + 1) es x l k) h).0
-
-pub first-marked : (bytes : List ℕ) (hard whole : Bool) (i : ℕ) (front back may : Bool) (es : List Event) (e x : Event) (old new : List Edit) (ts : List Event) → i < length es → e ≡ get_or es i e → opens_data e ≡ true → i + 1 < length es → x ≡ get_or es (i + 1) x → back ≡ goes_before whole (drop (i + 2) es) → may ≡ (hard && goes_before false (drop (i + 2) es)) → ts ≡ trimmed_events front back may bytes e.point x.point → new ≡ old ++ (record { at = i; remove = 2; events = ts; before = false }) ∷ [] → new ≡ old ++ trim_first bytes hard whole i front (drop i es)
-first-marked bytes hard whole i front back may es e x old new ts l h o m k b j t g =
-    let same : i + 1 + 1 ≡ i + 2 = omega arith in
-    let two : drop i es ≡ e ∷ x ∷ drop (i + 2) es = head-drop i es e l h ∙ ap (λ xs. e ∷ xs) (head-drop (i + 1) es x m k ∙ ap (λ j. x ∷ drop j es) same) in
-    g
-    ∙ ap (λ (ys : List Event). old ++ (record { at = i; remove = 2; events = ys; before = false }) ∷ []) (t ∙ ap (λ c. trimmed_events front c may bytes e.point x.point) b ∙ ap (λ c. trimmed_events front (goes_before whole (drop (i + 2) es)) c bytes e.point x.point) j)
-    ∙ ap (λ ys. old ++ ys) (sym (first-data bytes hard whole i front e x (drop (i + 2) es) o) ∙ ap (trim_first bytes hard whole i front) (sym two))
-
-pub first-unmarked : (bytes : List ℕ) (hard whole : Bool) (i : ℕ) (front : Bool) (es : List Event) (e : Event) (old : List Edit) → i < length es → e ≡ get_or es i e → opens_data e ≡ false → old ≡ old ++ trim_first bytes hard whole i front (drop i es)
-first-unmarked bytes hard whole i front es e old l h o =
-    sym (append-nil old) ∙ ap (λ ys. old ++ ys) (sym (first-plain bytes hard whole i front e (drop (i + 1) es) o) ∙ ap (trim_first bytes hard whole i front) (sym (head-drop i es e l h)))
-
 -- One after the other.
-
-pub first-places : (bytes : List ℕ) (es : List Event) → HasPlaces bytes es → FirstHasPlaces bytes es
-first-places bytes [] h = tt
-first-places bytes (e ∷ es) h = h.0
 
 pub places-more : (bytes : List ℕ) (i : ℕ) (es : List Event) (e : Event) → i < length es → e ≡ get_or es i e → HasPlaces bytes (drop i es) → HasPlaces bytes (drop (i + 1) es)
 places-more bytes i es e l h p = (subst (λ (xs : List Event). HasPlaces bytes xs) (head-drop i es e l h) p).1
@@ -82,9 +50,6 @@ trims-more bytes hard whole i front more es e old new all l h c g k =
     ∙ ap (λ j. here ++ trims bytes hard whole j (closes_ending e) (drop (i + 1) es)) one
     ∙ ap (λ b. here ++ trims bytes hard whole (i + 1) b (drop (i + 1) es)) (sym c) in
     ap (λ ys. ys ++ rest) g ∙ append_assoc old here rest ∙ ap (λ ys. old ++ ys) (sym step) ∙ k
-
-pub trims-end : (bytes : List ℕ) (hard whole : Bool) (i : ℕ) (front : Bool) (es : List Event) (log all : List Edit) → length es ≤ i → log ++ trims bytes hard whole i front (drop i es) ≡ all → log ≡ all
-trims-end bytes hard whole i front es log all l k = sym (append-nil log) ∙ ap (λ ys. log ++ trims bytes hard whole i front ys) (sym (drop_all i es l)) ∙ k
 
 -- What the edits collect at a place.
 

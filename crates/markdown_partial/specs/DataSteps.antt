@@ -15,6 +15,7 @@ use Rattle.markdown_engine.specs.declared.state.StateName.TheVariants.{DataAtBre
 use Rattle.markdown_engine.specs.declared.tokenizer.Tokenizer.{Tokenizer}
 use Rattle.markdown_engine.specs.StateWords.{StateWords}
 use Rattle.markdown_engine.specs.declared.state.StateName.{StateName}
+use Rattle.std.specs.Str.{byte}
 
 -- one of these markers
 abbrev pub marks : List ℕ → ℕ → Bool
@@ -31,7 +32,7 @@ opening = Enter N.Data ∷ Consume ∷ []
 
 -- past the code at hand, by its value
 abbrev pub passing : ℕ → Tokenizer → Stepped
-passing v T = if v == 10 then stepped (Next DataAtBreak) (done ending T) else stepped (Next DataInside) (done opening T)
+passing v T = if v == byte "\n" then stepped (Next DataAtBreak) (done ending T) else stepped (Next DataInside) (done opening T)
 
 -- by the current code
 abbrev pub start_at : Option ℕ → Tokenizer → Stepped
@@ -54,7 +55,7 @@ leaving T = stepped (Retry DataAtBreak) (done (Exit N.Data ∷ []) T)
 abbrev pub inside_at : Option ℕ → Tokenizer → Stepped
 inside_at None T = leaving T
 inside_at (Some v) T =
-    if (v == 10) || marks (markers_of T) v then leaving T else stepped (Next DataInside) (done (Consume ∷ []) T)
+    if (v == byte "\n") || marks (markers_of T) v then leaving T else stepped (Next DataInside) (done (Consume ∷ []) T)
 
 abbrev pub inside_step : Tokenizer → Stepped
 inside_step T = inside_at (current_of T) T

@@ -5,7 +5,6 @@ use Rattle.markdown_engine.specs.Lists.{rest_of}
 use Rattle.markdown_engine.specs.Ops.{Op, Consume, current_of, ahead, applied, done, scratched}
 use Rattle.markdown_engine.specs.Runs.{Stepped, stepped}
 use Rattle.markdown_engine.specs.Weights.{weight_at}
-use Rattle.markdown_engine.specs.declared.event.Name.{Name}
 use Rattle.markdown_engine.specs.declared.event.Name.TheVariants as N
 use Rattle.markdown_engine.specs.declared.state.State.TheVariants.{Next, Retry}
 use Rattle.markdown_engine.specs.declared.state.StateName.TheVariants.{DestinationEnclosedBefore, DestinationEnclosed, DestinationEnclosedEscape, DestinationRaw, DestinationRawEscape}
@@ -19,7 +18,7 @@ use Rattle.markdown_model.specs.Resource.{DestinationNames, destination, raw_fro
 use Rattle.markdown_construct.specs.Plan.{Plan, preceded, DoesAs, KeepsAs}
 use Rattle.markdown_construct.specs.Scratch.{with_size}
 use Rattle.markdown_construct.proofs.PlanLemmas.{preceded-nil, no-codes}
-use Rattle.markdown_string.specs.Destination.{refused, raw_on, raw_plain, raw_opens, nested, finished, names_in, control_value, bars_value, stops_value, opening, raw_opening, text_opening, closing, ending, raw_ending, start_at, start_step, entering, enclosed_before_at, enclosed_before_step, enclosed_at, enclosed_step, escapes_enclosed, enclosed_escape_at, enclosed_escape_step, raw_at, raw_step, escapes_raw, raw_escape_at, raw_escape_step, StartReady, BeforeReady, EnclosedReady, RawReady, start_ends, text_then, enclosed_plan, before_plan, raw_plan, enclosed_before_ends, enclosed_ends, enclosed_escape_ends, raw_ends, raw_escape_ends, states, enclosed_before_words, enclosed_escape_words, enclosed_words, raw_escape_words, raw_words, start_words}
+use Rattle.markdown_string.specs.Destination.{refused, raw_on, raw_plain, raw_opens, nested, finished, names_in, control_value, bars_value, stops_value, opening, raw_opening, text_opening, closing, ending, raw_ending, start_at, start_step, entering, enclosed_before_at, enclosed_at, escapes_enclosed, enclosed_escape_at, raw_at, escapes_raw, raw_escape_at, StartReady, BeforeReady, EnclosedReady, RawReady, start_ends, text_then, enclosed_plan, before_plan, raw_plan, enclosed_before_ends, enclosed_ends, enclosed_escape_ends, raw_ends, raw_escape_ends, states, enclosed_before_words, enclosed_escape_words, enclosed_words, raw_escape_words, raw_words, start_words}
 use Rattle.markdown_string.specs.LinkedOps.{plan_of}
 use Rattle.markdown_string.proofs.DestinationReadings.{enclosed-none, enclosed-close, enclosed-refused, enclosed-next, enclosed-taken, enclosed-bare, text-first, destination-bracket, raw-end, raw-open-end, raw-taken, raw-bare, stops, raw-stop, raw-space, raw-control, raw-open, raw-deep, raw-close, raw-next, destination-raw, destination-end, destination-stops, destination-control, destination-covers}
 use Rattle.markdown_string.proofs.LinkedLemmas.{EndsAs-linked}
@@ -30,10 +29,6 @@ use Rattle.markdown_construct.proofs.StateLaws.{GoesOn-map, Goes-on, Goes-kept, 
 use Rattle.markdown_construct.specs.Within.{Within}
 
 -- The conditions.
-
-past-code : (n m k l : Name) (T : Tokenizer) → T.stack ≡ n ∷ m ∷ k ∷ l ∷ drop 4 T.stack → (done (Consume ∷ []) T).stack ≡ n ∷ m ∷ k ∷ l ∷ drop 4 (done (Consume ∷ []) T).stack
-unfolding applied
-past-code n m k l T h = h
 
 opened-before : (T : Tokenizer) → BeforeReady (done (opening (names_in T.tokenize_state)) T)
 unfolding applied

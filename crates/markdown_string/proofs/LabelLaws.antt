@@ -9,7 +9,7 @@ use Rattle.markdown_engine.specs.Ops.{Op, Exit, Consume, current_of, ahead, appl
 use Rattle.markdown_engine.specs.Runs.{Stepped, stepped}
 use Rattle.markdown_engine.specs.Weights.{weight_at}
 use Rattle.markdown_engine.specs.declared.event.Name.TheVariants as N
-use Rattle.markdown_engine.specs.declared.state.State.TheVariants.{Next, Retry, Nok}
+use Rattle.markdown_engine.specs.declared.state.State.TheVariants.{Next, Retry}
 use Rattle.markdown_engine.specs.declared.state.StateName.TheVariants.{LabelAtBreak, LabelEolAfter, LabelInside, LabelEscape, LabelNok, SpaceOrTabEolStart}
 use Rattle.markdown_engine.specs.declared.tokenizer.TokenizeState.{TokenizeState}
 use Rattle.markdown_engine.specs.declared.tokenizer.Tokenizer.{Tokenizer}
@@ -23,7 +23,7 @@ use Rattle.markdown_construct.proofs.PlanLemmas.{preceded-nil, done-scratched, n
 use Rattle.markdown_partial.specs.EolSteps.{WhitespaceAtRest}
 use Rattle.markdown_string.specs.LinkedOps.{plan_of}
 use Rattle.markdown_string.specs.Text.{ending, names_in, joined, enter_text, text_entered, TextReady, break_ops, inside_ops}
-use Rattle.markdown_string.specs.Label.{rested, sized, opening, start_at, start_step, closed, refused, next_state, passing, is_short, at_break_at, at_break_step, eol_after_step, nok_step, leaving, inside_at, inside_step, escapes, escape_at, escape_step, StartReady, BreakReady, EolAfterReady, InsideReady, EscapeReady, start_ends, text_from, fits, inside_plan, break_plan, at_break_ends, eol_after_ends, nok_ends, inside_ends, escape_ends, states, at_break_words, eol_after_words, escape_words, inside_words, nok_words, start_words}
+use Rattle.markdown_string.specs.Label.{rested, sized, opening, start_at, start_step, closed, refused, next_state, passing, is_short, at_break_at, leaving, inside_at, escapes, escape_at, StartReady, BreakReady, EolAfterReady, InsideReady, EscapeReady, start_ends, text_from, fits, inside_plan, break_plan, at_break_ends, nok_ends, inside_ends, escape_ends, states, at_break_words, eol_after_words, escape_words, inside_words, nok_words, start_words}
 use Rattle.markdown_string.proofs.LinkedLemmas.{EndsAs-linked}
 use Rattle.markdown_string.proofs.LabelReadings.{label-plain, fits-data, fits-ending, fits-none, fits-long, fits-seen, fits-unseen, label-here, label-none, label-covers}
 use Rattle.markdown_string.proofs.TextEnding.{Passed, DoesAs-ending, ending-law}

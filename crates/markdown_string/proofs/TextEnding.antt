@@ -29,7 +29,6 @@ use Rattle.markdown_construct.specs.Plan.{Plan, preceded, depth_after, DoesAs}
 use Rattle.markdown_construct.proofs.PlanLemmas.{DoesAs-then, kept}
 use Rattle.markdown_construct.proofs.WholeReadings.{both-parts}
 use Rattle.markdown_partial.specs.EolSteps as E
-use Rattle.markdown_partial.specs.EolSteps.{indent, at_ending, WhitespaceAtRest}
 use Rattle.markdown_partial.specs.SpaceSteps.{at_blank}
 use Rattle.markdown_partial.proofs.AskedLaws.{eol-asked-ready, eol-asked-ends}
 use Rattle.markdown_partial.proofs.BlankLemmas.{blank-ahead}

@@ -1,5 +1,5 @@
 -- What the states of a text have in common: their conditions over a step, and runs that fail.
-use Rattle.std.proofs.Common.{◌≡◌, ℕ, ◌+◌, ◌≤◌, ◌&&◌, not, Bool, true, false, if◌then◌else◌, Option, Some, None, List, [], ◌∷◌, ◌++◌, length, drop, refl, sym, ap, subst, ◌∙◌, arith}
+use Rattle.std.proofs.Common.{◌≡◌, ℕ, ◌+◌, ◌≤◌, ◌&&◌, not, Bool, true, false, if◌then◌else◌, None, List, [], ◌∷◌, ◌++◌, length, drop, refl, sym, ap, subst, ◌∙◌, arith}
 use Rattle.markdown_engine.specs.Chain.{has_link}
 use Rattle.markdown_engine.specs.Grown.{Grown}
 use Rattle.markdown_engine.specs.Lists.{rest_of}
@@ -13,7 +13,7 @@ use Rattle.markdown_engine.specs.declared.tokenizer.Tokenizer.{Tokenizer}
 use Rattle.markdown_engine.proofs.Laws.{Grown-refl}
 use Rattle.markdown_engine.proofs.OpRules.{left-scratched}
 use Rattle.markdown_engine.proofs.OpsLemmas.{Grown-scratched, left-done}
-use Rattle.markdown_construct.specs.Plan.{Plan, preceded, depth_after, DoesAs}
+use Rattle.markdown_construct.specs.Plan.{Plan, depth_after, DoesAs}
 use Rattle.markdown_partial.specs.EolSteps.{WhitespaceAtRest}
 use Rattle.markdown_string.specs.Text.{joined, enter_text, ends_open, TextReady}
 

@@ -7,7 +7,7 @@ use Rattle.markdown_engine.specs.Ops.{Op, Enter, Exit, Consume, current_of, ahea
 use Rattle.markdown_engine.specs.Runs.{Stepped, stepped}
 use Rattle.markdown_engine.specs.Weights.{weight_at}
 use Rattle.markdown_engine.specs.declared.event.Name.TheVariants as N
-use Rattle.markdown_engine.specs.declared.state.State.TheVariants.{Next, Retry, Nok}
+use Rattle.markdown_engine.specs.declared.state.State.TheVariants.{Next, Retry}
 use Rattle.markdown_engine.specs.declared.state.StateName.TheVariants.{TitleBegin, TitleAtBreak, TitleAfterEol, TitleInside, TitleEscape, TitleNok, SpaceOrTabEolStart}
 use Rattle.markdown_engine.specs.declared.tokenizer.TokenizeState.{TokenizeState}
 use Rattle.markdown_engine.specs.declared.tokenizer.Tokenizer.{Tokenizer}
@@ -20,7 +20,7 @@ use Rattle.markdown_construct.proofs.PlanLemmas.{preceded-nil, done-scratched, n
 use Rattle.markdown_partial.specs.EolSteps.{WhitespaceAtRest}
 use Rattle.markdown_string.specs.LinkedOps.{plan_of}
 use Rattle.markdown_string.specs.Text.{closing, ending, names_in, joined, enter_text, text_entered, TextReady, ends_filled}
-use Rattle.markdown_string.specs.Title.{begun, rested, opening, opened, start_at, start_step, beginning, begin_at, begin_step, next_state, passing, at_break_at, at_break_step, after_eol_step, nok_step, leaving, inside_at, inside_step, escapes, escape_at, escape_step, is_closer, StartReady, BeginReady, BreakReady, AfterEolReady, InsideReady, start_ends, inside_plan, break_plan, begin_plan, begin_ends, at_break_ends, after_eol_ends, nok_ends, inside_ends, escape_ends, states, after_eol_words, at_break_words, begin_words, escape_words, inside_words, nok_words, start_words}
+use Rattle.markdown_string.specs.Title.{begun, rested, opening, opened, start_at, start_step, beginning, begin_at, next_state, passing, at_break_at, leaving, inside_at, escapes, escape_at, is_closer, StartReady, BeginReady, BreakReady, AfterEolReady, InsideReady, start_ends, inside_plan, break_plan, begin_plan, begin_ends, at_break_ends, nok_ends, inside_ends, escape_ends, states, after_eol_words, at_break_words, begin_words, escape_words, inside_words, nok_words, start_words}
 use Rattle.markdown_string.proofs.LinkedLemmas.{EndsAs-linked}
 use Rattle.markdown_string.proofs.TextEnding.{Passed, DoesAs-ending, ending-law}
 use Rattle.markdown_string.proofs.TextReadings.{filled-data, filled-ending, filled-none, breaks-end, breaks-stop, breaks-data, breaks-ending, breaks-blank, insides-end, insides-next, insides-taken, insides-bare, leave-end, leave-stop, leave-ending}

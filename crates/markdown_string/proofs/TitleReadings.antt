@@ -3,7 +3,7 @@ use Rattle.std.proofs.Common.{◌≡◌, ◌≢◌, ℕ, ◌==◌, ◌&&◌, ◌
 use Rattle.std.proofs.lemmas.Bool.{eqb-true}
 use Rattle.markdown_engine.specs.Codes.{Code, is_line_ending, is_blank}
 use Rattle.markdown_engine.specs.Content.{has_no_blank_line}
-use Rattle.markdown_engine.specs.Ops.{Op, Enter, Exit, Consume}
+use Rattle.markdown_engine.specs.Ops.{Enter, Exit, Consume}
 use Rattle.markdown_engine.specs.Tree.{Forest, ◌⊕◌, leaf}
 use Rattle.markdown_engine.specs.declared.event.Name.TheVariants as N
 use Rattle.markdown_model.specs.CodeTests.{is_value, is_among, is_whitespace_code, next_is}
@@ -90,9 +90,6 @@ module _ (m : ℕ) (names : StringNames) (k : is_closer m ≡ true) where
       ∙ ap (λ os. Some os) (between-ops names c t d text)
   back-by false c t text d rest e h =
       ap tree_ops (bind-some _ _ (d ∷ rest) (d ∷ []) rest _ (one-here (is_value m) d rest h) (after-none _ _ rest (provided-false _ rest (filled-back true (t ∷ text) d (closer-line m k d h) (closer-blank m k d h) ∙ e))))
-
-  abbrev at_text : Option (List Code × List Code) → Option (List Op)
-  at_text o = preceded (opening names) (preceded (Enter names.text ∷ []) (answer (ends_filled true) (break_ops false) (ending names) o))
 
   rest-by : (c : Code) (cs : List Code) (b : Bool) (o : Option (List Code × List Code)) → next_is (is_value m) cs ≡ b → text_from m names false cs ≡ o → tree_ops (rest_of_title c cs) ≡ preceded (opening names) (if b then Some (closing names) else preceded (Enter names.text ∷ []) (answer (ends_filled true) (break_ops false) (ending names) o))
   unfolding rest_of_title gives up_to

@@ -20,6 +20,7 @@ use Rattle.markdown_construct.specs.Plan.{Plan, preceded, DoesAs, KeepsAs}
 use Rattle.markdown_construct.specs.Scratch.{AreOpen, with_size}
 use Rattle.markdown_engine.specs.StateWords.{StateWords}
 use Rattle.markdown_engine.specs.declared.state.StateName.{StateName}
+use Rattle.std.specs.Str.{byte}
 
 abbrev pub names_in : TokenizeState → DestinationNames
 names_in s = record { whole = s.token_1; literal = s.token_2; marker = s.token_3; raw = s.token_4; text = s.token_5 }
@@ -31,11 +32,11 @@ control_value v = is_between 1 31 v || v == 127
 
 -- no destination without brackets begins so
 abbrev pub bars_value : ℕ → Bool
-bars_value v = control_value v || (v == 32 || v == 41)
+bars_value v = control_value v || (v == byte " " || v == byte ")")
 
 -- it ends before these where no parenthesis is open
 abbrev pub stops_value : ℕ → Bool
-stops_value v = v == 9 || (v == 10 || (v == 32 || v == 41))
+stops_value v = v == byte "\t" || (v == byte "\n" || (v == byte " " || v == byte ")"))
 
 -- What the states do.
 
@@ -61,7 +62,7 @@ raw_ending names = Exit N.Data ∷ Exit names.text ∷ Exit names.raw ∷ Exit n
 abbrev pub start_at : Option ℕ → Tokenizer → Stepped
 start_at None T = stepped Nok T
 start_at (Some c) T =
-    if c == 60 then stepped (Next DestinationEnclosedBefore) (done (opening (names_in T.tokenize_state)) T)
+    if c == byte "<" then stepped (Next DestinationEnclosedBefore) (done (opening (names_in T.tokenize_state)) T)
     else (if bars_value c then stepped Nok T
     else stepped (Retry DestinationRaw) (done (raw_opening (names_in T.tokenize_state)) T))
 
@@ -76,7 +77,7 @@ entering T = stepped (Retry DestinationEnclosed) (done (text_opening (names_in T
 
 abbrev pub enclosed_before_at : Option ℕ → Tokenizer → Stepped
 enclosed_before_at None T = entering T
-enclosed_before_at (Some c) T = if c == 62 then closed T else entering T
+enclosed_before_at (Some c) T = if c == byte ">" then closed T else entering T
 
 abbrev pub enclosed_before_step : Tokenizer → Stepped
 enclosed_before_step T = enclosed_before_at (current_of T) T
@@ -84,9 +85,9 @@ enclosed_before_step T = enclosed_before_at (current_of T) T
 abbrev pub enclosed_at : Option ℕ → Tokenizer → Stepped
 enclosed_at None T = stepped Nok T
 enclosed_at (Some c) T =
-    if c == 62 then stepped State.Ok (done (ending (names_in T.tokenize_state)) T)
-    else (if c == 60 || c == 10 then stepped Nok T
-    else (if c == 92 then stepped (Next DestinationEnclosedEscape) (done (Consume ∷ []) T)
+    if c == byte ">" then stepped State.Ok (done (ending (names_in T.tokenize_state)) T)
+    else (if c == byte "<" || c == byte "\n" then stepped Nok T
+    else (if c == byte "\\" then stepped (Next DestinationEnclosedEscape) (done (Consume ∷ []) T)
     else stepped (Next DestinationEnclosed) (done (Consume ∷ []) T)))
 
 abbrev pub enclosed_step : Tokenizer → Stepped
@@ -94,7 +95,7 @@ enclosed_step T = enclosed_at (current_of T) T
 
 -- these may be escaped between the brackets
 abbrev pub escapes_enclosed : ℕ → Bool
-escapes_enclosed v = v == 60 || (v == 62 || (v == 92 || false))
+escapes_enclosed v = v == byte "<" || (v == byte ">" || (v == byte "\\" || false))
 
 abbrev pub enclosed_escape_at : Option ℕ → Tokenizer → Stepped
 enclosed_escape_at None T = stepped (Retry DestinationEnclosed) T
@@ -121,13 +122,13 @@ raw_opens T = if nat_lt T.tokenize_state.size T.tokenize_state.size_b then neste
 -- at a code that is no parenthesis
 abbrev pub raw_plain : ℕ → Tokenizer → Stepped
 raw_plain c T =
-    if control_value c || c == 32 then refused T
-    else (if c == 92 then stepped (Next DestinationRawEscape) (done (Consume ∷ []) T)
+    if control_value c || c == byte " " then refused T
+    else (if c == byte "\\" then stepped (Next DestinationRawEscape) (done (Consume ∷ []) T)
     else stepped (Next DestinationRaw) (done (Consume ∷ []) T))
 
 -- where the destination does not end
 abbrev pub raw_on : ℕ → Tokenizer → Stepped
-raw_on c T = if c == 40 then raw_opens T else (if c == 41 then nested (T.tokenize_state.size - 1) T else raw_plain c T)
+raw_on c T = if c == byte "(" then raw_opens T else (if c == byte ")" then nested (T.tokenize_state.size - 1) T else raw_plain c T)
 
 abbrev pub raw_at : Option ℕ → Tokenizer → Stepped
 raw_at None T = if T.tokenize_state.size == 0 then finished T else refused T
@@ -138,7 +139,7 @@ raw_step T = raw_at (current_of T) T
 
 -- these may be escaped elsewhere
 abbrev pub escapes_raw : ℕ → Bool
-escapes_raw v = v == 40 || (v == 41 || (v == 92 || false))
+escapes_raw v = v == byte "(" || (v == byte ")" || (v == byte "\\" || false))
 
 abbrev pub raw_escape_at : Option ℕ → Tokenizer → Stepped
 raw_escape_at None T = stepped (Retry DestinationRaw) T
@@ -179,14 +180,14 @@ text_then os (Some r) = Some (consumes r.0 ++ os)
 
 -- between the brackets
 abbrev pub bracketed : Bool → List Code → Option (List Code × List Code)
-bracketed slash cs = escaped_from (is_value 62) (is_among (codes "<>\\")) (λ c. is_value 60 c || is_line_ending c) slash cs
+bracketed slash cs = escaped_from (is_value (byte ">")) (is_among (codes "<>\\")) (λ c. is_value (byte "<") c || is_line_ending c) slash cs
 
 abbrev pub enclosed_plan : DestinationNames → Bool → Plan
 enclosed_plan names slash cs = text_then (ending names) (bracketed slash cs)
 
 -- after the opening bracket
 abbrev pub before_plan : DestinationNames → Plan
-before_plan names cs = if next_is (is_value 62) cs then Some (closing names) else preceded (text_opening names) (enclosed_plan names false cs)
+before_plan names cs = if next_is (is_value (byte ">")) cs then Some (closing names) else preceded (text_opening names) (enclosed_plan names false cs)
 
 abbrev pub raw_plan : DestinationNames → ℕ → Bool → ℕ → Plan
 raw_plan names max slash depth cs = text_then (raw_ending names) (raw_from max slash depth cs)

@@ -20,6 +20,7 @@ use Rattle.markdown_string.specs.Text.{names_in, joined, text_entered, ending, e
 use Rattle.markdown_engine.specs.StateWords.{StateWords}
 use Rattle.markdown_partial.specs.EolSteps as E
 use Rattle.markdown_engine.specs.declared.state.StateName.{StateName}
+use Rattle.std.specs.Str.{byte}
 
 -- The scratch fields.
 
@@ -29,7 +30,7 @@ rested s = record s { size = 0; seen = false; connect = false }
 
 -- past a code of this value
 abbrev pub sized : ℕ → TokenizeState → TokenizeState
-sized c s = record s { size = s.size + 1; seen = s.seen || not (c == 32 || c == 9) }
+sized c s = record s { size = s.size + 1; seen = s.seen || not (c == byte " " || c == byte "\t") }
 
 -- What the states do.
 
@@ -38,7 +39,7 @@ opening names = Enter names.whole ∷ Enter names.marker ∷ Consume ∷ Exit na
 
 abbrev pub start_at : Option ℕ → Tokenizer → Stepped
 start_at None T = stepped Nok T
-start_at (Some c) T = if c == 91 then stepped (Next LabelAtBreak) (done (opening (names_in T.tokenize_state)) T) else stepped Nok T
+start_at (Some c) T = if c == byte "[" then stepped (Next LabelAtBreak) (done (opening (names_in T.tokenize_state)) T) else stepped Nok T
 
 abbrev pub start_step : Tokenizer → Stepped
 start_step T = start_at (current_of T) T
@@ -51,7 +52,7 @@ refused T = stepped (Retry LabelNok) T
 
 -- after this code
 abbrev pub next_state : ℕ → State
-next_state c = if c == 92 then Next LabelEscape else Next LabelInside
+next_state c = if c == byte "\\" then Next LabelEscape else Next LabelInside
 
 abbrev pub passing : ℕ → Tokenizer → Stepped
 passing c T = stepped (next_state c) (scratched (sized c T.tokenize_state) (done (Consume ∷ []) T))
@@ -63,9 +64,9 @@ is_short T = nat_le T.tokenize_state.size 999
 abbrev pub at_break_at : Option ℕ → Tokenizer → Stepped
 at_break_at None T = refused T
 at_break_at (Some c) T =
-    if not (c == 91) && is_short T
-    then (if c == 93 then (if T.tokenize_state.seen then closed T else refused T)
-    else (if c == 10 then stepped (Retry SpaceOrTabEolStart) (attempted false (Next LabelEolAfter) (Next LabelNok) (scratched (eol_asked_for T.tokenize_state) T))
+    if not (c == byte "[") && is_short T
+    then (if c == byte "]" then (if T.tokenize_state.seen then closed T else refused T)
+    else (if c == byte "\n" then stepped (Retry SpaceOrTabEolStart) (attempted false (Next LabelEolAfter) (Next LabelNok) (scratched (eol_asked_for T.tokenize_state) T))
     else passing c (text_entered T)))
     else refused T
 
@@ -83,14 +84,14 @@ leaving T = stepped (Retry LabelAtBreak) (done (Exit N.Data ∷ []) T)
 
 abbrev pub inside_at : Option ℕ → Tokenizer → Stepped
 inside_at None T = leaving T
-inside_at (Some c) T = if not (c == 10 || (c == 91 || c == 93)) && is_short T then passing c T else leaving T
+inside_at (Some c) T = if not (c == byte "\n" || (c == byte "[" || c == byte "]")) && is_short T then passing c T else leaving T
 
 abbrev pub inside_step : Tokenizer → Stepped
 inside_step T = inside_at (current_of T) T
 
 -- these may be escaped
 abbrev pub escapes : ℕ → Bool
-escapes v = v == 91 || (v == 92 || (v == 93 || false))
+escapes v = v == byte "[" || (v == byte "\\" || (v == byte "]" || false))
 
 abbrev pub escape_at : Option ℕ → Tokenizer → Stepped
 escape_at None T = stepped (Retry LabelInside) T
@@ -140,7 +141,7 @@ start_ends T ok U = EndsAs (label (names_in T.tokenize_state)) None T.tokenize_s
 
 -- the text from here on
 abbrev pub text_from : Bool → List Code → Option (List Code × List Code)
-text_from slash cs = escaped_from (is_value 93) (is_among (codes "[\\]")) (is_value 91) slash cs
+text_from slash cs = escaped_from (is_value (byte "]")) (is_among (codes "[\\]")) (is_value (byte "[")) slash cs
 
 -- the rest of a label that has so many codes before, of which one is no whitespace, if `seen` says so
 abbrev pub fits : ℕ → Bool → List Code → Bool

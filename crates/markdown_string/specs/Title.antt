@@ -19,6 +19,7 @@ use Rattle.markdown_string.specs.Text.{names_in, joined, text_entered, closing, 
 use Rattle.markdown_engine.specs.StateWords.{StateWords}
 use Rattle.markdown_partial.specs.EolSteps as E
 use Rattle.markdown_engine.specs.declared.state.StateName.{StateName}
+use Rattle.std.specs.Str.{byte}
 
 -- The scratch fields.
 
@@ -41,9 +42,9 @@ opened closer T = stepped (Next TitleBegin) (scratched (begun closer T.tokenize_
 abbrev pub start_at : Option ℕ → Tokenizer → Stepped
 start_at None T = stepped Nok T
 start_at (Some c) T =
-    if c == 34 then opened 34 T
-    else (if c == 39 then opened 39 T
-    else (if c == 40 then opened 41 T
+    if c == byte "\"" then opened (byte "\"") T
+    else (if c == byte "'" then opened (byte "'") T
+    else (if c == byte "(" then opened (byte ")") T
     else stepped Nok T))
 
 abbrev pub start_step : Tokenizer → Stepped
@@ -64,7 +65,7 @@ begin_step T = begin_at (current_of T) T
 
 -- after this code
 abbrev pub next_state : ℕ → State
-next_state c = if c == 92 then Next TitleEscape else Next TitleInside
+next_state c = if c == byte "\\" then Next TitleEscape else Next TitleInside
 
 abbrev pub passing : ℕ → Tokenizer → Stepped
 passing c T = stepped (next_state c) (done (Consume ∷ []) T)
@@ -73,7 +74,7 @@ abbrev pub at_break_at : Option ℕ → Tokenizer → Stepped
 at_break_at None T = stepped (Retry TitleNok) T
 at_break_at (Some c) T =
     if c == T.tokenize_state.marker then stepped Ok (scratched (rested T.tokenize_state) (done (ending (names_in T.tokenize_state)) T))
-    else (if c == 10 then stepped (Retry SpaceOrTabEolStart) (attempted false (Next TitleAfterEol) (Next TitleNok) (scratched (eol_asked_for T.tokenize_state) T))
+    else (if c == byte "\n" then stepped (Retry SpaceOrTabEolStart) (attempted false (Next TitleAfterEol) (Next TitleNok) (scratched (eol_asked_for T.tokenize_state) T))
     else passing c (text_entered T))
 
 abbrev pub at_break_step : Tokenizer → Stepped
@@ -90,14 +91,14 @@ leaving T = stepped (Retry TitleAtBreak) (done (Exit N.Data ∷ []) T)
 
 abbrev pub inside_at : Option ℕ → Tokenizer → Stepped
 inside_at None T = leaving T
-inside_at (Some c) T = if c == 10 || c == T.tokenize_state.marker then leaving T else passing c T
+inside_at (Some c) T = if c == byte "\n" || c == T.tokenize_state.marker then leaving T else passing c T
 
 abbrev pub inside_step : Tokenizer → Stepped
 inside_step T = inside_at (current_of T) T
 
 -- these may be escaped
 abbrev pub escapes : ℕ → ℕ → Bool
-escapes marker v = v == 92 || (v == marker || false)
+escapes marker v = v == byte "\\" || (v == marker || false)
 
 abbrev pub escape_at : Option ℕ → Tokenizer → Stepped
 escape_at None T = stepped (Retry TitleInside) T
@@ -111,7 +112,7 @@ escape_step T = escape_at (current_of T) T
 
 -- the marker is one that ends titles
 abbrev pub is_closer : ℕ → Bool
-is_closer m = m == 34 || (m == 39 || m == 41)
+is_closer m = m == byte "\"" || (m == byte "'" || m == byte ")")
 
 pub record StartReady (T : Tokenizer) : Type 0 where
   pub text : TextReady T
