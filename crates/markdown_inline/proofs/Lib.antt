@@ -5,6 +5,10 @@ pub mod ConstructLemmas
 pub mod WordLemmas
 pub mod StartLemmas
 pub mod ContentParts
+pub mod PairedLines
+pub mod Runless
+pub mod GoodCut
+pub mod ProbesAlike
 pub mod PassesRun
 pub mod TextTree
 pub mod RunEnds

@@ -1,5 +1,6 @@
 -- The passes of a string and of a text, after a run over a content: they may be called, and leave its tree merged and trimmed.
-use Rattle.std.proofs.Common.{◌≡◌, Bool, true, false, List, [], ◌∷◌, ◌++◌, length, None, refl, sym, ap, subst, ◌∙◌, ◌≤◌}
+use Rattle.std.proofs.Common.{◌≡◌, ℕ, Bool, true, false, List, [], ◌∷◌, ◌++◌, length, None, refl, sym, ap, subst, ◌∙◌, ◌≤◌, arith}
+use Rattle.std.specs.Prelude.{IsUtf8}
 use Rattle.markdown_engine.specs.Content.{IsContent, content_of, document_limit}
 use Rattle.markdown_engine.specs.Ops.{registered, ahead}
 use Rattle.markdown_engine.specs.Past.{past, appended_from}
@@ -12,27 +13,56 @@ use Rattle.markdown_engine.specs.declared.parser.Piece.{Piece}
 use Rattle.markdown_engine.specs.declared.resolve.ResolveName.{ResolveName}
 use Rattle.markdown_engine.specs.declared.resolve.ResolveName.TheVariants as R
 use Rattle.markdown_engine.specs.declared.tokenizer.Tokenizer.{Tokenizer}
+use Rattle.markdown_engine.specs.declared.tokenizer.TokenizeState.{TokenizeState}
+use Rattle.markdown_engine.proofs.Bounds.{content_fits}
+use Rattle.markdown_attention.specs.Reading.{outermost, runs_from, HaveRunPlaces}
+use Rattle.markdown_attention.specs.Rows.{has_run, IsOf, HasRuns}
+use Rattle.markdown_emphasis.specs.Pass.{IsSmall, IsProbed}
+use Rattle.markdown_emphasis.specs.RunEdits.{HaveRunEnds, HaveRunRoom}
+use Rattle.markdown_emphasis.proofs.Caller.{tree-small}
+use Rattle.markdown_emphasis.proofs.Good.{IsGood}
+use Rattle.markdown_emphasis.proofs.Placed.{MeetsPass, good-meets}
+use Rattle.markdown_model.specs.Groups.{paired}
+use Rattle.markdown_model.specs.Pairs.{pair_list}
 use Rattle.markdown_model.specs.Passes.{merged, trimmed}
-use Rattle.markdown_model.proofs.Coverage.{codes-merged}
+use Rattle.markdown_model.specs.Setting.{Setting}
+use Rattle.markdown_model.proofs.Coverage.{codes-merged, codes-paired}
 use Rattle.markdown_partial.specs.TrimEvents.{HasParts, HasPlaces}
 use Rattle.markdown_partial.proofs.TrimLaws.{places-of}
-use Rattle.markdown_inline.specs.Elements.{HasLines}
-use Rattle.markdown_inline.specs.Resolve.{MergesData, MayTrim, TrimsData, may_resolve_of, resolves_of}
+use Rattle.markdown_inline.specs.Elements.{HasLines, HasOuterRuns, IsRunless}
+use Rattle.markdown_inline.specs.PastRow.{passes_after, past_row}
+use Rattle.markdown_inline.specs.Laws.RowPasts.{outer-runless}
+use Rattle.markdown_inline.specs.Resolve.{MayPair, PairsRuns, MergesData, MayTrim, TrimsData, may_resolve_of, resolves_of}
 use Rattle.markdown_inline.proofs.ContentParts.{parts-of, HasLines-merged, HasLines-HasData}
+use Rattle.markdown_inline.proofs.PairedLines.{HasLines-paired}
+use Rattle.markdown_inline.proofs.Runless.{paired-runless, unprobed}
+
+-- these passes, before them that of runs if it is registered
+abbrev pub passes_first : Bool → List ResolveName → List ResolveName
+passes_first true ns = R.Attention ∷ ns
+passes_first false ns = ns
+
+first-after : (b : Bool) (ns : List ResolveName) → ns ≡ [] → passes_after b ns ≡ passes_first b []
+first-after true ns e = ap (λ (x : List ResolveName). passes_after true x) e
+first-after false ns e = e
 
 -- a pass that trims; `hard`: hard breaks are looked for; `whole`: at the start and the end of the whole too
 pub record IsTrimming (last : ResolveName) (hard : ParseState → Bool) (whole : Bool) : Type 0 where
   pub may : (T : Tokenizer) → MayTrim T → may_resolve_of last T
   pub leaves : (T U : Tokenizer) → resolves_of last T U → TrimsData (hard T.parse_state.now) whole T U
-  pub registers : (X : Tokenizer) → X.resolvers ≡ [] → registered last (registered R.Data X) ≡ record X { resolvers = R.Data ∷ last ∷ [] }
+  pub registers : (b : Bool) (X : Tokenizer) → X.resolvers ≡ passes_first b [] → registered last (registered R.Data X) ≡ record X { resolvers = passes_first b (R.Data ∷ last ∷ []) }
 
 pub string-trims : IsTrimming R.String (λ p. false) false
 unfolding registered
 string-trims = record {
   may = λ T h. h;
   leaves = λ T U h. h;
-  registers = λ X e. subst (λ (rs : List ResolveName). registered R.String (registered R.Data (record X { resolvers = rs })) ≡ record X { resolvers = R.Data ∷ R.String ∷ [] }) (sym e) refl;
+  registers = λ b X e. subst (λ (rs : List ResolveName). registered R.String (registered R.Data (record X { resolvers = rs })) ≡ record X { resolvers = passes_first b (R.Data ∷ R.String ∷ []) }) (sym e) (both b X);
 }
+  where
+    both : (b : Bool) (X : Tokenizer) → registered R.String (registered R.Data (record X { resolvers = passes_first b [] })) ≡ record X { resolvers = passes_first b (R.Data ∷ R.String ∷ []) }
+    both true X = refl
+    both false X = refl
 
 -- hard breaks by spaces are looked for
 abbrev pub breaks_on : ParseState → Bool
@@ -43,8 +73,12 @@ unfolding registered
 text-trims = record {
   may = λ T h. h;
   leaves = λ T U h. h;
-  registers = λ X e. subst (λ (rs : List ResolveName). registered R.Text (registered R.Data (record X { resolvers = rs })) ≡ record X { resolvers = R.Data ∷ R.Text ∷ [] }) (sym e) refl;
+  registers = λ b X e. subst (λ (rs : List ResolveName). registered R.Text (registered R.Data (record X { resolvers = rs })) ≡ record X { resolvers = passes_first b (R.Data ∷ R.Text ∷ []) }) (sym e) (both b X);
 }
+  where
+    both : (b : Bool) (X : Tokenizer) → registered R.Text (registered R.Data (record X { resolvers = passes_first b [] })) ≡ record X { resolvers = passes_first b (R.Data ∷ R.Text ∷ []) }
+    both true X = refl
+    both false X = refl
 
 -- the events of X are those of a tree over this content, and no edit is left
 pub record IsRead (p : ParseState) (pieces : List Piece) (tree : Forest) (X : Tokenizer) : Type 0 where
@@ -99,6 +133,51 @@ passes-leave p pieces tree last hard whole X V t h r =
       ap (λ (x : Tokenizer). x.tokenize_state) same ∙ ap (λ (x : Tokenizer). x.tokenize_state) l.same ∙ ap (λ (x : Tokenizer). x.tokenize_state) m.same,
     )
 
+-- The pass of runs, where it is registered.
+
+-- a setting of what the run is given
+pub record IsGiven (s : Setting) (p : ParseState) : Type 0 where
+  pub bytes : s.bytes ≡ p.bytes.now
+  pub options : s.options ≡ p.options.now
+
+given-of : (s : Setting) (p : ParseState) (X : Tokenizer) → IsGiven s p → X.parse_state.now ≡ p → IsOf s X
+given-of s p X g e = record { bytes = g.bytes ∙ ap (λ (x : ParseState). x.bytes.now) (sym e); options = g.options ∙ ap (λ (x : ParseState). x.options.now) (sym e) }
+
+may-pair : (p : ParseState) (pieces : List Piece) (tree : Forest) (X : Tokenizer) → IsRead p pieces tree X → IsGood p.bytes.now tree → MayPair X
+may-pair p pieces tree X h good =
+    let m : MeetsPass p.bytes.now tree = good-meets p.bytes.now tree h.content.is_text h.content.fits good in
+    let codes : length (leaf_codes tree) ≡ length (content_of p.bytes.now pieces) = ap length h.codes in
+    record {
+      map = h.map;
+      utf8 = subst (λ (x : ParseState). IsUtf8 x.bytes.now) (sym h.input) h.content.is_text;
+      places = subst (λ (x : ParseState). HaveRunPlaces x.bytes.now X.events) (sym h.input) (subst (λ (es : List Event). HaveRunPlaces p.bytes.now es) (sym h.events) m.places);
+      ends = subst (λ (es : List Event). HaveRunEnds es) (sym h.events) m.ends;
+      room = subst (λ (es : List Event). HaveRunRoom es) (sym h.events) m.room;
+      small = subst (λ (x : ParseState). IsSmall (runs_from x.options.now.constructs.gfm_strikethrough x.bytes.now 0 0 outermost X.events)) (sym h.input)
+          (tree-small p.options.now.constructs.gfm_strikethrough p.bytes.now tree X.events m.runs h.events (omega (arith, codes, content_fits p.bytes.now pieces h.content)));
+    }
+
+module _ (p : ParseState) (pieces : List Piece) (tree : Forest) (s : Setting) (given : IsGiven s p) (X V : Tokenizer) (h : IsRead p pieces tree X) (good : IsGood p.bytes.now tree) (m : PairsRuns X V) where
+  meets : MeetsPass p.bytes.now tree
+  meets = good-meets p.bytes.now tree h.content.is_text h.content.fits good
+
+  runs : HasRuns X.parse_state.now.bytes.now tree
+  runs = subst (λ (x : ParseState). HasRuns x.bytes.now tree) (sym h.input) meets.runs
+
+  -- it leaves the events of the paired tree
+  paired-read : IsRead p pieces (paired s (pair_list s) tree) V
+  paired-read = record {
+    content = h.content;
+    has_lines = HasLines-paired s (pair_list s) tree h.has_lines;
+    codes = codes-paired s (pair_list s) tree ∙ h.codes;
+    map = ap (λ (x : Tokenizer). x.map) m.same ∙ h.map;
+    events = m.paired s tree (given-of s p X given h.input) runs meets.striped h.events;
+    input = ap (λ (x : Tokenizer). x.parse_state.now) m.same ∙ h.input;
+  }
+
+  paired-probes : IsProbed s tree V.tokenize_state.probes
+  paired-probes = m.probed s tree (given-of s p X given h.input) runs h.events
+
 -- At the end of a run.
 
 -- the start of a run over this content
@@ -109,12 +188,17 @@ pub record IsStart (p : ParseState) (pieces : List Piece) (S : Tokenizer) : Type
   pub events : S.events ≡ []
   pub map : S.map ≡ []
   pub resolvers : S.resolvers ≡ []
+  pub probes : S.tokenize_state.probes ≡ 0
 
 pub codes-ahead : (p : ParseState) (pieces : List Piece) (S : Tokenizer) → S.cursor ≡ start_of_content p.bytes.now pieces → ahead S ≡ content_of p.bytes.now pieces
 unfolding start_of_content ahead_at
 codes-ahead p pieces S e = ap ahead_at e
 
-read-past : (p : ParseState) (pieces : List Piece) (tree : Forest) (S : Tokenizer) → IsStart p pieces S → HasLines tree → leaf_codes tree ≡ ahead S → IsRead p pieces tree (unregistered (past None tree S))
+-- S past the tree, with no pass registered
+abbrev read_by : Forest → Tokenizer → Tokenizer
+read_by tree S = unregistered (past None tree S)
+
+read-past : (p : ParseState) (pieces : List Piece) (tree : Forest) (S : Tokenizer) → IsStart p pieces S → HasLines tree → leaf_codes tree ≡ ahead S → IsRead p pieces tree (read_by tree S)
 unfolding past unregistered
 read-past p pieces tree S h lines whole = record {
   content = h.content;
@@ -125,26 +209,55 @@ read-past p pieces tree S h lines whole = record {
   input = h.input;
 }
 
--- U is S past the tree, with the two passes registered
-left-is : (p : ParseState) (pieces : List Piece) (tree : Forest) (last : ResolveName) (hard : ParseState → Bool) (whole : Bool) (S U : Tokenizer) → IsTrimming last hard whole → IsStart p pieces S → U ≡ registered last (registered R.Data (past None tree S)) → U ≡ record (past None tree S) { resolvers = R.Data ∷ last ∷ [] }
-unfolding past
-left-is p pieces tree last hard whole S U t h e = e ∙ t.registers (past None tree S) h.resolvers
-
--- after the run the passes may be run
-pub may-after : (p : ParseState) (pieces : List Piece) (tree : Forest) (last : ResolveName) (hard : ParseState → Bool) (whole : Bool) (S U : Tokenizer) → IsTrimming last hard whole → IsStart p pieces S → HasLines tree → leaf_codes tree ≡ ahead S → U ≡ registered last (registered R.Data (past None tree S)) → MayResolve may_resolve_of resolves_of U.resolvers (unregistered U)
-unfolding unregistered
-may-after p pieces tree last hard whole S U t h lines codes e =
-    subst (λ (x : Tokenizer). MayResolve may_resolve_of resolves_of x.resolvers (unregistered x)) (sym (left-is p pieces tree last hard whole S U t h e))
-    (passes-may p pieces tree last hard whole (unregistered (past None tree S)) t (read-past p pieces tree S h lines codes))
-
-past-fields : (tree : Forest) (S : Tokenizer) → (unregistered (past None tree S)).tokenize_state ≡ S.tokenize_state
+past-probes : (tree : Forest) (S : Tokenizer) → (read_by tree S).tokenize_state ≡ S.tokenize_state
 unfolding past unregistered
-past-fields tree S = refl
+past-probes tree S = refl
 
--- and what they leave
-pub left-after : (p : ParseState) (pieces : List Piece) (tree : Forest) (last : ResolveName) (hard : ParseState → Bool) (whole : Bool) (S U V : Tokenizer) → IsTrimming last hard whole → IsStart p pieces S → HasLines tree → leaf_codes tree ≡ ahead S → U ≡ registered last (registered R.Data (past None tree S)) → Resolves resolves_of U.resolvers (unregistered U) V → (V.events ≡ appended_from 0 None (trimmed (hard p) whole whole (merged tree))) × (V.tokenize_state ≡ S.tokenize_state)
-unfolding unregistered
-left-after p pieces tree last hard whole S U V t h lines codes e r =
-    let k : Resolves resolves_of (R.Data ∷ last ∷ []) (unregistered (past None tree S)) V = subst (λ (x : Tokenizer). Resolves resolves_of x.resolvers (unregistered x) V) (left-is p pieces tree last hard whole S U t h e) r in
-    let l : (V.events ≡ appended_from 0 None (trimmed (hard p) whole whole (merged tree))) × (V.tokenize_state ≡ (unregistered (past None tree S)).tokenize_state) = passes-leave p pieces tree last hard whole (unregistered (past None tree S)) V t (read-past p pieces tree S h lines codes) k in
-    (l.0, l.1 ∙ past-fields tree S)
+-- what the passes of a run over a content leave of its tree: its pairs grouped, merged and trimmed, and the number of looks that pairing took
+pub record IsResolved (s : Setting) (hard whole : Bool) (tree : Forest) (V : Tokenizer) : Type 0 where
+  pub events : V.events ≡ appended_from 0 None (trimmed hard whole whole (merged (paired s (pair_list s) tree)))
+  pub probed : IsProbed s tree V.tokenize_state.probes
+
+module _ (p : ParseState) (pieces : List Piece) (s : Setting) (given : IsGiven s p) (tree : Forest) (last : ResolveName) (hard : ParseState → Bool) (whole : Bool) (S U : Tokenizer) (t : IsTrimming last hard whole) (start : IsStart p pieces S)
+    (lines : HasLines tree) (outer : HasOuterRuns tree) (codes : leaf_codes tree ≡ ahead S) (good : has_run tree ≡ true → IsGood p.bytes.now tree) (left : U ≡ registered last (registered R.Data (past_row tree S))) where
+  read : IsRead p pieces tree (read_by tree S)
+  read = read-past p pieces tree S start lines codes
+
+  -- U is S past the tree, with the two passes registered, and before them that of runs if one stands in the tree
+  left-is : (b : Bool) → has_run tree ≡ b → U ≡ record (past None tree S) { resolvers = passes_first b (R.Data ∷ last ∷ []) }
+  unfolding past past_row
+  left-is b e = left ∙ t.registers b (past_row tree S) (ap (λ (x : Bool). passes_after x S.resolvers) e ∙ first-after b S.resolvers start.resolvers)
+
+  may-first : (b : Bool) → has_run tree ≡ b → MayResolve may_resolve_of resolves_of (passes_first b (R.Data ∷ last ∷ [])) (read_by tree S)
+  may-first true e = (
+    may-pair p pieces tree (read_by tree S) read (good e),
+    λ V m. passes-may p pieces (paired s (pair_list s) tree) last hard whole V t (paired-read p pieces tree s given (read_by tree S) V read (good e) m),
+  )
+  may-first false e = passes-may p pieces tree last hard whole (read_by tree S) t read
+
+  -- after the run the passes may be run
+  pub may-after : MayResolve may_resolve_of resolves_of U.resolvers (unregistered U)
+  unfolding unregistered
+  may-after = subst (λ (x : Tokenizer). MayResolve may_resolve_of resolves_of x.resolvers (unregistered x)) (sym (left-is (has_run tree) refl)) (may-first (has_run tree) refl)
+
+  first-leaves : (b : Bool) (V : Tokenizer) → has_run tree ≡ b → Resolves resolves_of (passes_first b (R.Data ∷ last ∷ [])) (read_by tree S) V → IsResolved s (hard p) whole tree V
+  first-leaves true V e r =
+      let m : PairsRuns (read_by tree S) r.0 = r.1.0 in
+      let l = passes-leave p pieces (paired s (pair_list s) tree) last hard whole r.0 V t (paired-read p pieces tree s given (read_by tree S) r.0 read (good e) m) r.1.1 in
+      record {
+        events = l.0;
+        probed = subst (λ (x : TokenizeState). IsProbed s tree x.probes) (sym l.1) (paired-probes p pieces tree s given (read_by tree S) r.0 read (good e) m);
+      }
+  first-leaves false V e r =
+      let l = passes-leave p pieces tree last hard whole (read_by tree S) V t read r in
+      let runless : IsRunless tree = outer-runless tree outer e in
+      record {
+        events = l.0 ∙ ap (λ x. appended_from 0 None (trimmed (hard p) whole whole (merged x))) (sym (paired-runless s (pair_list s) tree runless));
+        probed = subst (λ (n : ℕ). IsProbed s tree n) (sym (ap (λ (x : TokenizeState). x.probes) (l.1 ∙ past-probes tree S) ∙ start.probes)) (unprobed s tree runless);
+      }
+
+  -- and what they leave
+  pub left-after : (V : Tokenizer) → Resolves resolves_of U.resolvers (unregistered U) V → IsResolved s (hard p) whole tree V
+  unfolding unregistered
+  left-after V r =
+      first-leaves (has_run tree) V refl (subst (λ (x : Tokenizer). Resolves resolves_of x.resolvers (unregistered x) V) (left-is (has_run tree) refl) r)

@@ -1,5 +1,5 @@
 -- A whole run over a string.
-use Rattle.std.proofs.Common.{◌≡◌, Bool, true, false, List, [], None, sym, ap, subst, ◌∙◌}
+use Rattle.std.proofs.Common.{◌≡◌, Bool, true, false, List, [], None, refl, sym, ap, subst, ◌∙◌}
 use Rattle.markdown_engine.specs.Chain.{chained}
 use Rattle.markdown_engine.specs.Content.{IsContent, content_of}
 use Rattle.markdown_engine.specs.Ops.{scratched}
@@ -19,8 +19,22 @@ use Rattle.markdown_inline.specs.Resolve.{may_resolve_of, resolves_of}
 use Rattle.markdown_inline.specs.Settings.{setting_of}
 use Rattle.markdown_inline.specs.StringSteps.{string_markers, string_marked, string_passed, string_here, start_ends}
 use Rattle.markdown_inline.proofs.PassesRun.{string-trims}
-use Rattle.markdown_inline.proofs.RunEnds.{Starts, start-with, finished-may, finished-events, finished-fields, finished-elements}
-use Rattle.markdown_inline.proofs.StringTree.{string-finished}
+use Rattle.std.proofs.lemmas.Bool.{both_ways}
+use Rattle.markdown_engine.proofs.ChainTree.{chained-whole}
+use Rattle.markdown_attention.specs.Rows.{has_run}
+use Rattle.markdown_cut.specs.CutData.{split}
+use Rattle.markdown_emphasis.proofs.Good.{IsGood}
+use Rattle.markdown_model.specs.Groups.{paired}
+use Rattle.markdown_model.specs.LabelEnd.{Element}
+use Rattle.markdown_model.specs.Pairs.{pair_list}
+use Rattle.markdown_model.specs.Passes.{merged}
+use Rattle.markdown_inline.specs.Elements.{HasLines, IsRunless}
+use Rattle.markdown_inline.specs.Laws.RowPasts.{outer-runless}
+use Rattle.markdown_inline.proofs.GoodCut.{has_run-split}
+use Rattle.markdown_inline.proofs.PassesRun.{IsGiven}
+use Rattle.markdown_inline.proofs.Runless.{paired-runless, probes-none}
+use Rattle.markdown_inline.proofs.RunEnds.{Starts, start-with, finished-may, finished-left, finished-elements}
+use Rattle.markdown_inline.proofs.StringTree.{string-finished, string-no-run}
 use Rattle.markdown_inline.proofs.ContentParts.{HasLines-HasCodes}
 use Rattle.markdown_cut.proofs.Splitting.{merged-same}
 use Rattle.markdown_model.proofs.DataLaws.{row_of}
@@ -40,24 +54,49 @@ module _ (p : ParseState) (pieces : List Piece) (content : IsContent p.bytes.now
   ended true k = k
   ended false k = absurd k
 
-  pub string-may : (ok : Bool) → start_ends T ok U → MayResolve may_resolve_of resolves_of U.resolvers (unregistered U)
-  string-may ok k = finished-may R.String (λ q. false) false string-trims (string_here M) (Unit {0}) p pieces content _ M U (marked-start p pieces T start) (ended ok k)
-
-  pub string-probes : (ok : Bool) (V : Tokenizer) → start_ends T ok U → Resolves resolves_of U.resolvers (unregistered U) V → V.tokenize_state.probes ≡ 0
-  string-probes ok V k r =
-      ap (λ (s : TokenizeState). s.probes) (finished-fields R.String (λ q. false) false string-trims (string_here M) (Unit {0}) p pieces content _ M U (marked-start p pieces T start) (ended ok k) V r)
-
   choice-is : string_here M ≡ string_choice (setting_of p)
   unfolding scratched
   choice-is = ap (λ (x : ParseState). string_choice (setting_of x)) start.input
 
-  -- the events after a run over a string and its passes
-  pub string-run : (ok : Bool) (V : Tokenizer) → start_ends T ok U → Resolves resolves_of U.resolvers (unregistered U) V → chained V.events ≡ string_events (setting_of p) pieces
-  string-run ok V k r =
-      let e : Finishes (string_here M) (Unit {0}) string_passed M U = ended ok k in
-      let m : Starts p pieces (record at_rest { markers = string_markers }) M = marked-start p pieces T start in
-      let found = finished-elements R.String (λ q. false) false string-trims (string_here M) (Unit {0}) p pieces content _ M U m e tt in
-      let are : AreStringElements (setting_of p) (content_of p.bytes.now pieces) found.0 = subst (λ c. AreElementsFrom c [] None (content_of p.bytes.now pieces) found.0) choice-is found.1.0 in
-      finished-events R.String (λ q. false) false string-trims (string_here M) (Unit {0}) p pieces content _ M U m e V r
-      ∙ ap (λ t. events_of (trimmed false false false t)) (merged-same e.tree (row_of found.0) (HasLines-HasCodes e.tree e.has_lines) (HasLines-HasCodes (row_of found.0) found.1.1.0) found.1.1.1)
-      ∙ ap events_of (sym (string-finished (setting_of p) (content_of p.bytes.now pieces) found.0 are))
+  module _ (ok : Bool) (k : start_ends T ok U) where
+    abbrev E : Finishes (string_here M) (Unit {0}) string_passed M U
+    E = ended ok k
+
+    abbrev S : Starts p pieces (record at_rest { markers = string_markers }) M
+    S = marked-start p pieces T start
+
+    abbrev G : IsGiven (setting_of p) p
+    G = record { bytes = refl; options = refl }
+
+    found : (es : List Element) × (AreElementsFrom (string_here M) [] None (content_of p.bytes.now pieces) es × (HasLines (row_of es) × (split E.tree ≡ split (row_of es))))
+    found = finished-elements R.String (λ q. false) false string-trims (string_here M) (Unit {0}) p pieces content (setting_of p) G _ refl M U S E tt
+
+    are : AreStringElements (setting_of p) (content_of p.bytes.now pieces) found.0
+    are = subst (λ c. AreElementsFrom c [] None (content_of p.bytes.now pieces) found.0) choice-is found.1.0
+
+    -- no run stands in it
+    none : has_run E.tree ≡ false
+    none = sym (has_run-split E.tree) ∙ ap has_run found.1.1.1 ∙ has_run-split (row_of found.0) ∙ string-no-run (setting_of p) found.0 [] None (content_of p.bytes.now pieces) are
+
+    good : has_run E.tree ≡ true → IsGood p.bytes.now E.tree
+    good e = absurd (both_ways (has_run E.tree) none e)
+
+    pub string-may : MayResolve may_resolve_of resolves_of U.resolvers (unregistered U)
+    string-may = finished-may R.String (λ q. false) false string-trims (string_here M) (Unit {0}) p pieces content (setting_of p) G _ refl M U S E good
+
+    module _ (V : Tokenizer) (r : Resolves resolves_of U.resolvers (unregistered U) V) where
+      runless : IsRunless E.tree
+      runless = outer-runless E.tree E.outer none
+
+      pub string-probes : V.tokenize_state.probes ≡ 0
+      string-probes =
+          probes-none (setting_of p) E.tree V.tokenize_state.probes runless (finished-left R.String (λ q. false) false string-trims (string_here M) (Unit {0}) p pieces content (setting_of p) G _ refl M U S E good V r).probed
+
+      -- the events after a run over a string and its passes
+      pub string-run : chained V.events ≡ string_events (setting_of p) pieces
+      string-run =
+          ap chained (finished-left R.String (λ q. false) false string-trims (string_here M) (Unit {0}) p pieces content (setting_of p) G _ refl M U S E good V r).events
+          ∙ chained-whole (trimmed false false false (merged (paired (setting_of p) (pair_list (setting_of p)) E.tree)))
+          ∙ ap (λ t. events_of (trimmed false false false (merged t))) (paired-runless (setting_of p) (pair_list (setting_of p)) E.tree runless)
+          ∙ ap (λ t. events_of (trimmed false false false t)) (merged-same E.tree (row_of found.0) (HasLines-HasCodes E.tree E.has_lines) (HasLines-HasCodes (row_of found.0) found.1.1.0) found.1.1.1)
+          ∙ ap events_of (sym (string-finished (setting_of p) (content_of p.bytes.now pieces) found.0 are))

@@ -1,7 +1,7 @@
 -- A whole run over a text.
 use Rattle.markdown_partial.specs.SpaceSteps.{most}
 use Rattle.markdown_engine.specs.Weights.{codes_left}
-use Rattle.std.proofs.Common.{◌≡◌, Bool, true, false, List, [], None, sym, ap, subst, ◌∙◌, arith, ◌≤◌}
+use Rattle.std.proofs.Common.{◌≡◌, Bool, true, false, List, [], None, refl, sym, ap, subst, ◌∙◌, arith, ◌≤◌}
 use Rattle.markdown_engine.specs.Chain.{chained}
 use Rattle.markdown_engine.specs.Content.{IsContent, content_of}
 use Rattle.markdown_engine.specs.Ops.{scratched}
@@ -27,11 +27,24 @@ use Rattle.markdown_inline.specs.Settings.{text_setting_of}
 use Rattle.markdown_inline.specs.TextSteps.{StartReady, marked_fields, text_marked, text_passed, text_choice_of, start_ends}
 use Rattle.markdown_inline.specs.Laws.TextTries.{built-off}
 use Rattle.markdown_inline.proofs.PassesRun.{breaks_on, text-trims}
-use Rattle.markdown_inline.proofs.RunEnds.{Starts, start-with, finished-may, finished-events, finished-fields, finished-elements}
+use Rattle.markdown_engine.specs.Codes.{Code}
+use Rattle.markdown_attention.specs.Rows.{has_run}
+use Rattle.markdown_cut.specs.CutData.{split}
+use Rattle.markdown_emphasis.specs.Pass.{IsProbed}
+use Rattle.markdown_emphasis.proofs.Good.{IsGood}
+use Rattle.markdown_emphasis.proofs.Singles.{singles-content}
+use Rattle.markdown_emphasis.proofs.Striped.{good-tree}
+use Rattle.markdown_model.specs.Inline.{label_tree}
+use Rattle.markdown_model.specs.LabelEnd.{Element}
+use Rattle.markdown_model.specs.Passes.{merged}
+use Rattle.markdown_inline.specs.Elements.{HasLines}
+use Rattle.markdown_inline.proofs.GoodCut.{good-alike}
+use Rattle.markdown_inline.proofs.PassesRun.{IsGiven}
+use Rattle.markdown_inline.proofs.ProbesAlike.{probes-built, paired-built}
+use Rattle.markdown_inline.proofs.Runless.{probes-none}
+use Rattle.markdown_inline.proofs.RunEnds.{Starts, start-with, finished-may, finished-events, finished-probes, finished-elements}
 use Rattle.markdown_inline.proofs.StartLemmas.{start-fits, unknown-runs}
-use Rattle.markdown_inline.proofs.TextTree.{text-finished}
-use Rattle.markdown_inline.proofs.ContentParts.{HasLines-HasCodes}
-use Rattle.markdown_cut.proofs.Splitting.{merged-same}
+use Rattle.markdown_inline.proofs.TextTree.{text-labels, text-runless, text-finished}
 use Rattle.markdown_model.proofs.DataLaws.{row_of}
 
 -- The constructs that are not built.
@@ -41,10 +54,8 @@ pub built-same : (s : Setting) → IsBuilt s.options.constructs → as_built s �
 built-same s off = λ i. record s {
   options = record s.options {
     constructs = record s.options.constructs {
-      attention = sym off.no_attention i;
       gfm_autolink_literal = sym off.no_literals i;
       gfm_label_start_footnote = sym off.no_footnotes i;
-      gfm_strikethrough = sym off.no_strikethrough i;
       label_end = sym off.no_label_end i;
       label_start_image = sym off.no_image i;
       label_start_link = sym off.no_link i;
@@ -90,14 +101,6 @@ module _ (p : ParseState) (pieces : List Piece) (first : Bool) (content : IsCont
   ended true k = k
   ended false k = absurd k
 
-  pub text-may : (ok : Bool) → start_ends T ok U → MayResolve may_resolve_of resolves_of U.resolvers (unregistered U)
-  text-may ok k =
-      finished-may R.Text breaks_on true text-trims (text_choice_of M) (Unit {0}) p pieces content _ M U (marked-start p pieces first T start) (ended ok k)
-
-  pub text-probes : (ok : Bool) (V : Tokenizer) → start_ends T ok U → Resolves resolves_of U.resolvers (unregistered U) V → V.tokenize_state.probes ≡ 0
-  text-probes ok V k r =
-      ap (λ (s : TokenizeState). s.probes) (finished-fields R.Text breaks_on true text-trims (text_choice_of M) (Unit {0}) p pieces content _ M U (marked-start p pieces first T start) (ended ok k) V r)
-
   -- what is read
   choice-is : text_choice_of M ≡ text_choice (as_built (text_setting_of p first)) (content_of p.bytes.now pieces)
   unfolding scratched start_of_content
@@ -105,12 +108,57 @@ module _ (p : ParseState) (pieces : List Piece) (first : Bool) (content : IsCont
       ap (λ (s : Setting). text_choice s T.cursor.codes) (ap (λ (x : ParseState). as_built (text_setting_of x T.tokenize_state.document_at_first_paragraph_of_list_item)) start.input ∙ ap (λ (s : TokenizeState). as_built (text_setting_of p s.document_at_first_paragraph_of_list_item)) start.fields)
       ∙ ap (λ (x : Place). text_choice (as_built (text_setting_of p first)) x.codes) start.place
 
-  pub text-run : (ok : Bool) (V : Tokenizer) → start_ends T ok U → Resolves resolves_of U.resolvers (unregistered U) V → chained V.events ≡ text_events (as_built (text_setting_of p first)) pieces
-  text-run ok V k r =
-      let e : Finishes (text_choice_of M) (Unit {0}) text_passed M U = ended ok k in
-      let m : Starts p pieces (marked_fields T.cursor.codes (text_fields first)) M = marked-start p pieces first T start in
-      let found = finished-elements R.Text breaks_on true text-trims (text_choice_of M) (Unit {0}) p pieces content _ M U m e tt in
-      let are : AreElements (as_built (text_setting_of p first)) (content_of p.bytes.now pieces) found.0 = subst (λ c. AreElementsFrom c [] None (content_of p.bytes.now pieces) found.0) choice-is found.1.0 in
-      finished-events R.Text breaks_on true text-trims (text_choice_of M) (Unit {0}) p pieces content _ M U m e V r
-      ∙ ap (λ t. events_of (trimmed (breaks_on p) true true t)) (merged-same e.tree (row_of found.0) (HasLines-HasCodes e.tree e.has_lines) (HasLines-HasCodes (row_of found.0) found.1.1.0) found.1.1.1)
-      ∙ ap events_of (sym (text-finished (as_built (text_setting_of p first)) (content_of p.bytes.now pieces) found.0 (built-off (text_setting_of p first)) are))
+  abbrev Given : Setting
+  Given = text_setting_of p first
+
+  -- the setting in which what is not built is off
+  abbrev Built : Setting
+  Built = as_built (text_setting_of p first)
+
+  abbrev all_codes : List Code
+  all_codes = content_of p.bytes.now pieces
+
+  abbrev G : IsGiven Given p
+  G = record { bytes = refl; options = refl }
+
+  module _ (ok : Bool) (k : start_ends T ok U) where
+    abbrev E : Finishes (text_choice_of M) (Unit {0}) text_passed M U
+    E = ended ok k
+
+    abbrev S : Starts p pieces (marked_fields T.cursor.codes (text_fields first)) M
+    S = marked-start p pieces first T start
+
+    found : (es : List Element) × (AreElementsFrom (text_choice_of M) [] None all_codes es × (HasLines (row_of es) × (split E.tree ≡ split (row_of es))))
+    found = finished-elements R.Text breaks_on true text-trims (text_choice_of M) (Unit {0}) p pieces content Given G _ refl M U S E tt
+
+    are : AreElements Built all_codes found.0
+    are = subst (λ c. AreElementsFrom c [] None all_codes found.0) choice-is found.1.0
+
+    labels : label_tree Built all_codes ≡ row_of found.0
+    labels = text-labels Built all_codes found.0 (built-off Given) are
+
+    good : has_run E.tree ≡ true → IsGood p.bytes.now E.tree
+    good e =
+        good-alike p.bytes.now E.tree (row_of found.0) found.1.1.1
+        (subst (λ t. IsGood p.bytes.now t) labels (good-tree p.bytes.now Built all_codes (singles-content p.bytes.now pieces content.in_order)))
+
+    pub text-may : MayResolve may_resolve_of resolves_of U.resolvers (unregistered U)
+    text-may = finished-may R.Text breaks_on true text-trims (text_choice_of M) (Unit {0}) p pieces content Given G _ refl M U S E good
+
+    module _ (V : Tokenizer) (r : Resolves resolves_of U.resolvers (unregistered U) V) where
+      -- the looks that pairing took are within the bounds of the content's tree of labels
+      pub text-probes : IsProbed Built (label_tree Built all_codes) V.tokenize_state.probes
+      text-probes =
+          subst (λ t. IsProbed Built t V.tokenize_state.probes) (sym labels)
+          (probes-built Given (row_of found.0) V.tokenize_state.probes (finished-probes R.Text breaks_on true text-trims (text_choice_of M) (Unit {0}) p pieces content Given G _ refl M U S E good V (row_of found.0) found.1.1.1 r))
+
+      -- where runs are not looked for none is taken
+      pub text-no-probes : Given.options.constructs.attention ≡ false → Given.options.constructs.gfm_strikethrough ≡ false → V.tokenize_state.probes ≡ 0
+      text-no-probes off none = probes-none Built (label_tree Built all_codes) V.tokenize_state.probes (text-runless Built all_codes (built-off Given) off none) text-probes
+
+      -- the events after a run over a text and its passes
+      pub text-run : chained V.events ≡ text_events Built pieces
+      text-run =
+          finished-events R.Text breaks_on true text-trims (text_choice_of M) (Unit {0}) p pieces content Given G _ refl M U S E good V (row_of found.0) found.1.1.0 found.1.1.1 r
+          ∙ ap (λ t. events_of (trimmed (breaks_on p) true true (merged t))) (sym (paired-built Given (row_of found.0)))
+          ∙ ap events_of (sym (text-finished Built all_codes found.0 (built-off Given) are))

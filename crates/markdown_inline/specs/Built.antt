@@ -5,10 +5,8 @@ use Rattle.markdown_model.specs.Setting.{Setting}
 
 -- the constructs that are not built yet are switched off
 pub record IsBuilt (on : Constructs) : Type 0 where
-  pub no_attention : on.attention ≡ false
   pub no_literals : on.gfm_autolink_literal ≡ false
   pub no_footnotes : on.gfm_label_start_footnote ≡ false
-  pub no_strikethrough : on.gfm_strikethrough ≡ false
   pub no_label_end : on.label_end ≡ false
   pub no_image : on.label_start_image ≡ false
   pub no_link : on.label_start_link ≡ false
@@ -16,10 +14,8 @@ pub record IsBuilt (on : Constructs) : Type 0 where
 -- these switches, but those of constructs that are not built off
 abbrev pub built_constructs : Constructs → Constructs
 built_constructs on = record on {
-  attention = false;
   gfm_autolink_literal = false;
   gfm_label_start_footnote = false;
-  gfm_strikethrough = false;
   label_end = false;
   label_start_image = false;
   label_start_link = false;

@@ -1,11 +1,14 @@
 -- Single constructs: what is read at a tokenizer's place, by the name of the state that starts it.
-use Rattle.std.specs.Prelude.{◌≡◌, ℕ, Bool, true, false, Option, None}
-use Rattle.markdown_engine.specs.Ops.{ahead, scratched}
+use Rattle.std.specs.Prelude.{◌≡◌, ℕ, Bool, true, false, Option, Some, None}
+use Rattle.markdown_engine.specs.Ops.{ahead, registered, scratched}
 use Rattle.markdown_engine.specs.Past.{TreeReading, Reads, link_before}
+use Rattle.markdown_engine.specs.declared.resolve.ResolveName.{ResolveName}
+use Rattle.markdown_engine.specs.declared.resolve.ResolveName.TheVariants as P
 use Rattle.markdown_engine.specs.declared.state.StateName.{StateName}
-use Rattle.markdown_engine.specs.declared.state.StateName.TheVariants.{AutolinkStart, CharacterEscapeStart, CharacterReferenceStart, DataStart, DestinationStart, LabelStart, TitleStart, GfmTaskListItemCheckStart, HardBreakEscapeStart, HtmlTextStart, RawTextStart, SpaceOrTabStart, SpaceOrTabEolStart}
+use Rattle.markdown_engine.specs.declared.state.StateName.TheVariants.{AttentionStart, AutolinkStart, CharacterEscapeStart, CharacterReferenceStart, DataStart, DestinationStart, LabelStart, TitleStart, GfmTaskListItemCheckStart, HardBreakEscapeStart, HtmlTextStart, RawTextStart, SpaceOrTabStart, SpaceOrTabEolStart}
 use Rattle.markdown_engine.specs.declared.tokenizer.TokenizeState.{TokenizeState}
 use Rattle.markdown_engine.specs.declared.tokenizer.Tokenizer.{Tokenizer}
+use Rattle.markdown_attention.specs.Attention as AT
 use Rattle.markdown_gfm.specs.GfmTaskListItemCheck as C
 use Rattle.markdown_html.specs.HtmlText as H
 use Rattle.markdown_leaf.specs.CharacterReference as R
@@ -38,6 +41,7 @@ IsConstruct LabelStart T = SL.StartReady T
 IsConstruct HtmlTextStart T = H.StartReady T
 IsConstruct RawTextStart T = X.StartReady T
 IsConstruct DataStart T = Unit {0}
+IsConstruct AttentionStart T = AT.StartReady T
 IsConstruct GfmTaskListItemCheckStart T = C.MayLook T
 IsConstruct SpaceOrTabStart T = W.StartReady T
 IsConstruct SpaceOrTabEolStart T = L.StartReady T
@@ -55,6 +59,7 @@ construct_reading TitleStart T = title (SX.names_in T.tokenize_state)
 construct_reading LabelStart T = label (SX.names_in T.tokenize_state)
 construct_reading HtmlTextStart T = H.html_here T
 construct_reading RawTextStart T = X.span_at T
+construct_reading AttentionStart T = AT.run_tree T
 construct_reading DataStart T = data_up_to T.tokenize_state.markers
 construct_reading GfmTaskListItemCheckStart T = C.check_here T
 construct_reading SpaceOrTabStart T =
@@ -75,7 +80,17 @@ fields_after SpaceOrTabStart s = W.rested s
 fields_after SpaceOrTabEolStart s = L.eol_rested s
 fields_after _ s = s
 
--- either the codes at the place are read so, and U is T past the tree, with these scratch fields; or they are not, and U is T with them
-abbrev pub ReadsOrStays : TreeReading → Option ℕ → TokenizeState → Tokenizer → Bool → Tokenizer → Type 0
-ReadsOrStays reading previous s T true U = Reads reading previous s T U
-ReadsOrStays reading previous s T false U = (reading (ahead T) ≡ None) × (U ≡ scratched s T)
+-- the pass that is registered after: that of runs after a run of markers
+abbrev pub pass_after : StateName → Option ResolveName
+pass_after AttentionStart = Some P.Attention
+pass_after _ = None
+
+-- the codes at the place are read so, and U is T past the tree, with these scratch fields and this pass registered
+abbrev pub ReadsWith : Option ResolveName → TreeReading → Option ℕ → TokenizeState → Tokenizer → Tokenizer → Type 0
+ReadsWith None reading previous s T U = Reads reading previous s T U
+ReadsWith (Some pass) reading previous s T U = (there : Tokenizer) × (Reads reading previous s T there × (U ≡ registered pass there))
+
+-- either they are read so, or they are not, and U is T with these scratch fields
+abbrev pub ReadsOrStays : Option ResolveName → TreeReading → Option ℕ → TokenizeState → Tokenizer → Bool → Tokenizer → Type 0
+ReadsOrStays pass reading previous s T true U = ReadsWith pass reading previous s T U
+ReadsOrStays pass reading previous s T false U = (reading (ahead T) ≡ None) × (U ≡ scratched s T)

@@ -1,3 +1,4 @@
+pub mod PastRow
 pub mod Elements
 pub mod Settings
 pub mod StringSteps

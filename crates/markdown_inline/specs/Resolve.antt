@@ -1,12 +1,21 @@
 -- The passes of inline content by name: when they may be called, and what they leave.
-use Rattle.std.specs.Prelude.{◌≡◌, ◌≤◌, Bool, true, false, [], length, None}
+use Rattle.std.specs.Prelude.{◌≡◌, ◌≤◌, Bool, true, false, [], length, None, IsUtf8}
 use Rattle.markdown_engine.specs.Content.{document_limit}
 use Rattle.markdown_engine.specs.Past.{appended_from}
 use Rattle.markdown_engine.specs.Tree.{Forest}
 use Rattle.markdown_engine.specs.declared.resolve.ResolveName.{ResolveName}
 use Rattle.markdown_engine.specs.declared.resolve.ResolveName.TheVariants as R
 use Rattle.markdown_engine.specs.declared.tokenizer.Tokenizer.{Tokenizer}
+use Rattle.markdown_attention.specs.Events.{runs_of_events}
+use Rattle.markdown_attention.specs.Reading.{HaveRunPlaces}
+use Rattle.markdown_attention.specs.Rows.{IsOf, HasRuns}
+use Rattle.markdown_emphasis.specs.Pass.{IsSmall, IsProbed}
+use Rattle.markdown_emphasis.specs.RunEdits.{HaveRunEnds, HaveRunRoom}
+use Rattle.markdown_emphasis.specs.Trees.{IsStriped}
+use Rattle.markdown_model.specs.Groups.{paired}
+use Rattle.markdown_model.specs.Pairs.{pair_list}
 use Rattle.markdown_model.specs.Passes.{merged, trimmed}
+use Rattle.markdown_model.specs.Setting.{Setting}
 use Rattle.markdown_partial.specs.Merge.{HasData}
 use Rattle.markdown_partial.specs.TrimEvents.{HasParts, HasPlaces}
 
@@ -27,13 +36,32 @@ pub record TrimsData (hard whole : Bool) (T U : Tokenizer) : Type 0 where
   pub same : U ≡ record T { events = U.events }
   pub trims : (t : Forest) → HasParts T.parse_state.now.bytes.now t → T.events ≡ appended_from 0 None t → U.events ≡ appended_from 0 None (trimmed hard whole whole t)
 
+-- no edit is left, and runs of markers stand at places of the document, are few, and their events have room for what comes in their stead
+pub record MayPair (T : Tokenizer) : Type 0 where
+  pub map : T.map ≡ []
+  pub utf8 : IsUtf8 T.parse_state.now.bytes.now
+  pub places : HaveRunPlaces T.parse_state.now.bytes.now T.events
+  pub ends : HaveRunEnds T.events
+  pub room : HaveRunRoom T.events
+  pub small : IsSmall (runs_of_events T)
+
+-- U is T with other events, and with the number of looks that pairing took: where T has the events of a tree, those of the tree with the
+-- pairs of its containers grouped
+pub record PairsRuns (T U : Tokenizer) : Type 0 where
+  pub same : U ≡ record T { events = U.events; tokenize_state = record T.tokenize_state { probes = U.tokenize_state.probes } }
+  pub paired : (s : Setting) (t : Forest) → IsOf s T → HasRuns T.parse_state.now.bytes.now t → IsStriped t → T.events ≡ appended_from 0 None t
+      → U.events ≡ appended_from 0 None (paired s (pair_list s) t)
+  pub probed : (s : Setting) (t : Forest) → IsOf s T → HasRuns T.parse_state.now.bytes.now t → T.events ≡ appended_from 0 None t → IsProbed s t U.tokenize_state.probes
+
 abbrev pub may_resolve_of : ResolveName → Tokenizer → Type 0
+may_resolve_of R.Attention T = MayPair T
 may_resolve_of R.Data T = T.map ≡ []
 may_resolve_of R.String T = MayTrim T
 may_resolve_of R.Text T = MayTrim T
 may_resolve_of _ T = ⊥
 
 abbrev pub resolves_of : ResolveName → Tokenizer → Tokenizer → Type 0
+resolves_of R.Attention T U = PairsRuns T U
 resolves_of R.Data T U = MergesData T U
 resolves_of R.String T U = TrimsData false false T U
 resolves_of R.Text T U = TrimsData T.parse_state.now.options.now.constructs.hard_break_trailing true T U

@@ -1,6 +1,7 @@
 //! Markdown's inline layer whole: its states and passes by name, its runs, and the program. The modules of the constructs stand here under their paths.
 #![tactic(auto)]
 
+pub mod attention;
 pub mod laws;
 pub mod program;
 pub mod resolve;

@@ -2,7 +2,7 @@
 ghost use Rattle.std.specs.Prelude.{◌≡◌, IfOk, IsErr, OnErr, IsTrue, None};
 ghost use Rattle.markdown_inline.specs.Resolve.{may_resolve_of, resolves_of};
 
-use crate::{string, text};
+use crate::{attention, string, text};
 use markdown_engine::resolve::ResolveName;
 use markdown_engine::subtokenize::Subresult;
 use markdown_engine::tokenizer::Tokenizer;
@@ -17,6 +17,7 @@ fn dispatch(name: ResolveName, tokenizer: &mut Tokenizer) -> Result<Option<Subre
     ensures err { OnErr result (IsTrue tokenizer.new.failed) }
 {
     match name {
+        ResolveName::Attention => attention::resolve(tokenizer),
         ResolveName::Data => partial_data::resolve(tokenizer),
         ResolveName::String => string::resolve(tokenizer),
         ResolveName::Text => text::resolve(tokenizer),

@@ -1,12 +1,13 @@
 //! Runs over a content.
 ghost use Rattle.std.specs.Prelude.{◌≡◌, ◌-◌, ◌≤◌, IsUtf8, true, false, [], ◌∷◌, take, drop, length, IfOk, IsErr, OnErr, IsTrue};
-ghost use Rattle.markdown_inline.specs.Construct.{IsConstruct, construct_reading, chain_before, fields_after, ReadsOrStays};
+ghost use Rattle.markdown_inline.specs.Construct.{IsConstruct, construct_reading, chain_before, fields_after, pass_after, ReadsOrStays};
 ghost use Rattle.markdown_engine.specs.Chain.{chained};
 ghost use Rattle.markdown_engine.specs.Content.{IsContent, IsTextContent, content_of, document_limit};
 ghost use Rattle.markdown_inline.specs.Built.{as_built};
 ghost use Rattle.markdown_inline.specs.Settings.{setting_of, text_setting_of};
 ghost use Rattle.markdown_inline.specs.Words.{whole_piece};
-ghost use Rattle.markdown_model.specs.Inline.{string_events, text_events};
+ghost use Rattle.markdown_emphasis.specs.Pass.{IsProbed};
+ghost use Rattle.markdown_model.specs.Inline.{label_tree, string_events, text_events};
 
 use crate::state::Inline;
 pub use markdown_engine::content::{is_content, is_text};
@@ -69,8 +70,11 @@ pub fn string(alloc: Global, parse_state: &ParseState, pieces: &[Piece]) -> Resu
 /// The events of the inline tree of a content that is read as text: of the inside of a paragraph, a heading or a table's cell. `first_of_item`
 /// says that it is the first paragraph of a list item, where the check of a task may stand.
 ///
-/// The constructs whose switches the clause `events` names are not built yet: where one of them is on, the run goes on as if it were off. The
-/// error comes only where memory is refused.
+/// The number of looks that pairing took at earlier runs of markers (CommonMark 6.2) is at least the number of pairs, and at most each of two
+/// bounds by the runs and pairs of the content; it is 0 where no run stands.
+///
+/// The constructs whose switches the clauses `events` and `probes` name are not built yet: where one of them is on, the run goes on as if it
+/// were off. The error comes only where memory is refused.
 pub fn text(
     alloc: Global,
     parse_state: &ParseState,
@@ -79,11 +83,14 @@ pub fn text(
 ) -> Result<Run, AllocError>
     requires { IsTextContent parse_state.now.bytes.now pieces.now }
     ensures events { let on = parse_state.now.options.now.constructs in
-        on.attention ≡ false → on.gfm_autolink_literal ≡ false → on.gfm_label_start_footnote ≡ false → on.gfm_strikethrough ≡ false
-        → on.label_end ≡ false → on.label_start_image ≡ false → on.label_start_link ≡ false
+        on.gfm_autolink_literal ≡ false → on.gfm_label_start_footnote ≡ false → on.label_end ≡ false → on.label_start_image ≡ false → on.label_start_link ≡ false
         → IfOk result (λ run. run.events.items ≡ text_events (text_setting_of parse_state.now first_of_item) pieces.now) }
-    ensures as_built { IfOk result (λ run. run.events.items ≡ text_events (as_built (text_setting_of parse_state.now first_of_item)) pieces.now) }
-    ensures probes { let on = parse_state.now.options.now.constructs in on.attention ≡ false → on.gfm_strikethrough ≡ false → IfOk result (λ run. run.probes ≡ 0) }
+    ensures probes { let on = parse_state.now.options.now.constructs in let s = text_setting_of parse_state.now first_of_item in
+        on.gfm_autolink_literal ≡ false → on.gfm_label_start_footnote ≡ false → on.label_end ≡ false → on.label_start_image ≡ false → on.label_start_link ≡ false
+        → IfOk result (λ run. IsProbed s (label_tree s (content_of s.bytes pieces.now)) run.probes) }
+    ensures events_as_built { IfOk result (λ run. run.events.items ≡ text_events (as_built (text_setting_of parse_state.now first_of_item)) pieces.now) }
+    ensures probes_as_built { let s = as_built (text_setting_of parse_state.now first_of_item) in IfOk result (λ run. IsProbed s (label_tree s (content_of s.bytes pieces.now)) run.probes) }
+    ensures no_probes { let on = parse_state.now.options.now.constructs in on.attention ≡ false → on.gfm_strikethrough ≡ false → IfOk result (λ run. run.probes ≡ 0) }
 {
     let mut tokenizer = Tokenizer::new(alloc, parse_state, pieces);
     tokenizer
@@ -112,6 +119,7 @@ fn put_back<'a>(
 
 /// Reads one construct at the tokenizer's place, by the name of the state that starts it: `CharacterEscapeStart`, `CharacterReferenceStart`,
 /// `HardBreakEscapeStart`, `AutolinkStart`, `HtmlTextStart`, `RawTextStart` (a code span, or a math span), `GfmTaskListItemCheckStart`;
+/// `AttentionStart` (a run of markers, past which the pass that pairs runs is registered);
 /// `DestinationStart`, `TitleStart` and `LabelStart`, which take their names from the scratch fields `token_1` to `token_5`, and a destination
 /// the depth of its parentheses from `size_b`; `DataStart`, which takes the bytes at which it stops from the scratch field `markers`, and holds
 /// everywhere; `SpaceOrTabStart` or `SpaceOrTabEolStart`, after the setter that asks for it.
@@ -128,7 +136,7 @@ fn put_back<'a>(
 pub fn construct(name: StateName, tokenizer: &mut Tokenizer) -> Result<bool, AllocError>
     requires construct { IsConstruct name tokenizer.old }
     requires alone { tokenizer.old.attempts ≡ [] }
-    ensures reads { IfOk result (λ ok. ReadsOrStays (construct_reading name tokenizer.old) (chain_before name tokenizer.old) (fields_after name tokenizer.old.tokenize_state) tokenizer.old ok tokenizer.new) }
+    ensures reads { IfOk result (λ ok. ReadsOrStays (pass_after name) (construct_reading name tokenizer.old) (chain_before name tokenizer.old) (fields_after name tokenizer.old.tokenize_state) tokenizer.old ok tokenizer.new) }
     ensures failed { IsTrue tokenizer.old.failed → IsErr result }
     ensures err { OnErr result (IsTrue tokenizer.new.failed) }
 {
@@ -146,6 +154,8 @@ pub fn construct(name: StateName, tokenizer: &mut Tokenizer) -> Result<bool, All
     Ok(held)
 }
 
+#[cfg(test)]
+mod attention_tests;
 #[cfg(test)]
 mod fixtures;
 #[cfg(test)]

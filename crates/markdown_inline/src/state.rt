@@ -4,7 +4,7 @@ ghost use Rattle.markdown_inline.specs.Layer.{ready_of, step_of, ends_of, weight
 ghost use Rattle.markdown_inline.specs.Laws.{laws_of};
 ghost use Rattle.markdown_inline.specs.Resolve.{may_resolve_of, resolves_of};
 
-use crate::{resolve, string, text};
+use crate::{attention, resolve, string, text};
 use markdown_engine::layer::Layer;
 use markdown_engine::resolve::ResolveName;
 use markdown_engine::state::{State, StateName};
@@ -129,9 +129,10 @@ fn dispatch(name: StateName, tokenizer: &mut Tokenizer) -> Result<State, AllocEr
         StateName::TextBeforeHardBreakEscape => text::before_hard_break_escape(tokenizer),
         StateName::TextBeforeLabelStartLink => text::before_label_start_link(tokenizer),
         StateName::TextBeforeData => text::before_data(tokenizer),
+        StateName::AttentionStart => attention::start(tokenizer),
+        StateName::AttentionInside => attention::inside(tokenizer),
         // These constructs are not built yet, and never hold.
-        StateName::AttentionStart
-        | StateName::GfmAutolinkLiteralProtocolStart
+        StateName::GfmAutolinkLiteralProtocolStart
         | StateName::GfmAutolinkLiteralWwwStart
         | StateName::GfmLabelStartFootnoteStart
         | StateName::LabelEndStart

@@ -4,7 +4,7 @@ use Rattle.std.specs.Prelude.{map}
 use Rattle.std.specs.List.{list_any}
 use Rattle.markdown_engine.specs.Codes.{Code, is_line_ending, document_start, stop_of}
 use Rattle.markdown_engine.specs.Lists.{first_of, rest_of}
-use Rattle.markdown_engine.specs.Ops.{ahead, current_of}
+use Rattle.markdown_engine.specs.Ops.{ahead, current_of, registered}
 use Rattle.markdown_engine.specs.Place.{Place, value_of, last_of, moved, ahead_at}
 use Rattle.markdown_engine.specs.Past.{TreeReading, Reads, past, last_link, moved_by, appended_from}
 use Rattle.markdown_engine.specs.Tree.{Forest, empty, leaf, leaf_then, group_then, ◌⊕◌, leaf_codes, event, start_of}
@@ -16,7 +16,8 @@ use Rattle.markdown_engine.specs.declared.event.Name.TheVariants as N
 use Rattle.markdown_engine.specs.declared.tokenizer.Tokenizer.{Tokenizer}
 use Rattle.markdown_engine.proofs.EndsLemmas.{row-empty, scratched-same}
 use Rattle.markdown_engine.proofs.OpRules.{ahead-moved, ahead-none, current-ahead, first-drop, left-ahead}
-use Rattle.markdown_engine.proofs.TreeLemmas.{leaf_codes-row, past-empty, past-past}
+use Rattle.markdown_engine.specs.declared.resolve.ResolveName.TheVariants as R
+use Rattle.markdown_engine.proofs.TreeLemmas.{leaf_codes-row}
 use Rattle.markdown_leaf.specs.RawText.{ends_escape, follows_escape, code_just_before, is_escape}
 use Rattle.markdown_construct.proofs.StretchLemmas.{BeginsWith, stretches-begin}
 use Rattle.markdown_construct.proofs.WholeReadings.{both-parts}
@@ -28,7 +29,9 @@ use Rattle.markdown_model.specs.Lines.{linked_leaf, data_up_to, line_leaf, line_
 use Rattle.markdown_model.proofs.DataLaws.{code_leaf, code_leaves, row_of}
 use Rattle.markdown_model.proofs.ReadingLaws.{code_before-append}
 use Rattle.markdown_model.proofs.Leaves.{span-append}
-use Rattle.markdown_inline.specs.Elements.{HasLines, IsSingle, IsNode, StandsAfter, Elements, Advances, AllElements, Finishes}
+use Rattle.markdown_inline.specs.Elements.{HasLines, HasOuterRuns, IsRunless, IsRunLeaf, IsSingle, IsNode, StandsAfter, Elements, Advances, AllElements, Finishes}
+use Rattle.markdown_inline.specs.PastRow.{past_row}
+use Rattle.markdown_inline.specs.Laws.RowPasts.{past-both, past_row-without, past_row-empty, past_row-with, ahead-registered, outer-row, quiet-no-run, quiet-outer, runless-no-run, runless-outer}
 use Rattle.markdown_inline.specs.Laws.NodeLemmas.{quiet-lines-of, quiet-node-unlinked}
 use Rattle.markdown_cut.specs.CutData.{split}
 use Rattle.markdown_cut.proofs.Splitting.{row-assoc, split-join}
@@ -49,9 +52,6 @@ HasLines-row (group_then n a b inside rest) u h k = (h.0, (h.1.0, HasLines-row r
 
 -- After an advance.
 
-past-both : (t u : Forest) (T : Tokenizer) → last_link (length T.events) None t ≡ None → past None u (past None t T) ≡ past None (t ⊕ u) T
-past-both t u T e = ap (λ q. past q u (past None t T)) (sym e) ∙ past-past None t u T
-
 elements-all : (choice : Choice) (earlier : List Element) (previous : Option Code) (t u : Forest) (T U : Tokenizer) → (k : Elements choice earlier previous t T U) → AllElements choice k.later k.last u (ahead U) → AllElements choice earlier previous (t ⊕ u) (ahead T)
 elements-all choice earlier previous t u T U k a =
     record {
@@ -67,8 +67,9 @@ advances-finishes choice given passed T U V p k =
     record {
       tree = p.tree ⊕ k.tree;
       has_lines = HasLines-row p.tree k.tree p.has_lines k.has_lines;
+      outer = outer-row p.tree k.tree p.outer k.outer;
       whole = leaf_codes-row p.tree k.tree ∙ ap (λ x. leaf_codes p.tree ++ x) k.whole ∙ sym p.whole;
-      left = k.left ∙ ap (λ (x : Tokenizer). passed (past None k.tree x)) p.left ∙ ap passed (past-both p.tree k.tree T p.unlinked);
+      left = k.left ∙ ap (λ (x : Tokenizer). passed (past_row k.tree x)) p.left ∙ ap passed (past-both p.tree k.tree T p.unlinked);
       elements = λ g earlier previous s.
           let e = p.elements g earlier previous s in
           elements-all choice earlier previous p.tree k.tree T U e (k.elements g e.later e.last e.stands);
@@ -80,8 +81,9 @@ finishes-end choice given passed T U e left =
     record {
       tree = empty;
       has_lines = tt;
+      outer = tt;
       whole = sym (ahead-none T e);
-      left = left ∙ ap passed (sym (past-empty None T));
+      left = left ∙ ap passed (past_row-empty T);
       elements = λ g earlier previous s. record { elements = []; are = ahead-none T e; has_lines = tt; alike = refl };
     }
 
@@ -102,8 +104,8 @@ last-some : (ws rest : List Code) (p : Place) → 1 ≤ length ws → ahead_at p
 last-some [] rest p h e = absurd (omega arith)
 last-some (c ∷ cs) rest p h e = last-moved c cs rest p e
 
-pub before-past : (t : Forest) (rest : List Code) (T U : Tokenizer) → 1 ≤ length (leaf_codes t) → ahead T ≡ leaf_codes t ++ rest → U ≡ past None t T → code_just_before U ≡ last_code (leaf_codes t)
-unfolding past
+pub before-past : (t : Forest) (rest : List Code) (T U : Tokenizer) → 1 ≤ length (leaf_codes t) → ahead T ≡ leaf_codes t ++ rest → U ≡ past_row t T → code_just_before U ≡ last_code (leaf_codes t)
+unfolding past past_row
 before-past t rest T U h e left = ap code_just_before left ∙ last-some (leaf_codes t) rest T.cursor h e
 
 follows-last : (es : List Event) (x : Event) → follows_escape (es ++ x ∷ []) ≡ ends_escape x
@@ -114,8 +116,8 @@ follows-last (e ∷ f ∷ es) x = follows-last (f ∷ es) x
 follows-these : (es xs : List Event) (x : Event) → follows_escape (es ++ (xs ++ x ∷ [])) ≡ ends_escape x
 follows-these es xs x = ap follows_escape (sym (append_assoc es xs (x ∷ []))) ∙ follows-last (es ++ xs) x
 
-events-past : (t : Forest) (T U : Tokenizer) → U ≡ past None t T → U.events ≡ T.events ++ appended_from (length T.events) None t
-unfolding past
+events-past : (t : Forest) (T U : Tokenizer) → U ≡ past_row t T → U.events ≡ T.events ++ appended_from (length T.events) None t
+unfolding past past_row
 events-past t T U e = ap (λ (x : Tokenizer). x.events) e
 
 -- Data.
@@ -254,6 +256,17 @@ unlinked-lines n [] = refl
 unlinked-lines n ([] ∷ ss) = unlinked-lines n ss
 unlinked-lines n ((c ∷ cs) ∷ ss) = unlinked-leaf (is_line_ending c) n c cs (line_leaves N.Data ss) refl (unlinked-lines (n + 2) ss)
 
+-- no run stands in data
+runless-leaf : (b : Bool) (c : Code) (cs : List Code) (rest : Forest) → is_line_ending c ≡ b → IsRunless rest → IsRunless (line_leaf N.Data None (c ∷ cs) ⊕ rest)
+unfolding leaf_by
+runless-leaf true c cs rest e h = subst (λ x. IsRunless (x ⊕ rest)) (sym (line-leaf true c cs e)) (refl, h)
+runless-leaf false c cs rest e h = subst (λ x. IsRunless (x ⊕ rest)) (sym (line-leaf false c cs e)) (refl, h)
+
+runless-lines : (ss : List (List Code)) → IsRunless (line_leaves N.Data ss)
+runless-lines [] = tt
+runless-lines ([] ∷ ss) = runless-lines ss
+runless-lines ((c ∷ cs) ∷ ss) = runless-leaf (is_line_ending c) c cs (line_leaves N.Data ss) refl (runless-lines ss)
+
 leaves-row : (cs : List Code) → code_leaves cs ≡ row_of (leaf_elements cs)
 unfolding leaf_elements
 leaves-row [] = refl
@@ -294,7 +307,7 @@ past-last c (d ∷ ds) previous = past-last d ds (Some c)
 same-last : (xs ws vs rest : List Code) → xs ≡ ws ++ rest → xs ≡ vs ++ rest → last_code ws ≡ last_code vs
 same-last xs ws vs rest e f = sym (code_before-append ws rest) ∙ ap (λ ys. code_before ys rest) (sym e ∙ f) ∙ code_before-append vs rest
 
-data-elements : (choice : Choice) (markers : List ℕ) (T U : Tokenizer) (c : Code) (cs : List Code) (t : Forest) (rest : List Code) → ahead T ≡ c ∷ cs → line_leaves N.Data (lines_of (c ∷ (unmarked markers cs).0)) ≡ t → (unmarked markers cs).1 ≡ rest → U ≡ past None t T → ahead T ≡ leaf_codes t ++ rest → ahead U ≡ rest → ((earlier : List Element) (previous : Option Code) (d : Code) (ds : List Code) → is_among markers d ≡ false → choice earlier previous (d ∷ ds) ≡ Some (plain (code_leaf d), ds)) → (earlier : List Element) (previous : Option Code) → choice earlier previous (c ∷ cs) ≡ Some (plain (code_leaf c), cs) → Elements choice earlier previous t T U
+data-elements : (choice : Choice) (markers : List ℕ) (T U : Tokenizer) (c : Code) (cs : List Code) (t : Forest) (rest : List Code) → ahead T ≡ c ∷ cs → line_leaves N.Data (lines_of (c ∷ (unmarked markers cs).0)) ≡ t → (unmarked markers cs).1 ≡ rest → U ≡ past_row t T → ahead T ≡ leaf_codes t ++ rest → ahead U ≡ rest → ((earlier : List Element) (previous : Option Code) (d : Code) (ds : List Code) → is_among markers d ≡ false → choice earlier previous (d ∷ ds) ≡ Some (plain (code_leaf d), ds)) → (earlier : List Element) (previous : Option Code) → choice earlier previous (c ∷ cs) ≡ Some (plain (code_leaf c), cs) → Elements choice earlier previous t T U
 unfolding leaf_elements past_leaves past_code
 data-elements choice markers T U c cs t rest whole is from left covers after others earlier previous here =
     let s : List Code × List Code = unmarked markers cs in
@@ -325,11 +338,13 @@ data-parts : (choice : Choice) (given : Type 0) (markers : List ℕ) (T U : Toke
 data-parts choice given markers T U c cs whole k holds first others =
     let d = data-reads markers (ahead T) c cs k.tree k.rest whole holds in
     let s : List Code × List Code = unmarked markers cs in
-    let left : U ≡ past None k.tree T = k.left ∙ ap (past None k.tree) (scratched-same T) in
+    let runless : IsRunless k.tree = subst IsRunless d.0 (runless-lines (lines_of (c ∷ s.0))) in
+    let left : U ≡ past_row k.tree T = k.left ∙ ap (past None k.tree) (scratched-same T) ∙ past_row-without k.tree T (runless-no-run k.tree runless) in
     let cut : ahead T ≡ (c ∷ s.0) ++ ahead U = whole ∙ ap (λ xs. c ∷ xs) (sym (span-append (λ d. not (is_among markers d)) cs)) ∙ ap (λ xs. (c ∷ s.0) ++ xs) (d.1 ∙ sym k.after) in
     record {
       tree = k.tree;
       has_lines = subst HasLines d.0 (HasLines-lines (c ∷ s.0));
+      outer = runless-outer k.tree runless;
       unlinked = ap (λ x. last_link (length T.events) None x) (sym d.0) ∙ unlinked-lines (length T.events) (lines_of (c ∷ s.0));
       left = left;
       whole = k.whole ∙ ap (λ xs. leaf_codes k.tree ++ xs) (sym k.after);
@@ -368,8 +383,8 @@ single-escaped es n (group_then name a b inside rest) earlier h =
     ∙ group-escaped es n name a b inside
     ∙ named-escape name a b inside rest earlier
 
-node-elements : (choice : Choice) (T U : Tokenizer) (t : Forest) (rest : List Code) → IsSingle t → HasLines t → 1 ≤ length (leaf_codes t) → U ≡ past None t T → ahead T ≡ leaf_codes t ++ rest → ahead U ≡ rest → (earlier : List Element) (previous : Option Code) → choice earlier previous (ahead T) ≡ Some (plain t, rest) → Elements choice earlier previous t T U
-node-elements choice T U t rest single lines some left covers after earlier previous here =
+single-elements : (choice : Choice) (T U : Tokenizer) (t : Forest) (rest : List Code) → IsSingle t → HasLines t → 1 ≤ length (leaf_codes t) → U ≡ past_row t T → ahead T ≡ leaf_codes t ++ rest → ahead U ≡ rest → (earlier : List Element) (previous : Option Code) → choice earlier previous (ahead T) ≡ Some (plain t, rest) → Elements choice earlier previous t T U
+single-elements choice T U t rest single lines some left covers after earlier previous here =
     record {
       elements = plain t ∷ [];
       later = plain t ∷ earlier;
@@ -383,18 +398,30 @@ node-elements choice T U t rest single lines some left covers after earlier prev
       alike = ap split (sym (row-empty t));
     }
 
+-- past a tree that stands by itself
+single-advances : (choice : Choice) (given : Type 0) (T U : Tokenizer) (t : Forest) (rest : List Code) → IsSingle t → HasLines t → HasOuterRuns t → 1 ≤ length (leaf_codes t) → U ≡ past_row t T → ahead T ≡ leaf_codes t ++ rest → ahead U ≡ rest
+    → (given → (earlier : List Element) (previous : Option Code) → StandsAfter earlier previous T → choice earlier previous (ahead T) ≡ Some (plain t, rest)) → Advances choice given T U
+single-advances choice given T U t rest single lines outer some left covers after finds =
+    let whole : ahead T ≡ leaf_codes t ++ ahead U = covers ∙ ap (λ xs. leaf_codes t ++ xs) (sym after) in
+    record {
+      tree = t;
+      has_lines = lines;
+      outer = outer;
+      unlinked = quiet-node-unlinked t single (length T.events);
+      left = left;
+      whole = whole;
+      less = fewer-left T U (leaf_codes t) some whole;
+      elements = λ g earlier previous stands. single-elements choice T U t rest single lines some left covers after earlier previous (finds g earlier previous stands);
+    }
+
 -- past a construct that stands by itself
 pub node-advances : (choice : Choice) (given : Type 0) (reading : TreeReading) (T U : Tokenizer) → (k : Reads reading None T.tokenize_state T U) → IsNode k.tree → 1 + length k.rest ≤ length (ahead T) → (given → (earlier : List Element) (previous : Option Code) → StandsAfter earlier previous T → choice earlier previous (ahead T) ≡ Some (plain k.tree, k.rest)) → Advances choice given T U
 node-advances choice given reading T U k node more finds =
-    let left : U ≡ past None k.tree T = k.left ∙ ap (past None k.tree) (scratched-same T) in
-    let some : 1 ≤ length (leaf_codes k.tree) = some-codes (ahead T) (leaf_codes k.tree) k.rest k.whole more in
-    let whole : ahead T ≡ leaf_codes k.tree ++ ahead U = k.whole ∙ ap (λ xs. leaf_codes k.tree ++ xs) (sym k.after) in
-    record {
-      tree = k.tree;
-      has_lines = quiet-lines-of k.tree node.quiet;
-      unlinked = quiet-node-unlinked k.tree node.single (length T.events);
-      left = left;
-      whole = whole;
-      less = fewer-left T U (leaf_codes k.tree) some whole;
-      elements = λ g earlier previous stands. node-elements choice T U k.tree k.rest node.single (quiet-lines-of k.tree node.quiet) some left k.whole k.after earlier previous (finds g earlier previous stands);
-    }
+    single-advances choice given T U k.tree k.rest node.single (quiet-lines-of k.tree node.quiet) (quiet-outer k.tree node.quiet) (some-codes (ahead T) (leaf_codes k.tree) k.rest k.whole more)
+    (k.left ∙ ap (past None k.tree) (scratched-same T) ∙ past_row-without k.tree T (quiet-no-run k.tree node.quiet)) k.whole k.after finds
+
+-- past a run of markers, whose pass is registered
+pub run-advances : (choice : Choice) (given : Type 0) (reading : TreeReading) (T U V : Tokenizer) → (k : Reads reading None T.tokenize_state T V) → U ≡ registered R.Attention V → IsRunLeaf k.tree → (given → (earlier : List Element) (previous : Option Code) → StandsAfter earlier previous T → choice earlier previous (ahead T) ≡ Some (plain k.tree, k.rest)) → Advances choice given T U
+run-advances choice given reading T U V k e run finds =
+    single-advances choice given T U k.tree k.rest run.single run.has_lines run.outer run.some
+    (e ∙ ap (registered R.Attention) (k.left ∙ ap (past None k.tree) (scratched-same T)) ∙ past_row-with k.tree T run.runs) k.whole (ap ahead e ∙ ahead-registered R.Attention V ∙ k.after) finds

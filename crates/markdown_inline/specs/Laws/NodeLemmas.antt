@@ -1,6 +1,6 @@
 -- Constructs read nodes, and pass at least one code.
 use Rattle.markdown_model.specs.Html.{html}
-use Rattle.std.proofs.Common.{◌≡◌, ◌≢◌, ℕ, ◌+◌, ◌≤◌, Bool, true, false, List, [], ◌∷◌, length, Option, None, Some, refl, ap, subst, not, ◌&&◌}
+use Rattle.std.proofs.Common.{◌≡◌, ◌≢◌, ℕ, ◌+◌, ◌≤◌, ◌==◌, ◌++◌, ◌∙◌, arith, Bool, true, false, List, [], ◌∷◌, length, Option, None, Some, refl, ap, subst, not, ◌&&◌}
 use Rattle.std.specs.Prelude.{nat_lt, ◌||◌, codes}
 use Rattle.markdown_engine.specs.Codes.{Code, is_line_ending, is_blank}
 use Rattle.markdown_engine.specs.Past.{last_link}
@@ -10,8 +10,12 @@ use Rattle.markdown_engine.specs.declared.event.Name.{Name}
 use Rattle.markdown_engine.specs.declared.event.Name.TheVariants as N
 use Rattle.markdown_engine.specs.declared.tokenizer.Tokenizer.{Tokenizer}
 use Rattle.markdown_leaf.specs.RawText.{is_escape, span_at, single_dollar, follows_escape, code_just_before}
-use Rattle.markdown_model.specs.CodeTests.{next_is, is_among}
-use Rattle.markdown_model.specs.Grammar.{Reading, ◌>>◌, provided, one, span}
+use Rattle.std.specs.List.{list_any}
+use Rattle.std.proofs.lemmas.Bool.{eqb-true}
+use Rattle.markdown_model.specs.CodeTests.{is_empty, is_value, next_is, is_among}
+use Rattle.markdown_model.specs.Element.{attention_run, switched}
+use Rattle.markdown_model.specs.LabelEnd.{Element, plain, starts, ends}
+use Rattle.markdown_model.specs.Grammar.{Reading, ◌>>◌, provided, one, some, span}
 use Rattle.markdown_model.specs.Leaf.{escape, reference, hard_break_escape, autolink, in_angle_brackets, span_of, span_here, SpanNames, code_names, math_names, task_check}
 use Rattle.markdown_model.specs.Lines.{linked_leaf, line_leaf, line_leaves, lines_from, lines_of}
 use Rattle.markdown_model.proofs.Consuming.{Left, Consumes, passed_takes, either_takes, escape_takes, reference_takes, hard_break_takes, autolink_takes, span_here_takes, task_check_takes, html_takes}
@@ -19,7 +23,8 @@ use Rattle.markdown_model.proofs.LinkFree.{Passes, Yields, yields_bind, yields_g
 use Rattle.markdown_partial.specs.Merge.{is_data}
 use Rattle.markdown_partial.specs.TrimEvents.{is_ending}
 use Rattle.markdown_util.specs.Reference.{Table}
-use Rattle.markdown_inline.specs.Elements.{IsNode, IsQuiet, IsSingle, HasLines, makes_data, is_run}
+use Rattle.markdown_attention.specs.Reading.{is_run}
+use Rattle.markdown_inline.specs.Elements.{IsNode, IsRunLeaf, IsQuiet, IsSingle, HasLines, makes_data}
 
 -- Quiet trees.
 
@@ -206,3 +211,64 @@ html_yields = then_any _ _ _ λ text. yields_gives _ _ (group-node N.HtmlText _ 
 
 pub html-node : (on : Bool) (cs : List Code) (t : Forest) (rest : List Code) → (provided on >> html) cs ≡ Some (t, rest) → IsNode t × (1 + length rest ≤ length cs)
 html-node on = node-of _ (yields_passed IsNode on html html_yields) (passed_takes 1 on html html_takes)
+
+-- Runs of markers.
+
+-- some codes, none of them a line ending
+abbrev AreMarkers : List Code → Type 0
+AreMarkers cs = (cs ≢ []) × (list_any is_line_ending cs ≡ false)
+
+either-false : (a b : Bool) → a ≡ false → b ≡ false → (a || b) ≡ false
+either-false true b e f = cc
+either-false false b e f = f
+
+-- a marker that is no line ending
+other-ending : (m : ℕ) (c : Code) → (m == 10) ≡ false → (c.value == m) ≡ true → is_line_ending c ≡ false
+other-ending m c e h = ap (λ v. v == 10) (eqb-true c.value m h) ∙ e
+
+span-lines : (m : ℕ) (cs : List Code) → (m == 10) ≡ false → list_any is_line_ending (span (is_value m) cs).0 ≡ false
+span-lines m [] e = refl
+span-lines m (c ∷ cs) e = by_test (is_value m c) refl (span-lines m cs e)
+  where
+    by_test : (b : Bool) → is_value m c ≡ b → list_any is_line_ending (span (is_value m) cs).0 ≡ false
+        → (let s : List Code × List Code = elim b [ true ↦ (c ∷ (span (is_value m) cs).0, (span (is_value m) cs).1) | false ↦ ([], c ∷ cs) ] in list_any is_line_ending s.0 ≡ false)
+    by_test true h k = either-false (is_line_ending c) (list_any is_line_ending (span (is_value m) cs).0) (other-ending m c e h) k
+    by_test false h k = refl
+
+some_yields : (m : ℕ) → (m == 10) ≡ false → Yields AreMarkers (some (is_value m))
+unfolding some
+some_yields m e = record { at = λ cs. by_codes (span (is_value m) cs).0 (span (is_value m) cs).1 (span-lines m cs e) }
+  where
+    by_codes : (xs rest : List Code) → list_any is_line_ending xs ≡ false → Passes AreMarkers (elim (is_empty xs) as (λ _. Option (List Code × List Code)) [ true ↦ None | false ↦ Some (xs, rest) ])
+    by_codes [] rest h = tt
+    by_codes (c ∷ xs) rest h = ((λ k. cc), h)
+
+abbrev IsRunElement : Element → Type 0
+IsRunElement (plain tree) = IsRunLeaf tree
+IsRunElement (starts kind marker) = ⊥
+IsRunElement (ends marker outcome) = ⊥
+
+run-leaf : (cs : List Code) → AreMarkers cs → IsRunLeaf (leaf N.AttentionSequence cs)
+run-leaf [] h = absurd (h.0 refl)
+run-leaf (c ∷ cs) h =
+    record {
+      single = (refl, (refl, refl));
+      has_lines = (λ e. ((λ k. cc), h.1), tt);
+      outer = tt;
+      runs = refl;
+      some = one-or-more c cs;
+    }
+  where
+    one-or-more : (c : Code) (cs : List Code) → 1 ≤ length ((c ∷ cs) ++ [])
+    one-or-more c cs = omega arith
+
+attention_yields : (m : ℕ) → (m == 10) ≡ false → Yields IsRunElement (attention_run m)
+unfolding attention_run
+attention_yields m e = yields_bind AreMarkers _ _ _ (some_yields m e) λ markers h. yields_gives _ (plain (leaf N.AttentionSequence markers)) (run-leaf markers h)
+
+switched_yields : (on : Bool) (m : ℕ) → (m == 10) ≡ false → Yields IsRunElement (switched on (attention_run m))
+unfolding switched
+switched_yields on m e = yields_passed _ _ _ (attention_yields m e)
+
+pub run-node : (m : ℕ) (on : Bool) (cs : List Code) (t : Forest) (rest : List Code) → (m == 10) ≡ false → switched on (attention_run m) cs ≡ Some (plain t, rest) → IsRunLeaf t
+run-node m on cs t rest e h = subst (λ o. Passes IsRunElement o) h ((switched_yields on m e).at cs)

@@ -9,6 +9,7 @@ use Rattle.markdown_leaf.specs.CharacterReference.{reference_here}
 use Rattle.markdown_model.specs.Lines.{data_up_to}
 use Rattle.markdown_util.specs.Reference.{html_5_rows}
 use Rattle.markdown_inline.specs.Elements.{Advances, Finishes}
+use Rattle.markdown_inline.specs.PastRow.{past_row}
 use Rattle.markdown_inline.specs.Settings.{setting_of}
 use Rattle.markdown_inline.specs.StringSteps.{is_on, string_markers, string_passed, string_here, BeforeReady, before_ends}
 use Rattle.markdown_inline.specs.Laws.ElementLemmas.{advances-finishes, node-advances, data-advances}
@@ -19,12 +20,12 @@ use Rattle.markdown_inline.specs.Laws.StringElements.{escaped-element, reference
 abbrev pub Passes : Tokenizer → Tokenizer → Type 0
 Passes T U = Advances (string_here T) (Unit {0}) T U
 
-same-string : (t : Forest) (T U : Tokenizer) → U ≡ past None t T → string_here U ≡ string_here T
-unfolding past
+same-string : (t : Forest) (T U : Tokenizer) → U ≡ past_row t T → string_here U ≡ string_here T
+unfolding past past_row
 same-string t T U e = ap string_here e
 
-ready-past : (t : Forest) (T U : Tokenizer) → U ≡ past None t T → BeforeReady T → BeforeReady U
-unfolding past
+ready-past : (t : Forest) (T U : Tokenizer) → U ≡ past_row t T → BeforeReady T → BeforeReady U
+unfolding past past_row
 ready-past t T U e r =
     record {
       marked = ap (λ (x : Tokenizer). x.tokenize_state.markers) e ∙ r.marked;

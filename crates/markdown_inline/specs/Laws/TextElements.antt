@@ -11,7 +11,8 @@ use Rattle.markdown_engine.specs.declared.tokenizer.Tokenizer.{Tokenizer}
 use Rattle.markdown_leaf.specs.RawText.{span_at}
 use Rattle.markdown_leaf.proofs.RawTextReadings.{here-off}
 use Rattle.markdown_model.specs.CodeTests.{is_among, is_value, is_some_code}
-use Rattle.markdown_model.specs.Element.{as_plain, switched, line_ending, data_code, code_span, math_span, Tries, tries, tried, first_check, text_element, ends_escaped}
+use Rattle.markdown_attention.specs.Attention.{begins_run}
+use Rattle.markdown_model.specs.Element.{attention_run, as_plain, switched, line_ending, data_code, code_span, math_span, Tries, tries, tried, first_check, text_element, ends_escaped}
 use Rattle.markdown_model.specs.Grammar.{Reading, ◌>>◌, ◌>>=◌, provided, either, gives, one}
 use Rattle.markdown_model.specs.Html.{html}
 use Rattle.markdown_model.specs.LabelEnd.{Element, plain}
@@ -100,14 +101,22 @@ skip-two v n m e f = λ i. e i || (f i || false)
 -- The codes of constructs that are off.
 
 abbrev pub off_markers : List ℕ
-off_markers = 33 ∷ 42 ∷ 95 ∷ 126 ∷ 72 ∷ 104 ∷ 87 ∷ 119 ∷ 91 ∷ 93 ∷ []
+off_markers = 33 ∷ 72 ∷ 104 ∷ 87 ∷ 119 ∷ 91 ∷ 93 ∷ []
 
-abbrev EachOf : (ℕ → Type 0) → List ℕ → Type 0
+-- The markers of runs.
+
+abbrev pub run_markers : List ℕ
+run_markers = 42 ∷ 95 ∷ 126 ∷ []
+
+abbrev pub is_marker : ℕ → Bool
+is_marker v = list_any (λ n. v == n) run_markers
+
+abbrev pub EachOf : (ℕ → Type 0) → List ℕ → Type 0
 EachOf P [] = Unit {0}
 EachOf P (n ∷ ns) = P n × EachOf P ns
 
 -- what holds of each of these holds of one that is among them
-one-of : (P : ℕ → Type 0) (ns : List ℕ) (v : ℕ) → EachOf P ns → list_any (λ n. v == n) ns ≡ true → P v
+pub one-of : (P : ℕ → Type 0) (ns : List ℕ) (v : ℕ) → EachOf P ns → list_any (λ n. v == n) ns ≡ true → P v
 one-of P [] v h e = cc
 one-of P (n ∷ ns) v h e = by_test (v == n) refl e (one-of P ns v h.1)
   where
@@ -261,12 +270,35 @@ module _ (s : Setting) (built : IsBuilt s.options.constructs) (end : ℕ) (earli
       (either-second (switched s.options.constructs.character_escape (as_plain escape)) _ (c ∷ cs) (plain-switched s.options.constructs.character_escape escape (c ∷ cs) ∙ ap plain_of none)
       ∙ plain-switched s.options.constructs.hard_break_escape hard_break_escape (c ∷ cs) ∙ ap plain_of h)
 
+  -- Runs of markers.
+
+  -- the row of a marker: its run, where that is read
+  abbrev IsRunRow : ℕ → Type 0
+  IsRunRow v = ((v == 10) ≡ false) × (((v == 91) ≡ false) × (tried (tries s end earlier previous) v ≡ switched (begins_run s.options.constructs v) (attention_run v)))
+
+  run-row : (v : ℕ) → is_marker v ≡ true → IsRunRow v
+  unfolding tries tried
+  run-row v h = one-of IsRunRow run_markers v ((refl, (refl, refl)), ((refl, (refl, refl)), ((refl, (refl, refl)), tt))) h
+
+  pub run-element : (v : ℕ) (c : Code) (cs : List Code) (t : Forest) (rest : List Code) → is_marker v ≡ true → c.value ≡ v → switched (begins_run s.options.constructs v) (attention_run v) (c ∷ cs) ≡ Some (plain t, rest)
+      → text_element s end earlier previous (c ∷ cs) ≡ Some (plain t, rest)
+  run-element v c cs t rest m e h =
+      let r = run-row v m in
+      text-row v (switched (begins_run s.options.constructs v) (attention_run v)) c cs e r.1.0 r.1.1 ∙ either-some (switched (begins_run s.options.constructs v) (attention_run v)) data_code (c ∷ cs) (plain t, rest) h
+
   -- Constructs that are off.
 
   -- a row that does not hold
   row-none : (v : ℕ) (row : Reading Element) (c : Code) (cs : List Code) → c.value ≡ v → (v == 10) ≡ false → (v == 91) ≡ false → tried (tries s end earlier previous) v ≡ row → row (c ∷ cs) ≡ None
       → text_element s end earlier previous (c ∷ cs) ≡ Some (plain (code_leaf c), cs)
   row-none v row c cs e k n r h = text-row v row c cs e n r ∙ either-second row data_code (c ∷ cs) h ∙ data-alone c cs (value-other v c e k)
+
+  -- a marker that begins no run
+  pub run-off : (v : ℕ) (c : Code) (cs : List Code) → is_marker v ≡ true → c.value ≡ v → switched (begins_run s.options.constructs v) (attention_run v) (c ∷ cs) ≡ None
+      → text_element s end earlier previous (c ∷ cs) ≡ Some (plain (code_leaf c), cs)
+  run-off v c cs m e h =
+      let r = run-row v m in
+      row-none v (switched (begins_run s.options.constructs v) (attention_run v)) c cs e r.0 r.1.0 r.1.1 h
 
   off-row : (v : ℕ) (on : Bool) (a : Reading Element) (c : Code) (cs : List Code) → c.value ≡ v → (v == 10) ≡ false → (v == 91) ≡ false → tried (tries s end earlier previous) v ≡ switched on a → on ≡ false
       → text_element s end earlier previous (c ∷ cs) ≡ Some (plain (code_leaf c), cs)
@@ -275,18 +307,6 @@ module _ (s : Setting) (built : IsBuilt s.options.constructs) (end : ℕ) (earli
   off-image : (c : Code) (cs : List Code) → c.value ≡ 33 → text_element s end earlier previous (c ∷ cs) ≡ Some (plain (code_leaf c), cs)
   unfolding tries tried
   off-image c cs e = off-row 33 s.options.constructs.label_start_image _ c cs e refl refl refl built.no_image
-
-  off-star : (c : Code) (cs : List Code) → c.value ≡ 42 → text_element s end earlier previous (c ∷ cs) ≡ Some (plain (code_leaf c), cs)
-  unfolding tries tried
-  off-star c cs e = off-row 42 s.options.constructs.attention _ c cs e refl refl refl built.no_attention
-
-  off-underscore : (c : Code) (cs : List Code) → c.value ≡ 95 → text_element s end earlier previous (c ∷ cs) ≡ Some (plain (code_leaf c), cs)
-  unfolding tries tried
-  off-underscore c cs e = off-row 95 s.options.constructs.attention _ c cs e refl refl refl built.no_attention
-
-  off-tilde : (c : Code) (cs : List Code) → c.value ≡ 126 → text_element s end earlier previous (c ∷ cs) ≡ Some (plain (code_leaf c), cs)
-  unfolding tries tried
-  off-tilde c cs e = off-row 126 s.options.constructs.gfm_strikethrough _ c cs e refl refl refl built.no_strikethrough
 
   off-large-h : (c : Code) (cs : List Code) → c.value ≡ 72 → text_element s end earlier previous (c ∷ cs) ≡ Some (plain (code_leaf c), cs)
   unfolding tries tried
@@ -320,7 +340,7 @@ module _ (s : Setting) (built : IsBuilt s.options.constructs) (end : ℕ) (earli
   pub off-element : (v : ℕ) (c : Code) (cs : List Code) → first_check s end earlier previous (c ∷ cs) ≡ None → list_any (λ n. v == n) off_markers ≡ true → c.value ≡ v → text_element s end earlier previous (c ∷ cs) ≡ Some (plain (code_leaf c), cs)
   off-element v c cs none h =
       one-of (λ n. c.value ≡ n → text_element s end earlier previous (c ∷ cs) ≡ Some (plain (code_leaf c), cs)) off_markers v
-      (off-image c cs, (off-star c cs, (off-underscore c cs, (off-tilde c cs, (off-large-h c cs, (off-small-h c cs, (off-large-w c cs, (off-small-w c cs, (off-bracket c cs none, (off-end c cs, tt)))))))))) h
+      (off-image c cs, (off-large-h c cs, (off-small-h c cs, (off-large-w c cs, (off-small-w c cs, (off-bracket c cs none, (off-end c cs, tt))))))) h
 
   -- Codes that begin no construct.
 

@@ -24,6 +24,8 @@ use Rattle.markdown_engine.proofs.Laws.{Follows, Goes-plain, Goes-attempt, code-
 use Rattle.markdown_engine.proofs.OpRules.{attempts-registered, attempts-scratched, left-scratched, left-ahead}
 use Rattle.markdown_gfm.specs.GfmTaskListItemCheck as C
 use Rattle.markdown_html.specs.HtmlText as H
+use Rattle.markdown_attention.specs.Attention as AT
+use Rattle.markdown_attention.specs.Attention.{ReadsRun, run_tree}
 use Rattle.markdown_partial.specs.SpaceSteps as W
 use Rattle.markdown_leaf.specs.Autolink.{link_here}
 use Rattle.markdown_leaf.specs.CharacterEscape.{escape_here}
@@ -35,13 +37,14 @@ use Rattle.markdown_model.specs.Lines.{data_up_to}
 use Rattle.markdown_util.specs.Reference.{html_5_rows}
 use Rattle.markdown_inline.specs.Elements.{Advances, Finishes}
 use Rattle.markdown_inline.specs.Layer.{ready_of, ends_of, weight_of}
+use Rattle.markdown_inline.specs.PastRow.{past_row}
 use Rattle.markdown_inline.specs.StringSteps.{is_on}
 use Rattle.markdown_inline.specs.TextSteps.{text_markers, marked_fields, text_marked, text_passed, trying, start_step, first_try, tries_at, before_at, before_step, before_html_step, before_hard_break_escape_step, before_label_start_link_step, before_data_step, text_setting, text_choice_of, StartReady, IsMarked, BeforeReady, BeforeHtmlReady, BeforeDataReady, BeforeBreakReady, StandsAlone, before_ends, start_ends}
 use Rattle.markdown_inline.specs.Unbuilt.{never, never_step, never_ends}
 use Rattle.markdown_inline.specs.Laws.NodeLemmas.{check-node, html-node, escape-node, reference-node, break-node, autolink-node, span-node}
-use Rattle.markdown_inline.specs.Laws.TextElements.{off_markers}
-use Rattle.markdown_inline.specs.Laws.TextTries.{ReadsNodes, ReadsElements, none-valued, check-reads, no-check-at-end, reference-reads, reference-alone, autolink-reads, html-reads, html-alone, escape-reads, break-reads, break-alone, span-reads, span-alone, off-alone, other-alone, other-data}
-use Rattle.markdown_inline.specs.Laws.ElementLemmas.{before-past, advances-finishes, finishes-end, node-advances, data-advances}
+use Rattle.markdown_inline.specs.Laws.TextElements.{off_markers, is_marker}
+use Rattle.markdown_inline.specs.Laws.TextTries.{ReadsNodes, ReadsElements, none-valued, check-reads, no-check-at-end, reference-reads, reference-alone, autolink-reads, html-reads, html-alone, escape-reads, break-reads, break-alone, span-reads, span-alone, run-reads, run-alone, run-leaf, off-alone, other-alone, other-data}
+use Rattle.markdown_inline.specs.Laws.ElementLemmas.{before-past, advances-finishes, finishes-end, node-advances, run-advances, data-advances}
 use Rattle.markdown_model.proofs.ReadingSteps.{switched-off}
 
 -- Past an element the choice and the scratch fields are as they were.
@@ -51,16 +54,16 @@ unfolding moved
 same-codes [] p = refl
 same-codes (c ∷ cs) p = same-codes cs (moved p)
 
-choice-past : (t : Forest) (T U : Tokenizer) → U ≡ past None t T → text_choice_of U ≡ text_choice_of T
-unfolding past
+choice-past : (t : Forest) (T U : Tokenizer) → U ≡ past_row t T → text_choice_of U ≡ text_choice_of T
+unfolding past past_row
 choice-past t T U e = ap text_choice_of e ∙ ap (λ cs. text_choice (text_setting T) cs) (same-codes (leaf_codes t) T.cursor)
 
-codes-past : (t : Forest) (T U : Tokenizer) → U ≡ past None t T → U.cursor.codes ≡ T.cursor.codes
-unfolding past
+codes-past : (t : Forest) (T U : Tokenizer) → U ≡ past_row t T → U.cursor.codes ≡ T.cursor.codes
+unfolding past past_row
 codes-past t T U e = ap (λ (x : Tokenizer). x.cursor.codes) e ∙ same-codes (leaf_codes t) T.cursor
 
-fields-past : (t : Forest) (T U : Tokenizer) → U ≡ past None t T → U.tokenize_state ≡ T.tokenize_state
-unfolding past
+fields-past : (t : Forest) (T U : Tokenizer) → U ≡ past_row t T → U.tokenize_state ≡ T.tokenize_state
+unfolding past past_row
 fields-past t T U e = ap (λ (x : Tokenizer). x.tokenize_state) e
 
 -- what is known of the runs stays right
@@ -149,8 +152,14 @@ off-one v n h k = ap (λ x. list_any (λ m. x == m) off_markers) (eqb-true v n h
 off-two : (v a b : ℕ) → (v == a || v == b) ≡ true → list_any (λ m. a == m) off_markers ≡ true → list_any (λ m. b == m) off_markers ≡ true → list_any (λ m. v == m) off_markers ≡ true
 off-two v a b h k l = elim (or_cases (v == a) (v == b) h) [ inl e ↦ off-one v a e k | inr e ↦ off-one v b e l ]
 
-off-attention : (v : ℕ) → (v == 42 || (v == 95 || v == 126)) ≡ true → list_any (λ m. v == m) off_markers ≡ true
-off-attention v h = elim (or_cases (v == 42) (v == 95 || v == 126) h) [ inl e ↦ off-one v 42 e refl | inr e ↦ off-two v 95 126 e refl refl ]
+or-last : (a b c : Bool) → (a || (b || c)) ≡ true → (a || (b || (c || false))) ≡ true
+or-last true b c e = refl
+or-last false true c e = refl
+or-last false false true e = refl
+or-last false false false e = cc
+
+as-marker : (v : ℕ) → (v == 42 || (v == 95 || v == 126)) ≡ true → is_marker v ≡ true
+as-marker v h = or-last (v == 42) (v == 95) (v == 126) h
 
 neither : (a b : Bool) → a ≡ false → b ≡ false → (a || b) ≡ false
 neither true b e f = cc
@@ -178,6 +187,9 @@ weight-marked T = ap (λ n. 256 * n + 8 + 1) (left-scratched (marked_fields T.cu
 
 at-rest-reference : (T : Tokenizer) → IsMarked T → IsAtRest T
 at-rest-reference T r = record { marker = ap (λ (s : TokenizeState). s.marker) r.spans.rest; size = ap (λ (s : TokenizeState). s.size) r.spans.rest }
+
+run-ready : (T : Tokenizer) → IsMarked T → AT.StartReady T
+run-ready T r = r.spans.rest ∙ ap (AT.with_marker 0) (sym r.spans.rest)
 
 -- a construct that is not built is tried, and the run goes on to the code by itself
 off-law : (rank : ℕ) (T : Tokenizer) (construct otherwise : StateName) → T.attempts ≡ [] → IsMarked T → ready_of construct T → weight_of construct T < weight_at rank T → EndsOf construct never T → Follows ready_of ends_of weight_of (weight_at rank T) (before_ends T) (Next otherwise) T → GoesOn ready_of ends_of weight_of (weight_at rank T) (before_ends T) (trying construct otherwise T)
@@ -230,6 +242,15 @@ module _ (T : Tokenizer) (alone : T.attempts ≡ []) (ready : BeforeReady T) whe
       try-law 7 T CharacterEscapeStart TextBeforeHardBreakEscape (escape_here T) alone tt (omega arith) ready.marked (λ ok U g. g) (λ t rest g. escape-node (is_on T).character_escape (ahead T) t rest g) (escape-reads T d)
       (λ none. record { goes_on = record { before = ready; slash = d; no_escape = none }; falls = omega arith; closed = λ ok V h. h })
 
+  -- a run of markers, past which its pass is registered
+  tries-run : (v : ℕ) → current_of T ≡ Some v → is_marker v ≡ true → Before (trying AttentionStart TextBeforeData T)
+  tries-run v e h =
+      Goes-attempt ready_of ends_of weight_of (weight_at 7 T) (before_ends T) (Retry AttentionStart) (Next TextBefore) (Next TextBeforeData) T alone (run-ready T ready.marked) (omega arith)
+      (λ U now k. let r : ReadsRun T U = k in
+      on-before (weight_at 7 T) T U (omega arith) ready.marked (run-advances (text_choice_of T) (Unit {0}) (run_tree T) T U r.there r.reads r.left (run-leaf T v r.reads.tree r.reads.rest e h r.reads.holds) (λ g. run-reads T v e h r.reads.tree r.reads.rest r.reads.holds)))
+      (λ U now k. let r : Refuses (run_tree T) T.tokenize_state T U = k in
+      rw (restored-fails false (Next TextBefore) (Next TextBeforeData) T.tokenize_state T U r.fails, scratched-same T) (to-data 7 T v (omega arith) ready e (run-alone T v e h r.refused)))
+
   -- a construct that is not built, and then the code by itself
   tries-off : (v : ℕ) (construct : StateName) → current_of T ≡ Some v → list_any (λ n. v == n) off_markers ≡ true → ready_of construct T → weight_of construct T < weight_at 7 T → EndsOf construct never T → Before (trying construct TextBeforeData T)
   tries-off v construct e h on falls ends = off-law 7 T construct TextBeforeData alone ready.marked on falls ends (to-data 7 T v (omega arith) ready e (off-alone T v ready.unchecked e h))
@@ -250,7 +271,7 @@ module _ (T : Tokenizer) (alone : T.attempts ≡ []) (ready : BeforeReady T) whe
       if-choice Q (v == 33) _ _ (λ h. tries-off v LabelStartImageStart e (off-one v 33 h refl) tt (omega arith) (λ ok U g. g))
       (λ a. if-choice Q (v == 36 || v == 96) _ _ (λ h. tries-span v e h)
       (λ b. if-choice Q (v == 38) _ _ (λ h. tries-reference (value-is T v 38 e h))
-      (λ c. if-choice Q (v == 42 || (v == 95 || v == 126)) _ _ (λ h. tries-off v AttentionStart e (off-attention v h) tt (omega arith) (λ ok U g. g))
+      (λ c. if-choice Q (v == 42 || (v == 95 || v == 126)) _ _ (λ h. tries-run v e (as-marker v h))
       (λ d. if-choice Q (v == 60) _ _ (λ h. tries-autolink (value-is T v 60 e h))
       (λ f. if-choice Q (v == 72 || v == 104) _ _ (λ h. tries-off v GfmAutolinkLiteralProtocolStart e (off-two v 72 104 h refl refl) tt (omega arith) (λ ok U g. g))
       (λ g. if-choice Q (v == 87 || v == 119) _ _ (λ h. tries-off v GfmAutolinkLiteralWwwStart e (off-two v 87 119 h refl refl) tt (omega arith) (λ ok U g. g))

@@ -24,10 +24,14 @@ use Rattle.markdown_model.specs.Leaf.{task_check}
 use Rattle.markdown_model.specs.LabelEnd.{Element, plain}
 use Rattle.markdown_model.specs.Setting.{Setting}
 use Rattle.markdown_inline.specs.Built.{IsBuilt, as_built}
-use Rattle.markdown_inline.specs.Elements.{IsNode, StandsAfter}
+use Rattle.markdown_inline.specs.Elements.{IsNode, IsRunLeaf, StandsAfter}
 use Rattle.markdown_inline.specs.Settings.{text_setting_of}
 use Rattle.markdown_inline.specs.TextSteps.{text_markers, text_setting, text_choice_of, StandsAlone}
-use Rattle.markdown_inline.specs.Laws.TextElements.{off_markers, plain_of, plain-switched, off-or-none, check-element, span-element, reference-element, autolink-element, html-element, escape-element, break-element, off-element, other-element}
+use Rattle.markdown_attention.specs.Attention.{begins_run, switches_of, run_at_code, plain_tree, run_tree}
+use Rattle.markdown_attention.proofs.AttentionLaws.{run-some, run-none}
+use Rattle.markdown_model.specs.Element.{switched, attention_run}
+use Rattle.markdown_inline.specs.Laws.NodeLemmas.{run-node}
+use Rattle.markdown_inline.specs.Laws.TextElements.{is_marker, run_markers, one-of, run-element, run-off, off_markers, plain_of, plain-switched, off-or-none, check-element, span-element, reference-element, autolink-element, html-element, escape-element, break-element, off-element, other-element}
 use Rattle.markdown_model.proofs.ReadingSteps.{bind-none}
 
 -- what a construct reads is a tree that stands by itself
@@ -46,10 +50,8 @@ OrStandsAlone reading T = reading (ahead T) ≡ None → StandsAlone T
 -- the constructs that are not built are off
 pub built-off : (s : Setting) → IsBuilt (as_built s).options.constructs
 built-off s = record {
-  no_attention = refl;
   no_literals = refl;
   no_footnotes = refl;
-  no_strikethrough = refl;
   no_label_end = refl;
   no_image = refl;
   no_link = refl;
@@ -142,6 +144,30 @@ pub span-alone : (T : Tokenizer) (v : ℕ) → current_of T ≡ Some v → (v ==
 span-alone T v e h =
     alone-at (span_at T) T v e (λ c cs k none earlier previous stands.
     span-element (text_setting T) (now-built T) (end_in T) earlier previous T c cs None refl stands (is-span c.value v k h) none)
+
+-- Runs of markers.
+
+-- what stands at a marker
+run-at : (T : Tokenizer) (v : ℕ) (cs : List Code) → current_of T ≡ Some v → plain_tree (switched (begins_run (switches_of T) v) (attention_run v) cs) ≡ run_tree T cs
+run-at T v cs e = ap (λ o. plain_tree (run_at_code (switches_of T) o cs)) (sym e)
+
+pub run-reads : (T : Tokenizer) (v : ℕ) → current_of T ≡ Some v → is_marker v ≡ true → ReadsElements (run_tree T) T
+run-reads T v e m =
+    at-hand (run_tree T) T v e (λ c cs t rest k holds earlier previous stands.
+    run-element (text_setting T) (now-built T) (end_in T) earlier previous v c cs t rest m k (run-some t rest v (begins_run (switches_of T) v) (c ∷ cs) (run-at T v (c ∷ cs) e ∙ holds)))
+
+pub run-alone : (T : Tokenizer) (v : ℕ) → current_of T ≡ Some v → is_marker v ≡ true → OrStandsAlone (run_tree T) T
+run-alone T v e m =
+    alone-at (run_tree T) T v e (λ c cs k none earlier previous stands.
+    run-off (text_setting T) (now-built T) (end_in T) earlier previous v c cs m k (run-none v (begins_run (switches_of T) v) (c ∷ cs) (run-at T v (c ∷ cs) e ∙ none)))
+
+-- and it is a leaf that stands by itself
+pub run-leaf : (T : Tokenizer) (v : ℕ) (t : Forest) (rest : List Code) → current_of T ≡ Some v → is_marker v ≡ true → run_tree T (ahead T) ≡ Some (t, rest) → IsRunLeaf t
+run-leaf T v t rest e m holds =
+    run-node v (begins_run (switches_of T) v) (ahead T) t rest (no-ending v m) (run-some t rest v (begins_run (switches_of T) v) (ahead T) (run-at T v (ahead T) e ∙ holds))
+  where
+    no-ending : (n : ℕ) → is_marker n ≡ true → (n == 10) ≡ false
+    no-ending n h = one-of (λ x. (x == 10) ≡ false) run_markers n (refl, (refl, (refl, tt))) h
 
 -- Checks.
 

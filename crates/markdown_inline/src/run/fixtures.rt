@@ -28,12 +28,15 @@ pub(super) fn piece(start: (usize, usize), end: (usize, usize)) -> Piece {
     Piece { start, end }
 }
 
-// The place where what the first event enters ends. Nothing stands within its own kind.
+// The place where what the first event enters ends.
 fn end_of(events: &[Event]) -> Option<Point> {
-    let (first, rest) = events.split_first()?;
+    let (_, rest) = events.split_first()?;
+    let mut depth = 0usize;
     for event in rest {
-        if event.kind == Kind::Exit && event.name == first.name {
-            return Some(event.point);
+        match event.kind {
+            Kind::Enter => depth = depth.saturating_add(1),
+            Kind::Exit if depth == 0 => return Some(event.point),
+            Kind::Exit => depth = depth.saturating_sub(1),
         }
     }
     None

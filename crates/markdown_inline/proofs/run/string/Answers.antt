@@ -12,10 +12,10 @@ pub returns-clause-events : goal.returns-clause-events
 returns-clause-events c =
     let start = begun-starts c.args.alloc c.args.parse_state c.args.pieces.now c.new-tokenizer.result c.new-tokenizer.ensures in
     c.found.ensures.events
-    ∙ string-run c.args.parse_state.now c.args.pieces.now c.requires c.new-tokenizer.result c.run_state.new.self start c.in_ok-run_state.field-0 c.resolve_all.new.self c.in_ok-run_state.ensures.ends c.in_ok-resolve_all.ensures.ok
+    ∙ string-run c.args.parse_state.now c.args.pieces.now c.requires c.new-tokenizer.result c.run_state.new.self start c.in_ok-run_state.field-0 c.in_ok-run_state.ensures.ends c.resolve_all.new.self c.in_ok-resolve_all.ensures.ok
 
 pub returns-clause-probes : goal.returns-clause-probes
 returns-clause-probes c =
     let start = begun-starts c.args.alloc c.args.parse_state c.args.pieces.now c.new-tokenizer.result c.new-tokenizer.ensures in
     c.found.ensures.probes
-    ∙ string-probes c.args.parse_state.now c.args.pieces.now c.requires c.new-tokenizer.result c.run_state.new.self start c.in_ok-run_state.field-0 c.resolve_all.new.self c.in_ok-run_state.ensures.ends c.in_ok-resolve_all.ensures.ok
+    ∙ string-probes c.args.parse_state.now c.args.pieces.now c.requires c.new-tokenizer.result c.run_state.new.self start c.in_ok-run_state.field-0 c.in_ok-run_state.ensures.ends c.resolve_all.new.self c.in_ok-resolve_all.ensures.ok
