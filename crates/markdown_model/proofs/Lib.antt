@@ -22,3 +22,4 @@ pub mod DataLaws
 pub mod MergedData
 pub mod NoRuns
 pub mod Counts
+pub mod MailedLinks

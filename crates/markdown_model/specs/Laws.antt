@@ -18,7 +18,7 @@ use Rattle.markdown_model.specs.LabelEnd.{Element, plain, starts, ends, Label, l
 use Rattle.markdown_model.specs.Element.{AreElements, AreStringElements, elements_of, string_elements_of}
 use Rattle.markdown_model.specs.Runs.{Run, marker_of}
 use Rattle.markdown_model.specs.Pairs.{Pair, run_at, taken_by, IsPairList, pair_list}
-use Rattle.markdown_model.specs.Passes.{merged}
+use Rattle.markdown_model.specs.Passes.{merged, mailed}
 use Rattle.markdown_model.specs.Inline.{IsTextTree, IsStringTree, text_tree, string_tree}
 
 -- it holds of x, and of nothing else
@@ -178,6 +178,17 @@ HasNoRun (group_then name enter exit inside rest) = HasNoRun inside × HasNoRun 
 -- in the inline tree of a text no run of markers is left: its markers are sequences of pairs, or data
 abbrev pub NoRunIsLeft : Type 0
 NoRunIsLeft = (s : Setting) (cs : List Code) → HasNoRun (text_tree s cs)
+
+-- what stands inside each link that is in no other
+abbrev pub insides_of_links : Forest → List Forest
+insides_of_links empty = []
+insides_of_links (leaf_then name link cs rest) = insides_of_links rest
+insides_of_links (group_then Name.Link enter exit inside rest) = inside ∷ insides_of_links rest
+insides_of_links (group_then name enter exit inside rest) = insides_of_links inside ++ insides_of_links rest
+
+-- finding emails leaves what stands in a link as it is
+abbrev pub LinksAreNotMailed : Type 0
+LinksAreNotMailed = (tree : Forest) → insides_of_links (mailed tree) ≡ insides_of_links tree
 
 -- Pairs.
 

@@ -1,5 +1,5 @@
 // Laws on the definitions.
-ghost use Rattle.markdown_model.specs.Laws.{OnePairList, OneElementList, OneTree, EventsNest, LeavesCover, OneEnd, LabelsMatch, EndsTakeTheNearest, LinksDoNotNest, CountsSuffice, MergedDataIsApart, NoRunIsLeft, PairsAreSound, PairsAreLocal};
+ghost use Rattle.markdown_model.specs.Laws.{OnePairList, OneElementList, OneTree, EventsNest, LeavesCover, OneEnd, LabelsMatch, EndsTakeTheNearest, LinksDoNotNest, CountsSuffice, MergedDataIsApart, NoRunIsLeft, LinksAreNotMailed, PairsAreSound, PairsAreLocal};
 
 /// Each container has exactly one pair list, whatever sizes the rule of three reads.
 pub fn one_pair_list()
@@ -62,6 +62,11 @@ pub fn merged_data_is_apart()
 /// In the inline tree of a text no run of markers is left: its markers are sequences of pairs, or data.
 pub fn no_run_is_left()
     ensures { NoRunIsLeft }
+{}
+
+/// Finding emails leaves what stands in a link as it is.
+pub fn links_are_not_mailed()
+    ensures { LinksAreNotMailed }
 {}
 
 /// The pairs of a container take each marker once at most, do not cross, and are at most half as many as the markers.
