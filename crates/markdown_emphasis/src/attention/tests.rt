@@ -4,16 +4,21 @@ ghost use Rattle.std.specs.Str.{IsAscii};
 ghost use Rattle.markdown_attention.specs.Open.{IsMarker};
 ghost use Rattle.markdown_attention.specs.Reading.{is_run};
 ghost use Rattle.markdown_engine.specs.Content.{IsContent};
+ghost use Rattle.markdown_engine.specs.Ops.{IsOpen};
+ghost use Rattle.markdown_engine.specs.declared.event.Name.TheVariants.{AttentionSequence};
 ghost use Rattle.markdown_emphasis.specs.Pass.{IsSmall};
 ghost use Rattle.markdown_emphasis.specs.Fixtures.{HaveRuns};
 
 use super::{resolve, resolve_counted};
 use markdown_attention::attention::runs::{Runs, Sequence};
+use markdown_attention::attention::{inside, start};
 use markdown_engine::configuration::{Constructs, ParseOptions};
 use markdown_engine::content::is_content;
 use markdown_engine::event::{Event, Kind, Name, Point};
 use markdown_engine::events::Events;
 use markdown_engine::parser::{ParseState, Piece};
+use markdown_engine::resolve::ResolveName;
+use markdown_engine::state::{State, StateName};
 use markdown_engine::tokenizer::Tokenizer;
 use std::alloc::{AllocError, Global};
 use std::process::Abort;
@@ -194,6 +199,58 @@ fn grouped_text(
     assert!(rt; bytes.is_ascii());
     let parse_state = state_of(alloc, bytes, options);
     grouped(rt, alloc, &parse_state, &pieces, by_name)
+}
+
+// Whether the innermost open event is a run.
+fn is_in_run(tokenizer: &Tokenizer) -> bool
+    ensures { IsTrue result → IsOpen AttentionSequence tokenizer.now }
+{
+    match tokenizer.stack.top() {
+        Some(name) => *name == Name::AttentionSequence,
+        None => false,
+    }
+}
+
+// What the states of a run leave of two markers and a letter.
+fn read_run<'a>(
+    rt: &impl Abort,
+    alloc: Global,
+    parse_state: &'a ParseState<'a>,
+    pieces: &'a [Piece],
+) -> Result<(), AllocError>
+    requires { IsContent parse_state.now.bytes.now pieces.now }
+{
+    let mut tokenizer = Tokenizer::new(alloc, parse_state, pieces);
+    let goes_on = State::Next(StateName::AttentionInside);
+    assert_eq!(rt;
+        start(&mut tokenizer)?,
+        State::Retry(StateName::AttentionInside)
+    );
+    for want in [goes_on, goes_on, State::Ok] {
+        assert!(rt; is_in_run(&tokenizer));
+        assert_eq!(rt; inside(&mut tokenizer)?, want);
+    }
+    let text = printed(alloc, tokenizer.events.as_slice())?;
+    assert_eq!(rt; text.as_str(), "(AttentionSequence 0 2)");
+    assert_eq!(rt;
+        tokenizer.resolvers.as_slice(),
+        [ResolveName::Attention].as_slice()
+    );
+    Ok(())
+}
+
+#[test]
+fn reads_a_run(rt: HostRuntime) -> Result<(), Fail> {
+    let bytes = b"**a";
+    let options = options(false);
+    let pieces = [Piece {
+        start: (0, 0),
+        end: (3, 0),
+    }];
+    assert!(rt; is_content(bytes, &pieces));
+    let parse_state = state_of(rt.alloc(), bytes, &options);
+    read_run(&rt, rt.alloc(), &parse_state, &pieces)?;
+    Ok(())
 }
 
 // With strikethrough; the rule of three reads whole lengths where it is asked to.
