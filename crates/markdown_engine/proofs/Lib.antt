@@ -34,7 +34,9 @@ pub mod EndsLemmas
 pub mod ChainTree
 pub mod SolidLemmas
 pub mod Bounds
+pub mod ByteSets
 pub mod PlainRuns
 pub mod Stretches
+pub mod SteadyLemmas
 pub mod ReverseSet
 pub mod ScriptLaws

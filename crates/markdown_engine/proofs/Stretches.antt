@@ -11,7 +11,8 @@ use Rattle.markdown_engine.specs.Codes.{Code, line_feed, next_column}
 use Rattle.markdown_engine.specs.Place.{Place, ahead_at, code_at, moved}
 use Rattle.markdown_engine.specs.Standing.{IsCursor, content_place}
 use Rattle.markdown_engine.specs.Stretch.{stops, is_free, stretch, walked, past_stretch}
-use Rattle.markdown_engine.specs.Plain.{IsPlainByte, IsPlainTable, ArePlain}
+use Rattle.markdown_engine.specs.Plain.{is_plain, ArePlain}
+use Rattle.markdown_engine.proofs.ByteSets.{plain-parts}
 use Rattle.markdown_engine.proofs.CursorSteps.{moved_is}
 use Rattle.markdown_engine.proofs.PlaceRules.{ahead_none, ahead_some, IsAhead, code_at_end, codes_moved, at_moved}
 use Rattle.markdown_engine.proofs.PlainRuns.{plain_next, plain_code}
@@ -77,8 +78,8 @@ fewer ms p q r h e same forward =
 not-feed : (b : ℕ) → 13 < b → (b == line_feed) ≡ false
 not-feed b h = grind (arith, nat_tests)
 
-free-byte : (ms : List ℕ) (b : ℕ) → IsPlainByte ms b → is_free ms (Some b) ≡ true
-free-byte ms b h = rw (not-feed b h.0, h.1) refl
+free-byte : (ms : List ℕ) (b : ℕ) → is_plain ms b ≡ true → is_free ms (Some b) ≡ true
+free-byte ms b h = let p = plain-parts ms b h in rw (not-feed b p.0, p.1) refl
 
 -- the place so many columns on
 abbrev pub along : Point → ℕ → Point
@@ -93,26 +94,26 @@ along-more p m =
     ap (λ (c : ℕ). record { line = p.line; column = c; index = p.index + m + 1; vs = 0 }) (omega arith)
     ∙ ap (λ (i : ℕ). record { line = p.line; column = p.column + (m + 1); index = i; vs = 0 }) (omega arith)
 
-one-past : {bytes : List ℕ} {pieces : List Piece} {k : ℕ} {p e : Point} {before : Option ℕ} {n : ℕ} (ms : List ℕ) → IsCursor bytes pieces k p e before n → (d : Piece) → k < length pieces → p.index + 1 < (get_or pieces k d).end.0 → IsPlainByte ms (get_or bytes p.index 0) → past_stretch ms (content_place bytes pieces n) ≡ past_stretch ms (content_place bytes pieces (n + 1))
+one-past : {bytes : List ℕ} {pieces : List Piece} {k : ℕ} {p e : Point} {before : Option ℕ} {n : ℕ} (ms : List ℕ) → IsCursor bytes pieces k p e before n → (d : Piece) → k < length pieces → p.index + 1 < (get_or pieces k d).end.0 → is_plain ms (get_or bytes p.index 0) ≡ true → past_stretch ms (content_place bytes pieces n) ≡ past_stretch ms (content_place bytes pieces (n + 1))
 one-past {bytes} {pieces} {k} {p} {e} {before} {n} ms h d lt fits plain =
-    past-one ms (content_place bytes pieces n) (ap (is_free ms) (plain_code h d lt fits plain.0) ∙ free-byte ms (get_or bytes p.index 0) plain)
+    past-one ms (content_place bytes pieces n) (ap (is_free ms) (plain_code h d lt fits (plain-parts ms _ plain).0) ∙ free-byte ms (get_or bytes p.index 0) plain)
     ∙ ap (past_stretch ms) (moved_is bytes pieces n)
 
-run-first : {bytes : List ℕ} {pieces : List Piece} {k : ℕ} {p e : Point} {before : Option ℕ} {n : ℕ} (ms : List ℕ) → IsCursor bytes pieces k p e before n → (d : Piece) → k < length pieces → p.index + 1 < (get_or pieces k d).end.0 → IsPlainByte ms (get_or bytes p.index 0) → IsRun bytes pieces ms k p n 1
+run-first : {bytes : List ℕ} {pieces : List Piece} {k : ℕ} {p e : Point} {before : Option ℕ} {n : ℕ} (ms : List ℕ) → IsCursor bytes pieces k p e before n → (d : Piece) → k < length pieces → p.index + 1 < (get_or pieces k d).end.0 → is_plain ms (get_or bytes p.index 0) ≡ true → IsRun bytes pieces ms k p n 1
 run-first {bytes} {pieces} {k} {p} {e} {before} {n} ms h d lt fits plain =
     let last : p.index ≡ p.index + 1 - 1 = omega arith in
     record {
-      cursor = subst (λ (i : ℕ). IsCursor bytes pieces k (along p 1) (along p 1) (Some (get_or bytes i 0)) (n + 1)) last (plain_next h d lt fits plain.0);
+      cursor = subst (λ (i : ℕ). IsCursor bytes pieces k (along p 1) (along p 1) (Some (get_or bytes i 0)) (n + 1)) last (plain_next h d lt fits (plain-parts ms _ plain).0);
       past = one-past ms h d lt fits plain;
     }
 
-run-more : {bytes : List ℕ} {pieces : List Piece} {k : ℕ} {p : Point} {n m : ℕ} (ms : List ℕ) → IsRun bytes pieces ms k p n m → (d : Piece) → k < length pieces → p.index + m + 1 < (get_or pieces k d).end.0 → IsPlainByte ms (get_or bytes (p.index + m) 0) → IsRun bytes pieces ms k p n (m + 1)
+run-more : {bytes : List ℕ} {pieces : List Piece} {k : ℕ} {p : Point} {n m : ℕ} (ms : List ℕ) → IsRun bytes pieces ms k p n m → (d : Piece) → k < length pieces → p.index + m + 1 < (get_or pieces k d).end.0 → is_plain ms (get_or bytes (p.index + m) 0) ≡ true → IsRun bytes pieces ms k p n (m + 1)
 run-more {bytes} {pieces} {k} {p} {n} {m} ms h d lt fits plain =
     let last : p.index + m ≡ p.index + (m + 1) - 1 = omega arith in
     let count : n + m + 1 ≡ n + (m + 1) = omega arith in
     let q : Point = along p (m + 1) in
     let here : IsCursor bytes pieces k q q (Some (get_or bytes (p.index + m) 0)) (n + m + 1) =
-    subst (λ (x : Point). IsCursor bytes pieces k x x (Some (get_or bytes (p.index + m) 0)) (n + m + 1)) (along-more p m) (plain_next h.cursor d lt fits plain.0) in
+    subst (λ (x : Point). IsCursor bytes pieces k x x (Some (get_or bytes (p.index + m) 0)) (n + m + 1)) (along-more p m) (plain_next h.cursor d lt fits (plain-parts ms _ plain).0) in
     record {
       cursor = subst (λ (i : ℕ). IsCursor bytes pieces k q q (Some (get_or bytes i 0)) (n + (m + 1))) last (subst (λ (c : ℕ). IsCursor bytes pieces k q q (Some (get_or bytes (p.index + m) 0)) c) count here);
       past = h.past ∙ one-past ms h.cursor d lt fits plain ∙ ap (λ (c : ℕ). past_stretch ms (content_place bytes pieces c)) count;
@@ -131,20 +132,3 @@ plain_run {bytes} {pieces} {k} {p} {e} {before} {n} ms h d lt m pos fits plain =
     let same : m - 1 + 1 ≡ m = omega (arith, pos) in
     subst (λ (x : ℕ). IsRun bytes pieces ms k p n x) same
     (run-suc ms h d lt (m - 1) (omega (arith, fits, pos)) (λ i a b. plain i a (omega (arith, b, pos))))
-
--- The table.
-
-pub table-none : (ms : List ℕ) → IsPlainTable ms (replicate 256 false)
-table-none ms i h =
-    elim (cases_lt i 256) [
-      | inl l ↦ absurd (both_ways (get_or (replicate 256 false) i false) (get_or-replicate 256 i false false l) h)
-      | inr l ↦ absurd (both_ways (get_or (replicate 256 false) i false) (get_or_past (replicate 256 false) i false l) h)
-    ]
-
-pub table-more : (ms : List ℕ) (table : List Bool) (b : ℕ) (r : Bool) → IsPlainTable ms table → b < length table → 13 < b → r ≡ list_any (λ n. b == n) ms → IsPlainTable ms (slice_set table b (not r))
-table-more ms table b r h lt above e i k =
-    elim (cases_eq i b) [
-      | inl same ↦ let now : not r ≡ true = sym (get_or-set_same table b (not r) false lt) ∙ ap (λ (j : ℕ). get_or (slice_set table b (not r)) j false) (sym same) ∙ k in
-          subst (λ (j : ℕ). IsPlainByte ms j) (sym same) (above, sym e ∙ not-true r now)
-      | inr other ↦ h i (sym (get_or-set_other table b i (not r) false other) ∙ k)
-    ]

@@ -23,6 +23,7 @@ pub mod Resolves
 pub mod Past
 pub mod TreeOps
 pub mod Stretch
+pub mod Steady
 pub mod Plain
 pub mod Script
 pub mod StateWords

@@ -8,9 +8,9 @@ ghost use Rattle.markdown_engine.specs.Plain.{ArePlain};
 ghost use Rattle.markdown_engine.specs.Stretch.{is_free, past_stretch};
 ghost use Rattle.markdown_engine.specs.Walk.{IsPoint};
 
+use crate::bytes::ByteSet;
 use crate::event::Point;
 use crate::parser::Piece;
-use crate::tokenizer::Markers;
 use crate::walk::{DOCUMENT_START, code_from, past_code, walk_to};
 use std::marker::Model;
 
@@ -159,9 +159,9 @@ impl<'a> Cursor<'a> {
         }
     }
 
-    // Moves past ordinary bytes of the piece, all but its last, and before the next marker.
-    fn pass_plain(&mut self, markers: &Markers)
-        ensures past { past_stretch markers.now self.new ≡ past_stretch markers.now self.old }
+    // Moves past the ordinary bytes at the place, as far as the last of the piece.
+    fn pass_plain(&mut self, stops: &ByteSet)
+        ensures past { past_stretch stops.now self.new ≡ past_stretch stops.now self.old }
         ensures codes { self.new.codes ≡ self.old.codes }
         ensures forward { self.old.at ≤ self.new.at }
     {
@@ -173,40 +173,40 @@ impl<'a> Cursor<'a> {
         if end <= start {
             return;
         }
-        let count = plain_end(self.bytes, start, end - 1, markers) - start;
+        let count = plain_end(self.bytes, start, end - 1, stops) - start;
         if count == 0 {
             return;
         }
-        let point = Point {
+        let next = Point {
             line: self.point.line,
             column: self.point.column + count,
             index: start + count,
             vs: 0,
         };
-        self.point = point;
-        self.exit = point;
+        self.point = next;
+        self.exit = next;
         self.previous = Some(self.bytes[start + count - 1]);
         self.passed += count;
     }
 
-    // Whether a code is at the place that is neither a line ending nor a marker.
-    fn is_free(&self, markers: &Markers) -> bool
-        ensures { result ≡ is_free markers.now (code_at self.now) }
+    // Whether a code is at the place that is neither a line ending nor one of these bytes.
+    fn is_free(&self, stops: &ByteSet) -> bool
+        ensures { result ≡ is_free stops.now (code_at self.now) }
     {
         match self.current() {
             None => false,
-            Some(byte) => !(byte == b'\n' || markers.contains(byte)),
+            Some(byte) => !(byte == b'\n' || stops.contains(byte)),
         }
     }
 
-    /// Moves past the codes at the place up to a line ending, a marker or the end.
-    pub fn consume_stretch(&mut self, markers: &Markers)
-        ensures { self.new ≡ past_stretch markers.now self.old }
+    /// Moves past the codes at the place up to a line ending, one of these bytes or the end, as that many calls of `consume` would.
+    pub fn consume_stretch(&mut self, stops: &ByteSet)
+        ensures { self.new ≡ past_stretch stops.now self.old }
     {
-        self.pass_plain(markers);
-        while self.is_free(markers) {
+        self.pass_plain(stops);
+        while self.is_free(stops) {
             self.consume();
-            self.pass_plain(markers);
+            self.pass_plain(stops);
         }
     }
 
@@ -227,16 +227,16 @@ impl<'a> Cursor<'a> {
     }
 }
 
-// Where the bytes end, from this index on and not past `to`, over which data goes on at once.
-fn plain_end(bytes: &[u8], from: usize, to: usize, markers: &Markers) -> usize
+// Where the ordinary bytes from this index on end, not past `to`.
+fn plain_end(bytes: &[u8], from: usize, to: usize, stops: &ByteSet) -> usize
     requires order { from ≤ to }
     requires within { to ≤ length bytes.now }
     ensures from { from ≤ result }
     ensures to { result ≤ to }
-    ensures plain { ArePlain markers.now bytes.now from result }
+    ensures plain { ArePlain stops.now bytes.now from result }
 {
     let mut index = from;
-    while index < to && markers.is_plain(bytes[index]) {
+    while index < to && stops.is_plain(bytes[index]) {
         index += 1;
     }
     index

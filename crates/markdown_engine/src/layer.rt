@@ -1,20 +1,24 @@
 // The states and passes of a layer, as the engine reaches them.
-ghost use Rattle.std.specs.Prelude.{◌≡◌, ℕ, Bool, IfOk, OnErr, IsTrue, None};
+ghost use Rattle.std.specs.Prelude.{◌≡◌, ℕ, Bool, List, Option, IfOk, OnErr, IsTrue, None};
 ghost use Rattle.markdown_engine.specs.declared.resolve.ResolveName.{ResolveName};
 ghost use Rattle.markdown_engine.specs.declared.state.StateName.{StateName};
+ghost use Rattle.markdown_engine.specs.declared.tokenizer.TokenizeState.{TokenizeState};
 ghost use Rattle.markdown_engine.specs.declared.tokenizer.Tokenizer.{Tokenizer};
 ghost use Rattle.markdown_engine.specs.Runs.{Stepped, Lawful};
+ghost use Rattle.markdown_engine.specs.Steady.{IsSteady};
 
+use crate::bytes::ByteSet;
 use crate::resolve::ResolveName;
 use crate::state::{State, StateName};
 use crate::subtokenize::Subresult;
-use crate::tokenizer::Tokenizer;
+use crate::tokenizer::{TokenizeState, Tokenizer};
 use std::alloc::AllocError;
 
 /// What the engine runs: states by their names, and passes by theirs.
 ///
 /// A layer says, for each state, when it may be called, what it answers and leaves, how a run from there may end, and a number that falls
-/// at each step; its laws make any run of it safe, finite, and ended as it says.
+/// at each step; its laws make any run of it safe, finite, and ended as it says. For a state that passes code after code it may name the
+/// bytes at which it stops.
 pub trait Layer {
     // when a state may be called
     ghost ready: { StateName → Tokenizer → Type 0 };
@@ -27,6 +31,9 @@ pub trait Layer {
 
     // a number that falls at each step
     ghost weight: { StateName → Tokenizer → ℕ };
+
+    // the bytes at which a state, by the scratch fields, may do other than pass the code at hand and be next again; none where nothing is known
+    ghost stops: { StateName → TokenizeState → Option (List ℕ) };
 
     // when a pass may be called
     ghost may_resolve: { ResolveName → Tokenizer → Type 0 };
@@ -42,6 +49,11 @@ pub trait Layer {
         ensures ok { IfOk result (λ s. step name tokenizer.old ≡ record { state = s; left = tokenizer.new }) }
         ensures err { OnErr result (IsTrue tokenizer.new.failed) };
 
+    /// The bytes at which a state may do other than pass the code at hand and be next again, line endings aside; none where nothing is
+    /// known. A run passes the codes before the next of them without a call for each.
+    fn stop_bytes(name: StateName, fields: &TokenizeState) -> Option<ByteSet>
+        ensures { result ≡ stops name fields.now };
+
     /// Calls the pass of this name.
     ///
     /// The error comes where a growth is refused; then `failed` is true.
@@ -55,4 +67,6 @@ pub trait Layer {
         ensures err { OnErr result (IsTrue tokenizer.new.failed) };
 
     ghost laws: { Lawful ready step ends weight };
+
+    ghost steady: { IsSteady ready step stops };
 }

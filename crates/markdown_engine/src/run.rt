@@ -2,6 +2,7 @@
 ghost use Rattle.std.specs.Prelude.{◌≡◌, ◌<◌, Bool, [], IfOk, OnOk, OnErr, IsTrue};
 ghost use Rattle.markdown_engine.specs.Runs.{going_state, going_in, ends_state, ready_state, MayGo};
 ghost use Rattle.markdown_engine.specs.Reach.{Reaches};
+ghost use Rattle.markdown_engine.specs.Steady.{Onward};
 ghost use Rattle.markdown_engine.specs.Resolves.{MayResolve, Resolves, unregistered};
 ghost use Rattle.markdown_engine.specs.declared.state.State.TheVariants.{Next, Retry};
 ghost use Rattle.markdown_engine.specs.declared.tokenizer.Tokenizer.{Tokenizer};
@@ -62,6 +63,17 @@ fn step_over<L: Layer>(name: StateName, tokenizer: &mut Tokenizer) -> Result<Sta
     Ok(state)
 }
 
+// Passes the codes at the place over which this state goes on by itself.
+fn pass_stretch<L: Layer>(name: StateName, tokenizer: &mut Tokenizer)
+    requires ready { L.ready name tokenizer.old }
+    requires alone { tokenizer.old.attempts ≡ [] }
+    ensures { Onward L.ready L.step L.ends L.weight name tokenizer.old tokenizer.new }
+{
+    if let Some(stops) = L::stop_bytes(name, &tokenizer.tokenize_state) {
+        tokenizer.cursor.consume_stretch(&stops);
+    }
+}
+
 // Runs states from this answer until Ok or Nok with no attempt open.
 #[cycle(run)]
 fn run_from<L: Layer>(start: State, tokenizer: &mut Tokenizer) -> Result<bool, AllocError>
@@ -75,7 +87,10 @@ fn run_from<L: Layer>(start: State, tokenizer: &mut Tokenizer) -> Result<bool, A
     let mut state = start;
     loop {
         match state {
-            State::Next(name) | State::Retry(name) => state = step_over::<L>(name, tokenizer)?,
+            State::Next(name) | State::Retry(name) => {
+                pass_stretch::<L>(name, tokenizer);
+                state = step_over::<L>(name, tokenizer)?;
+            }
             State::Ok => return Ok(true),
             State::Nok => return Ok(false),
         }

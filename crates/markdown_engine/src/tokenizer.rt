@@ -1,8 +1,5 @@
 // The tokenizer: what a state function is given.
-ghost use Rattle.std.specs.List.{list_any};
-ghost use Rattle.markdown_engine.specs.Plain.{IsPlainByte, IsPlainTable};
-ghost use Rattle.markdown_engine.specs.Stretch.{past_stretch};
-ghost use Rattle.std.specs.Prelude.{◌≡◌, ◌==◌, ◌++◌, ◌∷◌, [], OnOk, OnErr, IsTrue, true, false, Some, None};
+ghost use Rattle.std.specs.Prelude.{◌≡◌, ◌++◌, ◌∷◌, [], OnOk, OnErr, IsTrue, true, false, Some, None};
 ghost use Rattle.markdown_engine.specs.Ops.{applied, Enter, Exit, EnterLink, EnterConnected, Consume, attempted, registered, registered_before, is_registered, refused, current_of, previous_of, IsOpen, HasCode, link_back, enter_event, LinkedBefore};
 ghost use Rattle.markdown_engine.specs.Content.{IsContent};
 ghost use Rattle.markdown_engine.specs.Place.{point_of};
@@ -11,6 +8,8 @@ ghost use Rattle.markdown_engine.specs.Begun.{begun};
 ghost use Rattle.markdown_engine.specs.Rest.{at_rest};
 ghost use Rattle.markdown_engine.specs.Runs.{settled};
 
+use crate::byte_set;
+use crate::bytes::ByteSet;
 use crate::cursor::Cursor;
 use crate::event::{Content, Event, Kind, Link, Name, Point};
 use crate::events::Events;
@@ -59,76 +58,6 @@ pub struct Label {
     pub end: (usize, usize),
 }
 
-/// The bytes at which data stops.
-#[derive(Drop)]
-pub struct Markers {
-    bytes: &'static [u8],
-    // For each byte, whether data goes on over it at once.
-    plain: [bool; 256],
-}
-
-impl Model for Markers {
-    ghost use Rattle.std.specs.Prelude.{List, ℕ};
-    ghost use Rattle.markdown_engine.specs.Plain.{IsPlainTable};
-
-    ghost Value = { List ℕ };
-
-    ghost view = { λ m. m.bytes.now };
-
-    ghost invariant = { λ m. IsPlainTable m.bytes.now m.plain };
-}
-
-// Whether the byte is one of these.
-fn is_one_of(bytes: &[u8], byte: u8) -> bool
-    ensures { result ≡ list_any (λ n. byte == n) bytes.now }
-{
-    bytes.iter().any(|other| byte == *other)
-}
-
-// For each byte, whether data goes on over it at once: no control code, and none of the markers.
-fn plain_bytes(markers: &[u8]) -> [bool; 256]
-    ensures { IsPlainTable markers.now result }
-{
-    let mut plain = [false; 256];
-    let mut byte = 14usize;
-    while byte < 256 {
-        plain[byte] = !is_one_of(markers, byte as u8);
-        byte += 1;
-    }
-    plain
-}
-
-impl Markers {
-    /// These bytes.
-    pub fn new(bytes: &'static [u8]) -> Markers
-        ensures { result ≡ bytes.entry.now }
-    {
-        let plain = plain_bytes(bytes);
-        Markers { bytes, plain }
-    }
-
-    /// The bytes.
-    pub fn as_slice(&self) -> &[u8]
-        ensures { result.now ≡ self.now }
-    {
-        self.bytes
-    }
-
-    /// Whether the byte is one of these.
-    pub fn contains(&self, byte: u8) -> bool
-        ensures { result ≡ list_any (λ n. byte == n) self.now }
-    {
-        is_one_of(self.bytes, byte)
-    }
-
-    // Whether data goes on over this byte at once.
-    pub(crate) fn is_plain(&self, byte: u8) -> bool
-        ensures { IsTrue result → IsPlainByte self.now byte }
-    {
-        self.plain[byte as usize]
-    }
-}
-
 /// The scratch fields of the states: what one state leaves for another. Each is at rest between two constructs, but for the lists of
 /// labels, `markers`, `probes`, `runs` and `document_at_first_paragraph_of_list_item`.
 #[derive(Drop)]
@@ -150,7 +79,7 @@ pub struct TokenizeState {
     /// Whether the next linked event goes on with a chain; false at rest.
     pub connect: bool,
     /// The bytes at which data stops.
-    pub markers: Markers,
+    pub markers: ByteSet,
     /// A name for a partial construct; `Data` at rest, as the four below.
     pub token_1: Name,
     /// The second name.
@@ -207,7 +136,7 @@ impl TokenizeState {
             end: 0,
             seen: false,
             connect: false,
-            markers: Markers::new(&[]),
+            markers: byte_set!(),
             token_1: Name::Data,
             token_2: Name::Data,
             token_3: Name::Data,
@@ -444,13 +373,6 @@ impl<'a> Tokenizer<'a> {
         ensures { self.new ≡ applied Consume self.old }
     {
         self.cursor.consume();
-    }
-
-    /// Moves past the codes at the place up to a line ending, one of the bytes at which data stops, or the end.
-    pub fn consume_stretch(&mut self)
-        ensures { self.new ≡ record self.old { cursor = past_stretch self.old.tokenize_state.markers self.old.cursor } }
-    {
-        self.cursor.consume_stretch(&self.tokenize_state.markers);
     }
 
     // Opens an attempt; a refused growth is kept in mind.

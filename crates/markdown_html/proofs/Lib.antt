@@ -9,3 +9,4 @@ pub mod PartLaws
 pub mod HtmlTextLaws
 pub mod HtmlTextWhole
 pub mod StartLaw
+pub mod SteadyLaws

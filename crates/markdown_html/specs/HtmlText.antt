@@ -3,6 +3,7 @@ use Rattle.std.specs.Prelude.{◌≡◌, ℕ, ◌+◌, ◌<◌, ◌≤◌, Bool,
 use Rattle.markdown_engine.specs.Ops.{Op, Enter, Exit, Consume, IsOpen, ahead, attempted, current_of, done, scratched}
 use Rattle.markdown_engine.specs.Past.{EndsAs, TreeReading}
 use Rattle.markdown_engine.specs.Runs.{Stepped, stepped}
+use Rattle.markdown_engine.specs.Steady.{alone_among}
 use Rattle.markdown_engine.specs.Weights.{codes_left}
 use Rattle.markdown_engine.specs.declared.event.Name.TheVariants as N
 use Rattle.markdown_engine.specs.declared.state.State.TheVariants.{Next, Retry, Nok}
@@ -320,6 +321,15 @@ tag_open_attribute_value_unquoted_at (Some c) T =
 
 abbrev pub tag_open_attribute_value_unquoted_step : Tokenizer → Stepped
 tag_open_attribute_value_unquoted_step T = tag_open_attribute_value_unquoted_at (current_of T) T
+
+-- at these bytes alone some states do other than go on, line endings aside
+abbrev pub stops_in : StateName → TokenizeState → Option (List ℕ)
+stops_in H.HtmlTextComment s = Some (codes "-")
+stops_in H.HtmlTextCdata s = Some (codes "]")
+stops_in H.HtmlTextDeclaration s = Some (codes ">")
+stops_in H.HtmlTextInstruction s = Some (codes "?")
+stops_in H.HtmlTextTagOpenAttributeValueQuoted s = alone_among (codes "\"'") s.marker
+stops_in _ s = None
 
 abbrev pub end_at : Option ℕ → Tokenizer → Stepped
 end_at None T = stepped Nok T

@@ -9,12 +9,14 @@ ghost use Rattle.markdown_engine.specs.Ops.{HasCode, current_of};
 ghost use Rattle.markdown_engine.specs.declared.event.Name.TheVariants.{HtmlText, HtmlTextData};
 ghost use Rattle.markdown_construct.specs.Scratch.{AreOpen};
 ghost use Rattle.markdown_html.specs.Values.{name_value, attribute_first_value, attribute_rest_value, after_value};
-ghost use Rattle.markdown_html.specs.HtmlText.{broken, ending_passed, start_step, open_step, declaration_open_step, comment_open_inside_step, comment_step, comment_close_step, comment_end_step, cdata_open_inside_step, cdata_step, cdata_close_step, cdata_end_step, declaration_step, instruction_step, instruction_close_step, tag_close_start_step, tag_close_step, tag_close_between_step, tag_open_step, tag_open_between_step, tag_open_attribute_name_step, tag_open_attribute_name_after_step, tag_open_attribute_value_before_step, tag_open_attribute_value_quoted_step, tag_open_attribute_value_quoted_after_step, tag_open_attribute_value_unquoted_step, end_step, line_ending_before_step, line_ending_after_step, line_ending_after_prefix_step};
+ghost use Rattle.markdown_html.specs.HtmlText.{stops_in, broken, ending_passed, start_step, open_step, declaration_open_step, comment_open_inside_step, comment_step, comment_close_step, comment_end_step, cdata_open_inside_step, cdata_step, cdata_close_step, cdata_end_step, declaration_step, instruction_step, instruction_close_step, tag_close_start_step, tag_close_step, tag_close_between_step, tag_open_step, tag_open_between_step, tag_open_attribute_name_step, tag_open_attribute_name_after_step, tag_open_attribute_value_before_step, tag_open_attribute_value_quoted_step, tag_open_attribute_value_quoted_after_step, tag_open_attribute_value_unquoted_step, end_step, line_ending_before_step, line_ending_after_step, line_ending_after_prefix_step};
 
 use markdown_construct::bytes::{is_alphanumeric, is_letter};
+use markdown_engine::byte_set;
+use markdown_engine::bytes::ByteSet;
 use markdown_engine::event::Name;
 use markdown_engine::state::{State, StateName};
-use markdown_engine::tokenizer::Tokenizer;
+use markdown_engine::tokenizer::{TokenizeState, Tokenizer};
 use markdown_partial::partial_space_or_tab::space_or_tab;
 use markdown_util::util::constant::HTML_CDATA_PREFIX;
 use std::alloc::AllocError;
@@ -45,6 +47,21 @@ fn is_after_value(code: u8) -> bool
     ensures { result ≡ after_value code }
 {
     matches!(code, b'\t' | b'\n' | b' ' | b'/' | b'>')
+}
+
+/// The bytes at which a state that passes code after code stops, line endings aside; none for the other states. Takes no memory.
+pub fn stop_bytes(name: StateName, fields: &TokenizeState) -> Option<ByteSet>
+    ensures { result ≡ stops_in name fields.now }
+{
+    match (name, fields.marker) {
+        (StateName::HtmlTextComment, _) => Some(byte_set!(b'-')),
+        (StateName::HtmlTextCdata, _) => Some(byte_set!(b']')),
+        (StateName::HtmlTextDeclaration, _) => Some(byte_set!(b'>')),
+        (StateName::HtmlTextInstruction, _) => Some(byte_set!(b'?')),
+        (StateName::HtmlTextTagOpenAttributeValueQuoted, b'"') => Some(byte_set!(b'"')),
+        (StateName::HtmlTextTagOpenAttributeValueQuoted, b'\'') => Some(byte_set!(b'\'')),
+        _ => None,
+    }
 }
 
 // Goes on with this state after the line ending at hand and the whitespace after it.

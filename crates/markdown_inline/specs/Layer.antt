@@ -1,5 +1,5 @@
 -- The states of inline content by name: when they may be called, what they do, how runs from them end, and a number that falls.
-use Rattle.std.specs.Prelude.{◌≡◌, ℕ, Bool}
+use Rattle.std.specs.Prelude.{◌≡◌, ℕ, Bool, List, Option, None}
 use Rattle.markdown_engine.specs.Ops.{IsOpen}
 use Rattle.markdown_engine.specs.Runs.{Stepped, stepped}
 use Rattle.markdown_engine.specs.Weights.{weight_at}
@@ -8,6 +8,7 @@ use Rattle.markdown_engine.specs.declared.event.Name.TheVariants as N
 use Rattle.markdown_engine.specs.declared.state.State.TheVariants.{Nok}
 use Rattle.markdown_engine.specs.declared.state.StateName.{StateName}
 use Rattle.markdown_engine.specs.declared.state.StateName.TheVariants.{CharacterEscapeStart, CharacterEscapeInside, CharacterReferenceStart, CharacterReferenceOpen, CharacterReferenceNumeric, CharacterReferenceValue, HardBreakEscapeStart, HardBreakEscapeAfter, AutolinkStart, AutolinkOpen, AutolinkSchemeOrEmailAtext, AutolinkSchemeInsideOrEmailAtext, AutolinkUrlInside, AutolinkEmailAtext, AutolinkEmailAtSignOrDot, AutolinkEmailLabel, AutolinkEmailValue, RawTextStart, RawTextSequenceOpen, RawTextBetween, RawTextData, RawTextSequenceClose, SpaceOrTabStart, SpaceOrTabInside, SpaceOrTabAfter, SpaceOrTabEolStart, SpaceOrTabEolAfterFirst, SpaceOrTabEolAtEol, SpaceOrTabEolAfterEol, SpaceOrTabEolAfterMore, DataStart, DataAtBreak, DataInside, StringStart, StringBefore, StringBeforeData, DestinationStart, DestinationEnclosedBefore, DestinationEnclosed, DestinationEnclosedEscape, DestinationRaw, DestinationRawEscape, TitleStart, TitleBegin, TitleAtBreak, TitleAfterEol, TitleInside, TitleEscape, TitleNok, LabelStart, LabelAtBreak, LabelEolAfter, LabelInside, LabelEscape, LabelNok, TextStart, TextBefore, TextBeforeHtml, TextBeforeHardBreakEscape, TextBeforeLabelStartLink, TextBeforeData, AttentionStart, AttentionInside, GfmAutolinkLiteralProtocolStart, GfmAutolinkLiteralWwwStart, GfmLabelStartFootnoteStart, GfmTaskListItemCheckStart, GfmTaskListItemCheckInside, GfmTaskListItemCheckClose, GfmTaskListItemCheckAfter, GfmTaskListItemCheckAfterSpaceOrTab, HtmlTextStart, HtmlTextOpen, HtmlTextDeclarationOpen, HtmlTextCommentOpenInside, HtmlTextComment, HtmlTextCommentClose, HtmlTextCommentEnd, HtmlTextCdata, HtmlTextCdataClose, HtmlTextCdataEnd, HtmlTextDeclaration, HtmlTextInstruction, HtmlTextInstructionClose, HtmlTextTagCloseStart, HtmlTextTagClose, HtmlTextTagCloseBetween, HtmlTextTagOpen, HtmlTextTagOpenBetween, HtmlTextTagOpenAttributeName, HtmlTextTagOpenAttributeNameAfter, HtmlTextTagOpenAttributeValueBefore, HtmlTextTagOpenAttributeValueQuotedAfter, HtmlTextTagOpenAttributeValueUnquoted, HtmlTextEnd, HtmlTextCdataOpenInside, HtmlTextTagOpenAttributeValueQuoted, HtmlTextLineEndingBefore, HtmlTextLineEndingAfter, HtmlTextLineEndingAfterPrefix, LabelEndStart, LabelStartImageStart, LabelStartLinkStart}
+use Rattle.markdown_engine.specs.declared.tokenizer.TokenizeState.{TokenizeState}
 use Rattle.markdown_engine.specs.declared.tokenizer.Tokenizer.{Tokenizer}
 use Rattle.markdown_gfm.specs.GfmTaskListItemCheck as C
 use Rattle.markdown_html.specs.HtmlText as H
@@ -153,3 +154,14 @@ weight_of s T = weight_at (words_of s).rank T
 -- all of it, as the one argument of the laws
 abbrev pub inline : Words
 inline = record { ready = ready_of; step = step_of; ends = ends_of; rank = λ s. (words_of s).rank }
+
+-- at these bytes alone a state does other than pass the code at hand and go on, line endings aside; none where no state passes code after code
+abbrev pub stops_of : StateName → TokenizeState → Option (List ℕ)
+stops_of DataInside s = D.inside_stops s
+stops_of RawTextData s = X.data_stops s
+stops_of HtmlTextComment s = H.stops_in HtmlTextComment s
+stops_of HtmlTextCdata s = H.stops_in HtmlTextCdata s
+stops_of HtmlTextDeclaration s = H.stops_in HtmlTextDeclaration s
+stops_of HtmlTextInstruction s = H.stops_in HtmlTextInstruction s
+stops_of HtmlTextTagOpenAttributeValueQuoted s = H.stops_in HtmlTextTagOpenAttributeValueQuoted s
+stops_of _ s = None

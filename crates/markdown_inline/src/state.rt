@@ -1,15 +1,17 @@
 //! The states of inline content by name.
 ghost use Rattle.std.specs.Prelude.{◌≡◌, IfOk, IsErr, OnErr, IsTrue};
-ghost use Rattle.markdown_inline.specs.Layer.{ready_of, step_of, ends_of, weight_of};
+ghost use Rattle.markdown_inline.specs.Layer.{ready_of, step_of, ends_of, weight_of, stops_of};
 ghost use Rattle.markdown_inline.specs.Laws.{laws_of};
+ghost use Rattle.markdown_inline.specs.Laws.Steady.{steady_of};
 ghost use Rattle.markdown_inline.specs.Resolve.{may_resolve_of, resolves_of};
 
 use crate::{attention, resolve, string, text};
+use markdown_engine::bytes::ByteSet;
 use markdown_engine::layer::Layer;
 use markdown_engine::resolve::ResolveName;
 use markdown_engine::state::{State, StateName};
 use markdown_engine::subtokenize::Subresult;
-use markdown_engine::tokenizer::Tokenizer;
+use markdown_engine::tokenizer::{TokenizeState, Tokenizer};
 use markdown_gfm::gfm_task_list_item_check;
 use markdown_html::html_text;
 use markdown_leaf::{autolink, character_escape, character_reference, hard_break_escape, raw_text};
@@ -157,6 +159,22 @@ pub fn call(name: StateName, tokenizer: &mut Tokenizer) -> Result<State, AllocEr
     dispatch(name, tokenizer)
 }
 
+// The bytes at which a state that passes code after code stops, line endings aside; none for the other states.
+fn stop_bytes(name: StateName, fields: &TokenizeState) -> Option<ByteSet>
+    ensures { result ≡ stops_of name fields.now }
+{
+    match name {
+        StateName::DataInside => partial_data::inside_stops(fields),
+        StateName::RawTextData => raw_text::data_stops(fields),
+        StateName::HtmlTextComment
+        | StateName::HtmlTextCdata
+        | StateName::HtmlTextDeclaration
+        | StateName::HtmlTextInstruction
+        | StateName::HtmlTextTagOpenAttributeValueQuoted => html_text::stop_bytes(name, fields),
+        _ => None,
+    }
+}
+
 /// Inline content, as the engine runs it.
 pub struct Inline;
 
@@ -169,12 +187,18 @@ impl Layer for Inline {
 
     ghost weight = { weight_of };
 
+    ghost stops = { stops_of };
+
     ghost may_resolve = { may_resolve_of };
 
     ghost resolves = { resolves_of };
 
     fn call(name: StateName, tokenizer: &mut Tokenizer) -> Result<State, AllocError> {
         call(name, tokenizer)
+    }
+
+    fn stop_bytes(name: StateName, fields: &TokenizeState) -> Option<ByteSet> {
+        stop_bytes(name, fields)
     }
 
     fn resolve(
@@ -185,4 +209,6 @@ impl Layer for Inline {
     }
 
     ghost laws = { laws_of };
+
+    ghost steady = { steady_of };
 }

@@ -3,17 +3,23 @@
 
 ghost use Rattle.std.specs.Prelude.{◌≡◌, IfOk, OnErr, IsTrue, None, false};
 ghost use Rattle.markdown_inline.specs.Resolve.{MayTrim, TrimsData};
-ghost use Rattle.markdown_inline.specs.StringSteps.{start_step, before_step, before_data_step};
+ghost use Rattle.markdown_inline.specs.StringSteps.{string_markers, start_step, before_step, before_data_step};
 
+use markdown_engine::byte_set;
+use markdown_engine::bytes::ByteSet;
 use markdown_engine::resolve::ResolveName;
 use markdown_engine::state::{State, StateName};
 use markdown_engine::subtokenize::Subresult;
-use markdown_engine::tokenizer::{Markers, Tokenizer};
+use markdown_engine::tokenizer::Tokenizer;
 use markdown_partial::partial_whitespace;
 use std::alloc::AllocError;
 
 // The bytes at which data of a string stops.
-const MARKERS: [u8; 2] = [b'&', b'\\'];
+fn markers() -> ByteSet
+    ensures { result ≡ string_markers }
+{
+    byte_set!(b'&', b'\\')
+}
 
 /// At the start of a string.
 ///
@@ -23,7 +29,7 @@ pub fn start(tokenizer: &mut Tokenizer) -> Result<State, AllocError>
     ensures ok { IfOk result (λ s. start_step tokenizer.old ≡ record { state = s; left = tokenizer.new }) }
     ensures err { OnErr result (IsTrue tokenizer.new.failed) }
 {
-    tokenizer.tokenize_state.markers = Markers::new(&MARKERS);
+    tokenizer.tokenize_state.markers = markers();
     Ok(State::Retry(StateName::StringBefore))
 }
 

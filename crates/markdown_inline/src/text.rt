@@ -5,23 +5,29 @@ ghost use Rattle.std.specs.Prelude.{◌≡◌, IfOk, OnOk, OnErr, IsTrue, None, 
 ghost use Rattle.markdown_engine.specs.Ops.{scratched};
 ghost use Rattle.markdown_engine.specs.RunIndex.{last_runs};
 ghost use Rattle.markdown_inline.specs.Resolve.{MayTrim, TrimsData};
-ghost use Rattle.markdown_inline.specs.TextSteps.{span_markers, first_try, trying, start_step, before_step, before_html_step, before_hard_break_escape_step, before_label_start_link_step, before_data_step};
+ghost use Rattle.markdown_inline.specs.TextSteps.{span_markers, text_markers, first_try, trying, start_step, before_step, before_html_step, before_hard_break_escape_step, before_label_start_link_step, before_data_step};
 
+use markdown_engine::byte_set;
+use markdown_engine::bytes::ByteSet;
 use markdown_engine::resolve::ResolveName;
 use markdown_engine::run_index::RunIndex;
 use markdown_engine::state::{State, StateName};
 use markdown_engine::subtokenize::Subresult;
-use markdown_engine::tokenizer::{Markers, Tokenizer};
+use markdown_engine::tokenizer::Tokenizer;
 use markdown_partial::partial_whitespace;
 use std::alloc::AllocError;
 
-// The bytes at which data of a text stops: those at which a construct may begin.
-const MARKERS: [u8; 15] = [
-    b'!', b'$', b'`', b'&', b'*', b'_', b'~', b'<', b'H', b'h', b'W', b'w', b'[', b'\\', b']',
-];
-
 // The bytes whose runs close spans.
 const SPAN_MARKERS: [u8; 2] = [b'`', b'$'];
+
+// The bytes at which data of a text stops: those at which a construct may begin.
+fn markers() -> ByteSet
+    ensures { result ≡ text_markers }
+{
+    byte_set!(
+        b'!', b'$', b'`', b'&', b'*', b'_', b'~', b'<', b'H', b'h', b'W', b'w', b'[', b'\\', b']'
+    )
+}
 
 // Answers the start of what is tried first at this byte, and the state to go on with where that does not hold.
 fn first_try(byte: u8) -> Option<(StateName, StateName)>
@@ -98,7 +104,7 @@ pub fn start(tokenizer: &mut Tokenizer) -> Result<State, AllocError>
     ensures ok { IfOk result (λ s. start_step tokenizer.old ≡ record { state = s; left = tokenizer.new }) }
     ensures err { OnErr result (IsTrue tokenizer.new.failed) }
 {
-    tokenizer.tokenize_state.markers = Markers::new(&MARKERS);
+    tokenizer.tokenize_state.markers = markers();
     index_runs(tokenizer)?;
     attempt(
         tokenizer,

@@ -1,10 +1,12 @@
 -- The laws of the states of code spans and math spans.
 use Rattle.std.proofs.Common.{◌≡◌, ℕ, ◌+◌, ◌≤◌, ◌==◌, ◌&&◌, ◌||◌, not, if◌then◌else◌, Bool, true, false, Option, Some, None, List, [], ◌∷◌, length, drop, refl, sym, ap, subst, ◌∙◌, arith}
+use Rattle.std.specs.Prelude.{codes}
 use Rattle.markdown_engine.specs.Codes.{Code}
 use Rattle.markdown_engine.specs.Lists.{rest_of}
-use Rattle.markdown_engine.specs.Ops.{Op, Enter, Exit, Consume, current_of, ahead, applied, done, scratched}
+use Rattle.markdown_engine.specs.Ops.{Op, Enter, Exit, Consume, current_of, consumed, ahead, applied, done, scratched}
 use Rattle.markdown_engine.specs.Place.{value_of, code_before}
-use Rattle.markdown_engine.specs.Runs.{Stepped}
+use Rattle.markdown_engine.specs.Runs.{Stepped, stepped}
+use Rattle.markdown_engine.specs.Stretch.{is_free}
 use Rattle.markdown_engine.specs.Weights.{weight_at}
 use Rattle.markdown_engine.specs.declared.event.Name.TheVariants as N
 use Rattle.markdown_engine.specs.declared.state.State.TheVariants.{Next, Retry}
@@ -13,11 +15,12 @@ use Rattle.markdown_engine.specs.declared.state.StateName.TheVariants.{RawTextSe
 use Rattle.markdown_engine.specs.declared.tokenizer.TokenizeState.{TokenizeState}
 use Rattle.markdown_engine.specs.declared.tokenizer.Tokenizer.{Tokenizer}
 use Rattle.markdown_engine.proofs.Laws.{if-step, code-step}
+use Rattle.markdown_engine.proofs.SteadyLemmas.{steady-at, alone-is, alone-other}
 use Rattle.markdown_engine.proofs.OpRules.{ahead-none, ahead-some, Begins, some-codes}
 use Rattle.markdown_model.specs.CodeTests.{is_value, is_some_code, next_is}
 use Rattle.markdown_model.specs.Leaf.{SpanNames, code_names, math_names}
 use Rattle.markdown_construct.specs.Plan.{Plan, preceded, plan_of, KeepsAs}
-use Rattle.markdown_leaf.specs.RawText.{names_in, begun, rested, is_same, is_barred, follows_escape, code_just_before, code_is_on, math_is_on, single_dollar, opened, start_at, start_step, after_opening, sequence_open_at, between_at, after_data, data_at, after_run, sequence_close_at, StartReady, SequenceOpenReady, DataReady, SequenceCloseReady, span_at, is_hopeless, closed_ops, inside_plan, is_data, data_plan, run_naming, opening_plan, start_ends, sequence_open_ends, between_ends, data_ends, sequence_close_ends, states, between_words, data_words, sequence_close_words, sequence_open_words, start_words}
+use Rattle.markdown_leaf.specs.RawText.{data_step, data_stops, names_in, begun, rested, is_same, is_barred, follows_escape, code_just_before, code_is_on, math_is_on, single_dollar, opened, start_at, start_step, after_opening, sequence_open_at, between_at, after_data, data_at, after_run, sequence_close_at, StartReady, SequenceOpenReady, DataReady, SequenceCloseReady, span_at, is_hopeless, closed_ops, inside_plan, is_data, data_plan, run_naming, opening_plan, start_ends, sequence_open_ends, between_ends, data_ends, sequence_close_ends, states, between_words, data_words, sequence_close_words, sequence_open_words, start_words}
 use Rattle.markdown_construct.specs.Scratch.{with_size, with_size_b}
 use Rattle.markdown_construct.specs.Renaming.{Naming, renamed}
 use Rattle.markdown_leaf.proofs.ClosingLemmas.{hopeless-none}
@@ -229,3 +232,11 @@ module _ (W : Words) (within : Within states W) where
       (ap p b.whole ∙ math-opens-here on math single escaped previous b.code (rest_of (ahead T)) (ap (λ v. v == 36) b.value ∙ and-left _ _ g) (and-left _ _ (and-right (c == 36) _ g)) (sym math_free ∙ and-right math _ (and-right (c == 36) _ g))))
       (λ g. Goes-no W 4 0 p T alone
       (ap p b.whole ∙ no-span on math single escaped previous (b.code ∷ rest_of (ahead T)) (ap (λ v. (v == 96) && (on && (escaped || not (is_some_code (is_value 96) previous)))) b.value ∙ ap (λ f. (c == 96) && (on && f)) (sym code_free) ∙ h) (ap (λ v. (v == 36) && (math && (escaped || not (is_some_code (is_value 36) previous)))) b.value ∙ ap (λ f. (c == 36) && (math && f)) (sym math_free) ∙ g))))))
+
+-- over a code that is neither a line ending nor the marker, a call does no more than pass it
+pub data-steady : (T : Tokenizer) (set : List ℕ) → data_stops T.tokenize_state ≡ Some set → is_free set (current_of T) ≡ true → data_step T ≡ stepped (Next RawTextData) (consumed T)
+data-steady T set known free =
+    let m : ℕ = T.tokenize_state.marker in
+    steady-at set T data_at (stepped (Next RawTextData) (consumed T)) free (λ v a b.
+    let other : (v == m) ≡ false = alone-other v m set (alone-is (codes "`$") m set known) b in
+    rw (a, other) refl)

@@ -1,11 +1,12 @@
 -- What the states of code spans and math spans do, and how runs from them end.
-use Rattle.std.specs.Prelude.{◌≡◌, ℕ, ◌+◌, ◌<◌, ◌^◌, Bool, true, false, ◌&&◌, ◌||◌, not, nat_lt, ◌==◌, if◌then◌else◌, Option, Some, None, List, [], ◌∷◌, ◌++◌, length}
+use Rattle.std.specs.Prelude.{◌≡◌, ℕ, ◌+◌, ◌<◌, ◌^◌, Bool, true, false, ◌&&◌, ◌||◌, not, nat_lt, ◌==◌, if◌then◌else◌, Option, Some, None, codes, List, [], ◌∷◌, ◌++◌, length}
 use Rattle.markdown_engine.specs.Codes.{Code, is_line_ending}
 use Rattle.markdown_engine.specs.Ops.{Op, Enter, Exit, Consume, IsOpen, done, current_of, previous_of, scratched}
 use Rattle.markdown_engine.specs.Past.{EndsAs, TreeReading}
 use Rattle.markdown_engine.specs.Place.{last_of}
 use Rattle.markdown_engine.specs.RunIndex.{last_runs, rules_out}
 use Rattle.markdown_engine.specs.Runs.{Stepped, stepped}
+use Rattle.markdown_engine.specs.Steady.{alone_among}
 use Rattle.markdown_engine.specs.Tree.{◌⊕◌, leaf}
 use Rattle.markdown_engine.specs.TreeOps.{consumes, ops_of}
 use Rattle.markdown_model.specs.CodeTests.{is_value}
@@ -138,6 +139,10 @@ data_at (Some c) T =
 
 abbrev pub data_step : Tokenizer → Stepped
 data_step T = data_at (current_of T) T
+
+-- data does other than go on at the marker alone, line endings aside
+abbrev pub data_stops : TokenizeState → Option (List ℕ)
+data_stops s = alone_among (codes "`$") s.marker
 
 abbrev pub after_run : Tokenizer → Stepped
 after_run T =

@@ -6,12 +6,14 @@
 
 ghost use Rattle.std.specs.Prelude.{◌≡◌, IfOk, OnErr, IsTrue};
 ghost use Rattle.markdown_engine.specs.Ops.{HasCode, scratched};
-ghost use Rattle.markdown_leaf.specs.RawText.{start_step, sequence_open_step, between_step, data_step, sequence_close_step, after_opening, after_run, opened, is_barred, is_hopeless, ends_escape, follows_escape, rested, names_in, SequenceOpenReady, BetweenReady, DataReady, SequenceCloseReady};
+ghost use Rattle.markdown_leaf.specs.RawText.{start_step, sequence_open_step, between_step, data_step, data_stops, sequence_close_step, after_opening, after_run, opened, is_barred, is_hopeless, ends_escape, follows_escape, rested, names_in, SequenceOpenReady, BetweenReady, DataReady, SequenceCloseReady};
 
 use crate::renaming::rename_entered;
+use markdown_engine::byte_set;
+use markdown_engine::bytes::ByteSet;
 use markdown_engine::event::{Event, Kind, Name};
 use markdown_engine::state::{State, StateName};
-use markdown_engine::tokenizer::Tokenizer;
+use markdown_engine::tokenizer::{TokenizeState, Tokenizer};
 use std::alloc::AllocError;
 
 // Whether the event ends an escape.
@@ -200,6 +202,17 @@ pub fn data(tokenizer: &mut Tokenizer) -> Result<State, AllocError>
             tokenizer.exit(tokenizer.tokenize_state.token_3)?;
             Ok(State::Retry(StateName::RawTextBetween))
         }
+    }
+}
+
+/// The byte at which data of a span stops, line endings aside: its marker. Takes no memory.
+pub fn data_stops(fields: &TokenizeState) -> Option<ByteSet>
+    ensures { result ≡ data_stops fields.now }
+{
+    match fields.marker {
+        b'`' => Some(byte_set!(b'`')),
+        b'$' => Some(byte_set!(b'$')),
+        _ => None,
     }
 }
 

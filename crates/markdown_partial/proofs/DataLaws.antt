@@ -2,7 +2,8 @@
 use Rattle.std.proofs.Common.{◌≡◌, ℕ, ◌+◌, ◌≤◌, ◌==◌, ◌||◌, Bool, true, false, Some, None, List, [], ◌∷◌, ◌++◌, length, refl, sym, ap, subst, ◌∙◌, arith, append-nil}
 use Rattle.markdown_engine.specs.Codes.{Code}
 use Rattle.markdown_engine.specs.Lists.{rest_of}
-use Rattle.markdown_engine.specs.Ops.{current_of, ahead, exited, applied, IsOpen, done, Exit, Consume}
+use Rattle.markdown_engine.specs.Ops.{current_of, ahead, exited, consumed, applied, IsOpen, done, Exit, Consume}
+use Rattle.markdown_engine.specs.Stretch.{is_free}
 use Rattle.markdown_engine.specs.Past.{EndsAs, past, passed, behind, last_link}
 use Rattle.markdown_engine.specs.Runs.{Stepped, stepped}
 use Rattle.markdown_engine.specs.Tree.{Forest, empty, leaf, leaf_codes}
@@ -15,11 +16,12 @@ use Rattle.markdown_engine.specs.declared.tokenizer.TokenizeState.{TokenizeState
 use Rattle.markdown_engine.specs.declared.tokenizer.Tokenizer.{Tokenizer}
 use Rattle.markdown_engine.proofs.EndsLemmas.{EndsAs-then, scratched-same}
 use Rattle.markdown_engine.proofs.Laws.{if-step, code-step}
+use Rattle.markdown_engine.proofs.SteadyLemmas.{steady-at}
 use Rattle.markdown_engine.proofs.OpRules.{Begins, ahead-none, ahead-some, some-codes}
 use Rattle.markdown_engine.proofs.OpsLemmas.{ahead-done, left-done, scratch-done}
 use Rattle.markdown_engine.proofs.TreeLemmas.{done-leaf, leaf-past, ahead-past}
 use Rattle.markdown_model.specs.Lines.{data_up_to}
-use Rattle.markdown_partial.specs.DataSteps.{marks, markers_of, ending, opening, passing, start_at, at_break_at, leaving, inside_at, more_data, is_plain, stretch_of, past_stretch, start_ends, at_break_ends, inside_ends, states, at_break_words, inside_words, start_words}
+use Rattle.markdown_partial.specs.DataSteps.{inside_step, inside_stops, marks, markers_of, ending, opening, passing, start_at, at_break_at, leaving, inside_at, more_data, is_plain, stretch_of, past_stretch, start_ends, at_break_ends, inside_ends, states, at_break_words, inside_words, start_words}
 use Rattle.markdown_partial.proofs.RunLemmas.{EndsAs-same, EndsAs-here}
 use Rattle.markdown_partial.proofs.LineLemmas.{up_to_break, data-then, ending-then, more-goes, more-stops, break-stops, break-goes}
 use Rattle.markdown_model.proofs.Leaves.{span-append}
@@ -177,3 +179,11 @@ inside-law W within T alone token =
     (λ h. let Y : Tokenizer = done (Consume ∷ []) T in
     let less : codes_left Y + 1 ≡ codes_left T = left-done (Consume ∷ []) T (some-codes T v e) in
     Goes-ops W n (inside_ends T) (Next DataInside) (within DataInside) (Consume ∷ []) T alone (stack-consumed T token) (omega (arith, less)) (λ ok U k. stretch-goes T v e h ok U k)))
+
+-- over a code that is neither a line ending nor a marker, a call does no more than pass it
+pub inside-steady : (T : Tokenizer) (set : List ℕ) → inside_stops T.tokenize_state ≡ Some set → is_free set (current_of T) ≡ true → inside_step T ≡ stepped (Next DataInside) (consumed T)
+inside-steady T set known free =
+    steady-at set T inside_at (stepped (Next DataInside) (consumed T)) free (λ v a b.
+    let same : markers_of T ≡ set = cc in
+    let other : marks (markers_of T) v ≡ false = ap (λ (m : List ℕ). marks m v) same ∙ b in
+    rw (a, other) refl)

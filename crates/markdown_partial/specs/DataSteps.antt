@@ -12,6 +12,7 @@ use Rattle.markdown_engine.specs.declared.event.Name.TheVariants as N
 use Rattle.markdown_engine.specs.declared.state.State.TheVariants.{Next, Retry}
 use Rattle.markdown_engine.specs.declared.state.State.TheVariants as State
 use Rattle.markdown_engine.specs.declared.state.StateName.TheVariants.{DataAtBreak, DataInside, DataStart}
+use Rattle.markdown_engine.specs.declared.tokenizer.TokenizeState.{TokenizeState}
 use Rattle.markdown_engine.specs.declared.tokenizer.Tokenizer.{Tokenizer}
 use Rattle.markdown_engine.specs.StateWords.{StateWords}
 use Rattle.markdown_engine.specs.declared.state.StateName.{StateName}
@@ -59,6 +60,10 @@ inside_at (Some v) T =
 
 abbrev pub inside_step : Tokenizer → Stepped
 inside_step T = inside_at (current_of T) T
+
+-- in a stretch, data does other than go on at a marker alone, line endings aside
+abbrev pub inside_stops : TokenizeState → Option (List ℕ)
+inside_stops s = Some s.markers
 
 -- How runs end.
 

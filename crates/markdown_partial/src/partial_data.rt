@@ -8,23 +8,17 @@ ghost use Rattle.markdown_engine.specs.Edits.{edited};
 ghost use Rattle.markdown_engine.specs.Past.{appended_from};
 ghost use Rattle.markdown_engine.specs.Tree.{Forest};
 ghost use Rattle.markdown_model.specs.Passes.{merged};
-ghost use Rattle.markdown_partial.specs.DataSteps.{marks, passing, start_step, at_break_step, inside_step};
+ghost use Rattle.markdown_partial.specs.DataSteps.{passing, start_step, at_break_step, inside_step, inside_stops};
 ghost use Rattle.markdown_partial.specs.Merge.{opens_data, closes_data, joint, marked, joints, HasData};
 
+use markdown_engine::bytes::ByteSet;
 use markdown_engine::event::{Event, Kind, Name};
 use markdown_engine::events::Events;
 use markdown_engine::state::{State, StateName};
 use markdown_engine::subtokenize::Subresult;
-use markdown_engine::tokenizer::{Markers, Tokenizer};
+use markdown_engine::tokenizer::{TokenizeState, Tokenizer};
 use markdown_engine::util::edit_map::EditMap;
 use std::alloc::{AllocError, Global};
-
-// Whether data stops at this byte.
-fn is_marker(markers: &Markers, byte: u8) -> bool
-    ensures { result ≡ marks markers.now byte }
-{
-    markers.as_slice().iter().any(|marker| byte == *marker)
-}
 
 // Passes the code at hand, a line ending or the first code of a stretch.
 fn pass(tokenizer: &mut Tokenizer, byte: u8) -> Result<State, AllocError>
@@ -65,7 +59,7 @@ pub fn at_break(tokenizer: &mut Tokenizer) -> Result<State, AllocError>
     ensures err { OnErr result (IsTrue tokenizer.new.failed) }
 {
     match tokenizer.current() {
-        Some(byte) if !is_marker(&tokenizer.tokenize_state.markers, byte) => pass(tokenizer, byte),
+        Some(byte) if !tokenizer.tokenize_state.markers.contains(byte) => pass(tokenizer, byte),
         _ => Ok(State::Ok),
     }
 }
@@ -79,7 +73,7 @@ pub fn inside(tokenizer: &mut Tokenizer) -> Result<State, AllocError>
     ensures err { OnErr result (IsTrue tokenizer.new.failed) }
 {
     match tokenizer.current() {
-        Some(byte) if byte != b'\n' && !is_marker(&tokenizer.tokenize_state.markers, byte) => {
+        Some(byte) if byte != b'\n' && !tokenizer.tokenize_state.markers.contains(byte) => {
             tokenizer.consume();
             Ok(State::Next(StateName::DataInside))
         }
@@ -88,6 +82,13 @@ pub fn inside(tokenizer: &mut Tokenizer) -> Result<State, AllocError>
             Ok(State::Retry(StateName::DataAtBreak))
         }
     }
+}
+
+/// The bytes at which a stretch of data stops, line endings aside: the markers. Takes no memory.
+pub fn inside_stops(fields: &TokenizeState) -> Option<ByteSet>
+    ensures { result ≡ inside_stops fields.now }
+{
+    Some(fields.markers.again())
 }
 
 // Whether this is the Enter of data without a link.

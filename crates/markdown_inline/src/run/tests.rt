@@ -10,11 +10,13 @@ ghost use Rattle.markdown_partial.specs.SpaceSteps.{most};
 use super::fixtures::state_of;
 use super::{Piece, construct, whole_document};
 use crate::{partial_space_or_tab, partial_space_or_tab_eol};
+use markdown_engine::byte_set;
+use markdown_engine::bytes::ByteSet;
 use markdown_engine::configuration::{Constructs, ParseOptions};
 use markdown_engine::event::{Content, Link, Name};
 use markdown_engine::parser::ParseState;
 use markdown_engine::state::StateName;
-use markdown_engine::tokenizer::{Markers, Tokenizer};
+use markdown_engine::tokenizer::Tokenizer;
 use std::alloc::Global;
 use std::test::Fail;
 
@@ -97,10 +99,10 @@ fn is_spacing_at_rest(tokenizer: &Tokenizer) -> bool {
 }
 
 // Sets the bytes at which data stops.
-fn mark(tokenizer: &mut Tokenizer, markers: &'static [u8])
+fn mark(tokenizer: &mut Tokenizer, markers: ByteSet)
     ensures { tokenizer.new.attempts ≡ tokenizer.old.attempts }
 {
-    tokenizer.tokenize_state.markers = Markers::new(markers);
+    tokenizer.tokenize_state.markers = markers;
 }
 
 #[test]
@@ -135,7 +137,7 @@ fn reads_single_data(rt: HostRuntime) -> Result<(), Fail> {
         let parse_state = state_of(alloc, text.as_bytes(), &options);
         let pieces = [whole_document(text.as_bytes())];
         let mut tokenizer = Tokenizer::new(alloc, &parse_state, &pieces);
-        mark(&mut tokenizer, b"*");
+        mark(&mut tokenizer, byte_set!(b'*'));
         let found = construct(StateName::DataStart, &mut tokenizer)?;
         assert!(rt; found, "{text}");
         assert_eq!(rt; tokenizer.events.len(), events, "{text}");

@@ -6,7 +6,7 @@ abbrev pub invariant-loop-index : goal.invariant-loop-index
 invariant-loop-index l = record {
   from : l.from ≤ l.index;
   to : l.index ≤ l.to;
-  plain : ArePlain l.markers l.bytes l.from l.index;
+  plain : ArePlain l.stops l.bytes l.from l.index;
 }
 
 abbrev pub decreases-loop-index : goal.decreases-loop-index

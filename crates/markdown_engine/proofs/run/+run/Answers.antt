@@ -25,13 +25,14 @@ step_over-loop-attempt-preserved g t c =
 pub run_from-loop-state-preserved : goal.run_from-loop-state-preserved
 run_from-loop-state-preserved g t c =
     let now = c.in_ok-state-in-Next.ensures in
+    let on = c.pass_stretch.ensures in
     let before = c.loop-state.invariant in
     record {
       alone = now.alone;
       goes_on = now.goes.goes_on;
-      below = omega (arith, now.goes.falls, before.below, weight-next g.L.Layer.weight c.loop-state.state c.in-Next.name c.loop-state.tokenizer c.in-Next.is);
-      calls = λ ok U k. before.calls ok U (Reaches-state g.L.Layer.ready g.L.Layer.step c.loop-state.state c.in-Next.name c.loop-state.tokenizer ok U c.in-Next.is (now.calls ok U k));
-      ends = λ ok U k. before.ends ok U (ends-next g.L.Layer.ends c.loop-state.state c.in-Next.name c.loop-state.tokenizer ok U c.in-Next.is (now.ends ok U k));
+      below = omega (arith, now.goes.falls, on.below, before.below, weight-next g.L.Layer.weight c.loop-state.state c.in-Next.name c.loop-state.tokenizer c.in-Next.is);
+      calls = λ ok U k. before.calls ok U (Reaches-state g.L.Layer.ready g.L.Layer.step c.loop-state.state c.in-Next.name c.loop-state.tokenizer ok U c.in-Next.is (on.calls ok U (now.calls ok U k)));
+      ends = λ ok U k. before.ends ok U (ends-next g.L.Layer.ends c.loop-state.state c.in-Next.name c.loop-state.tokenizer ok U c.in-Next.is (on.ends_so ok U (now.ends ok U k)));
     }
 
 pub step_over-returns-then-is_empty-clause-goes : goal.step_over-returns-then-is_empty-clause-goes

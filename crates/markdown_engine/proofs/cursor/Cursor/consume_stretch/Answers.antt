@@ -6,13 +6,13 @@ use Rattle.markdown_engine.proofs.cursor.Cursor.consume_stretch.Goals as goal
 
 pub loop-self-smaller : goal.loop-self-smaller
 loop-self-smaller c =
-    fewer c.args.markers.now c.loop-self.self c.consume.new.self c.pass_plain-in-loop-self.new.self (sym c.is_free.ensures ∙ c.loop-self-test.true) c.consume.ensures c.pass_plain-in-loop-self.ensures.codes c.pass_plain-in-loop-self.ensures.forward
+    fewer c.args.stops.now c.loop-self.self c.consume.new.self c.pass_plain-in-loop-self.new.self (sym c.is_free.ensures ∙ c.loop-self-test.true) c.consume.ensures c.pass_plain-in-loop-self.ensures.codes c.pass_plain-in-loop-self.ensures.forward
 
 pub loop-self-preserved : goal.loop-self-preserved
 loop-self-preserved c =
-    c.pass_plain-in-loop-self.ensures.past ∙ ap (past_stretch c.args.markers.now) c.consume.ensures
-    ∙ sym (past-one c.args.markers.now c.loop-self.self (sym c.is_free.ensures ∙ c.loop-self-test.true)) ∙ c.loop-self.invariant
+    c.pass_plain-in-loop-self.ensures.past ∙ ap (past_stretch c.args.stops.now) c.consume.ensures
+    ∙ sym (past-one c.args.stops.now c.loop-self.self (sym c.is_free.ensures ∙ c.loop-self-test.true)) ∙ c.loop-self.invariant
 
 pub returns : goal.returns
 returns c =
-    sym (past-none c.args.markers.now c.loop-self.self (sym c.is_free.ensures ∙ c.loop-self-test.false)) ∙ c.loop-self.invariant ∙ c.pass_plain.ensures.past
+    sym (past-none c.args.stops.now c.loop-self.self (sym c.is_free.ensures ∙ c.loop-self-test.false)) ∙ c.loop-self.invariant ∙ c.pass_plain.ensures.past

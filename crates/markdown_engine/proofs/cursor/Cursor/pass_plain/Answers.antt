@@ -6,8 +6,8 @@ use Rattle.markdown_engine.proofs.Past.{Fits_point, point_fits}
 use Rattle.markdown_engine.proofs.Stretches.{plain_run, IsRun}
 use Rattle.markdown_engine.proofs.cursor.Cursor.pass_plain.Goals as goal
 
-pub overflow_add-point : goal.overflow_add-point
-overflow_add-point c =
+pub overflow_add-next : goal.overflow_add-next
+overflow_add-next c =
     let n : Fits_point c.self.inside.point = point_fits c.self.inside.bytes.now c.self.inside.point c.self.invariant.standing.is_point c.self.invariant.standing.content.fits in
     omega (arith, n.column, c.plain_end.ensures.to, c.min-end.ensures, c.self.invariant.standing.content.fits)
 
@@ -20,13 +20,13 @@ pub invariant_of-self : goal.invariant_of-self
 invariant_of-self c =
     let d : Piece = record { start = (0, 0); end = (0, 0) } in
     let m : ℕ = c.plain_end.result - c.self.inside.point.index in
-    (plain_run c.args.markers.now c.self.invariant d (omega (arith, c.if-self.false)) m (omega (arith, c.if-count-eq0.false)) (omega (arith, c.plain_end.ensures.from, c.plain_end.ensures.to, c.min-end.ensures, c.if-end-start.false))
+    (plain_run c.args.stops.now c.self.invariant d (omega (arith, c.if-self.false)) m (omega (arith, c.if-count-eq0.false)) (omega (arith, c.plain_end.ensures.from, c.plain_end.ensures.to, c.min-end.ensures, c.if-end-start.false))
     (λ i a b. c.plain_end.ensures.plain i a (omega (arith, b, c.plain_end.ensures.from)))).cursor
 
 pub returns-clause-past : goal.returns-clause-past
 returns-clause-past c =
     let d : Piece = record { start = (0, 0); end = (0, 0) } in
     let m : ℕ = c.plain_end.result - c.self.inside.point.index in
-    sym ((plain_run c.args.markers.now c.self.invariant d (omega (arith, c.if-self.false)) m (omega (arith, c.if-count-eq0.false)) (omega (arith, c.plain_end.ensures.from, c.plain_end.ensures.to, c.min-end.ensures, c.if-end-start.false))
+    sym ((plain_run c.args.stops.now c.self.invariant d (omega (arith, c.if-self.false)) m (omega (arith, c.if-count-eq0.false)) (omega (arith, c.plain_end.ensures.from, c.plain_end.ensures.to, c.min-end.ensures, c.if-end-start.false))
     (λ i a b. c.plain_end.ensures.plain i a (omega (arith, b, c.plain_end.ensures.from)))).past)
-    ∙ ap (past_stretch c.args.markers.now) c.self.view_is
+    ∙ ap (past_stretch c.args.stops.now) c.self.view_is
