@@ -1,3 +1,4 @@
+-- The proofs of the starts and ends of labels.
 pub mod TextBetween
 pub mod AfterSteps
 pub mod StartStack
@@ -14,3 +15,4 @@ pub mod ReferenceFullLaws
 pub mod LabelStartLaws
 pub mod TailsSound
 pub mod Joined
+pub mod BegunStarts

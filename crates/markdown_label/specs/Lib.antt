@@ -1,3 +1,4 @@
+-- What contracts of the starts and ends of labels speak of.
 pub mod Settings
 pub mod Fields
 pub mod LabelEnd

@@ -1,7 +1,7 @@
 // Identifiers of labels.
 #![tactic(auto)]
 
-ghost use Rattle.std.specs.Prelude.{◌≡◌, ◌∷◌, map, ◌&&◌, string_bytes, IfOk, OnOk, OnErr, IsTrue};
+ghost use Rattle.std.specs.Prelude.{◌≡◌, ◌∷◌, [], map, ◌&&◌, string_bytes, IfOk, OnOk, OnErr, IsTrue};
 ghost use Rattle.std.specs.List.{list_any};
 ghost use Rattle.std.specs.Str.{bytes_eq};
 ghost use Rattle.markdown_label.specs.LabelEnd.{AreAround};
@@ -60,6 +60,15 @@ fn link_identifier(alloc: Global, kind: LabelKind, name: &str) -> Result<String,
     }
     text.push_str(name)?;
     Ok(text)
+}
+
+// Whether nothing is defined, so that no identifier has to be read.
+pub(crate) fn defines_nothing(tokenizer: &Tokenizer) -> bool
+    ensures definitions { IsTrue result → (setting_in tokenizer.now).definitions ≡ [] }
+    ensures footnotes { IsTrue result → (setting_in tokenizer.now).footnotes ≡ [] }
+{
+    tokenizer.parse_state.definitions.is_empty()
+        && tokenizer.parse_state.gfm_footnote_definitions.is_empty()
 }
 
 // Whether a label of this kind with this identifier is a footnote call.

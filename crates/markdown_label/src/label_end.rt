@@ -13,7 +13,7 @@ ghost use Rattle.markdown_resource.specs.Parts.{names_rested};
 ghost use Rattle.markdown_label.specs.Fields.{bars, tried, marked};
 ghost use Rattle.markdown_label.specs.LabelEnd.{LabelIsAround, ReferenceIsAround, start_step, tail_at, after_step, ok_step, nok_step, names_set, reference_full_step, reference_full_after_step, reference_full_missing_step, reference_not_full_step, reference_collapsed_step, reference_collapsed_open_step};
 
-use crate::identifier::{is_call, is_link, name_between, names_definition};
+use crate::identifier::{defines_nothing, is_call, is_link, name_between, names_definition};
 use markdown_engine::event::Name;
 use markdown_engine::resolve::ResolveName;
 use markdown_engine::seq::Stack;
@@ -154,7 +154,7 @@ fn tail(tokenizer: &mut Tokenizer, defined: bool) -> Result<State, AllocError>
 
 /// Behind a `]`: a call is made, or what follows is tried.
 ///
-/// The error comes where memory is refused; then `failed` is true.
+/// The label is read only where something is defined. The error comes where memory is refused; then `failed` is true.
 pub fn after(tokenizer: &mut Tokenizer) -> Result<State, AllocError>
     requires { LabelIsAround tokenizer.old }
     ensures ok { IfOk result (λ s. after_step tokenizer.old ≡ record { state = s; left = tokenizer.new }) }
@@ -164,6 +164,10 @@ pub fn after(tokenizer: &mut Tokenizer) -> Result<State, AllocError>
         return Ok(State::Nok);
     };
     let start = *top;
+    if defines_nothing(tokenizer) {
+        try_last(&mut tokenizer.tokenize_state.label_starts);
+        return tail(tokenizer, false);
+    }
     let end = tokenizer.tokenize_state.end;
     let name = name_between(tokenizer, start.start.1, end)?;
     if is_call(tokenizer, start.kind, name.as_str()) {

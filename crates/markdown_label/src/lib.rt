@@ -7,5 +7,3 @@ pub mod label_end;
 pub mod label_start_image;
 pub mod label_start_link;
 mod starts;
-#[cfg(test)]
-mod tests;

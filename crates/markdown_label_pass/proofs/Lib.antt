@@ -1,3 +1,4 @@
+-- The proofs of the pass of labels, and of what it leaves to pairs and merging.
 pub mod BracketRows
 pub mod BracketEdits
 pub mod BracketReads

@@ -1,3 +1,4 @@
+-- The proofs of resources.
 pub mod NextCodes
 pub mod ResourceReadings
 pub mod ResourceLaws

@@ -1,3 +1,4 @@
+-- The six events of a footnote call's start are there.
 use Rattle.std.proofs.Common.{◌≤◌, length, sym, ap, subst, ◌∙◌}
 use Rattle.markdown_engine.specs.Ops.{Enter, Exit, Consume, applied}
 use Rattle.markdown_engine.specs.declared.event.Name.TheVariants as N

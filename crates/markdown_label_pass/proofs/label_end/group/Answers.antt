@@ -1,3 +1,4 @@
+-- The edits that are asked for are those of the brackets.
 use Rattle.std.proofs.Common.{◌∙◌, List, length, sym, ap, subst}
 use Rattle.std.specs.List.{All}
 use Rattle.markdown_engine.specs.declared.tokenizer.Label.{Label}

@@ -1,3 +1,4 @@
+-- The next start is marked.
 use Rattle.std.proofs.Common.{length, arith}
 use Rattle.markdown_label_pass.proofs.Handing.{start-within, starts-step}
 use Rattle.markdown_label_pass.proofs.label_end.mark_failed.Goals as goal

@@ -1,3 +1,4 @@
+-- The starts so far are marked.
 use Rattle.std.proofs.Common.{◌≡◌, ◌++◌, take}
 use Rattle.markdown_label_pass.specs.Brackets.{loose_edits}
 use Rattle.markdown_label_pass.specs.Handover.{starts_of}

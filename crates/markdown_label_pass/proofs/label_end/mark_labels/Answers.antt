@@ -1,3 +1,4 @@
+-- The next label is marked.
 use Rattle.std.proofs.Common.{arith}
 use Rattle.markdown_label_pass.proofs.Handing.{labels-step}
 use Rattle.markdown_label_pass.proofs.label_end.mark_labels.Goals as goal

@@ -1,3 +1,4 @@
+-- The labels so far are marked.
 use Rattle.std.proofs.Common.{◌≡◌, ◌++◌, take}
 use Rattle.markdown_label_pass.specs.Brackets.{labels_edits}
 use Rattle.markdown_label_pass.proofs.label_end.mark_labels.Given as goal

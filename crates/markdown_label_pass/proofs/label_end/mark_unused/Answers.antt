@@ -1,3 +1,4 @@
+-- The top is marked and taken off.
 use Rattle.std.proofs.Common.{◌++◌, length}
 use Rattle.markdown_label_pass.specs.Brackets.{loose_edits}
 use Rattle.markdown_label_pass.specs.Handover.{starts_of}

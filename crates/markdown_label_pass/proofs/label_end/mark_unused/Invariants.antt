@@ -1,3 +1,4 @@
+-- The starts so far are marked, and the rest is still to come.
 use Rattle.std.proofs.Common.{◌≡◌, ◌++◌, length}
 use Rattle.std.specs.List.{All}
 use Rattle.markdown_label_pass.specs.Brackets.{loose_edits, IsStartWithin}

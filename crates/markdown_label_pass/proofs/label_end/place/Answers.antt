@@ -1,3 +1,4 @@
+-- Where an event stands.
 use Rattle.markdown_label_pass.proofs.Grouping.{place-get}
 use Rattle.markdown_label_pass.proofs.label_end.place.Goals as goal
 
