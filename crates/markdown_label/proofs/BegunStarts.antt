@@ -22,9 +22,9 @@ use Rattle.markdown_engine.proofs.OpRules.{ahead-moved}
 use Rattle.markdown_engine.proofs.OpsLemmas.{and-left, and-right}
 use Rattle.markdown_engine.proofs.SolidLemmas.{IsSolid-group, IsSolid-leaf, IsSolid-row}
 use Rattle.markdown_engine.proofs.TreeLemmas.{ops-past, ahead-past}
-use Rattle.markdown_leaf.specs.Characters.{bytes_of, ReadsText}
-use Rattle.markdown_leaf.proofs.TextPasses.{text-moved}
-use Rattle.markdown_leaf.proofs.TextPlaces.{marker-ends}
+use Rattle.markdown_construct.specs.Characters.{bytes_of, ReadsText}
+use Rattle.markdown_construct.proofs.TextPasses.{text-moved}
+use Rattle.markdown_construct.proofs.TextPlaces.{marker-ends}
 use Rattle.markdown_model.specs.CodeTests.{is_value, next_is}
 use Rattle.markdown_model.specs.Passes.{start_tree}
 use Rattle.markdown_label.specs.Fields.{begun}
