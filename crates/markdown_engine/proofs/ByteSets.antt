@@ -1,6 +1,5 @@
 -- What the table of a set of bytes says.
-use Rattle.std.proofs.Common.{ℕ, zero, suc, ◌+◌, ◌<◌, Bool, true, false, not, ◌&&◌, ◌==◌, ◌≡◌, arith, List, [], ◌∷◌, get_or, refl, sym, ap, ◌∙◌}
-use Rattle.std.specs.Prelude.{nat_lt}
+use Rattle.std.proofs.Common.{ℕ, zero, suc, ◌+◌, ◌<◌, Bool, true, false, not, ◌==◌, ◌≡◌, arith, List, [], ◌∷◌, get_or, refl, ap, ◌∙◌}
 use Rattle.std.specs.List.{list_any}
 use Rattle.std.proofs.lemmas.Bool.{both_ways, and_parts, eqb-true}
 use Rattle.std.proofs.lemmas.Bool.Decides.{nat_tests}

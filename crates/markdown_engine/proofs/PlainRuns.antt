@@ -1,14 +1,14 @@
 -- A cursor past ordinary bytes of a piece.
-use Rattle.std.proofs.Common.{ℕ, zero, suc, ◌+◌, ◌-◌, ◌<◌, ◌≤◌, ◌^◌, Bool, true, false, not, ◌&&◌, ◌==◌, ◌≡◌, arith, List, [], ◌∷◌, length, drop, get_or, refl, sym, ap, subst, ◌∙◌, Option, Some, None, IsSome}
+use Rattle.std.proofs.Common.{ℕ, ◌+◌, ◌<◌, ◌≤◌, true, false, not, ◌&&◌, ◌==◌, ◌≡◌, arith, List, length, drop, get_or, refl, sym, ap, subst, ◌∙◌, Option, Some, IsSome}
 use Rattle.std.proofs.lemmas.List.{drop_more}
 use Rattle.std.proofs.lemmas.Bool.Decides.{nat_tests}
 use Rattle.markdown_engine.specs.declared.event.Point.{Point}
 use Rattle.markdown_engine.specs.declared.parser.Piece.{Piece}
 use Rattle.markdown_engine.specs.Codes.{is_line_ending_byte, tab_value, next_column, place_of}
-use Rattle.markdown_engine.specs.Place.{Place, code_at}
-use Rattle.markdown_engine.specs.Standing.{is_open, IsCursor, IsStanding, content_place}
+use Rattle.markdown_engine.specs.Place.{code_at}
+use Rattle.markdown_engine.specs.Standing.{is_open, IsCursor, content_place}
 use Rattle.markdown_engine.specs.Walk.{next_point, value_from}
-use Rattle.markdown_engine.proofs.Past.{Fits_point, point_fits, next_byte, value_byte, other_byte}
+use Rattle.markdown_engine.proofs.Past.{next_byte, value_byte, other_byte}
 use Rattle.markdown_engine.proofs.Follows.{followed-open}
 use Rattle.markdown_engine.proofs.CursorSteps.{at_code, IsAtCode, cursor_next}
 

@@ -1,10 +1,10 @@
 -- A stretch of codes over which a state goes on by itself means as many steps.
-use Rattle.std.proofs.Common.{◌≡◌, ℕ, ◌≤◌, ◌<◌, ◌==◌, ◌||◌, Bool, true, false, not, if◌then◌else◌, List, [], ◌∷◌, Option, Some, None, refl, sym, ap, subst, arith, ◌∙◌}
+use Rattle.std.proofs.Common.{◌≡◌, ℕ, ◌==◌, ◌||◌, Bool, true, false, if◌then◌else◌, List, [], ◌∷◌, Option, Some, None, refl, sym, ap, subst, arith, ◌∙◌}
 use Rattle.std.specs.List.{list_any}
 use Rattle.std.proofs.lemmas.Bool.{both_ways, not-true, eqb-true}
 use Rattle.markdown_engine.specs.Codes.{Code, line_feed}
 use Rattle.markdown_engine.specs.Ops.{current_of, ahead, applied, consumed}
-use Rattle.markdown_engine.specs.Place.{Place, code_at, ahead_at, moved}
+use Rattle.markdown_engine.specs.Place.{Place, ahead_at, moved}
 use Rattle.markdown_engine.specs.Reach.{Reaches}
 use Rattle.markdown_engine.specs.Runs.{Stepped, stepped, settled, MayGo, GoesOn, ends_state, Lawful}
 use Rattle.markdown_engine.specs.Steady.{IsSteady, Onward, alone_among}

@@ -1,6 +1,6 @@
 // Sets of bytes, and which bytes text goes on over at once.
 ghost use Rattle.std.specs.List.{list_any};
-ghost use Rattle.std.specs.Prelude.{◌≡◌, ◌==◌, ℕ, IsTrue};
+ghost use Rattle.std.specs.Prelude.{◌≡◌, ◌==◌, ◌∷◌, [], ℕ, IsTrue};
 ghost use Rattle.markdown_engine.specs.Plain.{is_plain, is_plain_table};
 
 use std::marker::Model;
@@ -97,9 +97,15 @@ mod tests {
     use super::*;
     use crate::byte_set;
 
+    fn hyphen_and_tab() -> ByteSet
+        ensures { result ≡ 45 ∷ 9 ∷ [] }
+    {
+        byte_set!(b'-', b'\t')
+    }
+
     #[test]
     fn tells_bytes(rt: HostRuntime) {
-        let set = byte_set!(b'-', b'\t');
+        let set = hyphen_and_tab();
         assert_eq!(rt; set.as_slice(), b"-\t".as_slice());
         for (byte, contained, plain) in [
             (b'-', true, false),

@@ -1,5 +1,5 @@
 // A place in a content, which hides the pieces, the tabs and what is left out of the lines.
-ghost use Rattle.std.specs.Prelude.{◌≡◌, ℕ, List, drop, length, ◌<◌, ◌≤◌, IsSome, IsTrue};
+ghost use Rattle.std.specs.Prelude.{◌≡◌, ◌∷◌, [], ℕ, List, drop, length, ◌<◌, ◌≤◌, IsSome, IsTrue};
 ghost use Rattle.markdown_engine.specs.Codes.{line_feed, place_of};
 ghost use Rattle.markdown_engine.specs.Content.{IsContent};
 ghost use Rattle.markdown_engine.specs.Place.{start_of_content, code_at, code_before, point_of, exit_point, moved};
@@ -280,6 +280,7 @@ fn follow(bytes: &[u8], pieces: &[Piece], piece: usize, point: Point) -> (usize,
 #[cfg(test)]
 mod tests {
     use super::*;
+    use crate::byte_set;
     use crate::content::is_content;
     use std::process::Abort;
 
@@ -392,6 +393,33 @@ mod tests {
                 (None, (1, 6, 3, 0), (6, 3)),
             ],
         );
+    }
+
+    fn hyphen() -> ByteSet
+        ensures { result ≡ 45 ∷ [] }
+    {
+        byte_set!(b'-')
+    }
+
+    // A stretch goes on over tabs and control codes, and stops at a line ending, at one of the bytes and at the end.
+    #[test]
+    fn passes_stretches(rt: HostRuntime) {
+        let bytes = b"a\tb\x01c-d\r\ne";
+        let pieces = [piece((0, 0), (10, 0))];
+        assert!(rt; is_content(bytes, &pieces));
+        let mut cursor = Cursor::new(bytes, &pieces);
+        for (passed, column, before, code) in [
+            (7, 8, Some(b'c'), Some(b'-')),
+            (9, 10, Some(b'd'), Some(b'\n')),
+            (11, 2, Some(b'e'), None),
+        ] {
+            cursor.consume_stretch(&hyphen());
+            assert_eq!(rt; (cursor.passed(), cursor.point().column), (passed, column));
+            assert_eq!(rt; (cursor.previous(), cursor.current()), (before, code));
+            if cursor.current().is_some() {
+                cursor.consume();
+            }
+        }
     }
 
     #[test]

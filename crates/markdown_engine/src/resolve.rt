@@ -11,6 +11,6 @@ pub enum ResolveName {
     Data,
     /// Whitespace of a string is set apart.
     String,
-    /// Whitespace of a text is set apart, and email literals are found.
+    /// Whitespace of a text is set apart; a layer that reads email literals finds them here.
     Text,
 }

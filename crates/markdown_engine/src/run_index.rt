@@ -65,7 +65,8 @@ impl RunIndex {
         Ok(RunIndex { asked, last })
     }
 
-    /// Whether no run of exactly so many of this byte begins at this many codes or after: only where the byte was asked for.
+    /// Whether it is known that no run of exactly so many of this byte begins at this many codes or after; of a byte that was not asked
+    /// for nothing is known, and the answer is false.
     pub fn rules_out(&self, byte: u8, size: usize, at: usize) -> bool
         ensures { result ≡ rules_out self.now byte size at }
     {

@@ -147,11 +147,12 @@ pub enum StateName {
 /// What a state answers: how the run goes on.
 #[derive(Clone, Copy, Debug, PartialEq, Eq)]
 pub enum State {
-    /// With this state; one code was consumed.
+    /// With this state. States answer so where they passed one code; the run goes on as after `Retry`, and what a call passes is what
+    /// the layer says of it.
     Next(StateName),
-    /// With this state, at the same code.
+    /// With this state. States answer so where they passed no code.
     Retry(StateName),
-    /// The construct holds; at most one code was consumed.
+    /// The construct holds. States answer so where they passed one code or none.
     Ok,
     /// The construct does not hold.
     Nok,

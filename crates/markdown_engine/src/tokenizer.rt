@@ -161,7 +161,7 @@ impl TokenizeState {
     }
 }
 
-/// What the next Ok and Nok go on with, and what a Nok restores.
+/// What the next Ok and Nok go on with, and the lengths and the place that a Nok restores.
 #[derive(Drop)]
 pub struct Attempt<'a> {
     /// How the run goes on after an Ok.
@@ -397,7 +397,11 @@ impl<'a> Tokenizer<'a> {
         opened
     }
 
-    /// Goes on with `ok` after the next Ok, keeping all; after the next Nok restores events, edits and place, and goes on with `nok`.
+    /// Goes on with `ok` after the next Ok, keeping all; after the next Nok restores, and goes on with `nok`.
+    ///
+    /// To restore is to take off the events, the edits and the open events beyond as many as there are now, and to go back to this place.
+    /// Those that stay are as the attempt left them: a link that it wrote between two of these events stays, as do scratch fields and
+    /// registered passes.
     ///
     /// The error comes where a growth is refused; then `failed` is true.
     pub fn attempt(&mut self, ok: State, nok: State) -> Result<(), AllocError>

@@ -1,6 +1,5 @@
-use Rattle.std.proofs.Common.{◌∙◌, ap, sym, ◌≡◌, true, false}
-use Rattle.markdown_engine.specs.Place.{code_at}
-use Rattle.markdown_engine.specs.Stretch.{is_free, past_stretch}
+use Rattle.std.proofs.Common.{◌∙◌, ap, sym}
+use Rattle.markdown_engine.specs.Stretch.{past_stretch}
 use Rattle.markdown_engine.proofs.Stretches.{past-one, past-none, fewer}
 use Rattle.markdown_engine.proofs.cursor.Cursor.consume_stretch.Goals as goal
 

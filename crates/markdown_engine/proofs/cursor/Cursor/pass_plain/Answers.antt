@@ -1,9 +1,8 @@
-use Rattle.std.proofs.Common.{◌∙◌, ap, sym, arith, ◌+◌, ◌-◌, ◌<◌, ◌≤◌, ℕ, length, get_or}
-use Rattle.markdown_engine.specs.Plain.{ArePlain}
+use Rattle.std.proofs.Common.{◌∙◌, ap, sym, arith, ◌-◌, ℕ}
 use Rattle.markdown_engine.specs.Stretch.{past_stretch}
 use Rattle.markdown_engine.specs.declared.parser.Piece.{Piece}
 use Rattle.markdown_engine.proofs.Past.{Fits_point, point_fits}
-use Rattle.markdown_engine.proofs.Stretches.{plain_run, IsRun}
+use Rattle.markdown_engine.proofs.Stretches.{plain_run}
 use Rattle.markdown_engine.proofs.cursor.Cursor.pass_plain.Goals as goal
 
 pub overflow_add-next : goal.overflow_add-next
