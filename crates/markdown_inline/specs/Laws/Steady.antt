@@ -1,5 +1,5 @@
 -- The states that pass code after code do no more than that up to their stop bytes.
-use Rattle.std.proofs.Common.{◌≡◌, ℕ, List, Option, None, Some}
+use Rattle.std.proofs.Common.{◌≡◌, ℕ, List, None, Some}
 use Rattle.markdown_engine.specs.Steady.{IsSteady}
 use Rattle.markdown_engine.specs.declared.state.StateName.TheVariants.{DataInside, RawTextData, HtmlTextComment, HtmlTextCdata, HtmlTextDeclaration, HtmlTextInstruction, HtmlTextTagOpenAttributeValueQuoted}
 use Rattle.markdown_html.proofs.SteadyLaws as H
