@@ -1,0 +1,2 @@
+pub mod TreePasts
+pub mod RowJoins

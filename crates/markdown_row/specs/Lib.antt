@@ -1,0 +1,3 @@
+-- What the runs over a content and their passes are described by.
+pub mod Trees
+pub mod Row
