@@ -78,9 +78,9 @@ merged-some : (cs : List Code) (rest : Forest) → cs ≢ [] → merged (each_co
 merged-some [] rest h = absurd (h refl)
 merged-some (c ∷ cs) rest h = merged-each c cs rest
 
-leaf-split : (b : Bool) (name : Name) (link : Option Content) (cs : List Code) (rest more : Forest) → is_data name ≡ b → (b ≡ true → cs ≢ []) → merged more ≡ merged rest → merged (cut_leaf b name link cs more) ≡ merged (leaf_then name link cs rest)
+leaf-split : (b : Bool) (name : Name) (link : Option Content) (cs : List Code) (rest more : Forest) → is_data name ≡ b → (b ≡ true → link ≡ None → cs ≢ []) → merged more ≡ merged rest → merged (cut_leaf b name link cs more) ≡ merged (leaf_then name link cs rest)
 leaf-split true name None cs rest more e h k =
-    merged-some cs more (h refl) ∙ ap (data_onto cs) k ∙ sym (merged-data cs rest) ∙ ap (λ n. merged (leaf_then n None cs rest)) (sym (data-name name e))
+    merged-some cs more (h refl refl) ∙ ap (data_onto cs) k ∙ sym (merged-data cs rest) ∙ ap (λ n. merged (leaf_then n None cs rest)) (sym (data-name name e))
 leaf-split true name (Some c) cs rest more e h k = merged-linked name c cs more ∙ ap (leaf_then name (Some c) cs) k ∙ sym (merged-linked name c cs rest)
 leaf-split false name None cs rest more e h k = merged-other name cs more e ∙ ap (leaf_then name None cs) k ∙ sym (merged-other name cs rest e)
 leaf-split false name (Some c) cs rest more e h k = merged-linked name c cs more ∙ ap (leaf_then name (Some c) cs) k ∙ sym (merged-linked name c cs rest)

@@ -23,8 +23,8 @@ split empty = empty
 split (leaf_then name link cs rest) = cut_leaf (is_data name) name link cs (split rest)
 split (group_then name a b inside rest) = group_then name a b (split inside) (split rest)
 
--- no data of the tree is empty
+-- no data of the tree without a link is empty
 abbrev pub HasCodes : Forest → Type 0
 HasCodes empty = Unit {0}
-HasCodes (leaf_then name link cs rest) = (is_data name ≡ true → cs ≢ []) × HasCodes rest
+HasCodes (leaf_then name link cs rest) = (is_data name ≡ true → link ≡ None → cs ≢ []) × HasCodes rest
 HasCodes (group_then name a b inside rest) = HasCodes inside × HasCodes rest

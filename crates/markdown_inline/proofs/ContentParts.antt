@@ -175,5 +175,5 @@ HasLines-HasData (group_then name enter exit inside rest) h = (h.0.0, (HasLines-
 
 pub HasLines-HasCodes : (t : Forest) → HasLines t → HasCodes t
 HasLines-HasCodes empty h = tt
-HasLines-HasCodes (leaf_then name link cs rest) h = (λ e. (h.0 (data-makes name e)).0, HasLines-HasCodes rest h.1)
+HasLines-HasCodes (leaf_then name link cs rest) h = (λ e l. (h.0 (data-makes name e)).0, HasLines-HasCodes rest h.1)
 HasLines-HasCodes (group_then name enter exit inside rest) h = (HasLines-HasCodes inside h.1.0, HasLines-HasCodes rest h.1.1)

@@ -7,6 +7,3 @@ pub mod Handing
 pub mod Nesting
 pub mod BracketJoins
 pub mod ModelBrackets
-pub mod Splitting
-pub mod Pairing
-pub mod PairingCodes

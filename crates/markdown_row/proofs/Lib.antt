@@ -1,2 +1,5 @@
 pub mod TreePasts
 pub mod RowJoins
+pub mod KindLemmas
+pub mod NodeLemmas
+pub mod ElementLemmas

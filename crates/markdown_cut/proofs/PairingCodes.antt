@@ -11,18 +11,16 @@ use Rattle.markdown_model.specs.Passes.{merged}
 use Rattle.markdown_model.specs.Runs.{Run, marker_of, run_of, runs_of}
 use Rattle.markdown_model.specs.Setting.{Setting}
 use Rattle.markdown_partial.specs.Merge.{is_data}
-use Rattle.markdown_label_pass.proofs.Splitting.{split, HasCodes, merged-split}
-use Rattle.markdown_label_pass.proofs.Pairing.{paired-same}
+use Rattle.markdown_cut.specs.CutData.{split, HasCodes}
+use Rattle.markdown_cut.proofs.Splitting.{merged-same}
+use Rattle.markdown_cut.proofs.Pairing.{paired-same}
 
-pub merged-same : (t u : Forest) → HasCodes t → HasCodes u → split t ≡ split u → merged t ≡ merged u
-merged-same t u g h e = sym (merged-split t g) ∙ ap merged e ∙ merged-split u h
-
-has-join : (t u : Forest) → HasCodes t → HasCodes u → HasCodes (t ⊕ u)
+pub has-join : (t u : Forest) → HasCodes t → HasCodes u → HasCodes (t ⊕ u)
 has-join empty u g h = h
 has-join (leaf_then name link cs rest) u g h = (g.0, has-join rest u g.1 h)
 has-join (group_then name a b inside rest) u g h = (g.0, has-join rest u g.1 h)
 
-has-leaf : (name : Name) (cs : List Code) → HasCodes (leaf name cs)
+pub has-leaf : (name : Name) (cs : List Code) → HasCodes (leaf name cs)
 has-leaf name [] = tt
 has-leaf name (c ∷ cs) = ((λ e l k. cc), tt)
 
