@@ -281,6 +281,10 @@ unfolding leaf_elements
 leaves-row [] = refl
 leaves-row (c ∷ cs) = ap (tree_onto (code_leaf c)) (leaves-row cs)
 
+pub leaves-first : (c : Code) (cs : List Code) → row_of_elements (leaf_elements (c ∷ cs)) ≡ tree_onto (code_leaf c) (row_of_elements (leaf_elements cs))
+unfolding leaf_elements
+leaves-first c cs = refl
+
 -- data in lines is the row of its codes but for how it is cut
 pub data-alike : (cs : List Code) → split_row (row_end (line_leaves N.Data (lines_of cs))) ≡ split_row (row_of_elements (leaf_elements cs))
 data-alike cs = ap row_end (lines-cut cs) ∙ ap split_row (sym (leaves-row cs))

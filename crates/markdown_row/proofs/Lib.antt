@@ -3,3 +3,4 @@ pub mod RowJoins
 pub mod KindLemmas
 pub mod NodeLemmas
 pub mod ElementLemmas
+pub mod LabelElements
