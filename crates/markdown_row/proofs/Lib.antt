@@ -4,3 +4,4 @@ pub mod KindLemmas
 pub mod NodeLemmas
 pub mod ElementLemmas
 pub mod LabelElements
+pub mod LabelReads
