@@ -17,7 +17,7 @@ use Rattle.markdown_model.specs.Passes.{data_onto, merged}
 use Rattle.markdown_cut.specs.CutData.{HasCodes}
 use Rattle.markdown_partial.specs.Merge.{HasData, is_data}
 use Rattle.markdown_partial.specs.TrimEvents.{IsPart, HasParts}
-use Rattle.markdown_inline.specs.Elements.{HasLines, makes_data}
+use Rattle.markdown_row.specs.Trees.{HasLines, makes_data}
 
 -- Two ways to cut a list.
 

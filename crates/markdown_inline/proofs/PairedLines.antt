@@ -15,8 +15,8 @@ use Rattle.markdown_model.specs.Runs.{Run, marker_of, run_of, runs_of}
 use Rattle.markdown_model.specs.Setting.{Setting}
 use Rattle.markdown_partial.specs.Merge.{is_data}
 use Rattle.markdown_partial.specs.TrimEvents.{is_ending}
-use Rattle.markdown_inline.specs.Elements.{HasLines, makes_data}
-use Rattle.markdown_inline.specs.Laws.ElementLemmas.{HasLines-row}
+use Rattle.markdown_row.specs.Trees.{HasLines, makes_data}
+use Rattle.markdown_row.proofs.RowJoins.{HasLines-row}
 
 -- Codes without a line ending, and their parts.
 

@@ -29,9 +29,9 @@ use Rattle.markdown_model.specs.Setting.{Setting}
 use Rattle.markdown_model.proofs.Coverage.{codes-merged, codes-paired}
 use Rattle.markdown_partial.specs.TrimEvents.{HasParts, HasPlaces}
 use Rattle.markdown_partial.proofs.TrimLaws.{places-of}
-use Rattle.markdown_inline.specs.Elements.{HasLines, HasOuterRuns, IsRunless}
-use Rattle.markdown_inline.specs.PastRow.{passes_after, past_row}
-use Rattle.markdown_inline.specs.Laws.RowPasts.{outer-runless}
+use Rattle.markdown_row.specs.Trees.{HasLines, HasOuterRuns, IsRunless}
+use Rattle.markdown_row.specs.Row.{passes_after, past_row}
+use Rattle.markdown_row.proofs.TreePasts.{outer-runless}
 use Rattle.markdown_inline.specs.Resolve.{MayPair, PairsRuns, MergesData, MayTrim, TrimsData, may_resolve_of, resolves_of}
 use Rattle.markdown_inline.proofs.ContentParts.{parts-of, HasLines-merged, HasLines-HasData}
 use Rattle.markdown_inline.proofs.PairedLines.{HasLines-paired}

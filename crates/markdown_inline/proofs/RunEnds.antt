@@ -22,10 +22,10 @@ use Rattle.markdown_model.proofs.DataLaws.{row_of}
 use Rattle.markdown_model.specs.Element.{Choice, AreElementsFrom}
 use Rattle.markdown_model.specs.LabelEnd.{Element}
 use Rattle.markdown_model.specs.Passes.{merged, trimmed}
-use Rattle.markdown_inline.specs.Elements.{AllElements, Finishes, StandsAfter}
+use Rattle.markdown_row.specs.Elements.{AllElements, Finishes, StandsAfter}
 use Rattle.markdown_inline.specs.Resolve.{may_resolve_of, resolves_of}
 use Rattle.markdown_cut.specs.CutData.{split}
-use Rattle.markdown_inline.specs.Elements.{HasLines}
+use Rattle.markdown_row.specs.Trees.{HasLines}
 use Rattle.markdown_attention.specs.Rows.{has_run}
 use Rattle.markdown_cut.proofs.Pairing.{paired-same}
 use Rattle.markdown_cut.proofs.Splitting.{merged-same}

@@ -13,7 +13,7 @@ use Rattle.markdown_model.specs.Inline.{run_count}
 use Rattle.markdown_model.specs.Pairs.{Pair, pairs_after, pair_list}
 use Rattle.markdown_model.specs.Runs.{Run, runs_of, rows_inside, containers_of}
 use Rattle.markdown_model.specs.Setting.{Setting}
-use Rattle.markdown_inline.specs.Elements.{IsRunless}
+use Rattle.markdown_row.specs.Trees.{IsRunless}
 
 module _ (s : Setting) (pairs_of : List Run → List Pair) where
   tokens-leaf : (name : Name) (link : Option Content) (cs : List Code) (rest : Forest) (pairs : List Pair) (n : ℕ) → is_run name ≡ false

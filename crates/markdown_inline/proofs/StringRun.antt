@@ -14,7 +14,7 @@ use Rattle.markdown_engine.specs.declared.tokenizer.Tokenizer.{Tokenizer}
 use Rattle.markdown_model.specs.Element.{AreElementsFrom, AreStringElements, string_choice}
 use Rattle.markdown_model.specs.Inline.{string_events}
 use Rattle.markdown_model.specs.Passes.{trimmed}
-use Rattle.markdown_inline.specs.Elements.{Finishes}
+use Rattle.markdown_row.specs.Elements.{Finishes}
 use Rattle.markdown_inline.specs.Resolve.{may_resolve_of, resolves_of}
 use Rattle.markdown_inline.specs.Settings.{setting_of}
 use Rattle.markdown_inline.specs.StringSteps.{string_markers, string_marked, string_passed, string_here, start_ends}
@@ -28,8 +28,8 @@ use Rattle.markdown_model.specs.Groups.{paired}
 use Rattle.markdown_model.specs.LabelEnd.{Element}
 use Rattle.markdown_model.specs.Pairs.{pair_list}
 use Rattle.markdown_model.specs.Passes.{merged}
-use Rattle.markdown_inline.specs.Elements.{HasLines, IsRunless}
-use Rattle.markdown_inline.specs.Laws.RowPasts.{outer-runless}
+use Rattle.markdown_row.specs.Trees.{HasLines, IsRunless}
+use Rattle.markdown_row.proofs.TreePasts.{outer-runless}
 use Rattle.markdown_inline.proofs.GoodCut.{has_run-split}
 use Rattle.markdown_inline.proofs.PassesRun.{IsGiven}
 use Rattle.markdown_inline.proofs.Runless.{paired-runless, probes-none}

@@ -7,9 +7,9 @@ use Rattle.markdown_attention.specs.Rows.{has_run}
 use Rattle.markdown_model.specs.Grammar.{Reading}
 use Rattle.markdown_model.specs.Leaf.{escape, reference}
 use Rattle.markdown_model.proofs.LinkFree.{Passes, Yields, yields_bind, yields_gives, yields_either, yields_passed, then_any}
-use Rattle.markdown_inline.specs.Elements.{IsNode, IsRunless}
-use Rattle.markdown_inline.specs.Laws.NodeLemmas.{escape_yields, reference_yields}
-use Rattle.markdown_inline.specs.Laws.RowPasts.{quiet-runless, leaf-runless}
+use Rattle.markdown_row.specs.Trees.{IsNode, IsRunless}
+use Rattle.markdown_row.proofs.NodeLemmas.{escape_yields, reference_yields}
+use Rattle.markdown_row.proofs.TreePasts.{quiet-runless, leaf-runless}
 use Rattle.markdown_model.specs.Element.{AreStringElements, string_elements_of, AreElementsFrom, string_choice, string_element, as_plain, switched, line_ending, data_code, code_before}
 use Rattle.markdown_model.specs.Inline.{finished_string, string_tree}
 use Rattle.markdown_model.specs.LabelEnd.{Element, plain, starts, ends}

@@ -21,7 +21,7 @@ use Rattle.markdown_model.specs.Inline.{text_events}
 use Rattle.markdown_model.specs.Passes.{trimmed}
 use Rattle.markdown_model.specs.Setting.{Setting}
 use Rattle.markdown_inline.specs.Built.{IsBuilt, as_built}
-use Rattle.markdown_inline.specs.Elements.{Finishes}
+use Rattle.markdown_row.specs.Elements.{Finishes}
 use Rattle.markdown_inline.specs.Resolve.{may_resolve_of, resolves_of}
 use Rattle.markdown_inline.specs.Settings.{text_setting_of}
 use Rattle.markdown_inline.specs.TextSteps.{StartReady, marked_fields, text_marked, text_passed, text_choice_of, start_ends}
@@ -37,7 +37,7 @@ use Rattle.markdown_emphasis.proofs.Striped.{good-tree}
 use Rattle.markdown_model.specs.Inline.{label_tree}
 use Rattle.markdown_model.specs.LabelEnd.{Element}
 use Rattle.markdown_model.specs.Passes.{merged}
-use Rattle.markdown_inline.specs.Elements.{HasLines}
+use Rattle.markdown_row.specs.Trees.{HasLines}
 use Rattle.markdown_inline.proofs.GoodCut.{good-alike}
 use Rattle.markdown_inline.proofs.PassesRun.{IsGiven}
 use Rattle.markdown_inline.proofs.ProbesAlike.{probes-built, paired-built}

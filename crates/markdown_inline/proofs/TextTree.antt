@@ -21,9 +21,9 @@ use Rattle.markdown_model.proofs.ElementLaws.{text_elements, same_text_elements}
 use Rattle.markdown_model.proofs.LinkFree.{Passes, Yields, yields_bind, yields_gives, yields_passed, yields_either, then_any}
 use Rattle.markdown_inline.specs.Built.{IsBuilt}
 use Rattle.markdown_attention.specs.Reading.{is_run}
-use Rattle.markdown_inline.specs.Elements.{IsNode, IsRunless}
-use Rattle.markdown_inline.specs.Laws.RowPasts.{quiet-runless, leaf-runless}
-use Rattle.markdown_inline.specs.Laws.NodeLemmas.{check_yields, html_yields, escape_yields, reference_yields, break_yields, autolink_yields, span_here_yields, code_quiet, math_quiet}
+use Rattle.markdown_row.specs.Trees.{IsNode, IsRunless}
+use Rattle.markdown_row.proofs.TreePasts.{quiet-runless, leaf-runless}
+use Rattle.markdown_row.proofs.NodeLemmas.{check_yields, html_yields, escape_yields, reference_yields, break_yields, autolink_yields, span_here_yields, code_quiet, math_quiet}
 use Rattle.markdown_model.proofs.ReadingSteps.{switched-off}
 
 -- What is said of the elements of a text.

@@ -64,7 +64,7 @@ said_of SpaceOrTabEolAfterMore part = part L.after_more_words
 said_of DataStart part = part D.start_words
 said_of DataAtBreak part = part D.at_break_words
 said_of DataInside part = part D.inside_words
-said_of StringStart part = part (record { ready = R.IsAtRest; step = S.start_step; ends = S.start_ends; rank = 7 })
+said_of StringStart part = part (record { ready = S.StartReady; step = S.start_step; ends = S.start_ends; rank = 7 })
 said_of StringBefore part = part (record { ready = S.BeforeReady; step = S.before_step; ends = S.before_ends; rank = 6 })
 said_of StringBeforeData part = part (record { ready = S.BeforeDataReady; step = S.before_data_step; ends = S.before_ends; rank = 5 })
 said_of GfmTaskListItemCheckStart part = part C.start_words

@@ -1,5 +1,3 @@
-pub mod PastRow
-pub mod Elements
 pub mod Settings
 pub mod StringSteps
 pub mod Built

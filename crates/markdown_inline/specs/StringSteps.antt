@@ -10,7 +10,8 @@ use Rattle.markdown_engine.specs.declared.tokenizer.Tokenizer.{Tokenizer}
 use Rattle.markdown_leaf.specs.CharacterEscape.{escape_here}
 use Rattle.markdown_leaf.specs.CharacterReference.{IsAtRest, reference_here}
 use Rattle.markdown_model.specs.Element.{Choice, string_choice}
-use Rattle.markdown_inline.specs.Elements.{Finishes}
+use Rattle.markdown_row.specs.Elements.{Finishes}
+use Rattle.markdown_row.specs.Row.{EndsRest}
 use Rattle.markdown_inline.specs.Settings.{setting_of}
 
 -- the codes at which data stops: `&` and the backslash
@@ -45,10 +46,16 @@ before_data_step T = stepped (Retry DataStart) (attempted false (Next StringBefo
 
 -- When they may be called.
 
--- data stops at the markers of a string, and the fields in which a reference counts are at rest
+-- the fields in which a reference counts are at rest, and those in which an end of a label does
+pub record StartReady (T : Tokenizer) : Type 0 where
+  pub rest : IsAtRest T
+  pub ends : EndsRest T.tokenize_state
+
+-- besides, data stops at the markers of a string
 pub record BeforeReady (T : Tokenizer) : Type 0 where
   pub marked : T.tokenize_state.markers ≡ string_markers
   pub rest : IsAtRest T
+  pub ends : EndsRest T.tokenize_state
 
 -- a code stands at the place, and neither an escape nor a reference
 pub record BeforeDataReady (T : Tokenizer) : Type 0 where
@@ -67,9 +74,10 @@ is_on T = T.parse_state.now.options.now.constructs
 abbrev pub string_here : Tokenizer → Choice
 string_here T = string_choice (setting_of T.parse_state.now)
 
--- the codes from T on are those of a tree that merges as their elements do, and U is T past it, with the passes of a string registered
+-- the codes from T on are those of a row, which is that of their elements but for how data is cut, and U is T past it, with the passes of a
+-- string registered
 abbrev pub before_ends : Tokenizer → Bool → Tokenizer → Type 0
-before_ends T true U = Finishes (string_here T) (Unit {0}) string_passed T U
+before_ends T true U = Finishes (string_here T) string_passed T U
 before_ends T false U = ⊥
 
 abbrev pub start_ends : Tokenizer → Bool → Tokenizer → Type 0

@@ -11,15 +11,18 @@ use Rattle.markdown_engine.specs.declared.state.StateName.TheVariants.{Attention
 use Rattle.markdown_engine.specs.declared.tokenizer.TokenizeState.{TokenizeState}
 use Rattle.markdown_engine.specs.declared.tokenizer.Tokenizer.{Tokenizer}
 use Rattle.markdown_gfm.specs.GfmTaskListItemCheck as C
+use Rattle.markdown_label.specs.LabelEnd as E
+use Rattle.markdown_label.specs.LabelStarts.{footnote_test}
 use Rattle.markdown_leaf.specs.Autolink.{link_here}
 use Rattle.markdown_leaf.specs.CharacterEscape.{escape_here}
 use Rattle.markdown_leaf.specs.RawText as X
 use Rattle.markdown_model.proofs.DataLaws.{code_leaf}
 use Rattle.markdown_model.specs.Element.{Choice, text_choice}
 use Rattle.markdown_model.specs.LabelEnd.{Element, plain}
+use Rattle.markdown_model.specs.Lines.{data_up_to}
 use Rattle.markdown_model.specs.Setting.{Setting}
 use Rattle.markdown_inline.specs.Built.{as_built}
-use Rattle.markdown_inline.specs.Elements.{Finishes, StandsAfter}
+use Rattle.markdown_row.specs.Elements.{DataFinishes, Finishes, StandsAfter}
 use Rattle.markdown_inline.specs.Settings.{text_setting_of}
 
 -- the codes at which data stops: those at which a construct may begin
@@ -86,7 +89,7 @@ before_label_start_link_step T = trying LabelStartLinkStart TextBeforeData T
 abbrev pub before_data_step : Tokenizer → Stepped
 before_data_step T = stepped (Retry DataStart) (attempted false (Next TextBefore) Nok T)
 
--- What is read: the constructs that are not built are as if switched off.
+-- What is read: the construct that is not built is as if switched off.
 
 abbrev pub text_setting : Tokenizer → Setting
 text_setting T = as_built (text_setting_of T.parse_state.now T.tokenize_state.document_at_first_paragraph_of_list_item)
@@ -96,17 +99,19 @@ text_choice_of T = text_choice (text_setting T) T.cursor.codes
 
 -- When they may be called.
 
--- at the start: the fields in which spans, references and autolinks count are at rest, and those in which whitespace behind a check does
+-- at the start: the fields in which spans, references and autolinks count are at rest, those in which whitespace behind a check does, and those
+-- of ends of labels; and the starts that are kept end between characters
 pub record StartReady (T : Tokenizer) : Type 0 where
   pub spans : X.StartReady T
   pub look : C.MayLook T
+  pub ends : E.StartReady T
 
--- data stops at the markers of a text, the fields in which spans, references and autolinks count are at rest, and those of whitespace, and
--- what is known of the runs is right
+-- besides, data stops at the markers of a text
 pub record IsMarked (T : Tokenizer) : Type 0 where
   pub markers : T.tokenize_state.markers ≡ text_markers
   pub spans : X.StartReady T
   pub look : C.MayLook T
+  pub ends : E.StartReady T
 
 -- and no check of a list item stands here
 pub record BeforeReady (T : Tokenizer) : Type 0 where
@@ -119,11 +124,10 @@ StandsAlone T =
     (earlier : List Element) (previous : Option Code) (c : Code) (cs : List Code) → StandsAfter earlier previous T → ahead T ≡ c ∷ cs
     → text_choice_of T earlier previous (c ∷ cs) ≡ Some (plain (code_leaf c), cs)
 
--- there is a code at hand, and it is an element by itself
+-- there is a code at hand
 pub record BeforeDataReady (T : Tokenizer) : Type 0 where
-  pub before : BeforeReady T
+  pub marked : IsMarked T
   pub some_code : current_of T ≢ None
-  pub alone : StandsAlone T
 
 -- a `<` is at hand that begins no autolink
 pub record BeforeHtmlReady (T : Tokenizer) : Type 0 where
@@ -137,11 +141,24 @@ pub record BeforeBreakReady (T : Tokenizer) : Type 0 where
   pub slash : current_of T ≡ Some 92
   pub no_escape : escape_here T (ahead T) ≡ None
 
+-- a `[` is at hand that begins no footnote call
+pub record BeforeLinkReady (T : Tokenizer) : Type 0 where
+  pub before : BeforeReady T
+  pub bracket : current_of T ≡ Some 91
+  pub no_footnote : footnote_test T (ahead T) ≡ false
+
 -- How runs end.
 
+-- the codes from T on are those of a row, which is that of their elements but for how data is cut, and U is T past it, with the passes of a
+-- text registered
 abbrev pub before_ends : Tokenizer → Bool → Tokenizer → Type 0
-before_ends T true U = Finishes (text_choice_of T) (Unit {0}) text_passed T U
+before_ends T true U = Finishes (text_choice_of T) text_passed T U
 before_ends T false U = ⊥
+
+-- where it is not known what element the code at hand begins: data is read, and behind it so
+abbrev pub data_ends : Tokenizer → Bool → Tokenizer → Type 0
+data_ends T true U = DataFinishes (text_choice_of T) (data_up_to text_markers) text_passed T U
+data_ends T false U = ⊥
 
 abbrev pub start_ends : Tokenizer → Bool → Tokenizer → Type 0
 start_ends T ok U = before_ends (text_marked T) ok U

@@ -303,7 +303,7 @@ data-reads : (markers : List ℕ) (cs : List Code) (c : Code) (xs : List Code) (
 unfolding data_up_to
 data-reads markers cs c xs t rest e h = both-parts (line_leaves N.Data (lines_of (c ∷ (unmarked markers xs).0))) t (unmarked markers xs).1 rest (ap (data_up_to markers) (sym e) ∙ h)
 
-some-ahead : (T : Tokenizer) (cs : List Code) → ahead T ≡ cs → current_of T ≢ None → (c : Code) × ((xs : List Code) × (cs ≡ c ∷ xs))
+pub some-ahead : (T : Tokenizer) (cs : List Code) → ahead T ≡ cs → current_of T ≢ None → (c : Code) × ((xs : List Code) × (cs ≡ c ∷ xs))
 some-ahead T [] e h = absurd (h (current-ahead T ∙ ap (λ xs. value_of (first_of xs)) e))
 some-ahead T (c ∷ xs) e h = (c, (xs, refl))
 

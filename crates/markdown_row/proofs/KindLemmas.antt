@@ -16,7 +16,7 @@ use Rattle.markdown_label.proofs.LabelEndLemmas.{scratch-before}
 use Rattle.markdown_model.specs.LabelEnd.{is_image}
 use Rattle.markdown_row.specs.Row.{Mark, begins, makes, loses, Row, row_end, row_then, past_tree, past_mark, past_row, kinds_of, kinds_past, kinds_after}
 
-abbrev kinds_in : List Kept.LabelStart → List LabelKind
+abbrev pub kinds_in : List Kept.LabelStart → List LabelKind
 kinds_in ls = map (λ (l : Kept.LabelStart). l.kind) ls
 
 -- marking leaves the kinds alone
@@ -60,13 +60,13 @@ kinds-lost : (ls : List Kept.LabelStart) (s : TokenizeState) → s.label_starts 
 kinds-lost [] s e = ap kinds_in e
 kinds-lost (l ∷ ls) s e = ap kinds_in (rest-lost (l ∷ ls))
 
-kinds-mark : (mark : Mark) (T : Tokenizer) → kinds_of (past_mark mark T) ≡ kinds_past mark (kinds_of T)
+pub kinds-mark : (mark : Mark) (T : Tokenizer) → kinds_of (past_mark mark T) ≡ kinds_past mark (kinds_of T)
 unfolding past_mark past scratched
 kinds-mark (begins kind marker) T = ap (λ (s : TokenizeState). kinds_in s.label_starts) (scratch-before R.Label _)
 kinds-mark (makes back kind tail) T = kinds-made back kind tail T
 kinds-mark loses T = kinds-lost T.tokenize_state.label_starts T.tokenize_state refl
 
-kinds-tree : (t : Forest) (T : Tokenizer) → kinds_of (past_tree t T) ≡ kinds_of T
+pub kinds-tree : (t : Forest) (T : Tokenizer) → kinds_of (past_tree t T) ≡ kinds_of T
 unfolding past_tree past
 kinds-tree t T = refl
 

@@ -134,6 +134,10 @@ start-keeps kind marker T earlier k keeps =
     (subst (λ (q : TokenizeState). StandFor all (unused_starts (starts kind marker ∷ earlier)) q.label_starts) (sym (start-fields kind marker T))
     (starts-start earlier kind marker T.events more T.tokenize_state.label_starts (length all - event_count t) (length all - 1) keeps end.within end.place))
 
+-- the place behind it
+pub start-moves : (kind : LabelKind) (marker : List Code) (T : Tokenizer) → IsFront kind marker → (past_mark (begins kind marker) T).cursor ≡ moved_by marker T.cursor
+start-moves kind marker T h = start-cursor kind marker T ∙ ap (λ xs. moved_by xs T.cursor) (start-shape kind marker h).codes
+
 some-marker : (marker : List Code) → 1 ≤ length marker → marker ≢ []
 some-marker [] h = absurd (omega arith)
 some-marker (c ∷ cs) h = λ k. cc
@@ -145,7 +149,7 @@ start-advances choice kind marker T U is left whole finds =
     let k : StartShape kind marker = start-shape kind marker is.0 in
     mark-advances choice (begins kind marker) (starts kind marker) T U left is refl k.some whole
     (ap code_just_before left
-    ∙ ap (λ (p : Place). last_of p.codes p.at) (start-cursor kind marker T ∙ ap (λ xs. moved_by xs T.cursor) k.codes)
+    ∙ ap (λ (p : Place). last_of p.codes p.at) (start-moves kind marker T is.0)
     ∙ last-some marker (ahead U) T.cursor k.some whole)
     (some-marker marker k.some)
     (λ earlier.
@@ -167,12 +171,12 @@ made-starts : (kind : LabelKind) (ls : List Kept.LabelStart) (n : ℕ) (s : Toke
 made-starts kind [] n s e = e ∙ none-barred (is_image kind)
 made-starts kind (l ∷ ls) n s e = refl
 
-end-events : (back : List Code) (kind : LabelKind) (tail : Forest) (T : Tokenizer)
+pub end-events : (back : List Code) (kind : LabelKind) (tail : Forest) (T : Tokenizer)
     → (end_made back kind tail T).events ≡ T.events ++ (appended_from (length T.events) None (end_tree back) ++ appended_from (length (T.events ++ appended_from (length T.events) None (end_tree back))) None tail)
 unfolding end_made made past scratched
 end-events back kind tail T = events-before R.Label _ ∙ append_assoc T.events _ _
 
-end-starts : (back : List Code) (kind : LabelKind) (tail : Forest) (T : Tokenizer) → (end_made back kind tail T).tokenize_state.label_starts ≡ barred_by kind (rest_of T.tokenize_state.label_starts)
+pub end-starts : (back : List Code) (kind : LabelKind) (tail : Forest) (T : Tokenizer) → (end_made back kind tail T).tokenize_state.label_starts ≡ barred_by kind (rest_of T.tokenize_state.label_starts)
 unfolding end_made made past scratched
 end-starts back kind tail T = ap (λ (q : TokenizeState). q.label_starts) (scratch-before R.Label _) ∙ made-starts kind T.tokenize_state.label_starts _ _ refl
 
@@ -199,6 +203,10 @@ tail-escaped es n m back (group_then name a b inside rest) h =
 end-codes : (back : List Code) → leaf_codes (end_tree back) ≡ back
 end-codes back = append-nil (leaf_codes (leaf N.LabelMarker back)) ∙ codes-leaf N.LabelMarker back
 
+-- the place behind it
+pub end-moves : (back : List Code) (kind : LabelKind) (tail : Forest) (T : Tokenizer) → (end_made back kind tail T).cursor ≡ moved_by (back ++ leaf_codes tail) T.cursor
+end-moves back kind tail T = end-cursor back kind tail T ∙ sym (moved_by-append (leaf_codes (end_tree back)) (leaf_codes tail) T.cursor) ∙ ap (λ xs. moved_by (xs ++ leaf_codes tail) T.cursor) (end-codes back)
+
 has-tail : (t : Forest) → HasLines t → HasCodes t
 has-tail empty h = tt
 has-tail (leaf_then name link cs rest) h = (λ e l. (h.0 e l).0, has-tail rest h.1)
@@ -216,7 +224,7 @@ end-advances choice T U k is finds =
     let some : 1 ≤ length (k.back ++ leaf_codes k.tail) = some-back k.back is.code (leaf_codes k.tail) is.one in
     mark-advances choice (makes k.back k.kind k.tail) (ends k.back (Some (k.kind, k.tail))) T U k.left is refl some codes
     (ap code_just_before k.left
-    ∙ ap (λ (p : Place). last_of p.codes p.at) (end-cursor k.back k.kind k.tail T ∙ sym (moved_by-append (leaf_codes (end_tree k.back)) (leaf_codes k.tail) T.cursor) ∙ ap (λ xs. moved_by (xs ++ leaf_codes k.tail) T.cursor) (end-codes k.back))
+    ∙ ap (λ (p : Place). last_of p.codes p.at) (end-moves k.back k.kind k.tail T)
     ∙ last-some (k.back ++ leaf_codes k.tail) (ahead U) T.cursor some codes)
     (has-tail k.tail is.sound.lines)
     (λ earlier. ap (λ (x : Tokenizer). follows_escape x.events) k.left ∙ ap follows_escape (end-events k.back k.kind k.tail T) ∙ tail-escaped T.events _ _ k.back k.tail is.sound.tail)
@@ -237,7 +245,7 @@ lost-fields : (ls : List Kept.LabelStart) (s : TokenizeState) → s.label_starts
 lost-fields [] s e = e
 lost-fields (l ∷ ls) s e = rest-lost (l ∷ ls)
 
-lost-starts : (T : Tokenizer) → (past_mark loses T).tokenize_state.label_starts ≡ rest_of T.tokenize_state.label_starts
+pub lost-starts : (T : Tokenizer) → (past_mark loses T).tokenize_state.label_starts ≡ rest_of T.tokenize_state.label_starts
 unfolding past_mark scratched
 lost-starts T = lost-fields T.tokenize_state.label_starts T.tokenize_state refl
 

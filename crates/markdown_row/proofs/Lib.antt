@@ -5,3 +5,4 @@ pub mod NodeLemmas
 pub mod ElementLemmas
 pub mod LabelElements
 pub mod LabelReads
+pub mod RowFields

@@ -12,6 +12,7 @@ use Rattle.markdown_engine.specs.declared.resolve.ResolveName.{ResolveName}
 use Rattle.markdown_engine.specs.declared.resolve.ResolveName.TheVariants as R
 use Rattle.markdown_engine.specs.declared.tokenizer.LabelKind.{LabelKind}
 use Rattle.markdown_engine.specs.declared.tokenizer.LabelStart as Kept
+use Rattle.markdown_engine.specs.declared.tokenizer.TokenizeState.{TokenizeState}
 use Rattle.markdown_engine.specs.declared.tokenizer.Tokenizer.{Tokenizer}
 use Rattle.markdown_attention.specs.Rows.{has_run}
 use Rattle.markdown_cut.specs.CutData.{split, HasCodes}
@@ -118,6 +119,11 @@ abbrev pub IsMarkAt : List LabelKind → Mark → Type 0
 IsMarkAt ks (begins kind marker) = IsStart kind marker
 IsMarkAt ks (makes back kind tail) = IsMade ks back kind tail
 IsMarkAt ks loses = Unit {0}
+
+-- the fields that an end of a label counts in are at rest
+pub record EndsRest (s : TokenizeState) : Type 0 where
+  pub end : s.end ≡ 0
+  pub seen : s.seen ≡ false
 
 -- a row that a run leaves where starts of these kinds wait
 abbrev pub IsRowAt : List LabelKind → Row → Type 0

@@ -19,8 +19,8 @@ use Rattle.markdown_leaf.specs.CharacterReference as R
 use Rattle.markdown_leaf.specs.CharacterReference.{IsAtRest, reference_here}
 use Rattle.markdown_model.specs.Lines.{data_up_to}
 use Rattle.markdown_partial.specs.DataSteps as D
-use Rattle.markdown_inline.specs.StringSteps.{is_on, string_markers, string_marked, string_passed, string_here, start_step, before_at, before_step, before_data_step, BeforeReady, BeforeDataReady, before_ends, start_ends}
-use Rattle.markdown_inline.specs.Laws.ElementLemmas.{finishes-end}
+use Rattle.markdown_inline.specs.StringSteps.{is_on, string_markers, string_marked, string_passed, string_here, start_step, before_at, before_step, before_data_step, StartReady, BeforeReady, BeforeDataReady, before_ends, start_ends}
+use Rattle.markdown_row.proofs.ElementLemmas.{finishes-end}
 use Rattle.markdown_inline.specs.Laws.StringElements.{no-backslash, no-ampersand}
 use Rattle.markdown_inline.specs.Laws.StringPasts.{Passes, passes-ready, passes-ends, escape-past, reference-past, data-past}
 
@@ -60,7 +60,7 @@ module _ (ready : StateName → Tokenizer → Type 0) (ends : StateName → Toke
       }
 
   at-end : (T : Tokenizer) → current_of T ≡ None → (ok : Bool) (U : Tokenizer) → (ok ≡ true) × (U ≡ string_passed T) → before_ends T ok U
-  at-end T e true U k = finishes-end (string_here T) (Unit {0}) string_passed T U e k.1
+  at-end T e true U k = finishes-end (string_here T) string_passed T U e k.1
   at-end T e false U k = cc
 
   some-none : (o : Option ℕ) (c : ℕ) → o ≡ Some c → o ≢ None
@@ -125,11 +125,11 @@ module _ (ready : StateName → Tokenizer → Type 0) (ends : StateName → Toke
       (λ U a k. on-before n T U (omega arith) r.before (data-past T U r.before.marked r.some_code r.no_escape r.no_reference (within.data_end T true U k)))
       (λ U a k. absurd (data-fails T U (within.data_end T false U k)))
 
-  marked-ready : (T : Tokenizer) → IsAtRest T → BeforeReady (string_marked T)
+  marked-ready : (T : Tokenizer) → StartReady T → BeforeReady (string_marked T)
   unfolding scratched
-  marked-ready T rest = record { marked = refl; rest = record { marker = rest.marker; size = rest.size } }
+  marked-ready T r = record { marked = refl; rest = record { marker = r.rest.marker; size = r.rest.size }; ends = record { end = r.ends.end; seen = r.ends.seen } }
 
-  pub start-law : (T : Tokenizer) → T.attempts ≡ [] → IsAtRest T → GoesOn ready ends weight (weight_at 7 T) (start_ends T) (start_step T)
+  pub start-law : (T : Tokenizer) → T.attempts ≡ [] → StartReady T → GoesOn ready ends weight (weight_at 7 T) (start_ends T) (start_step T)
   start-law T alone rest =
       let M : Tokenizer = string_marked T in
       Goes-plain ready ends weight (weight_at 7 T) (start_ends T) (Retry StringBefore) M (attempts-scratched _ T ∙ alone) (within.before_ready M (marked-ready T rest))

@@ -1,4 +1,4 @@
--- Which element of a text stands at the codes at hand, where the constructs that are not built are off.
+-- Which element of a text stands at the codes at hand, where the construct that is not built is off.
 use Rattle.std.proofs.Common.{◌≡◌, ℕ, Bool, true, false, not, ◌&&◌, ◌||◌, ◌==◌, List, [], ◌∷◌, Option, None, Some, refl, sym, ap, subst, ◌∙◌}
 use Rattle.std.specs.Prelude.{is_none, nat_lt}
 use Rattle.std.specs.List.{list_any}
@@ -12,14 +12,14 @@ use Rattle.markdown_leaf.specs.RawText.{span_at}
 use Rattle.markdown_leaf.proofs.RawTextReadings.{here-off}
 use Rattle.markdown_model.specs.CodeTests.{is_among, is_value, is_some_code}
 use Rattle.markdown_attention.specs.Attention.{begins_run}
-use Rattle.markdown_model.specs.Element.{attention_run, as_plain, switched, line_ending, data_code, code_span, math_span, Tries, tries, tried, first_check, text_element, ends_escaped}
+use Rattle.markdown_model.specs.Element.{attention_run, as_plain, switched, line_ending, data_code, code_span, math_span, Tries, tries, tried, first_check, text_element, ends_escaped, image_start, footnote_start, link_start}
 use Rattle.markdown_model.specs.Grammar.{Reading, ◌>>◌, ◌>>=◌, provided, either, gives, one}
 use Rattle.markdown_model.specs.Html.{html}
-use Rattle.markdown_model.specs.LabelEnd.{Element, plain}
+use Rattle.markdown_model.specs.LabelEnd.{Element, plain, label_end}
 use Rattle.markdown_model.specs.Leaf.{escape, reference, hard_break_escape, autolink, task_check, span_here, code_names, math_names}
 use Rattle.markdown_model.specs.Setting.{Setting}
 use Rattle.markdown_model.proofs.DataLaws.{code_leaf}
-use Rattle.markdown_inline.specs.Elements.{StandsAfter}
+use Rattle.markdown_row.specs.Elements.{StandsAfter}
 use Rattle.markdown_inline.specs.Built.{IsBuilt}
 use Rattle.markdown_inline.specs.TextSteps.{text_markers}
 use Rattle.markdown_model.proofs.ReadingSteps.{bind-some, bind-none, one-here, one-other, either-first, either-second, either-some, switched-on, switched-off}
@@ -101,7 +101,7 @@ skip-two v n m e f = λ i. e i || (f i || false)
 -- The codes of constructs that are off.
 
 abbrev pub off_markers : List ℕ
-off_markers = 33 ∷ 72 ∷ 104 ∷ 87 ∷ 119 ∷ 91 ∷ 93 ∷ []
+off_markers = 72 ∷ 104 ∷ 87 ∷ 119 ∷ []
 
 -- The markers of runs.
 
@@ -304,10 +304,6 @@ module _ (s : Setting) (built : IsBuilt s.options.constructs) (end : ℕ) (earli
       → text_element s end earlier previous (c ∷ cs) ≡ Some (plain (code_leaf c), cs)
   off-row v on a c cs e k n r h = row-none v (switched on a) c cs e k n r (switched-none on a (c ∷ cs) h)
 
-  off-image : (c : Code) (cs : List Code) → c.value ≡ 33 → text_element s end earlier previous (c ∷ cs) ≡ Some (plain (code_leaf c), cs)
-  unfolding tries tried
-  off-image c cs e = off-row 33 s.options.constructs.label_start_image _ c cs e refl refl refl built.no_image
-
   off-large-h : (c : Code) (cs : List Code) → c.value ≡ 72 → text_element s end earlier previous (c ∷ cs) ≡ Some (plain (code_leaf c), cs)
   unfolding tries tried
   off-large-h c cs e = off-row 72 s.options.constructs.gfm_autolink_literal _ c cs e refl refl refl built.no_literals
@@ -324,23 +320,56 @@ module _ (s : Setting) (built : IsBuilt s.options.constructs) (end : ℕ) (earli
   unfolding tries tried
   off-small-w c cs e = off-row 119 s.options.constructs.gfm_autolink_literal _ c cs e refl refl refl built.no_literals
 
-  off-bracket : (c : Code) (cs : List Code) → first_check s end earlier previous (c ∷ cs) ≡ None → c.value ≡ 91 → text_element s end earlier previous (c ∷ cs) ≡ Some (plain (code_leaf c), cs)
-  unfolding tries tried
-  off-bracket c cs none e =
-      text-at _ c cs none (ap (tried (tries s end earlier previous)) e)
-      ∙ either-second _ data_code (c ∷ cs)
-      (either-second (switched s.options.constructs.gfm_label_start_footnote _) (switched s.options.constructs.label_start_link _) (c ∷ cs) (switched-none s.options.constructs.gfm_label_start_footnote _ (c ∷ cs) built.no_footnotes)
-      ∙ switched-none s.options.constructs.label_start_link _ (c ∷ cs) built.no_link)
-      ∙ data-alone c cs (value-other 91 c e refl)
-
-  off-end : (c : Code) (cs : List Code) → c.value ≡ 93 → text_element s end earlier previous (c ∷ cs) ≡ Some (plain (code_leaf c), cs)
-  unfolding tries tried
-  off-end c cs e = off-row 93 s.options.constructs.label_end _ c cs e refl refl refl built.no_label_end
-
-  pub off-element : (v : ℕ) (c : Code) (cs : List Code) → first_check s end earlier previous (c ∷ cs) ≡ None → list_any (λ n. v == n) off_markers ≡ true → c.value ≡ v → text_element s end earlier previous (c ∷ cs) ≡ Some (plain (code_leaf c), cs)
-  off-element v c cs none h =
+  pub off-element : (v : ℕ) (c : Code) (cs : List Code) → list_any (λ n. v == n) off_markers ≡ true → c.value ≡ v → text_element s end earlier previous (c ∷ cs) ≡ Some (plain (code_leaf c), cs)
+  off-element v c cs h =
       one-of (λ n. c.value ≡ n → text_element s end earlier previous (c ∷ cs) ≡ Some (plain (code_leaf c), cs)) off_markers v
-      (off-image c cs, (off-large-h c cs, (off-small-h c cs, (off-large-w c cs, (off-small-w c cs, (off-bracket c cs none, (off-end c cs, tt))))))) h
+      (off-large-h c cs, (off-small-h c cs, (off-large-w c cs, (off-small-w c cs, tt)))) h
+
+  -- Starts and ends of labels.
+
+  -- what the row of a code gives
+  row-some : (v : ℕ) (row : Reading Element) (c : Code) (cs : List Code) (r : Element × List Code) → c.value ≡ v → first_check s end earlier previous (c ∷ cs) ≡ None → tried (tries s end earlier previous) v ≡ row → row (c ∷ cs) ≡ Some r
+      → text_element s end earlier previous (c ∷ cs) ≡ Some r
+  row-some v row c cs r e none is h = text-at row c cs none (ap (tried (tries s end earlier previous)) e ∙ is) ∙ either-some row data_code (c ∷ cs) r h
+
+  row-data : (v : ℕ) (row : Reading Element) (c : Code) (cs : List Code) → c.value ≡ v → (v == 10) ≡ false → first_check s end earlier previous (c ∷ cs) ≡ None → tried (tries s end earlier previous) v ≡ row → row (c ∷ cs) ≡ None
+      → text_element s end earlier previous (c ∷ cs) ≡ Some (plain (code_leaf c), cs)
+  row-data v row c cs e k none is h = text-at row c cs none (ap (tried (tries s end earlier previous)) e ∙ is) ∙ either-second row data_code (c ∷ cs) h ∙ data-alone c cs (value-other v c e k)
+
+  -- a `!`
+  abbrev pub bang_row : Reading Element
+  bang_row = switched s.options.constructs.label_start_image (image_start s.options.constructs.gfm_label_start_footnote)
+
+  pub image-element : (c : Code) (cs : List Code) (r : Element × List Code) → c.value ≡ 33 → bang_row (c ∷ cs) ≡ Some r → text_element s end earlier previous (c ∷ cs) ≡ Some r
+  unfolding tries tried
+  image-element c cs r e h = row-some 33 bang_row c cs r e (no-check c cs (ap (λ x. x == 91) e)) refl h
+
+  pub no-image-element : (c : Code) (cs : List Code) → c.value ≡ 33 → bang_row (c ∷ cs) ≡ None → text_element s end earlier previous (c ∷ cs) ≡ Some (plain (code_leaf c), cs)
+  unfolding tries tried
+  no-image-element c cs e h = row-data 33 bang_row c cs e refl (no-check c cs (ap (λ x. x == 91) e)) refl h
+
+  -- a `[`
+  abbrev pub bracket_row : Reading Element
+  bracket_row = either (switched s.options.constructs.gfm_label_start_footnote footnote_start) (switched s.options.constructs.label_start_link link_start)
+
+  pub bracket-element : (c : Code) (cs : List Code) (r : Element × List Code) → first_check s end earlier previous (c ∷ cs) ≡ None → c.value ≡ 91 → bracket_row (c ∷ cs) ≡ Some r → text_element s end earlier previous (c ∷ cs) ≡ Some r
+  unfolding tries tried
+  bracket-element c cs r none e h = row-some 91 bracket_row c cs r e none refl h
+
+  pub no-bracket-element : (c : Code) (cs : List Code) → first_check s end earlier previous (c ∷ cs) ≡ None → c.value ≡ 91 → bracket_row (c ∷ cs) ≡ None → text_element s end earlier previous (c ∷ cs) ≡ Some (plain (code_leaf c), cs)
+  unfolding tries tried
+  no-bracket-element c cs none e h = row-data 91 bracket_row c cs e refl none refl h
+
+  -- a `]`
+  pub end-element : (c : Code) (cs : List Code) (r : Element × List Code) → c.value ≡ 93 → s.options.constructs.label_end ≡ true → label_end s earlier (c ∷ cs) ≡ Some r → text_element s end earlier previous (c ∷ cs) ≡ Some r
+  unfolding tries tried switched
+  end-element c cs r e on h =
+      row-some 93 (provided s.options.constructs.label_end >> label_end s earlier) c cs r e (no-check c cs (ap (λ x. x == 91) e)) refl (switched-on (label_end s earlier) s.options.constructs.label_end (c ∷ cs) on ∙ h)
+
+  pub no-end-element : (c : Code) (cs : List Code) → c.value ≡ 93 → s.options.constructs.label_end ≡ false → text_element s end earlier previous (c ∷ cs) ≡ Some (plain (code_leaf c), cs)
+  unfolding tries tried switched
+  no-end-element c cs e off =
+      row-data 93 (provided s.options.constructs.label_end >> label_end s earlier) c cs e refl (no-check c cs (ap (λ x. x == 91) e)) refl (switched-off (label_end s earlier) s.options.constructs.label_end (c ∷ cs) off)
 
   -- Codes that begin no construct.
 

@@ -35,16 +35,16 @@ use Rattle.markdown_leaf.specs.RawText as X
 use Rattle.markdown_model.specs.Element.{text_choice}
 use Rattle.markdown_model.specs.Lines.{data_up_to}
 use Rattle.markdown_util.specs.Reference.{html_5_rows}
-use Rattle.markdown_inline.specs.Elements.{Advances, Finishes}
+use Rattle.markdown_row.specs.Elements.{Advances, Finishes}
 use Rattle.markdown_inline.specs.Layer.{ready_of, ends_of, weight_of}
-use Rattle.markdown_inline.specs.PastRow.{past_row}
+use Rattle.markdown_row.specs.Row.{past_row}
 use Rattle.markdown_inline.specs.StringSteps.{is_on}
 use Rattle.markdown_inline.specs.TextSteps.{text_markers, marked_fields, text_marked, text_passed, trying, start_step, first_try, tries_at, before_at, before_step, before_html_step, before_hard_break_escape_step, before_label_start_link_step, before_data_step, text_setting, text_choice_of, StartReady, IsMarked, BeforeReady, BeforeHtmlReady, BeforeDataReady, BeforeBreakReady, StandsAlone, before_ends, start_ends}
 use Rattle.markdown_inline.specs.Unbuilt.{never, never_step, never_ends}
-use Rattle.markdown_inline.specs.Laws.NodeLemmas.{check-node, html-node, escape-node, reference-node, break-node, autolink-node, span-node}
+use Rattle.markdown_row.proofs.NodeLemmas.{check-node, html-node, escape-node, reference-node, break-node, autolink-node, span-node}
 use Rattle.markdown_inline.specs.Laws.TextElements.{off_markers, is_marker}
 use Rattle.markdown_inline.specs.Laws.TextTries.{ReadsNodes, ReadsElements, none-valued, check-reads, no-check-at-end, reference-reads, reference-alone, autolink-reads, html-reads, html-alone, escape-reads, break-reads, break-alone, span-reads, span-alone, run-reads, run-alone, run-leaf, off-alone, other-alone, other-data}
-use Rattle.markdown_inline.specs.Laws.ElementLemmas.{before-past, advances-finishes, finishes-end, node-advances, run-advances, data-advances}
+use Rattle.markdown_row.proofs.ElementLemmas.{before-past, advances-finishes, finishes-end, node-advances, run-advances, data-advances}
 use Rattle.markdown_model.proofs.ReadingSteps.{switched-off}
 
 -- Past an element the choice and the scratch fields are as they were.

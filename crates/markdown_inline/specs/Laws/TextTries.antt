@@ -24,13 +24,14 @@ use Rattle.markdown_model.specs.Leaf.{task_check}
 use Rattle.markdown_model.specs.LabelEnd.{Element, plain}
 use Rattle.markdown_model.specs.Setting.{Setting}
 use Rattle.markdown_inline.specs.Built.{IsBuilt, as_built}
-use Rattle.markdown_inline.specs.Elements.{IsNode, IsRunLeaf, StandsAfter}
+use Rattle.markdown_row.specs.Elements.{StandsAfter}
+use Rattle.markdown_row.specs.Trees.{IsNode, IsRunLeaf}
 use Rattle.markdown_inline.specs.Settings.{text_setting_of}
 use Rattle.markdown_inline.specs.TextSteps.{text_markers, text_setting, text_choice_of, StandsAlone}
 use Rattle.markdown_attention.specs.Attention.{begins_run, switches_of, run_at_code, plain_tree, run_tree}
 use Rattle.markdown_attention.proofs.AttentionLaws.{run-some, run-none}
 use Rattle.markdown_model.specs.Element.{switched, attention_run}
-use Rattle.markdown_inline.specs.Laws.NodeLemmas.{run-node}
+use Rattle.markdown_row.proofs.NodeLemmas.{run-node}
 use Rattle.markdown_inline.specs.Laws.TextElements.{is_marker, run_markers, one-of, run-element, run-off, off_markers, plain_of, plain-switched, off-or-none, check-element, span-element, reference-element, autolink-element, html-element, escape-element, break-element, off-element, other-element}
 use Rattle.markdown_model.proofs.ReadingSteps.{bind-none}
 
