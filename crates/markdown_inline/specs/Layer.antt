@@ -14,6 +14,8 @@ use Rattle.markdown_gfm.specs.GfmTaskListItemCheck as C
 use Rattle.markdown_html.specs.HtmlText as H
 use Rattle.markdown_html.specs.Rests as Q
 use Rattle.markdown_attention.specs.Attention as AT
+use Rattle.markdown_label.specs.LabelEnd as LE
+use Rattle.markdown_label.specs.LabelStarts as LB
 use Rattle.markdown_leaf.specs.Autolink as A
 use Rattle.markdown_string.specs.Destination as SD
 use Rattle.markdown_string.specs.Title as ST
@@ -124,16 +126,16 @@ said_of TextStart part = part (record { ready = M.StartReady; step = M.start_ste
 said_of TextBefore part = part (record { ready = M.BeforeReady; step = M.before_step; ends = M.before_ends; rank = 7 })
 said_of TextBeforeHtml part = part (record { ready = M.BeforeHtmlReady; step = M.before_html_step; ends = M.before_ends; rank = 6 })
 said_of TextBeforeHardBreakEscape part = part (record { ready = M.BeforeBreakReady; step = M.before_hard_break_escape_step; ends = M.before_ends; rank = 6 })
-said_of TextBeforeLabelStartLink part = part (record { ready = M.BeforeDataReady; step = M.before_label_start_link_step; ends = M.before_ends; rank = 6 })
-said_of TextBeforeData part = part (record { ready = M.BeforeDataReady; step = M.before_data_step; ends = M.before_ends; rank = 5 })
+said_of TextBeforeLabelStartLink part = part (record { ready = M.BeforeLinkReady; step = M.before_label_start_link_step; ends = M.before_ends; rank = 6 })
+said_of TextBeforeData part = part (record { ready = M.BeforeDataReady; step = M.before_data_step; ends = M.data_ends; rank = 5 })
 said_of AttentionStart part = part (record { ready = AT.StartReady; step = AT.start_step; ends = AT.start_ends; rank = 2 })
 said_of AttentionInside part = part (record { ready = AT.InsideReady; step = AT.inside_step; ends = AT.inside_ends; rank = 1 })
 said_of GfmAutolinkLiteralProtocolStart part = part (record { ready = λ T. Unit {0}; step = never_step; ends = never_ends; rank = 0 })
 said_of GfmAutolinkLiteralWwwStart part = part (record { ready = λ T. Unit {0}; step = never_step; ends = never_ends; rank = 0 })
-said_of GfmLabelStartFootnoteStart part = part (record { ready = λ T. Unit {0}; step = never_step; ends = never_ends; rank = 0 })
-said_of LabelEndStart part = part (record { ready = λ T. Unit {0}; step = never_step; ends = never_ends; rank = 0 })
-said_of LabelStartImageStart part = part (record { ready = λ T. Unit {0}; step = never_step; ends = never_ends; rank = 0 })
-said_of LabelStartLinkStart part = part (record { ready = λ T. Unit {0}; step = never_step; ends = never_ends; rank = 0 })
+said_of GfmLabelStartFootnoteStart part = part (record { ready = λ T. Unit {0}; step = LB.footnote_step; ends = LB.footnote_ends; rank = 2 })
+said_of LabelEndStart part = part (record { ready = LE.StartReady; step = LE.start_step; ends = LE.start_ends; rank = 3 })
+said_of LabelStartImageStart part = part (record { ready = λ T. Unit {0}; step = LB.image_step; ends = LB.image_ends; rank = 2 })
+said_of LabelStartLinkStart part = part (record { ready = λ T. Unit {0}; step = LB.link_step; ends = LB.link_ends; rank = 1 })
 said_of _ part = part (record { ready = λ T. ⊥; step = stepped Nok; ends = λ T ok U. Unit {0}; rank = 0 })
 
 abbrev pub words_of : StateName → StateWords

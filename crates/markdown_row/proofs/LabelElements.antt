@@ -44,12 +44,12 @@ use Rattle.markdown_row.specs.Trees.{IsPart}
 use Rattle.markdown_row.proofs.ElementLemmas.{DataRead, data-read, before-past, events-past, group-escaped, last-some, fewer-left, one-element, kept-tree, unmarked, leaf_elements, have-leaves, past_leaves, past_code, stands-behind, follow-behind, data-alike, leaves-first}
 use Rattle.markdown_row.proofs.TreePasts.{past_tree-empty}
 
-empty-part : IsPart empty
+pub empty-part : IsPart empty
 empty-part = record { lines = tt; outer = tt; apart = λ n. refl }
 
 -- a mark by itself
-alone : (mark : Mark) (T : Tokenizer) → past_mark mark T ≡ past_row (row_then empty mark (row_end empty)) T
-alone mark T = past_tree-empty (past_mark mark T) ∙ ap (λ (x : Tokenizer). past_tree empty (past_mark mark x)) (past_tree-empty T)
+pub mark-alone : (mark : Mark) (T : Tokenizer) → past_mark mark T ≡ past_row (row_then empty mark (row_end empty)) T
+mark-alone mark T = past_tree-empty (past_mark mark T) ∙ ap (λ (x : Tokenizer). past_tree empty (past_mark mark x)) (past_tree-empty T)
 
 -- past a mark that is an element
 mark-advances : (choice : Choice) (mark : Mark) (e : Element) (T U : Tokenizer) → U ≡ past_mark mark T → IsMarkAt (kinds_of T) mark → row_of_elements (e ∷ []) ≡ row_then empty mark (row_end empty) → 1 ≤ length (mark_codes mark) → ahead T ≡ mark_codes mark ++ ahead U → code_just_before U ≡ last_code (mark_codes mark) → HasElementCodes e
@@ -61,7 +61,7 @@ mark-advances choice mark e T U left is row some whole before has escaped keeps 
     record {
       row = row_then empty mark (row_end empty);
       is_row = (empty-part, (is, empty-part));
-      left = left ∙ alone mark T;
+      left = left ∙ mark-alone mark T;
       whole = whole ∙ ap (λ xs. xs ++ ahead U) (sym (append-nil (mark_codes mark)));
       less = fewer-left T U (mark_codes mark) some whole;
       elements = λ earlier previous stands.

@@ -1,17 +1,17 @@
 -- The laws of the states of a text.
 use Rattle.markdown_model.specs.Leaf.{task_check}
-use Rattle.markdown_model.specs.CodeTests.{last_code}
-use Rattle.std.proofs.Common.{◌≡◌, ◌≢◌, ℕ, ◌+◌, ◌*◌, ◌<◌, ◌≤◌, ◌==◌, ◌||◌, Bool, true, false, if◌then◌else◌, Option, Some, None, List, [], ◌∷◌, inl, inr, refl, sym, ap, subst, ◌∙◌, arith, length, length-append, is_none, ◌&&◌}
+use Rattle.markdown_model.specs.CodeTests.{is_value, last_code, next_is}
+use Rattle.std.proofs.Common.{◌≡◌, ◌≢◌, ℕ, ◌+◌, ◌*◌, ◌<◌, ◌≤◌, ◌==◌, ◌||◌, Bool, true, false, if◌then◌else◌, Option, Some, None, List, [], ◌∷◌, inl, inr, refl, sym, ap, subst, ◌∙◌, arith, length, length-append, is_none, ◌&&◌, ◌++◌, append-nil}
 use Rattle.std.specs.List.{list_any}
 use Rattle.std.proofs.lemmas.Bool.{eqb-true, or_cases}
 use Rattle.markdown_engine.specs.Codes.{Code}
-use Rattle.markdown_engine.specs.Ops.{ahead, current_of, registered, scratched, previous_of}
+use Rattle.markdown_engine.specs.Ops.{ahead, current_of, is_registered, registered, scratched, previous_of}
 use Rattle.markdown_engine.specs.Past.{past, moved_by, EndsAs, Reads, Refuses, TreeReading}
-use Rattle.markdown_engine.specs.Place.{Place, moved, code_before, value_of}
+use Rattle.markdown_engine.specs.Place.{Place, moved, code_before, last_of, value_of}
 use Rattle.markdown_engine.specs.RunIndex.{LastRuns, last_runs}
 use Rattle.markdown_engine.specs.Grown.{Fails}
 use Rattle.markdown_engine.specs.Runs.{Stepped, stepped, GoesOn}
-use Rattle.markdown_engine.specs.Tree.{Forest, leaf_codes}
+use Rattle.markdown_engine.specs.Tree.{Forest, empty, leaf_codes}
 use Rattle.markdown_engine.specs.Weights.{codes_left, weight_at}
 use Rattle.markdown_engine.specs.declared.resolve.ResolveName.TheVariants as P
 use Rattle.markdown_engine.specs.declared.state.State.TheVariants.{Next, Retry, Ok, Nok}
@@ -21,12 +21,22 @@ use Rattle.markdown_engine.specs.declared.tokenizer.TokenizeState.{TokenizeState
 use Rattle.markdown_engine.specs.declared.tokenizer.Tokenizer.{Tokenizer}
 use Rattle.markdown_engine.proofs.EndsLemmas.{scratched-same}
 use Rattle.markdown_engine.proofs.Laws.{Follows, Goes-plain, Goes-attempt, code-step, restored-fails, Grown-refl}
-use Rattle.markdown_engine.proofs.OpRules.{attempts-registered, attempts-scratched, left-scratched, left-ahead}
+use Rattle.markdown_engine.proofs.OpRules.{Begins, ahead-some, attempts-registered, attempts-scratched, left-scratched, left-ahead}
 use Rattle.markdown_gfm.specs.GfmTaskListItemCheck as C
 use Rattle.markdown_html.specs.HtmlText as H
 use Rattle.markdown_attention.specs.Attention as AT
 use Rattle.markdown_attention.specs.Attention.{ReadsRun, run_tree}
 use Rattle.markdown_partial.specs.SpaceSteps as W
+use Rattle.markdown_construct.specs.Characters.{ReadsText}
+use Rattle.markdown_construct.proofs.TextPasses.{text-scratched}
+use Rattle.markdown_label.specs.LabelEnd as E
+use Rattle.markdown_label.specs.LabelEnd.{AreWithin}
+use Rattle.markdown_label.specs.LabelStarts.{image_ends, footnote_ends, link_ends}
+use Rattle.markdown_label.proofs.BegunStarts.{link-within, footnote-within, image-within}
+use Rattle.markdown_label.proofs.StartPlaces.{within-grown}
+use Rattle.markdown_partial.specs.EolSteps as L
+use Rattle.markdown_resource.specs.Parts as Parts
+use Rattle.markdown_resource.specs.Parts.{PartReady}
 use Rattle.markdown_leaf.specs.Autolink.{link_here}
 use Rattle.markdown_leaf.specs.CharacterEscape.{escape_here}
 use Rattle.markdown_leaf.specs.CharacterReference.{IsAtRest, reference_here}
@@ -35,49 +45,78 @@ use Rattle.markdown_leaf.specs.RawText as X
 use Rattle.markdown_model.specs.Element.{text_choice}
 use Rattle.markdown_model.specs.Lines.{data_up_to}
 use Rattle.markdown_util.specs.Reference.{html_5_rows}
-use Rattle.markdown_row.specs.Elements.{Advances, Finishes}
+use Rattle.markdown_row.specs.Elements.{Advances, DataFinishes, Finishes}
 use Rattle.markdown_inline.specs.Layer.{ready_of, ends_of, weight_of}
-use Rattle.markdown_row.specs.Row.{past_row}
+use Rattle.markdown_row.specs.Row.{EndsRest, Row, loses, row_end, row_then, past_mark, past_row, row_codes, kinds_of, IsRowAt}
+use Rattle.markdown_row.proofs.LabelElements.{empty-part, mark-alone}
+use Rattle.markdown_row.proofs.RowFields.{relisted, row-cursor, row-input, row-text, row-fields, tree-within, made-within, lost-within}
 use Rattle.markdown_inline.specs.StringSteps.{is_on}
-use Rattle.markdown_inline.specs.TextSteps.{text_markers, marked_fields, text_marked, text_passed, trying, start_step, first_try, tries_at, before_at, before_step, before_html_step, before_hard_break_escape_step, before_label_start_link_step, before_data_step, text_setting, text_choice_of, StartReady, IsMarked, BeforeReady, BeforeHtmlReady, BeforeDataReady, BeforeBreakReady, StandsAlone, before_ends, start_ends}
+use Rattle.markdown_inline.specs.TextSteps.{text_markers, marked_fields, text_marked, text_passed, trying, start_step, first_try, tries_at, before_at, before_step, before_html_step, before_hard_break_escape_step, before_label_start_link_step, before_data_step, text_choice_of, StartReady, IsMarked, BeforeReady, BeforeHtmlReady, BeforeDataReady, BeforeBreakReady, BeforeLinkReady, StandsAlone, before_ends, data_ends, start_ends}
 use Rattle.markdown_inline.specs.Unbuilt.{never, never_step, never_ends}
 use Rattle.markdown_row.proofs.NodeLemmas.{check-node, html-node, escape-node, reference-node, break-node, autolink-node, span-node}
 use Rattle.markdown_inline.specs.Laws.TextElements.{off_markers, is_marker}
 use Rattle.markdown_inline.specs.Laws.TextTries.{ReadsNodes, ReadsElements, none-valued, check-reads, no-check-at-end, reference-reads, reference-alone, autolink-reads, html-reads, html-alone, escape-reads, break-reads, break-alone, span-reads, span-alone, run-reads, run-alone, run-leaf, off-alone, other-alone, other-data}
-use Rattle.markdown_row.proofs.ElementLemmas.{before-past, advances-finishes, finishes-end, node-advances, run-advances, data-advances}
-use Rattle.markdown_model.proofs.ReadingSteps.{switched-off}
+use Rattle.markdown_row.proofs.ElementLemmas.{DataRead, data-read, last-some, some-ahead, advances-finishes, finishes-end, node-advances, run-advances, data-advances}
+use Rattle.markdown_model.proofs.ReadingSteps.{if-true, if-false, switched-off}
+use Rattle.markdown_inline.specs.Built.{as_built}
+use Rattle.markdown_inline.specs.Settings.{text_setting_of}
+use Rattle.markdown_inline.specs.Laws.LabelTries.{image-advances, image-alone, footnote-advances, link-advances, bracket-alone, made-advances, failed-advances, end-alone}
 
--- Past an element the choice and the scratch fields are as they were.
+-- Past a row the choice is as it was, and so are the scratch fields but for the lists of labels.
 
 same-codes : (cs : List Code) (p : Place) → (moved_by cs p).codes ≡ p.codes
 unfolding moved
 same-codes [] p = refl
 same-codes (c ∷ cs) p = same-codes cs (moved p)
 
-choice-past : (t : Forest) (T U : Tokenizer) → U ≡ past_row t T → text_choice_of U ≡ text_choice_of T
-unfolding past past_row
-choice-past t T U e = ap text_choice_of e ∙ ap (λ cs. text_choice (text_setting T) cs) (same-codes (leaf_codes t) T.cursor)
+-- what stays as it was
+record IsSame (T U : Tokenizer) : Type 0 where
+  fields : U.tokenize_state ≡ relisted U.tokenize_state T.tokenize_state
+  input : U.parse_state ≡ T.parse_state
+  codes : U.cursor.codes ≡ T.cursor.codes
+  text : ReadsText U
 
-codes-past : (t : Forest) (T U : Tokenizer) → U ≡ past_row t T → U.cursor.codes ≡ T.cursor.codes
-unfolding past past_row
-codes-past t T U e = ap (λ (x : Tokenizer). x.cursor.codes) e ∙ same-codes (leaf_codes t) T.cursor
+ends-rest : (T : Tokenizer) → E.StartReady T → EndsRest T.tokenize_state
+ends-rest T r = record { end = r.resting; seen = sym (ap (λ (s : TokenizeState). s.seen) r.part.rest) }
 
-fields-past : (t : Forest) (T U : Tokenizer) → U ≡ past_row t T → U.tokenize_state ≡ T.tokenize_state
-unfolding past past_row
-fields-past t T U e = ap (λ (x : Tokenizer). x.tokenize_state) e
+same-row : (row : Row) (T U : Tokenizer) → U ≡ past_row row T → IsRowAt (kinds_of T) row → E.StartReady T → IsSame T U
+same-row row T U left is r =
+    subst (λ (x : Tokenizer). IsSame T x) (sym left)
+    (record {
+      fields = row-fields (kinds_of T) row T refl is (ends-rest T r);
+      input = row-input row T;
+      codes = ap (λ (p : Place). p.codes) (row-cursor (kinds_of T) row T is) ∙ same-codes (row_codes row) T.cursor;
+      text = row-text (kinds_of T) row T is r.text;
+    })
+
+choice-same : (T U : Tokenizer) → IsSame T U → text_choice_of U ≡ text_choice_of T
+choice-same T U k =
+    (λ i. text_choice (as_built (text_setting_of (k.input i).now U.tokenize_state.document_at_first_paragraph_of_list_item)) (k.codes i))
+    ∙ ap (λ (s : TokenizeState). text_choice (as_built (text_setting_of T.parse_state.now s.document_at_first_paragraph_of_list_item)) T.cursor.codes) k.fields
 
 -- what is known of the runs stays right
-indexed-past : (T U : Tokenizer) → U.tokenize_state ≡ T.tokenize_state → U.cursor.codes ≡ T.cursor.codes → X.IsIndexed T → X.IsIndexed U
-indexed-past T U e same k =
-    let runs : U.tokenize_state.runs ≡ T.tokenize_state.runs = ap (λ (s : TokenizeState). s.runs) e in
-    runs ∙ k ∙ ap (λ (x : LastRuns). last_runs x.asked T.cursor.codes) (sym runs) ∙ ap (λ cs. last_runs U.tokenize_state.runs.asked cs) (sym same)
+indexed-past : (T U : Tokenizer) → IsSame T U → X.IsIndexed T → X.IsIndexed U
+indexed-past T U e k =
+    let runs : U.tokenize_state.runs ≡ T.tokenize_state.runs = ap (λ (s : TokenizeState). s.runs) e.fields in
+    runs ∙ k ∙ ap (λ (x : LastRuns). last_runs x.asked T.cursor.codes) (sym runs) ∙ ap (λ cs. last_runs U.tokenize_state.runs.asked cs) (sym e.codes)
 
-marked-past : (T U : Tokenizer) → U.tokenize_state ≡ T.tokenize_state → U.cursor.codes ≡ T.cursor.codes → codes_left U ≤ codes_left T → IsMarked T → IsMarked U
-marked-past T U e same l r =
+part-past : (T U : Tokenizer) → IsSame T U → codes_left U ≤ codes_left T → PartReady T → PartReady U
+part-past T U e l k =
+    let u : TokenizeState = U.tokenize_state in
     record {
-      markers = ap (λ (s : TokenizeState). s.markers) e ∙ r.markers;
-      spans = record { rest = e ∙ r.spans.rest ∙ ap X.rested (sym e); fits = omega (arith, l, r.spans.fits); indexed = indexed-past T U e same r.spans.indexed };
-      look = record { resting = ap W.rested e ∙ r.look.resting ∙ sym e; short = omega (arith, l, r.look.short) };
+      short = omega (arith, l, k.short);
+      spaces = record { space = ap W.rested e.fields ∙ ap (relisted u) k.spaces.space ∙ sym e.fields; eol = ap L.eol_rested e.fields ∙ ap (relisted u) k.spaces.eol ∙ sym e.fields };
+      rest = ap Parts.rested e.fields ∙ ap (relisted u) k.rest ∙ sym e.fields;
+    }
+
+marked-past : (T U : Tokenizer) → IsSame T U → codes_left U ≤ codes_left T → AreWithin U U.tokenize_state.label_starts → IsMarked T → IsMarked U
+marked-past T U e l within r =
+    let u : TokenizeState = U.tokenize_state in
+    record {
+      markers = ap (λ (s : TokenizeState). s.markers) e.fields ∙ r.markers;
+      spans = record { rest = e.fields ∙ ap (relisted u) r.spans.rest ∙ ap X.rested (sym e.fields); fits = omega (arith, l, r.spans.fits); indexed = indexed-past T U e r.spans.indexed };
+      look = record { resting = ap W.rested e.fields ∙ ap (relisted u) r.look.resting ∙ sym e.fields; short = omega (arith, l, r.look.short) };
+      ends = record { part = part-past T U e l r.ends.part; text = e.text; within = within; resting = ap (λ (s : TokenizeState). s.end) e.fields ∙ r.ends.resting };
     }
 
 -- past an element no check may begin
@@ -92,29 +131,60 @@ and-none true true o e = e
 and-none true false o e = refl
 and-none false b o e = refl
 
-no-check-past : (T U : Tokenizer) (a : Advances (text_choice_of T) (Unit {0}) T U) → C.check_here U (ahead U) ≡ None
+no-check-behind : (cs : List Code) (T U : Tokenizer) → U.cursor ≡ moved_by cs T.cursor → ahead T ≡ cs ++ ahead U → codes_left U < codes_left T → C.check_here U (ahead U) ≡ None
 unfolding code_before
-no-check-past T U a =
-    let size : 1 ≤ length (leaf_codes a.tree) = omega (arith, a.less, left-ahead T, left-ahead U, ap length a.whole, length-append (leaf_codes a.tree) (ahead U)) in
-    let before : is_none (previous_of U) ≡ false = ap (λ o. is_none (value_of o)) (before-past a.tree (ahead U) T U size a.whole a.left) ∙ none-valued (last_code (leaf_codes a.tree)) ∙ some-last (leaf_codes a.tree) size in
+no-check-behind cs T U place whole less =
+    let size : 1 ≤ length cs = omega (arith, less, left-ahead T, left-ahead U, ap length whole, length-append cs (ahead U)) in
+    let before : is_none (previous_of U) ≡ false = ap (λ o. is_none (value_of o)) (ap (λ (p : Place). last_of p.codes p.at) place ∙ last-some cs (ahead U) T.cursor size whole) ∙ none-valued (last_code cs) ∙ some-last cs size in
     switched-off task_check (C.may_begin U) (ahead U) (and-none U.parse_state.now.options.now.constructs.gfm_task_list_item U.tokenize_state.document_at_first_paragraph_of_list_item (previous_of U) before)
 
+no-check-past : (T U : Tokenizer) (a : Advances (text_choice_of T) T U) → C.check_here U (ahead U) ≡ None
+no-check-past T U a = no-check-behind (row_codes a.row) T U (ap (λ (x : Tokenizer). x.cursor) a.left ∙ row-cursor (kinds_of T) a.row T a.is_row) a.whole a.less
+
 -- what follows an element, follows from before it
-advances-ends : (T U : Tokenizer) → Advances (text_choice_of T) (Unit {0}) T U → (ok : Bool) (V : Tokenizer) → before_ends U ok V → before_ends T ok V
-advances-ends T U a true V k =
-    let same : text_choice_of U ≡ text_choice_of T = choice-past a.tree T U a.left in
-    advances-finishes (text_choice_of T) (Unit {0}) text_passed T U V a
-    (subst (λ c. Finishes c (Unit {0}) text_passed U V) same k)
-advances-ends T U a false V k = k
+advances-ends : (T U : Tokenizer) → IsSame T U → Advances (text_choice_of T) T U → (ok : Bool) (V : Tokenizer) → before_ends U ok V → before_ends T ok V
+advances-ends T U e a true V k = advances-finishes (text_choice_of T) text_passed T U V a (subst (λ c. Finishes c text_passed U V) (choice-same T U e) k)
+advances-ends T U e a false V k = k
 
 -- past an element the run goes on before the next
-on-before : (n : ℕ) (T U : Tokenizer) → codes_left T * 256 < n → IsMarked T → Advances (text_choice_of T) (Unit {0}) T U → Follows ready_of ends_of weight_of n (before_ends T) (Next TextBefore) U
-on-before n T U room r a =
+on-before : (n : ℕ) (T U : Tokenizer) → codes_left T * 256 < n → IsMarked T → AreWithin U U.tokenize_state.label_starts → Advances (text_choice_of T) T U → Follows ready_of ends_of weight_of n (before_ends T) (Next TextBefore) U
+on-before n T U room r within a =
+    let e : IsSame T U = same-row a.row T U a.left a.is_row r.ends in
     record {
-      goes_on = record { marked = marked-past T U (fields-past a.tree T U a.left) (codes-past a.tree T U a.left) (omega (arith, a.less)) r; unchecked = no-check-past T U a };
+      goes_on = record { marked = marked-past T U e (omega (arith, a.less)) within r; unchecked = no-check-past T U a };
       falls = omega (arith, a.less);
-      closed = λ ok V h. advances-ends T U a ok V h;
+      closed = λ ok V h. advances-ends T U e a ok V h;
     }
+
+-- Data, where the code at hand is an element by itself.
+
+alone-ends : (T : Tokenizer) → current_of T ≢ None → StandsAlone T → (ok : Bool) (V : Tokenizer) → data_ends T ok V → before_ends T ok V
+alone-ends T some alone true V k =
+    let a = some-ahead T (ahead T) refl some in
+    advances-finishes (text_choice_of T) text_passed T k.behind V
+    (data-advances (text_choice_of T) text_markers T k.behind a.0 a.1.0 a.1.1 k.data_read (λ earlier previous stands. alone earlier previous a.0 a.1.0 stands a.1.1) (other-data T))
+    k.finishes
+alone-ends T some alone false V k = k
+
+-- The starts that are kept, past what holds.
+
+tree-kept : (T U : Tokenizer) (t : Forest) → U ≡ past None t T → AreWithin T T.tokenize_state.label_starts → AreWithin U U.tokenize_state.label_starts
+unfolding past
+tree-kept T U t left k = subst (λ (x : Tokenizer). AreWithin x x.tokenize_state.label_starts) (sym left) (within-grown T (past None t T) _ refl refl T.tokenize_state.label_starts k)
+
+registered-within : (b : Bool) (V W : Tokenizer) → W ≡ record V { resolvers = W.resolvers } → AreWithin V V.tokenize_state.label_starts → AreWithin (if b then V else W) (if b then V else W).tokenize_state.label_starts
+registered-within true V W e k = k
+registered-within false V W e k = subst (λ (x : Tokenizer). AreWithin x x.tokenize_state.label_starts) (sym e) (within-grown V (record V { resolvers = W.resolvers }) [] refl (sym (append-nil V.events)) V.tokenize_state.label_starts k)
+
+registered-kept : (T U V : Tokenizer) (t : Forest) → V ≡ past None t T → U ≡ registered P.Attention V → AreWithin T T.tokenize_state.label_starts → AreWithin U U.tokenize_state.label_starts
+unfolding registered
+registered-kept T U V t left e k =
+    subst (λ (x : Tokenizer). AreWithin x x.tokenize_state.label_starts) (sym e)
+    (registered-within (is_registered P.Attention V.resolvers) V (record V { resolvers = V.resolvers ++ P.Attention ∷ [] }) refl (tree-kept T V t left k))
+
+made-kept : (T U : Tokenizer) → E.Ends T U → AreWithin T T.tokenize_state.label_starts → AreWithin U U.tokenize_state.label_starts
+unfolding past_mark
+made-kept T U r k = subst (λ (x : Tokenizer). AreWithin x x.tokenize_state.label_starts) (sym r.left) (made-within r.back r.kind r.tail T k)
 
 -- A construct is tried: it holds and is an element, or the run goes on with another state at the same place.
 
@@ -128,7 +198,8 @@ try-law rank T construct otherwise reading alone on falls ready ends nodes eleme
     (λ U now h.
     let k : Reads reading None T.tokenize_state T U = ends true U h in
     let node = nodes k.tree k.rest k.holds in
-    on-before (weight_at rank T) T U (omega arith) ready (node-advances (text_choice_of T) (Unit {0}) reading T U k node.0 node.1 (λ g. elements k.tree k.rest k.holds)))
+    on-before (weight_at rank T) T U (omega arith) ready (tree-kept T U k.tree (k.left ∙ ap (past None k.tree) (scratched-same T)) ready.ends.within)
+    (node-advances (text_choice_of T) reading T U k node.0 node.1 (elements k.tree k.rest k.holds)))
     (λ U now h.
     let k : Refuses reading T.tokenize_state T U = ends false U h in
     rw (restored-fails false (Next TextBefore) (Next otherwise) T.tokenize_state T U k.fails, scratched-same T) (fails k.refused))
@@ -138,11 +209,10 @@ try-law rank T construct otherwise reading alone on falls ready ends nodes eleme
 some-none : (o : Option ℕ) (v : ℕ) → o ≡ Some v → o ≢ None
 some-none o v e = λ h. cc
 
-to-alone : (T : Tokenizer) (v : ℕ) → BeforeReady T → current_of T ≡ Some v → StandsAlone T → BeforeDataReady T
-to-alone T v ready e alone = record { before = ready; some_code = some-none (current_of T) v e; alone = alone }
-
 to-data : (rank : ℕ) (T : Tokenizer) (v : ℕ) → 5 < rank → BeforeReady T → current_of T ≡ Some v → StandsAlone T → Follows ready_of ends_of weight_of (weight_at rank T) (before_ends T) (Next TextBeforeData) T
-to-data rank T v l ready e alone = record { goes_on = to-alone T v ready e alone; falls = omega (arith, l); closed = λ ok V h. h }
+to-data rank T v l ready e alone =
+    let some : current_of T ≢ None = some-none (current_of T) v e in
+    record { goes_on = record { marked = ready.marked; some_code = some }; falls = omega (arith, l); closed = λ ok V h. alone-ends T some alone ok V h }
 
 -- Which codes are which.
 
@@ -191,11 +261,6 @@ at-rest-reference T r = record { marker = ap (λ (s : TokenizeState). s.marker) 
 run-ready : (T : Tokenizer) → IsMarked T → AT.StartReady T
 run-ready T r = r.spans.rest ∙ ap (AT.with_marker 0) (sym r.spans.rest)
 
--- a construct that is not built is tried, and the run goes on to the code by itself
-off-law : (rank : ℕ) (T : Tokenizer) (construct otherwise : StateName) → T.attempts ≡ [] → IsMarked T → ready_of construct T → weight_of construct T < weight_at rank T → EndsOf construct never T → Follows ready_of ends_of weight_of (weight_at rank T) (before_ends T) (Next otherwise) T → GoesOn ready_of ends_of weight_of (weight_at rank T) (before_ends T) (trying construct otherwise T)
-off-law rank T construct otherwise alone ready on falls ends next =
-    try-law rank T construct otherwise never alone on falls ready ends (λ t rest e. cc) (λ t rest e. cc) (λ e. next)
-
 -- the start of a construct that is not built
 pub never-law : (T : Tokenizer) → T.attempts ≡ [] → GoesOn ready_of ends_of weight_of (weight_at 0 T) (never_ends T) (never_step T)
 never-law T alone =
@@ -209,7 +274,7 @@ passed-attempts : (T : Tokenizer) → T.attempts ≡ [] → (text_passed T).atte
 passed-attempts T alone = attempts-registered P.Text (registered P.Data T) ∙ attempts-registered P.Data T ∙ alone
 
 at-end : (T : Tokenizer) → current_of T ≡ None → (ok : Bool) (U : Tokenizer) → (ok ≡ true) × (U ≡ text_passed T) → before_ends T ok U
-at-end T e true U k = finishes-end (text_choice_of T) (Unit {0}) text_passed T U e k.1
+at-end T e true U k = finishes-end (text_choice_of T) text_passed T U e k.1
 at-end T e false U k = cc
 
 -- by a test
@@ -219,6 +284,44 @@ if-choice P false x y p q = q refl
 
 value-is : (T : Tokenizer) (v n : ℕ) → current_of T ≡ Some v → (v == n) ≡ true → current_of T ≡ Some n
 value-is T v n e h = e ∙ ap (λ x. Some x) (eqb-true v n h)
+
+-- Ends of labels.
+
+-- where one makes a label, ends are on
+ends-on : (T U : Tokenizer) → E.Ends T U → E.is_on T ≡ true
+ends-on T U r = by_switch (E.is_on T) refl
+  where
+    by_switch : (b : Bool) → E.is_on T ≡ b → E.is_on T ≡ true
+    by_switch true e = e
+    by_switch false e = absurd (no-reading _ (switched-off _ (E.is_on T) (ahead T) e) r.holds)
+      where
+        no-reading : {A : Type 0} {x : A} (o : Option A) → o ≡ None → o ≡ Some x → ⊥
+        no-reading None h k = cc
+        no-reading (Some y) h k = cc
+
+-- where one makes none, its start is used up
+lost-there : (T : Tokenizer) → current_of T ≡ Some 93 → E.is_on T ≡ true → scratched (E.lost_fields T) T ≡ past_mark loses T
+unfolding past_mark
+lost-there T d on = ap (λ s. scratched s T) (if-true _ _ _ (ap (λ b. b && next_is (is_value 93) (ahead T)) on ∙ there))
+  where
+    there : next_is (is_value 93) (ahead T) ≡ true
+    there = let b : Begins 93 (ahead T) = ahead-some T 93 d in ap (next_is (is_value 93)) b.whole ∙ ap (λ v. v == 93) b.value
+
+not-lost : (T : Tokenizer) → E.is_on T ≡ false → scratched (E.lost_fields T) T ≡ T
+not-lost T off = ap (λ s. scratched s T) (if-false _ _ _ (ap (λ b. b && next_is (is_value 93) (ahead T)) off)) ∙ scratched-same T
+
+lost-left : (T : Tokenizer) → codes_left (past_mark loses T) ≤ codes_left T
+unfolding past_mark
+lost-left T = omega (arith, left-scratched (E.lost_by T.tokenize_state.label_starts T.tokenize_state) T)
+
+lost-current : (T : Tokenizer) → current_of (past_mark loses T) ≡ current_of T
+unfolding past_mark scratched
+lost-current T = refl
+
+same-lost : (T : Tokenizer) → E.StartReady T → IsSame T (past_mark loses T)
+same-lost T r =
+    let row : Row = row_then empty loses (row_end empty) in
+    same-row row T (past_mark loses T) (mark-alone loses T) (empty-part, (tt, empty-part)) r
 
 module _ (T : Tokenizer) (alone : T.attempts ≡ []) (ready : BeforeReady T) where
   abbrev Before : Stepped → Type 0
@@ -247,18 +350,67 @@ module _ (T : Tokenizer) (alone : T.attempts ≡ []) (ready : BeforeReady T) whe
   tries-run v e h =
       Goes-attempt ready_of ends_of weight_of (weight_at 7 T) (before_ends T) (Retry AttentionStart) (Next TextBefore) (Next TextBeforeData) T alone (run-ready T ready.marked) (omega arith)
       (λ U now k. let r : ReadsRun T U = k in
-      on-before (weight_at 7 T) T U (omega arith) ready.marked (run-advances (text_choice_of T) (Unit {0}) (run_tree T) T U r.there r.reads r.left (run-leaf T v r.reads.tree r.reads.rest e h r.reads.holds) (λ g. run-reads T v e h r.reads.tree r.reads.rest r.reads.holds)))
+      on-before (weight_at 7 T) T U (omega arith) ready.marked
+      (registered-kept T U r.there r.reads.tree (r.reads.left ∙ ap (past None r.reads.tree) (scratched-same T)) r.left ready.marked.ends.within)
+      (run-advances (text_choice_of T) (run_tree T) T U r.there r.reads r.left (run-leaf T v r.reads.tree r.reads.rest e h r.reads.holds) (run-reads T v e h r.reads.tree r.reads.rest r.reads.holds)))
       (λ U now k. let r : Refuses (run_tree T) T.tokenize_state T U = k in
       rw (restored-fails false (Next TextBefore) (Next TextBeforeData) T.tokenize_state T U r.fails, scratched-same T) (to-data 7 T v (omega arith) ready e (run-alone T v e h r.refused)))
 
-  -- a construct that is not built, and then the code by itself
+  -- the construct that is not built, and then the code by itself
   tries-off : (v : ℕ) (construct : StateName) → current_of T ≡ Some v → list_any (λ n. v == n) off_markers ≡ true → ready_of construct T → weight_of construct T < weight_at 7 T → EndsOf construct never T → Before (trying construct TextBeforeData T)
-  tries-off v construct e h on falls ends = off-law 7 T construct TextBeforeData alone ready.marked on falls ends (to-data 7 T v (omega arith) ready e (off-alone T v ready.unchecked e h))
+  tries-off v construct e h on falls ends =
+      try-law 7 T construct TextBeforeData never alone on falls ready.marked ends (λ t rest k. cc) (λ t rest k. cc) (λ none. to-data 7 T v (omega arith) ready e (off-alone T v e h))
+
+  tries-image : current_of T ≡ Some 33 → Before (trying LabelStartImageStart TextBeforeData T)
+  tries-image d =
+      Goes-attempt ready_of ends_of weight_of (weight_at 7 T) (before_ends T) (Retry LabelStartImageStart) (Next TextBefore) (Next TextBeforeData) T alone tt (omega arith)
+      (λ U now k. let r : image_ends T true U = k in
+      on-before (weight_at 7 T) T U (omega arith) ready.marked
+      (subst (λ (x : Tokenizer). AreWithin x x.tokenize_state.label_starts) (sym r.left) (image-within T ready.marked.ends.text ready.marked.ends.within r.holds)) (image-advances T U r))
+      (λ U now k. let r : image_ends T false U = k in
+      rw (restored-fails false (Next TextBefore) (Next TextBeforeData) T.tokenize_state T U (record { grown = r.grown; scratch = r.scratch }), scratched-same T) (to-data 7 T 33 (omega arith) ready d (image-alone T d r.refused)))
 
   tries-footnote : current_of T ≡ Some 91 → Before (trying GfmLabelStartFootnoteStart TextBeforeLabelStartLink T)
   tries-footnote d =
-      off-law 7 T GfmLabelStartFootnoteStart TextBeforeLabelStartLink alone ready.marked tt (omega arith) (λ ok U g. g)
-      (record { goes_on = to-alone T 91 ready d (off-alone T 91 ready.unchecked d refl); falls = omega arith; closed = λ ok V h. h })
+      Goes-attempt ready_of ends_of weight_of (weight_at 7 T) (before_ends T) (Retry GfmLabelStartFootnoteStart) (Next TextBefore) (Next TextBeforeLabelStartLink) T alone tt (omega arith)
+      (λ U now k. let r : footnote_ends T true U = k in
+      on-before (weight_at 7 T) T U (omega arith) ready.marked
+      (subst (λ (x : Tokenizer). AreWithin x x.tokenize_state.label_starts) (sym r.left) (footnote-within T ready.marked.ends.text ready.marked.ends.within r.holds)) (footnote-advances T U ready.unchecked r))
+      (λ U now k. let r : footnote_ends T false U = k in
+      rw (restored-fails false (Next TextBefore) (Next TextBeforeLabelStartLink) T.tokenize_state T U (record { grown = r.grown; scratch = r.scratch }), scratched-same T)
+      (record { goes_on = record { before = ready; bracket = d; no_footnote = r.refused }; falls = omega arith; closed = λ ok V h. h }))
+
+  -- an end that makes no label uses up its start, and its `]` begins data
+  to-lost : current_of T ≡ Some 93 → E.is_on T ≡ true → E.end_reading T (ahead T) ≡ None → (let F : Tokenizer = past_mark loses T in Follows ready_of ends_of weight_of (weight_at 7 T) (before_ends T) (Next TextBeforeData) F)
+  to-lost d on none =
+      let F : Tokenizer = past_mark loses T in
+      let e : IsSame T F = same-lost T ready.marked.ends in
+      record {
+        goes_on = record { marked = marked-past T F e (lost-left T) (lost-within T ready.marked.ends.within) ready.marked; some_code = λ h. some-none (current_of T) 93 d (sym (lost-current T) ∙ h) };
+        falls = omega (arith, lost-left T);
+        closed = λ ok V h. lost-ends e ok V h;
+      }
+    where
+      lost-ends : (let F : Tokenizer = past_mark loses T in IsSame T F → (ok : Bool) (V : Tokenizer) → data_ends F ok V → before_ends T ok V)
+      lost-ends e true V k =
+          let F : Tokenizer = past_mark loses T in
+          let there : DataFinishes (text_choice_of T) (data_up_to text_markers) text_passed F V = subst (λ c. DataFinishes c (data_up_to text_markers) text_passed F V) (choice-same T F e) k in
+          advances-finishes (text_choice_of T) text_passed T there.behind V (failed-advances T d on there.behind none there.data_read) there.finishes
+      lost-ends e false V k = k
+
+  tries-end : current_of T ≡ Some 93 → Before (trying LabelEndStart TextBeforeData T)
+  tries-end d =
+      Goes-attempt ready_of ends_of weight_of (weight_at 7 T) (before_ends T) (Retry LabelEndStart) (Next TextBefore) (Next TextBeforeData) T alone ready.marked.ends (omega arith)
+      (λ U now k. let r : E.Ends T U = k in
+      on-before (weight_at 7 T) T U (omega arith) ready.marked (made-kept T U r ready.marked.ends.within) (made-advances T d (ends-on T U r) U r))
+      (λ U now k. let r : E.EndFails T U = k in
+      subst (λ (x : Tokenizer). Follows ready_of ends_of weight_of (weight_at 7 T) (before_ends T) (Next TextBeforeData) x) (sym (restored-fails false (Next TextBefore) (Next TextBeforeData) (E.lost_fields T) T U r.fails))
+      (by_switch (E.is_on T) refl r.refused))
+    where
+      by_switch : (b : Bool) → E.is_on T ≡ b → E.end_reading T (ahead T) ≡ None → Follows ready_of ends_of weight_of (weight_at 7 T) (before_ends T) (Next TextBeforeData) (scratched (E.lost_fields T) T)
+      by_switch true on none = subst (λ (x : Tokenizer). Follows ready_of ends_of weight_of (weight_at 7 T) (before_ends T) (Next TextBeforeData) x) (sym (lost-there T d on)) (to-lost d on none)
+      by_switch false off none =
+          subst (λ (x : Tokenizer). Follows ready_of ends_of weight_of (weight_at 7 T) (before_ends T) (Next TextBeforeData) x) (sym (not-lost T off)) (to-data 7 T 93 (omega arith) ready d (end-alone T d off))
 
   tries-none : (v : ℕ) → current_of T ≡ Some v → list_any (λ n. v == n) text_markers ≡ false → Before (stepped (Retry TextBeforeData) T)
   tries-none v e h =
@@ -268,7 +420,7 @@ module _ (T : Tokenizer) (alone : T.attempts ≡ []) (ready : BeforeReady T) whe
   tries : (v : ℕ) → current_of T ≡ Some v → Before (tries_at (first_try v) T)
   tries v e =
       let Q : Option (StateName × StateName) → Type 0 = λ o. Before (tries_at o T) in
-      if-choice Q (v == 33) _ _ (λ h. tries-off v LabelStartImageStart e (off-one v 33 h refl) tt (omega arith) (λ ok U g. g))
+      if-choice Q (v == 33) _ _ (λ h. tries-image (value-is T v 33 e h))
       (λ a. if-choice Q (v == 36 || v == 96) _ _ (λ h. tries-span v e h)
       (λ b. if-choice Q (v == 38) _ _ (λ h. tries-reference (value-is T v 38 e h))
       (λ c. if-choice Q (v == 42 || (v == 95 || v == 126)) _ _ (λ h. tries-run v e (as-marker v h))
@@ -277,7 +429,7 @@ module _ (T : Tokenizer) (alone : T.attempts ≡ []) (ready : BeforeReady T) whe
       (λ g. if-choice Q (v == 87 || v == 119) _ _ (λ h. tries-off v GfmAutolinkLiteralWwwStart e (off-two v 87 119 h refl refl) tt (omega arith) (λ ok U g. g))
       (λ i. if-choice Q (v == 91) _ _ (λ h. tries-footnote (value-is T v 91 e h))
       (λ j. if-choice Q (v == 92) _ _ (λ h. tries-escape (value-is T v 92 e h))
-      (λ k. if-choice Q (v == 93) _ _ (λ h. tries-off v LabelEndStart e (off-one v 93 h refl) tt (omega arith) (λ ok U g. g))
+      (λ k. if-choice Q (v == 93) _ _ (λ h. tries-end (value-is T v 93 e h))
       (λ l. tries-none v e (unmarked v a b c d f g i j k l)))))))))))
 
   pub before-law : GoesOn ready_of ends_of weight_of (weight_at 7 T) (before_ends T) (before_step T)
@@ -297,9 +449,15 @@ before_html-law T alone r =
     try-law 6 T HtmlTextStart TextBeforeData (H.html_here T) alone (html-ready T r.before.marked) (omega arith) r.before.marked (λ ok U g. g) (λ t rest g. html-node (is_on T).html_text (ahead T) t rest g) (html-reads T r.angle r.no_autolink)
     (λ none. to-data 6 T 60 (omega arith) r.before r.angle (html-alone T r.angle r.no_autolink none))
 
-pub before_label_start_link-law : (T : Tokenizer) → T.attempts ≡ [] → BeforeDataReady T → GoesOn ready_of ends_of weight_of (weight_at 6 T) (before_ends T) (before_label_start_link_step T)
+pub before_label_start_link-law : (T : Tokenizer) → T.attempts ≡ [] → BeforeLinkReady T → GoesOn ready_of ends_of weight_of (weight_at 6 T) (before_ends T) (before_label_start_link_step T)
 before_label_start_link-law T alone r =
-    off-law 6 T LabelStartLinkStart TextBeforeData alone r.before.marked tt (omega arith) (λ ok U g. g) (record { goes_on = r; falls = omega arith; closed = λ ok V h. h })
+    Goes-attempt ready_of ends_of weight_of (weight_at 6 T) (before_ends T) (Retry LabelStartLinkStart) (Next TextBefore) (Next TextBeforeData) T alone tt (omega arith)
+    (λ U now k. let h : link_ends T true U = k in
+    on-before (weight_at 6 T) T U (omega arith) r.before.marked
+    (subst (λ (x : Tokenizer). AreWithin x x.tokenize_state.label_starts) (sym h.left) (link-within T r.before.marked.ends.text r.before.marked.ends.within h.holds)) (link-advances T U r.before.unchecked r.no_footnote h))
+    (λ U now k. let h : link_ends T false U = k in
+    rw (restored-fails false (Next TextBefore) (Next TextBeforeData) T.tokenize_state T U (record { grown = h.grown; scratch = h.scratch }), scratched-same T)
+    (to-data 6 T 91 (omega arith) r.before r.bracket (bracket-alone T r.before.unchecked r.bracket r.no_footnote h.refused)))
 
 pub before_hard_break_escape-law : (T : Tokenizer) → T.attempts ≡ [] → BeforeBreakReady T → GoesOn ready_of ends_of weight_of (weight_at 6 T) (before_ends T) (before_hard_break_escape_step T)
 before_hard_break_escape-law T alone r =
@@ -312,13 +470,29 @@ unfolding data_up_to
 data-holds markers [] e = cc
 data-holds markers (c ∷ cs) e = cc
 
-pub before_data-law : (T : Tokenizer) → T.attempts ≡ [] → BeforeDataReady T → GoesOn ready_of ends_of weight_of (weight_at 5 T) (before_ends T) (before_data_step T)
+pub before_data-law : (T : Tokenizer) → T.attempts ≡ [] → BeforeDataReady T → GoesOn ready_of ends_of weight_of (weight_at 5 T) (data_ends T) (before_data_step T)
 before_data-law T alone r =
-    Goes-attempt ready_of ends_of weight_of (weight_at 5 T) (before_ends T) (Retry DataStart) (Next TextBefore) Nok T alone tt (omega arith)
-    (λ U a k. on-before (weight_at 5 T) T U (omega arith) r.before.marked (data-advances (text_choice_of T) (Unit {0}) text_markers T U r.before.marked.markers r.some_code k
-    (λ g earlier previous c cs stands w. r.alone earlier previous c cs stands w)
-    (λ g earlier previous c cs h. other-data T earlier previous c cs h)))
-    (λ U a k. absurd (data-holds T.tokenize_state.markers (ahead T) k.refused))
+    let a = some-ahead T (ahead T) refl r.some_code in
+    Goes-attempt ready_of ends_of weight_of (weight_at 5 T) (data_ends T) (Retry DataStart) (Next TextBefore) Nok T alone tt (omega arith)
+    (λ U now k.
+    let read : Reads (data_up_to text_markers) None T.tokenize_state T U = subst (λ ns. Reads (data_up_to ns) None T.tokenize_state T U) r.marked.markers k in
+    let d : DataRead text_markers T U a.0 a.1.0 = data-read text_markers T U a.0 a.1.0 a.1.1 read in
+    let e : IsSame T U = same-row (row_end d.tree) T U d.left d.part r.marked.ends in
+    let within : AreWithin U U.tokenize_state.label_starts = subst (λ (x : Tokenizer). AreWithin x x.tokenize_state.label_starts) (sym d.left) (tree-within d.tree T r.marked.ends.within) in
+    let less : codes_left U < codes_left T = d.less in
+    record {
+      goes_on = record {
+        marked = marked-past T U e (omega (arith, less)) within r.marked;
+        unchecked = no-check-behind (leaf_codes d.tree) T U (ap (λ (x : Tokenizer). x.cursor) d.left ∙ row-cursor (kinds_of T) (row_end d.tree) T d.part) d.whole less;
+      };
+      falls = omega (arith, less);
+      closed = λ ok V h. data-then T U e read ok V h;
+    })
+    (λ U now k. absurd (data-holds T.tokenize_state.markers (ahead T) k.refused))
+  where
+    data-then : (T U : Tokenizer) → IsSame T U → Reads (data_up_to text_markers) None T.tokenize_state T U → (ok : Bool) (V : Tokenizer) → before_ends U ok V → data_ends T ok V
+    data-then T U e read true V h = record { behind = U; data_read = read; finishes = subst (λ c. Finishes c text_passed U V) (choice-same T U e) h }
+    data-then T U e read false V h = h
 
 spans-marked : (T : Tokenizer) → X.StartReady T → X.StartReady (text_marked T)
 unfolding scratched
@@ -328,9 +502,21 @@ look-marked : (T : Tokenizer) → C.MayLook T → C.MayLook (text_marked T)
 unfolding scratched
 look-marked T r = record { resting = ap {A = TokenizeState} (λ s. marked_fields T.cursor.codes s) r.resting; short = r.short }
 
+ends-marked : (T : Tokenizer) → E.StartReady T → E.StartReady (text_marked T)
+unfolding scratched
+ends-marked T r =
+    let M : Tokenizer = text_marked T in
+    let s : TokenizeState → TokenizeState = marked_fields T.cursor.codes in
+    record {
+      part = record { short = r.part.short; spaces = record { space = ap s r.part.spaces.space; eol = ap s r.part.spaces.eol }; rest = ap s r.part.rest };
+      text = text-scratched (s T.tokenize_state) T r.text;
+      within = within-grown T M [] refl (sym (append-nil T.events)) T.tokenize_state.label_starts r.within;
+      resting = r.resting;
+    }
+
 marked-start : (T : Tokenizer) → StartReady T → IsMarked (text_marked T)
 unfolding scratched
-marked-start T r = record { markers = refl; spans = spans-marked T r.spans; look = look-marked T r.look }
+marked-start T r = record { markers = refl; spans = spans-marked T r.spans; look = look-marked T r.look; ends = ends-marked T r.ends }
 
 check-elements : (T : Tokenizer) (o : Option ℕ) → current_of T ≡ o → ReadsElements (C.check_here T) T
 check-elements T None e = no-check-at-end T e

@@ -48,27 +48,21 @@ ReadsElements reading T =
 abbrev pub OrStandsAlone : TreeReading → Tokenizer → Type 0
 OrStandsAlone reading T = reading (ahead T) ≡ None → StandsAlone T
 
--- the constructs that are not built are off
+-- the construct that is not built is off
 pub built-off : (s : Setting) → IsBuilt (as_built s).options.constructs
-built-off s = record {
-  no_literals = refl;
-  no_footnotes = refl;
-  no_label_end = refl;
-  no_image = refl;
-  no_link = refl;
-}
+built-off s = record { no_literals = refl }
 
-now-built : (T : Tokenizer) → IsBuilt (text_setting T).options.constructs
+pub now-built : (T : Tokenizer) → IsBuilt (text_setting T).options.constructs
 now-built T = built-off (text_setting_of T.parse_state.now T.tokenize_state.document_at_first_paragraph_of_list_item)
 
 -- where the content of a tokenizer ends
-abbrev end_in : Tokenizer → ℕ
+abbrev pub end_in : Tokenizer → ℕ
 end_in T = (stop_of document_start T.cursor.codes).index
 
 same-value : (a b : ℕ) → Some a ≡ Some b → a ≡ b
 same-value a b e = cc
 
-value-here : (T : Tokenizer) (v : ℕ) (c : Code) (cs : List Code) → current_of T ≡ Some v → ahead T ≡ c ∷ cs → c.value ≡ v
+pub value-here : (T : Tokenizer) (v : ℕ) (c : Code) (cs : List Code) → current_of T ≡ Some v → ahead T ≡ c ∷ cs → c.value ≡ v
 value-here T v c cs e w = same-value c.value v (sym (current-ahead T ∙ ap (λ xs. value_of (first_of xs)) w) ∙ e)
 
 -- from the codes ahead as they begin, to those codes
@@ -213,15 +207,15 @@ no-check-at-end T e t rest holds earlier previous stands = absurd (no-end (check
     no-end (Some r) h k = cc
 
 -- no check stands here
-first-none : (T : Tokenizer) (earlier : List Element) (previous : Option Code) (c : Code) (cs : List Code) → check_here T (ahead T) ≡ None → StandsAfter earlier previous T → ahead T ≡ c ∷ cs → first_check (text_setting T) (end_in T) earlier previous (c ∷ cs) ≡ None
+pub first-none : (T : Tokenizer) (earlier : List Element) (previous : Option Code) (c : Code) (cs : List Code) → check_here T (ahead T) ≡ None → StandsAfter earlier previous T → ahead T ≡ c ∷ cs → first_check (text_setting T) (end_in T) earlier previous (c ∷ cs) ≡ None
 unfolding first_check plain_of
 first-none T earlier previous c cs none k w =
     plain-switched _ task_check (c ∷ cs) ∙ ap plain_of (checks-so T earlier previous (c ∷ cs) k ∙ ap (check_here T) (sym w) ∙ none)
 
--- Constructs that are not built, and codes at which nothing is tried.
+-- The construct that is not built, and codes at which nothing is tried.
 
-pub off-alone : (T : Tokenizer) (v : ℕ) → check_here T (ahead T) ≡ None → current_of T ≡ Some v → list_any (λ n. v == n) off_markers ≡ true → StandsAlone T
-off-alone T v none e h earlier previous c cs stands w = off-element (text_setting T) (now-built T) (end_in T) earlier previous v c cs (first-none T earlier previous c cs none stands w) h (value-here T v c cs e w)
+pub off-alone : (T : Tokenizer) (v : ℕ) → current_of T ≡ Some v → list_any (λ n. v == n) off_markers ≡ true → StandsAlone T
+off-alone T v e h earlier previous c cs stands w = off-element (text_setting T) (now-built T) (end_in T) earlier previous v c cs h (value-here T v c cs e w)
 
 pub other-alone : (T : Tokenizer) (v : ℕ) → current_of T ≡ Some v → list_any (λ n. v == n) text_markers ≡ false → StandsAlone T
 other-alone T v e h earlier previous c cs stands w =
