@@ -33,7 +33,7 @@ flat-behind (failed_then f inside rest) c =
     ∙ ap (λ x. start_row f ⊕ x) (sym (row-assoc (flat inside) (flat rest) (flat c)))
     ∙ sym (row-assoc (start_row f) (flat inside ⊕ flat rest) (flat c))
 
-count-behind : (b c : Brackets) → count (behind b c) ≡ count b + count c
+pub count-behind : (b c : Brackets) → count (behind b c) ≡ count b + count c
 count-behind nothing c = omega arith
 count-behind (tree_then t rest) c = omega (arith, count-behind rest c)
 count-behind (label_then f inside back tail rest) c = omega (arith, count-behind rest c)

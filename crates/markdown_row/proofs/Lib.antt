@@ -6,3 +6,5 @@ pub mod ElementLemmas
 pub mod LabelElements
 pub mod LabelReads
 pub mod RowFields
+pub mod OpenedFronts
+pub mod RowBrackets

@@ -2,3 +2,5 @@
 pub mod Trees
 pub mod Row
 pub mod Elements
+pub mod Opened
+pub mod Fresh
