@@ -15,12 +15,12 @@ use Rattle.markdown_cut.proofs.Splitting.{row-assoc, split-join, split-twice}
 
 -- A pair's group.
 
-enter-same : (a : Forest) (m : Name) (p q : Point) (x y b : Forest) → enter_of (a ⊕ (group_then m p q x empty ⊕ b)) ≡ enter_of (a ⊕ (group_then m p q y empty ⊕ b))
+pub enter-same : (a : Forest) (m : Name) (p q : Point) (x y b : Forest) → enter_of (a ⊕ (group_then m p q x empty ⊕ b)) ≡ enter_of (a ⊕ (group_then m p q y empty ⊕ b))
 enter-same empty m p q x y b = refl
 enter-same (leaf_then name link cs rest) m p q x y b = refl
 enter-same (group_then name c d inside rest) m p q x y b = refl
 
-exit-same : (r : Point) (a : Forest) (m : Name) (p q : Point) (x y b : Forest) → exit_after r (a ⊕ (group_then m p q x empty ⊕ b)) ≡ exit_after r (a ⊕ (group_then m p q y empty ⊕ b))
+pub exit-same : (r : Point) (a : Forest) (m : Name) (p q : Point) (x y b : Forest) → exit_after r (a ⊕ (group_then m p q x empty ⊕ b)) ≡ exit_after r (a ⊕ (group_then m p q y empty ⊕ b))
 exit-same r empty m p q x y b = refl
 exit-same r (leaf_then name link cs rest) m p q x y b = exit-same (stop_of r cs) rest m p q x y b
 exit-same r (group_then name c d inside rest) m p q x y b = exit-same d rest m p q x y b

@@ -43,7 +43,7 @@ pub record ReadsAs (es : List Element) (b : Brackets) : Type 0 where
   pub balanced : IsBalanced Start End Forest labelled loose_start loose_end (word_of es) found
   pub is : joined found ≡ grouped b
 
-joined-append : (a b : List Forest) → joined (a ++ b) ≡ joined a ⊕ joined b
+pub joined-append : (a b : List Forest) → joined (a ++ b) ≡ joined a ⊕ joined b
 joined-append [] b = refl
 joined-append (t ∷ a) b = ap (λ x. t ⊕ x) (joined-append a b) ∙ sym (row-assoc t (joined a) (joined b))
 

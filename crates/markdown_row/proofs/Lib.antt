@@ -8,3 +8,8 @@ pub mod LabelReads
 pub mod RowFields
 pub mod OpenedFronts
 pub mod RowBrackets
+pub mod RowRests
+pub mod OpenTrees
+pub mod RowSplits
+pub mod RowElements
+pub mod RowKeeps

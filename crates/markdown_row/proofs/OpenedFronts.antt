@@ -109,14 +109,14 @@ pub record MakesAs (back : List Code) (kind : LabelKind) (tail : Forest) (o : Op
   pub is_tail : tail ≡ tail_row (tail_of tail)
   pub closes : made_with back kind tail o ≡ put (label_then (made_front kind start) inside code (tail_of tail) nothing) before
 
+pub no-kinds : (k : LabelKind) (ks : List LabelKind) → ◌≡◌ {A = List LabelKind} [] (k ∷ ks) → ⊥
+no-kinds k ks e = cc
+
 first-kind : (k : LabelKind) (ks : List LabelKind) (l : LabelKind) (ls : List LabelKind) → k ∷ ks ≡ l ∷ ls → l ≡ k
 first-kind k ks l ls e = cc
 
 pub makes-as : (back : List Code) (kind : LabelKind) (tail : Forest) (o : Opened) → IsMade (kinds_in o) back kind tail → MakesAs back kind tail o
-makes-as back kind tail (none_waits b) h = absurd (none h.start h.before h.waits)
-  where
-    none : (k : LabelKind) (ks : List LabelKind) → ◌≡◌ {A = List LabelKind} [] (k ∷ ks) → ⊥
-    none k ks e = cc
+makes-as back kind tail (none_waits b) h = absurd (no-kinds h.start h.before h.waits)
 makes-as back kind tail (waits o f inside) h =
     let same : h.start ≡ kind_of f = first-kind (kind_of f) (kinds_in o) h.start h.before h.waits in
     record {

@@ -17,7 +17,7 @@ use Rattle.markdown_row.specs.Row.{passes_after, past_tree}
 
 -- Whether a run stands in a row.
 
-or-apart : (a b c : Bool) → (a || (b || c)) ≡ ((a || b) || c)
+pub or-apart : (a b c : Bool) → (a || (b || c)) ≡ ((a || b) || c)
 or-apart true b c = refl
 or-apart false b c = refl
 
