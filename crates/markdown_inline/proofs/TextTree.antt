@@ -1,28 +1,30 @@
--- The inline tree of a text where the constructs that are not built are off: its elements in a row, paired, merged and trimmed.
-use Rattle.std.proofs.Common.{◌≡◌, ℕ, Bool, true, false, ◌==◌, List, [], ◌∷◌, Option, None, refl, sym, ap, subst, ◌∙◌}
+-- The inline tree of a text where the construct that is not built is off: the labels of its elements grouped, paired, merged and trimmed.
+use Rattle.std.proofs.Common.{◌≡◌, ℕ, Bool, true, false, ◌==◌, ◌||◌, List, [], ◌∷◌, Option, None, Some, refl, sym, ap, subst, ◌∙◌}
 use Rattle.std.specs.List.{list_any}
 use Rattle.markdown_engine.specs.Codes.{Code, stop_of, document_start}
 use Rattle.markdown_engine.specs.Tree.{Forest, empty, leaf_then, group_then, leaf, ◌⊕◌}
 use Rattle.markdown_engine.specs.declared.event.Name.{Name}
 use Rattle.markdown_engine.specs.declared.event.Name.TheVariants as N
 use Rattle.markdown_engine.specs.declared.configuration.Constructs.{Constructs}
-use Rattle.markdown_model.specs.Element.{attention_run, as_plain, switched, line_ending, data_code, code_span, math_span, Tries, tries, tried, first_check, text_element, AreElementsFrom, text_choice, code_before, AreElements, elements_of}
+use Rattle.markdown_engine.specs.declared.tokenizer.LabelKind.{LabelKind}
+use Rattle.markdown_attention.specs.Rows.{has_run}
+use Rattle.markdown_model.specs.Element.{attention_run, as_plain, switched, line_ending, data_code, code_span, math_span, Tries, tries, tried, first_check, text_element, image_start, footnote_start, link_start, AreElementsFrom, text_choice, code_before, AreElements, elements_of}
 use Rattle.markdown_model.specs.Grammar.{Reading}
 use Rattle.markdown_model.specs.Groups.{paired}
 use Rattle.markdown_model.specs.Inline.{label_tree, raw_tree, finished_text, text_tree}
-use Rattle.markdown_model.specs.LabelEnd.{Element, plain, starts, ends}
+use Rattle.markdown_model.specs.LabelEnd.{Element, plain, starts, ends, label_end}
 use Rattle.markdown_model.specs.Leaf.{code_names, math_names}
 use Rattle.markdown_model.specs.Pairs.{Pair, pair_list}
 use Rattle.markdown_model.specs.Passes.{labels_of, merged, trimmed, mailed}
 use Rattle.markdown_model.specs.Runs.{Run}
 use Rattle.markdown_model.specs.Setting.{Setting}
-use Rattle.markdown_model.proofs.DataLaws.{IsPlain, ArePlain, row_of, labels_of-plain}
 use Rattle.markdown_model.proofs.ElementLaws.{text_elements, same_text_elements}
 use Rattle.markdown_model.proofs.LinkFree.{Passes, Yields, yields_bind, yields_gives, yields_passed, yields_either, then_any}
 use Rattle.markdown_inline.specs.Built.{IsBuilt}
 use Rattle.markdown_attention.specs.Reading.{is_run}
 use Rattle.markdown_row.specs.Trees.{IsNode, IsRunless}
-use Rattle.markdown_row.proofs.TreePasts.{quiet-runless, leaf-runless}
+use Rattle.markdown_row.specs.Row.{Row, row_end, row_then, tree_onto, row_has_run, row_of_elements}
+use Rattle.markdown_row.proofs.TreePasts.{has_run-row, quiet-runless, leaf-runless, runless-no-run}
 use Rattle.markdown_row.proofs.NodeLemmas.{check_yields, html_yields, escape_yields, reference_yields, break_yields, autolink_yields, span_here_yields, code_quiet, math_quiet}
 use Rattle.markdown_model.proofs.ReadingSteps.{switched-off}
 
@@ -40,13 +42,15 @@ abbrev EachYields : (Element → Type 0) → Tries → Type 0
 EachYields P [] = Unit {0}
 EachYields P (row ∷ rows) = Yields P row.1 × EachYields P rows
 
--- it holds of the trees of constructs, of codes by themselves, and of runs where they are looked for
+-- it holds of the trees of constructs, of codes by themselves, of runs where they are looked for, and of starts and ends of labels
 pub record HoldsOfParts (P : Element → Type 0) (on : Constructs) : Type 0 where
   pub nodes : (t : Forest) → IsNode t → P (plain t)
   pub leaves : (name : Name) (cs : List Code) → is_run name ≡ false → P (plain (leaf name cs))
   pub stars : Yields P (switched on.attention (attention_run 42))
   pub underscores : Yields P (switched on.attention (attention_run 95))
   pub tildes : Yields P (switched on.gfm_strikethrough (attention_run 126))
+  pub opens : (kind : LabelKind) (marker : List Code) → P (starts kind marker)
+  pub closes : (marker : List Code) (outcome : Option (LabelKind × Forest)) → P (ends marker outcome)
 
 module _ (P : Element → Type 0) (s : Setting) (built : IsBuilt s.options.constructs) (h : HoldsOfParts P s.options.constructs) where
   plain_yields : (a : Reading Forest) → Yields IsNode a → Yields P (as_plain a)
@@ -69,6 +73,22 @@ module _ (P : Element → Type 0) (s : Setting) (built : IsBuilt s.options.const
   unfolding math_span
   math_yields single earlier previous = plain_yields _ (span_here_yields _ math_names _ _ _ math_quiet)
 
+  image_yields : (footnotes : Bool) → Yields P (image_start footnotes)
+  unfolding image_start
+  image_yields footnotes = then_any _ _ _ λ marker. yields_gives _ _ (h.opens LabelKind.Image marker)
+
+  footnote_yields : Yields P footnote_start
+  unfolding footnote_start
+  footnote_yields = then_any _ _ _ λ marker. yields_gives _ _ (h.opens LabelKind.GfmFootnote marker)
+
+  link_yields : Yields P link_start
+  unfolding link_start
+  link_yields = then_any _ _ _ λ marker. yields_gives _ _ (h.opens LabelKind.Link marker)
+
+  end_yields : (earlier : List Element) → Yields P (label_end s earlier)
+  unfolding label_end
+  end_yields earlier = then_any _ _ _ λ back. yields_either _ _ _ (then_any _ _ _ λ outcome. yields_gives _ _ (h.closes back (Some outcome))) (yields_gives _ _ (h.closes back None))
+
   tried_yields : (rows : Tries) (v : ℕ) → EachYields P rows → Yields P (tried rows v)
   unfolding tried
   tried_yields [] v k = record { at = data_yields.at }
@@ -84,7 +104,7 @@ module _ (P : Element → Type 0) (s : Setting) (built : IsBuilt s.options.const
     each_yields = (
       ending_yields,
       (
-        off_yields _ _ _ built.no_image,
+        on_yields _ _ _ (image_yields _),
         (
           on_yields _ _ _ (math_yields _ _ _),
           (
@@ -104,11 +124,11 @@ module _ (P : Element → Type 0) (s : Setting) (built : IsBuilt s.options.const
                         (
                           off_yields _ _ _ built.no_literals,
                           (
-                            yields_either _ _ _ (off_yields _ _ _ built.no_footnotes) (off_yields _ _ _ built.no_link),
+                            yields_either _ _ _ (on_yields _ _ _ footnote_yields) (on_yields _ _ _ link_yields),
                             (
                               yields_either _ _ _ (on_yields _ _ _ (plain_yields _ escape_yields)) (on_yields _ _ _ (plain_yields _ break_yields)),
                               (
-                                off_yields _ _ _ built.no_label_end,
+                                on_yields _ _ _ (end_yields _),
                                 tt,
                               ),
                             ),
@@ -149,28 +169,12 @@ text-are P s all (e ∷ es) earlier previous cs built h are = (
   text-are P s all es (e ∷ earlier) (code_before cs are.0) are.0 built h are.2,
 )
 
--- They stand by themselves.
-
-run_yields : (m : ℕ) → Yields IsPlain (attention_run m)
-unfolding attention_run
-run_yields m = then_any _ _ _ λ markers. yields_gives _ (plain (leaf N.AttentionSequence markers)) tt
-
-parts-plain : (on : Constructs) → HoldsOfParts IsPlain on
-parts-plain on = record { nodes = λ t h. tt; leaves = λ name cs e. tt; stars = on_yields _ _ _ (run_yields 42); underscores = on_yields _ _ _ (run_yields 95); tildes = on_yields _ _ _ (run_yields 126) }
-
-all-plain : (es : List Element) → AllAre IsPlain es → ArePlain es
-all-plain [] h = tt
-all-plain (e ∷ es) h = (h.0, all-plain es h.1)
-
-text-are-plain : (s : Setting) (cs : List Code) (es : List Element) → IsBuilt s.options.constructs → AreElements s cs es → ArePlain es
-text-are-plain s cs es built are = all-plain es (text-are IsPlain s cs es [] None cs built (parts-plain s.options.constructs) are)
-
 -- Where no runs are looked for, none stands in them.
 
 abbrev IsStill : Element → Type 0
 IsStill (plain tree) = IsRunless tree
-IsStill (starts kind marker) = ⊥
-IsStill (ends marker outcome) = ⊥
+IsStill (starts kind marker) = Unit {0}
+IsStill (ends marker outcome) = Unit {0}
 
 parts-still : (on : Constructs) → on.attention ≡ false → on.gfm_strikethrough ≡ false → HoldsOfParts IsStill on
 parts-still on off none = record {
@@ -179,31 +183,30 @@ parts-still on off none = record {
   stars = off_yields _ _ _ off;
   underscores = off_yields _ _ _ off;
   tildes = off_yields _ _ _ none;
+  opens = λ kind marker. tt;
+  closes = λ marker outcome. tt;
 }
 
-runless-row : (t u : Forest) → IsRunless t → IsRunless u → IsRunless (t ⊕ u)
-runless-row empty u h k = k
-runless-row (leaf_then name link cs rest) u h k = (h.0, runless-row rest u h.1 k)
-runless-row (group_then name enter exit inside rest) u h k = (h.0, runless-row rest u h.1 k)
+onto-still : (t : Forest) (r : Row) → has_run t ≡ false → row_has_run r ≡ false → row_has_run (tree_onto t r) ≡ false
+onto-still t (row_end u) h k = has_run-row t u ∙ (λ i. h i || k i)
+onto-still t (row_then u mark rest) h k = ap (λ b. b || row_has_run rest) (has_run-row t u ∙ ap (λ b. b || has_run u) h) ∙ k
 
-still-runless : (es : List Element) → AllAre IsStill es → IsRunless (row_of es)
-still-runless [] h = tt
-still-runless (plain tree ∷ es) h = runless-row tree (row_of es) h.0 (still-runless es h.1)
-still-runless (starts kind marker ∷ es) h = absurd h.0
-still-runless (ends marker outcome ∷ es) h = absurd h.0
+still-row : (es : List Element) → AllAre IsStill es → row_has_run (row_of_elements es) ≡ false
+still-row [] h = refl
+still-row (plain tree ∷ es) h = onto-still tree (row_of_elements es) (runless-no-run tree h.0) (still-row es h.1)
+still-row (starts kind marker ∷ es) h = still-row es h.1
+still-row (ends marker (Some outcome) ∷ es) h = still-row es h.1
+still-row (ends marker None ∷ es) h = onto-still (leaf N.Data marker) (row_of_elements es) (runless-no-run (leaf N.Data marker) (leaf-runless N.Data marker refl)) (still-row es h.1)
+
+-- where runs are not looked for none stands in the row of the elements
+pub text-still : (s : Setting) (cs : List Code) (es : List Element) → IsBuilt s.options.constructs → AreElements s cs es → s.options.constructs.attention ≡ false → s.options.constructs.gfm_strikethrough ≡ false → row_has_run (row_of_elements es) ≡ false
+text-still s cs es built are off none = still-row es (text-are IsStill s cs es [] None cs built (parts-still s.options.constructs off none) are)
 
 -- The tree of labels.
 
-pub text-labels : (s : Setting) (cs : List Code) (es : List Element) → IsBuilt s.options.constructs → AreElements s cs es → label_tree s cs ≡ row_of es
+pub text-labels : (s : Setting) (cs : List Code) (es : List Element) → AreElements s cs es → label_tree s cs ≡ labels_of es
 unfolding label_tree
-text-labels s cs es built are =
-    ap labels_of (same_text_elements s cs (elements_of s cs) es (text_elements s cs) are) ∙ labels_of-plain es (text-are-plain s cs es built are)
-
--- where runs are not looked for it has none
-pub text-runless : (s : Setting) (cs : List Code) → IsBuilt s.options.constructs → s.options.constructs.attention ≡ false → s.options.constructs.gfm_strikethrough ≡ false → IsRunless (label_tree s cs)
-text-runless s cs built off none =
-    let are : AreElements s cs (elements_of s cs) = text_elements s cs in
-    subst IsRunless (sym (text-labels s cs (elements_of s cs) built are)) (still-runless (elements_of s cs) (text-are IsStill s cs (elements_of s cs) [] None cs built (parts-still s.options.constructs off none) are))
+text-labels s cs es are = ap labels_of (same_text_elements s cs (elements_of s cs) es (text_elements s cs) are)
 
 -- The inline tree.
 
@@ -217,9 +220,9 @@ unfolding finished_text raw_tree finish
 finished-is s pairs_of es = refl
 
 pub text-finished : (s : Setting) (cs : List Code) (es : List Element) → IsBuilt s.options.constructs → AreElements s cs es
-    → text_tree s cs ≡ trimmed s.options.constructs.hard_break_trailing true true (merged (paired s (pair_list s) (row_of es)))
+    → text_tree s cs ≡ trimmed s.options.constructs.hard_break_trailing true true (merged (paired s (pair_list s) (labels_of es)))
 unfolding text_tree finish
 text-finished s cs es built are =
     ap (finished_text s (pair_list s)) (same_text_elements s cs (elements_of s cs) es (text_elements s cs) are)
     ∙ finished-is s (pair_list s) es
-    ∙ (λ i. finish s.options.constructs.hard_break_trailing (built.no_literals i) (paired s (pair_list s) (labels_of-plain es (text-are-plain s cs es built are) i)))
+    ∙ (λ i. finish s.options.constructs.hard_break_trailing (built.no_literals i) (paired s (pair_list s) (labels_of es)))

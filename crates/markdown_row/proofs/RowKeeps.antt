@@ -265,7 +265,7 @@ codes-row (group_then n a b inside rest) u h k = (h.0, codes-row rest u h.1 k)
 
 codes-leaf-has : (n : Name) (cs : List Code) → HasCodes (leaf n cs)
 codes-leaf-has n [] = tt
-codes-leaf-has n (c ∷ cs) = ((λ e x. cc), tt)
+codes-leaf-has n (c ∷ cs) = ((λ e l x. cc), tt)
 
 codes-kept : IsKept HasCodes IsAny
 codes-kept = record {

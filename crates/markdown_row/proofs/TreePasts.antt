@@ -21,7 +21,7 @@ pub or-apart : (a b c : Bool) → (a || (b || c)) ≡ ((a || b) || c)
 or-apart true b c = refl
 or-apart false b c = refl
 
-has_run-row : (t u : Forest) → has_run (t ⊕ u) ≡ (has_run t || has_run u)
+pub has_run-row : (t u : Forest) → has_run (t ⊕ u) ≡ (has_run t || has_run u)
 has_run-row empty u = refl
 has_run-row (leaf_then name link cs rest) u = ap (λ b. is_run name || b) (has_run-row rest u) ∙ or-apart (is_run name) (has_run rest) (has_run u)
 has_run-row (group_then name a b inside rest) u = has_run-row rest u
