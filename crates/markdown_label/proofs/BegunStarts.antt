@@ -1,14 +1,14 @@
 -- A start that is begun ends between characters, as the kept starts before it do.
-use Rattle.std.proofs.Common.{◌≡◌, ℕ, ◌+◌, ◌-◌, ◌<◌, ◌≤◌, ◌==◌, nat_lt, Bool, true, false, ◌&&◌, not, None, List, [], ◌∷◌, ◌++◌, length, refl, sym, ap, subst, ◌∙◌, arith, length-append, append-nil, append_assoc}
+use Rattle.std.proofs.Common.{◌≡◌, ℕ, ◌+◌, ◌-◌, ◌≤◌, nat_lt, true, None, List, [], ◌∷◌, ◌++◌, length, refl, sym, ap, subst, ◌∙◌, arith, length-append, append-nil, append_assoc}
 use Rattle.std.proofs.lemmas.Bool.{eqb-true}
 use Rattle.std.specs.Str.{IsCharBoundary}
-use Rattle.markdown_engine.specs.Codes.{Code, stop_of, document_start}
+use Rattle.markdown_engine.specs.Codes.{Code}
 use Rattle.markdown_engine.specs.Lists.{rest_of}
-use Rattle.markdown_engine.specs.Ops.{Op, ahead, done, scratched}
+use Rattle.markdown_engine.specs.Ops.{ahead, done, scratched}
 use Rattle.markdown_engine.specs.Past.{past, appended_from}
-use Rattle.markdown_engine.specs.Place.{Place, moved}
-use Rattle.markdown_engine.specs.Tree.{Forest, leaf, group, ◌⊕◌, leaf_codes}
-use Rattle.markdown_engine.specs.TreeOps.{IsSolid, ops_of}
+use Rattle.markdown_engine.specs.Place.{moved}
+use Rattle.markdown_engine.specs.Tree.{Forest, leaf, group, ◌⊕◌}
+use Rattle.markdown_engine.specs.TreeOps.{ops_of}
 use Rattle.markdown_engine.specs.declared.event.Event.{Event}
 use Rattle.markdown_engine.specs.declared.event.Name.{Name}
 use Rattle.markdown_engine.specs.declared.event.Name.TheVariants as N
@@ -21,14 +21,13 @@ use Rattle.markdown_engine.specs.declared.tokenizer.Tokenizer.{Tokenizer}
 use Rattle.markdown_engine.proofs.OpRules.{ahead-moved}
 use Rattle.markdown_engine.proofs.OpsLemmas.{and-left, and-right}
 use Rattle.markdown_engine.proofs.SolidLemmas.{IsSolid-group, IsSolid-leaf, IsSolid-row}
-use Rattle.markdown_engine.proofs.TreeLemmas.{ops-past, ahead-past}
+use Rattle.markdown_engine.proofs.TreeLemmas.{ops-past}
 use Rattle.markdown_construct.specs.Characters.{bytes_of, ReadsText}
 use Rattle.markdown_construct.proofs.TextPasses.{text-moved}
 use Rattle.markdown_construct.proofs.TextPlaces.{marker-ends}
 use Rattle.markdown_model.specs.CodeTests.{is_value, next_is}
-use Rattle.markdown_model.specs.Passes.{start_tree}
 use Rattle.markdown_label.specs.Fields.{begun}
-use Rattle.markdown_label.specs.LabelEnd.{place_at, point_or, EndsBetween, AreWithin}
+use Rattle.markdown_label.specs.LabelEnd.{place_at, point_or, AreWithin}
 use Rattle.markdown_label.specs.LabelStarts.{kept_start, link_ops, link_test, footnote_front, footnote_back, footnote_test, image_front, image_back, image_test}
 use Rattle.markdown_label.proofs.LabelEndLemmas.{events-before, scratch-before, input-before}
 use Rattle.markdown_label.proofs.ReferenceShape.{get-after}

@@ -1,66 +1,40 @@
 -- The laws of the states of a label's end.
-use Rattle.std.proofs.Common.{◌≡◌, ◌≢◌, ℕ, ◌+◌, ◌*◌, ◌<◌, ◌≤◌, ◌==◌, Bool, true, false, ◌&&◌, not, if◌then◌else◌, Option, Some, None, List, [], ◌∷◌, ◌++◌, length, slice_get, refl, sym, ap, subst, ◌∙◌, arith, length-append, append-nil}
+use Rattle.std.proofs.Common.{◌≡◌, ℕ, ◌<◌, ◌==◌, Bool, true, false, ◌&&◌, None, List, [], ◌∷◌, refl, sym, ap, subst, ◌∙◌, arith}
 use Rattle.std.specs.Prelude.{is_some}
-use Rattle.std.proofs.lemmas.Bool.{eqb-true}
-use Rattle.markdown_engine.specs.Codes.{Code}
-use Rattle.markdown_engine.specs.Grown.{Grown, Fails}
-use Rattle.markdown_engine.specs.Lists.{first_of, rest_of}
-use Rattle.markdown_engine.specs.Ops.{IsOpen, ahead, applied, current_of, done, scratched}
-use Rattle.markdown_engine.specs.Past.{TreeReading, Reads, EndsAs, past}
-use Rattle.markdown_engine.specs.Place.{value_of}
-use Rattle.markdown_engine.specs.Runs.{Stepped, stepped, GoesOn}
-use Rattle.markdown_engine.specs.Tree.{Forest, empty, leaf_codes, start_of}
-use Rattle.markdown_engine.specs.TreeOps.{ops_of}
+use Rattle.markdown_engine.specs.Lists.{rest_of}
+use Rattle.markdown_engine.specs.Ops.{ahead, applied, current_of, scratched}
+use Rattle.markdown_engine.specs.Past.{TreeReading, past}
+use Rattle.markdown_engine.specs.Runs.{Stepped}
+use Rattle.markdown_engine.specs.StateWords.{Words, Law, GoesIn}
+use Rattle.markdown_engine.specs.Tree.{empty}
 use Rattle.markdown_engine.specs.Weights.{codes_left, weight_at}
-use Rattle.markdown_engine.specs.declared.event.Event.{Event}
-use Rattle.markdown_engine.specs.declared.event.Name.TheVariants as N
-use Rattle.markdown_engine.specs.declared.state.State.TheVariants.{Next, Retry, Ok, Nok}
-use Rattle.markdown_engine.specs.declared.state.StateName.{StateName}
-use Rattle.markdown_engine.specs.declared.state.StateName.TheVariants.{LabelEndAfter, LabelEndOk, LabelEndNok, LabelEndResourceStart, LabelEndReferenceFull, LabelEndReferenceNotFull, LabelEndReferenceCollapsed, LabelEndReferenceCollapsedOpen}
+use Rattle.markdown_engine.specs.declared.state.State.TheVariants.{Next, Retry}
+use Rattle.markdown_engine.specs.declared.state.StateName.TheVariants.{LabelEndOk, LabelEndNok, LabelEndResourceStart, LabelEndReferenceFull, LabelEndReferenceNotFull, LabelEndReferenceCollapsed, LabelEndReferenceCollapsedOpen}
 use Rattle.markdown_engine.specs.declared.tokenizer.LabelKind.{LabelKind}
 use Rattle.markdown_engine.specs.declared.tokenizer.LabelStart as Kept
 use Rattle.markdown_engine.specs.declared.tokenizer.TokenizeState.{TokenizeState}
 use Rattle.markdown_engine.specs.declared.tokenizer.Tokenizer.{Tokenizer}
 use Rattle.markdown_engine.proofs.EndsLemmas.{scratched-same}
-use Rattle.markdown_engine.proofs.Laws.{Follows, Goes-plain, Grown-refl, if-step, code-step}
-use Rattle.markdown_engine.proofs.OpRules.{Begins, ahead-none, ahead-some, attempts-scratched, left-scratched, some-codes}
-use Rattle.markdown_engine.proofs.OpsLemmas.{Grown-scratched, and-left, and-right}
+use Rattle.markdown_engine.proofs.Laws.{if-step, code-step}
+use Rattle.markdown_engine.proofs.OpRules.{Begins, ahead-some, attempts-scratched, left-scratched, some-codes}
+use Rattle.markdown_engine.proofs.OpsLemmas.{Grown-scratched, and-left}
 use Rattle.markdown_engine.proofs.TreeLemmas.{past-empty}
-use Rattle.markdown_construct.specs.Plan.{Plan, preceded, plan_of, KeepsAs}
-use Rattle.markdown_construct.proofs.PlanLemmas.{GoesOn-map, Goes-next, Goes-yes, Goes-no, EndsAs-plan}
-use Rattle.markdown_model.specs.CodeTests.{is_value, next_is}
-use Rattle.markdown_model.specs.Grammar.{either, provided}
+use Rattle.markdown_construct.specs.Plan.{Plan, plan_of, KeepsAs}
+use Rattle.markdown_construct.specs.Within.{Within}
+use Rattle.markdown_construct.proofs.PlanLemmas.{EndsAs-plan}
+use Rattle.markdown_construct.proofs.StateLaws.{FollowsIn, follows, GoesOn-map, Goes-end, Goes-next, Goes-no, Goes-plain, Goes-yes}
+use Rattle.markdown_model.specs.Grammar.{either}
 use Rattle.markdown_model.specs.LabelEnd.{is_footnote, full_reference, collapsed_reference, shortcut, reference_after_label, after_label, link_kind, link_identifier}
 use Rattle.markdown_model.specs.Resource.{resource, label, reference_names}
 use Rattle.markdown_model.specs.Setting.{Setting, is_defined}
 use Rattle.markdown_model.proofs.ReadingSteps.{either-some, either-second, if-true, if-false}
-use Rattle.markdown_resource.specs.Parts.{rested, PartReady}
-use Rattle.markdown_resource.specs.Resource.{resource_ends}
+use Rattle.markdown_resource.specs.Parts.{rested}
 use Rattle.markdown_resource.proofs.NextCodes.{at-value, at-none}
-use Rattle.markdown_label.specs.Fields.{with_kind, tried, labelled, loosened}
-use Rattle.markdown_label.specs.LabelEnd.{identifier_between, outcome, is_on, by_definition, not_full, tail_at, link_tried, after_as, after_by, after_step, made_here, ok_step, lost_here, nok_step, label_seen, may_be_shortcut, reference_not_full_step, collapsed_front, collapsed_back, collapsed_at, reference_collapsed_step, collapsed_open_at, reference_collapsed_open_step, AfterReady, FullReady, tail_ends, MakesTail, LosesTail, kind_set, made, MadeReading, Makes, Loses, after_reading_of, after_reading, after_ends, ok_ends, nok_ends, FullFails, reference_full_ends, not_full_reading, reference_not_full_ends, reference_collapsed_ends, collapsed_open_plan, reference_collapsed_open_ends, starts_set}
+use Rattle.markdown_label.specs.Fields.{with_kind, tried}
+use Rattle.markdown_label.specs.LabelEnd.{identifier_between, outcome, by_definition, not_full, tail_at, link_tried, after_by, made_here, lost_here, label_seen, may_be_shortcut, collapsed_front, collapsed_back, collapsed_at, reference_collapsed_step, collapsed_open_at, AfterReady, FullReady, tail_ends, kind_set, made, after_reading_of, after_reading, after_ends, ok_ends, nok_ends, not_full_reading, reference_collapsed_ends, collapsed_open_plan, reference_collapsed_open_ends, starts_set, states, ok_words, nok_words, after_words, reference_collapsed_words, reference_collapsed_open_words, reference_not_full_words}
 use Rattle.markdown_label.specs.Settings.{setting_in}
-use Rattle.markdown_label.proofs.LabelEndLemmas.{attempts-made, ahead-made, Meets, on-ok, on-nok, on-definition, goes-definition, goes-tried, tail-same, loses-here}
+use Rattle.markdown_label.proofs.LabelEndLemmas.{attempts-made, ahead-made, on-definition, goes-definition, goes-tried, tail-same, loses-here}
 use Rattle.markdown_label.proofs.LabelEndReadings.{after-paren, after-bracket, after-other, full-first, undefined-none, defined-either, collapsed-whole, collapsed-here, collapsed-none, outcome-call, outcome-tail, outcome-none, footnote-kind}
-
--- what the layer says of these states, and of the parts that they try
-pub record Within (ready : StateName → Tokenizer → Type 0) (ends : StateName → Tokenizer → Bool → Tokenizer → Type 0) (weight : StateName → Tokenizer → ℕ) : Type 0 where
-  pub meets : Meets ready ends weight
-  pub resource_ready : (T : Tokenizer) → PartReady T → current_of T ≡ Some 40 → ready LabelEndResourceStart T
-  pub resource_end : (T : Tokenizer) (ok : Bool) (U : Tokenizer) → ends LabelEndResourceStart T ok U → resource_ends T ok U
-  pub resource_weight : (T : Tokenizer) → weight LabelEndResourceStart T ≡ weight_at 12 T
-  pub full_ready : (T : Tokenizer) → FullReady T → current_of T ≡ Some 91 → ready LabelEndReferenceFull T
-  pub full_end : (T : Tokenizer) (ok : Bool) (U : Tokenizer) → ends LabelEndReferenceFull T ok U → reference_full_ends T ok U
-  pub full_weight : (T : Tokenizer) → weight LabelEndReferenceFull T ≡ weight_at 12 T
-  pub not_full_ready : (T : Tokenizer) → ready LabelEndReferenceNotFull T
-  pub not_full_end : (T : Tokenizer) (ok : Bool) (U : Tokenizer) → ends LabelEndReferenceNotFull T ok U → reference_not_full_ends T ok U
-  pub not_full_weight : (T : Tokenizer) → weight LabelEndReferenceNotFull T ≡ weight_at 3 T
-  pub collapsed_ready : (T : Tokenizer) → ready LabelEndReferenceCollapsed T
-  pub collapsed_end : (T : Tokenizer) (ok : Bool) (U : Tokenizer) → ends LabelEndReferenceCollapsed T ok U → reference_collapsed_ends T ok U
-  pub collapsed_weight : (T : Tokenizer) → weight LabelEndReferenceCollapsed T ≡ weight_at 2 T
-  pub open_ready : (T : Tokenizer) → IsOpen N.Reference T → ready LabelEndReferenceCollapsedOpen T
-  pub open_end : (T : Tokenizer) (ok : Bool) (U : Tokenizer) → ends LabelEndReferenceCollapsedOpen T ok U → reference_collapsed_open_ends T ok U
-  pub open_weight : (T : Tokenizer) → weight LabelEndReferenceCollapsedOpen T ≡ weight_at 1 T
 
 -- The scratch fields.
 
@@ -77,118 +51,109 @@ lost-seen : (b : Bool) (T : Tokenizer) → lost_here (scratched (label_seen b T.
 unfolding scratched
 lost-seen b T = refl
 
-module _ (ready : StateName → Tokenizer → Type 0) (ends : StateName → Tokenizer → Bool → Tokenizer → Type 0) (weight : StateName → Tokenizer → ℕ) (within : Within ready ends weight) where
+module _ (W : Words) (within : Within states W) where
   -- Where all ends meet.
 
-  pub ok-law : (T : Tokenizer) → T.attempts ≡ [] → GoesOn ready ends weight (weight_at 1 T) (ok_ends T) (ok_step T)
-  ok-law T alone = Goes-plain ready ends weight (weight_at 1 T) (ok_ends T) Ok (made_here T) (attempts-made T alone) tt (omega arith) (λ ok U h. h)
+  pub ok-law : Law W ok_words
+  ok-law T alone _ = Goes-end W (weight_at 1 T) (ok_ends T) true (made_here T) (attempts-made T alone) (omega arith) (λ ok U h. h)
 
-  pub nok-law : (T : Tokenizer) → T.attempts ≡ [] → GoesOn ready ends weight (weight_at 1 T) (nok_ends T) (nok_step T)
-  nok-law T alone = Goes-plain ready ends weight (weight_at 1 T) (nok_ends T) Nok (lost_here T) (attempts-scratched _ T ∙ alone) tt (omega arith) (λ ok U h. h)
+  pub nok-law : Law W nok_words
+  nok-law T alone _ = Goes-end W (weight_at 1 T) (nok_ends T) false (lost_here T) (attempts-scratched _ T ∙ alone) (omega arith) (λ ok U h. h)
 
   -- Collapsed references.
 
-  pub collapsed-law : (T : Tokenizer) → T.attempts ≡ [] → GoesOn ready ends weight (weight_at 2 T) (reference_collapsed_ends T) (reference_collapsed_step T)
+  pub reference_collapsed-law : Law W reference_collapsed_words
   unfolding applied
-  collapsed-law T alone =
+  reference_collapsed-law T alone _ =
       let p : Plan = plan_of collapsed_reference in
-      let P : Stepped → Type 0 = GoesOn ready ends weight (weight_at 2 T) (KeepsAs 0 p T) in
-      GoesOn-map ready ends weight (weight_at 2 T) (KeepsAs 0 p T) (reference_collapsed_ends T) (reference_collapsed_step T) (λ ok U x. EndsAs-plan collapsed_reference collapsed-whole T.tokenize_state T ok U x)
+      let P : Stepped → Type 0 = GoesIn W (weight_at 2 T) (KeepsAs 0 p T) in
+      GoesOn-map W (weight_at 2 T) (KeepsAs 0 p T) (reference_collapsed_ends T) (reference_collapsed_step T) (λ ok U x. EndsAs-plan collapsed_reference collapsed-whole T.tokenize_state T ok U x)
       (code-step P (current_of T) (λ o. collapsed_at o T)
-      (λ e. Goes-no ready ends weight 2 0 p T alone (collapsed-none (ahead T) (at-none T 91 e)))
+      (λ e. Goes-no W 2 0 p T alone (collapsed-none (ahead T) (at-none T 91 e)))
       (λ c e.
       let b : Begins c (ahead T) = ahead-some T c e in
       if-step P (c == 91) _ _
-      (λ h. Goes-next ready ends weight 2 1 0 p collapsed_open_plan collapsed_front T (Next LabelEndReferenceCollapsedOpen) alone refl (some-codes T c e) (omega arith)
+      (λ h. Goes-next W 2 0 p collapsed_open_plan collapsed_front T (Next LabelEndReferenceCollapsedOpen) (within LabelEndReferenceCollapsedOpen) alone refl (some-codes T c e) (omega arith)
       (ap p b.whole ∙ collapsed-here b.code (rest_of (ahead T)) (ap (λ v. v == 91) b.value ∙ h))
-      (within.open_ready (done collapsed_front T) refl)
-      (within.open_weight (done collapsed_front T))
-      (within.open_end (done collapsed_front T)))
-      (λ h. Goes-no ready ends weight 2 0 p T alone (collapsed-none (ahead T) (at-value T c 91 false e h)))))
+      refl
+      (λ ok U x. x))
+      (λ h. Goes-no W 2 0 p T alone (collapsed-none (ahead T) (at-value T c 91 false e h)))))
 
-  pub collapsed-open-law : (T : Tokenizer) → T.attempts ≡ [] → GoesOn ready ends weight (weight_at 1 T) (reference_collapsed_open_ends T) (reference_collapsed_open_step T)
-  collapsed-open-law T alone =
-      let P : Stepped → Type 0 = GoesOn ready ends weight (weight_at 1 T) (reference_collapsed_open_ends T) in
+  pub reference_collapsed_open-law : Law W reference_collapsed_open_words
+  reference_collapsed_open-law T alone _ =
+      let P : Stepped → Type 0 = GoesIn W (weight_at 1 T) (reference_collapsed_open_ends T) in
       code-step P (current_of T) (λ o. collapsed_open_at o T)
-      (λ e. Goes-no ready ends weight 1 1 collapsed_open_plan T alone (if-false _ _ _ (at-none T 93 e)))
+      (λ e. Goes-no W 1 1 collapsed_open_plan T alone (if-false _ _ _ (at-none T 93 e)))
       (λ c e. if-step P (c == 93) _ _
-      (λ h. Goes-yes ready ends weight 1 1 collapsed_open_plan collapsed_back T alone (if-true _ _ _ (at-value T c 93 true e h)))
-      (λ h. Goes-no ready ends weight 1 1 collapsed_open_plan T alone (if-false _ _ _ (at-value T c 93 false e h))))
+      (λ h. Goes-yes W 1 1 collapsed_open_plan collapsed_back T alone (if-true _ _ _ (at-value T c 93 true e h)))
+      (λ h. Goes-no W 1 1 collapsed_open_plan T alone (if-false _ _ _ (at-value T c 93 false e h))))
 
-  pub not_full-law : (T : Tokenizer) → T.attempts ≡ [] → GoesOn ready ends weight (weight_at 3 T) (reference_not_full_ends T) (reference_not_full_step T)
-  not_full-law T alone =
+  pub reference_not_full-law : Law W reference_not_full_words
+  reference_not_full-law T alone _ =
       let M : Tokenizer = scratched (label_seen false T.tokenize_state) T in
       let n : ℕ = weight_at 3 T in
       let may : Bool = may_be_shortcut T in
       let same : codes_left M ≡ codes_left T = left-scratched _ T in
-      goes-tried ready ends weight within.meets n (not_full_reading T) LabelEndReferenceCollapsed (by_definition may) collapsed_reference M.tokenize_state M (attempts-scratched _ T ∙ alone)
-      (within.collapsed_ready M)
-      (rw within.collapsed_weight (omega (arith, same)))
+      goes-tried W within n (not_full_reading T) LabelEndReferenceCollapsed (within LabelEndReferenceCollapsed) (by_definition may) collapsed_reference M.tokenize_state M (attempts-scratched _ T ∙ alone)
+      tt
       (omega (arith, same))
-      (λ U h. within.collapsed_end M true U h)
-      (λ U h. let k = within.collapsed_end M false U h in (k.refused, k.fails))
+      (omega (arith, same))
+      (λ U h. h)
+      (λ U h. (h.refused, h.fails))
       (λ tree rest h. either-some collapsed_reference (shortcut may) (ahead M) (tree, rest) h)
-      (λ h. subst (λ (x : Tokenizer). Follows ready ends weight n (tail_ends (not_full_reading T) M) (Next (by_definition may)) x) (sym (scratched-same M))
-      (on-definition ready ends weight within.meets n (not_full_reading T) may M (omega (arith, same)) (either-second collapsed_reference (shortcut may) (ahead M) h)))
+      (λ h. subst (λ (x : Tokenizer). FollowsIn W n (tail_ends (not_full_reading T) M) (Next (by_definition may)) x) (sym (scratched-same M))
+      (on-definition W within n (not_full_reading T) may M (omega (arith, same)) (either-second collapsed_reference (shortcut may) (ahead M) h)))
 
   -- Behind the `]`.
 
   -- where a `[` follows that begins no full reference
   not-full-goes : (n : ℕ) (defined : Bool) (M : Tokenizer) → weight_at 3 M < n → M.tokenize_state.seen ≡ false → after_label (setting_in M) defined (ahead M) ≡ reference_after_label (setting_in M) defined (ahead M) → full_reference (setting_in M) (ahead M) ≡ None
-      → Follows ready ends weight n (tail_ends (after_label (setting_in M) defined) M) (Next (not_full defined)) (scratched (label_seen (is_some (label reference_names (ahead M))) M.tokenize_state) M)
+      → FollowsIn W n (tail_ends (after_label (setting_in M) defined) M) (Next (not_full defined)) (scratched (label_seen (is_some (label reference_names (ahead M))) M.tokenize_state) M)
   unfolding scratched
   not-full-goes n true M room rest is none =
       let b : Bool = is_some (label reference_names (ahead M)) in
       let V : Tokenizer = scratched (label_seen b M.tokenize_state) M in
-      record {
-        goes_on = within.not_full_ready V;
-        falls = rw within.not_full_weight room;
-        closed = λ ok U h.
-            let back : tail_ends (not_full_reading V) M ok U = subst (λ (x : Tokenizer). tail_ends (not_full_reading V) x ok U) (seen-back b M rest) (within.not_full_end V ok U h) in
-            tail-same (not_full_reading V) (after_label (setting_in M) true) M (sym (is ∙ defined-either (setting_in M) (ahead M) none)) ok U back;
-      }
+      follows W n (tail_ends (after_label (setting_in M) true) M) (Next LabelEndReferenceNotFull) (within LabelEndReferenceNotFull) V tt room
+      (λ ok U h.
+      let back : tail_ends (not_full_reading V) M ok U = subst (λ (x : Tokenizer). tail_ends (not_full_reading V) x ok U) (seen-back b M rest) h in
+      tail-same (not_full_reading V) (after_label (setting_in M) true) M (sym (is ∙ defined-either (setting_in M) (ahead M) none)) ok U back)
   not-full-goes n false M room rest is none =
       let b : Bool = is_some (label reference_names (ahead M)) in
       let V : Tokenizer = scratched (label_seen b M.tokenize_state) M in
-      record {
-        goes_on = within.meets.nok_ready V;
-        falls = rw within.meets.nok_weight (omega (arith, room));
-        closed = λ ok U h.
-            let k = within.meets.nok_end V ok U h in
-            loses-here (after_label (setting_in M) false) M (is ∙ undefined-none (setting_in M) (ahead M) none) ok U (k.0, k.1 ∙ lost-seen b M);
-      }
+      follows W n (tail_ends (after_label (setting_in M) false) M) (Next LabelEndNok) (within LabelEndNok) V tt (omega (arith, room))
+      (λ ok U k. loses-here (after_label (setting_in M) false) M (is ∙ undefined-none (setting_in M) (ahead M) none) ok U (k.0, k.1 ∙ lost-seen b M))
 
-  pub tail-law : (n : ℕ) (defined : Bool) (M : Tokenizer) → M.attempts ≡ [] → FullReady M → weight_at 12 M < n → GoesOn ready ends weight n (tail_ends (after_label (setting_in M) defined) M) (tail_at defined (current_of M) M)
+  pub tail-law : (n : ℕ) (defined : Bool) (M : Tokenizer) → M.attempts ≡ [] → FullReady M → weight_at 12 M < n → GoesIn W n (tail_ends (after_label (setting_in M) defined) M) (tail_at defined (current_of M) M)
   tail-law n defined M alone k room =
       let s : Setting = setting_in M in
       let big : TreeReading = after_label s defined in
-      let P : Stepped → Type 0 = GoesOn ready ends weight n (tail_ends big M) in
+      let P : Stepped → Type 0 = GoesIn W n (tail_ends big M) in
       code-step P (current_of M) (λ o. tail_at defined o M)
-      (λ e. goes-definition ready ends weight within.meets n big defined M alone (omega (arith, room)) (after-other s defined (ahead M) (at-none M 40 e) (at-none M 91 e)))
+      (λ e. goes-definition W within n big defined M alone (omega (arith, room)) (after-other s defined (ahead M) (at-none M 40 e) (at-none M 91 e)))
       (λ c e. if-step P (c == 40) _ _
       (λ h.
       let is : big (ahead M) ≡ either resource (shortcut defined) (ahead M) = after-paren s defined (ahead M) (at-value M c 40 true e h) in
-      goes-tried ready ends weight within.meets n big LabelEndResourceStart (by_definition defined) resource M.tokenize_state M alone
-      (within.resource_ready M k.part (e ∙ ap (λ v. Some v) (eqb-true c 40 h)))
-      (rw within.resource_weight room)
+      goes-tried W within n big LabelEndResourceStart (within LabelEndResourceStart) (by_definition defined) resource M.tokenize_state M alone
+      k.part
+      room
       (omega (arith, room))
-      (λ U x. within.resource_end M true U x)
-      (λ U x. let f = within.resource_end M false U x in (f.refused, f.fails))
+      (λ U x. x)
+      (λ U x. (x.refused, x.fails))
       (λ tree rest x. is ∙ either-some resource (shortcut defined) (ahead M) (tree, rest) x)
-      (λ x. subst (λ (y : Tokenizer). Follows ready ends weight n (tail_ends big M) (Next (by_definition defined)) y) (sym (scratched-same M))
-      (on-definition ready ends weight within.meets n big defined M (omega (arith, room)) (is ∙ either-second resource (shortcut defined) (ahead M) x))))
+      (λ x. subst (λ (y : Tokenizer). FollowsIn W n (tail_ends big M) (Next (by_definition defined)) y) (sym (scratched-same M))
+      (on-definition W within n big defined M (omega (arith, room)) (is ∙ either-second resource (shortcut defined) (ahead M) x))))
       (λ g. if-step P (c == 91) _ _
       (λ h.
       let is : big (ahead M) ≡ reference_after_label s defined (ahead M) = after-bracket s defined (ahead M) (at-value M c 40 false e g) (at-value M c 91 true e h) in
-      goes-tried ready ends weight within.meets n big LabelEndReferenceFull (not_full defined) (full_reference s) (label_seen (is_some (label reference_names (ahead M))) M.tokenize_state) M alone
-      (within.full_ready M k (e ∙ ap (λ v. Some v) (eqb-true c 91 h)))
-      (rw within.full_weight room)
+      goes-tried W within n big LabelEndReferenceFull (within LabelEndReferenceFull) (not_full defined) (full_reference s) (label_seen (is_some (label reference_names (ahead M))) M.tokenize_state) M alone
+      k
+      room
       (omega (arith, room))
-      (λ U x. within.full_end M true U x)
-      (λ U x. let f = within.full_end M false U x in (f.refused, f.fails))
+      (λ U x. x)
+      (λ U x. (x.refused, x.fails))
       (λ tree rest x. is ∙ full-first s defined (ahead M) (tree, rest) x)
       (λ x. not-full-goes n defined M (omega (arith, room)) (seen-rested M.tokenize_state k.part.rest) is x))
-      (λ h. goes-definition ready ends weight within.meets n big defined M alone (omega (arith, room)) (after-other s defined (ahead M) (at-value M c 40 false e g) (at-value M c 91 false e h)))))
+      (λ h. goes-definition W within n big defined M alone (omega (arith, room)) (after-other s defined (ahead M) (at-value M c 40 false e g) (at-value M c 91 false e h)))))
 
   -- with the start tried as a link's
   tried-ready : (T : Tokenizer) → AfterReady T → FullReady (link_tried T)
@@ -250,26 +215,25 @@ module _ (ready : StateName → Tokenizer → Type 0) (ends : StateName → Toke
       }
   call-after l ls T e called false U k = cc
 
-  tail-there : (n : ℕ) (defined : Bool) (T : Tokenizer) → T.attempts ≡ [] → FullReady (link_tried T) → weight_at 12 T < n → GoesOn ready ends weight n (tail_ends (after_label (setting_in T) defined) (link_tried T)) (tail_at defined (current_of T) (link_tried T))
+  tail-there : (n : ℕ) (defined : Bool) (T : Tokenizer) → T.attempts ≡ [] → FullReady (link_tried T) → weight_at 12 T < n → GoesIn W n (tail_ends (after_label (setting_in T) defined) (link_tried T)) (tail_at defined (current_of T) (link_tried T))
   unfolding scratched
   tail-there n defined T alone k room = tail-law n defined (link_tried T) alone k room
 
-  after-goes : (l : Kept.LabelStart) (ls : List Kept.LabelStart) (T : Tokenizer) → T.attempts ≡ [] → AfterReady T → T.tokenize_state.label_starts ≡ l ∷ ls → GoesOn ready ends weight (weight_at 13 T) (after_ends T) (after_by (l ∷ ls) T)
+  after-goes : (l : Kept.LabelStart) (ls : List Kept.LabelStart) (T : Tokenizer) → T.attempts ≡ [] → AfterReady T → T.tokenize_state.label_starts ≡ l ∷ ls → GoesIn W (weight_at 13 T) (after_ends T) (after_by (l ∷ ls) T)
   after-goes l ls T alone k e =
       let n : ℕ = weight_at 13 T in
       let s : Setting = setting_in T in
       let name : List ℕ = identifier_between T l.start.1 T.tokenize_state.end in
       let defined : Bool = is_defined s.definitions (link_identifier l.kind name) in
-      let P : Stepped → Type 0 = GoesOn ready ends weight n (after_ends T) in
+      let P : Stepped → Type 0 = GoesIn W n (after_ends T) in
       if-step P (is_footnote l.kind && is_defined s.footnotes name) _ _
-      (λ h. Goes-plain ready ends weight n (after_ends T) (Retry LabelEndOk) T alone (within.meets.ok_ready T) (rw within.meets.ok_weight (omega arith))
-      (λ ok U x. call-after l ls T e h ok U (within.meets.ok_end T ok U x)))
-      (λ h. GoesOn-map ready ends weight n (tail_ends (after_label s defined) (link_tried T)) (after_ends T) (tail_at defined (current_of T) (link_tried T)) (λ ok U x. tail-after l ls T e name refl h ok U x)
+      (λ h. Goes-plain W n (after_ends T) (Retry LabelEndOk) (within LabelEndOk) T alone tt (omega arith) (call-after l ls T e h))
+      (λ h. GoesOn-map W n (tail_ends (after_label s defined) (link_tried T)) (after_ends T) (tail_at defined (current_of T) (link_tried T)) (λ ok U x. tail-after l ls T e name refl h ok U x)
       (tail-there n defined T alone (tried-ready T k) (omega arith)))
 
-  pub after-law : (T : Tokenizer) → T.attempts ≡ [] → AfterReady T → GoesOn ready ends weight (weight_at 13 T) (after_ends T) (after_step T)
+  pub after-law : Law W after_words
   after-law T alone k = by-starts T.tokenize_state.label_starts refl
     where
-      by-starts : (ls : List Kept.LabelStart) → T.tokenize_state.label_starts ≡ ls → GoesOn ready ends weight (weight_at 13 T) (after_ends T) (after_by ls T)
+      by-starts : (ls : List Kept.LabelStart) → T.tokenize_state.label_starts ≡ ls → GoesIn W (weight_at 13 T) (after_ends T) (after_by ls T)
       by-starts [] e = absurd (k.some e)
       by-starts (l ∷ ls) e = after-goes l ls T alone k e

@@ -1,19 +1,18 @@
 -- What follows a label, by the codes at hand.
-use Rattle.std.proofs.Common.{◌≡◌, ◌≢◌, ℕ, ◌==◌, Bool, true, false, ◌&&◌, not, if◌then◌else◌, Option, Some, None, List, [], ◌∷◌, ◌++◌, refl, sym, ap, subst, ◌∙◌, append-nil}
+use Rattle.std.proofs.Common.{◌≡◌, ℕ, ◌==◌, Bool, true, false, ◌&&◌, not, if◌then◌else◌, Option, Some, None, List, [], ◌∷◌, ◌++◌, refl, sym, ap, ◌∙◌, append-nil}
 use Rattle.std.specs.Prelude.{is_some}
 use Rattle.markdown_engine.specs.Codes.{Code}
-use Rattle.markdown_engine.specs.Ops.{Op}
 use Rattle.markdown_engine.specs.Tree.{Forest, empty, leaf, group, ◌⊕◌}
 use Rattle.markdown_engine.specs.declared.event.Name.TheVariants as N
 use Rattle.markdown_engine.specs.declared.tokenizer.LabelKind.{LabelKind}
 use Rattle.markdown_construct.specs.Plan.{preceded, plan_of, tree_ops}
 use Rattle.markdown_construct.proofs.WholeReadings.{Gives, Covers, IsSome, Gives-bind, Gives-one, Gives-gives, Covers-group, Covers-row, Covers-leaf, some-first}
 use Rattle.markdown_model.specs.CodeTests.{is_value, next_is}
-use Rattle.markdown_model.specs.Grammar.{Reading, ◌>>=◌, ◌>>◌, gives, either, unless, if_next, provided, one}
+use Rattle.markdown_model.specs.Grammar.{Reading, ◌>>=◌, ◌>>◌, gives, either, unless, provided, one}
 use Rattle.markdown_model.specs.LabelEnd.{is_footnote, full_reference, collapsed_reference, shortcut, shortcut_before_bracket, reference_after_label, after_label, link_kind, link_identifier}
 use Rattle.markdown_model.specs.Resource.{resource, label, reference_names}
 use Rattle.markdown_model.specs.Setting.{Setting, is_defined}
-use Rattle.markdown_model.proofs.ReadingSteps.{bind-some, bind-none, one-here, one-not, either-some, either-second, either-first, switched-on, switched-off, if-true, if-false, and-false}
+use Rattle.markdown_model.proofs.ReadingSteps.{bind-some, bind-none, one-here, one-not, either-some, either-second, switched-on, switched-off, and-false}
 use Rattle.markdown_resource.proofs.NextCodes.{next-takes, next-leaves}
 use Rattle.markdown_label.specs.LabelEnd.{outcome, collapsed_front, collapsed_back, collapsed_open_plan}
 

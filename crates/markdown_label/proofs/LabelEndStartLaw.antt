@@ -1,52 +1,47 @@
 -- The law of the start of a label's end.
-use Rattle.std.proofs.Common.{◌≡◌, ◌≢◌, ℕ, zero, suc, ◌+◌, ◌*◌, ◌<◌, ◌≤◌, ◌==◌, Bool, true, false, ◌&&◌, not, if◌then◌else◌, Option, Some, None, List, [], ◌∷◌, ◌++◌, length, slice_get, refl, sym, ap, subst, ◌∙◌, arith, length-append, append-nil}
+use Rattle.std.proofs.Common.{◌≡◌, ℕ, ◌+◌, ◌<◌, ◌==◌, Bool, true, false, ◌&&◌, not, Some, None, List, [], ◌∷◌, ◌++◌, length, slice_get, refl, sym, ap, subst, ◌∙◌, arith, length-append}
 use Rattle.markdown_engine.specs.Codes.{Code}
 use Rattle.markdown_engine.specs.Grown.{Fails}
 use Rattle.markdown_engine.specs.Lists.{rest_of}
 use Rattle.markdown_engine.specs.Ops.{ahead, current_of, done, scratched}
 use Rattle.markdown_engine.specs.Past.{past, appended_from}
-use Rattle.markdown_engine.specs.Runs.{Stepped, stepped, GoesOn}
-use Rattle.markdown_engine.specs.Tree.{Forest, leaf, leaf_codes, start_of}
+use Rattle.markdown_engine.specs.Runs.{Stepped, stepped}
+use Rattle.markdown_engine.specs.StateWords.{Words, Law, GoesIn}
+use Rattle.markdown_engine.specs.Tree.{Forest, leaf}
 use Rattle.markdown_engine.specs.Weights.{codes_left, weight_at}
 use Rattle.markdown_engine.specs.declared.event.Event.{Event}
 use Rattle.markdown_engine.specs.declared.event.Name.TheVariants as N
 use Rattle.markdown_engine.specs.declared.state.State.TheVariants.{Next, Retry, Nok}
-use Rattle.markdown_engine.specs.declared.state.StateName.{StateName}
 use Rattle.markdown_engine.specs.declared.state.StateName.TheVariants.{LabelEndAfter, LabelEndNok}
 use Rattle.markdown_engine.specs.declared.tokenizer.LabelKind.{LabelKind}
 use Rattle.markdown_engine.specs.declared.tokenizer.LabelStart as Kept
 use Rattle.markdown_engine.specs.declared.tokenizer.TokenizeState.{TokenizeState}
 use Rattle.markdown_engine.specs.declared.tokenizer.Tokenizer.{Tokenizer}
 use Rattle.markdown_engine.proofs.EndsLemmas.{then-fails}
-use Rattle.markdown_engine.proofs.Laws.{Goes-plain, Grown-refl, if-step, code-step}
-use Rattle.markdown_engine.proofs.OpRules.{Begins, ahead-none, ahead-some, left-ahead}
+use Rattle.markdown_engine.proofs.Laws.{Grown-refl, if-step, code-step}
+use Rattle.markdown_engine.proofs.OpRules.{Begins, ahead-some, left-ahead}
 use Rattle.markdown_engine.proofs.OpsLemmas.{Grown-scratched, and-left, and-right}
 use Rattle.markdown_engine.proofs.SolidLemmas.{IsSolid-group, IsSolid-leaf}
 use Rattle.markdown_engine.proofs.TreeLemmas.{ahead-past, ops-past}
+use Rattle.markdown_construct.specs.Within.{Within}
 use Rattle.markdown_construct.specs.Characters.{bytes_of, later_value}
+use Rattle.markdown_construct.proofs.StateLaws.{Goes-end, Goes-plain}
 use Rattle.markdown_construct.proofs.ContentTexts.{text-past}
 use Rattle.markdown_construct.proofs.TextPlaces.{code-begins}
 use Rattle.markdown_model.specs.CodeTests.{is_value, is_later_byte, next_is}
-use Rattle.markdown_model.specs.Grammar.{Reading, ◌>>=◌, ◌>>◌, gives, provided, one}
+use Rattle.markdown_model.specs.Grammar.{Reading, ◌>>=◌, gives, one}
 use Rattle.markdown_model.specs.LabelEnd.{bytes_between}
 use Rattle.markdown_model.proofs.ReadingSteps.{bind-some, bind-none, one-here, one-not, switched-on, switched-off, if-true, if-false}
 use Rattle.markdown_util.specs.Identifier.{identifier_of}
-use Rattle.markdown_resource.specs.Parts.{rested, PartReady}
 use Rattle.markdown_label.specs.Fields.{bars, tried, loosened}
 use Rattle.std.specs.Str.{IsCharBoundary}
 use Rattle.std.proofs.lemmas.Bool.{eqb-true}
 use Rattle.markdown_engine.specs.declared.event.Point.{Point}
-use Rattle.markdown_label.specs.LabelEnd.{AreAround, EndsBetween, point_or, place_at, identifier_between, outcome, end_ops, ended_at, ended, start_by, is_on, start_at, start_step, AreWithin, StartReady, AfterReady, Makes, Loses, after_reading_of, after_reading, after_ends, nok_ends, lost_here, end_tree, outcome_by, end_reading, lost_starts, lost_by, lost_fields, end_made, made, Ends, EndFails, start_ends}
+use Rattle.markdown_label.specs.LabelEnd.{AreAround, EndsBetween, point_or, place_at, identifier_between, outcome, end_ops, ended_at, ended, start_by, is_on, start_at, AreWithin, StartReady, AfterReady, after_reading_of, after_reading, after_ends, nok_ends, lost_here, end_tree, outcome_by, end_reading, lost_starts, lost_by, lost_fields, end_made, start_ends, start_words, states}
 use Rattle.markdown_label.specs.Settings.{setting_in}
-use Rattle.markdown_label.proofs.LabelEndLemmas.{Meets, Fails-lost}
+use Rattle.markdown_label.proofs.LabelEndLemmas.{Fails-lost}
 use Rattle.markdown_resource.proofs.NextCodes.{at-value, at-none}
 use Rattle.markdown_label.proofs.StartStack.{place-front}
-
-pub record StartWithin (ready : StateName → Tokenizer → Type 0) (ends : StateName → Tokenizer → Bool → Tokenizer → Type 0) (weight : StateName → Tokenizer → ℕ) : Type 0 where
-  pub meets : Meets ready ends weight
-  pub after_ready : (T : Tokenizer) → AfterReady T → ready LabelEndAfter T
-  pub after_end : (T : Tokenizer) (ok : Bool) (U : Tokenizer) → ends LabelEndAfter T ok U → after_ends T ok U
-  pub after_weight : (T : Tokenizer) → weight LabelEndAfter T ≡ weight_at 13 T
 
 -- Where events stand.
 
@@ -192,44 +187,42 @@ module _ (T : Tokenizer) (x : Code) (cs : List Code) (whole : ahead T ≡ x ∷ 
         fails = subst (λ s. Fails s T U) (barred-fields l ls e barred ∙ sym (lost-there l ls e on here)) (subst (λ y. Fails (loosened (ended T).tokenize_state.label_starts (ended T).tokenize_state) T y) (sym k.1) lost-ended);
       }
 
-module _ (ready : StateName → Tokenizer → Type 0) (ends : StateName → Tokenizer → Bool → Tokenizer → Type 0) (weight : StateName → Tokenizer → ℕ) (within : StartWithin ready ends weight) where
-  nok-here : (T : Tokenizer) → T.attempts ≡ [] → end_reading T (ahead T) ≡ None → lost_fields T ≡ T.tokenize_state → GoesOn ready ends weight (weight_at 3 T) (start_ends T) (stepped Nok T)
-  nok-here T alone none same = Goes-plain ready ends weight (weight_at 3 T) (start_ends T) Nok T alone tt (omega arith) (λ ok U h. fails ok U h)
+module _ (W : Words) (within : Within states W) where
+  nok-here : (T : Tokenizer) → T.attempts ≡ [] → end_reading T (ahead T) ≡ None → lost_fields T ≡ T.tokenize_state → GoesIn W (weight_at 3 T) (start_ends T) (stepped Nok T)
+  nok-here T alone none same = Goes-end W (weight_at 3 T) (start_ends T) false T alone (omega arith) fails
     where
       fails : (ok : Bool) (U : Tokenizer) → (ok ≡ false) × (U ≡ T) → start_ends T ok U
       fails true U h = cc
       fails false U h =
           record { refused = none; fails = subst (λ s. Fails s T U) (sym same) (subst (λ y. Fails T.tokenize_state T y) (sym h.1) (record { grown = Grown-refl 0 T; scratch = refl })) }
 
-  other-here : (T : Tokenizer) → T.attempts ≡ [] → is_on T && next_is (is_value 93) (ahead T) ≡ false → end_reading T (ahead T) ≡ None → GoesOn ready ends weight (weight_at 3 T) (start_ends T) (stepped Nok T)
+  other-here : (T : Tokenizer) → T.attempts ≡ [] → is_on T && next_is (is_value 93) (ahead T) ≡ false → end_reading T (ahead T) ≡ None → GoesIn W (weight_at 3 T) (start_ends T) (stepped Nok T)
   other-here T alone h none = nok-here T alone none (if-false _ _ _ h)
 
   by-switch : (T : Tokenizer) (b : Bool) → is_on T ≡ b → is_on T && next_is (is_value 93) (ahead T) ≡ false → end_reading T (ahead T) ≡ None
   by-switch T true on h = reading-other T true on (sym (ap (λ y. y && next_is (is_value 93) (ahead T)) on) ∙ h)
   by-switch T false off h = reading-off T off
 
-  goes-after : (T : Tokenizer) → T.attempts ≡ [] → StartReady T → is_on T ≡ true → (x : Code) (cs : List Code) → (whole : ahead T ≡ x ∷ cs) → is_value 93 x ≡ true → (l : Kept.LabelStart) (ls : List Kept.LabelStart) → T.tokenize_state.label_starts ≡ l ∷ ls → l.start.1 < length T.events → bars l ≡ false → GoesOn ready ends weight (weight_at 3 T) (start_ends T) (stepped (Next LabelEndAfter) (past None (end_tree (x ∷ [])) (ended T)))
+  goes-after : (T : Tokenizer) → T.attempts ≡ [] → StartReady T → is_on T ≡ true → (x : Code) (cs : List Code) → (whole : ahead T ≡ x ∷ cs) → is_value 93 x ≡ true → (l : Kept.LabelStart) (ls : List Kept.LabelStart) → T.tokenize_state.label_starts ≡ l ∷ ls → l.start.1 < length T.events → bars l ≡ false → GoesIn W (weight_at 3 T) (start_ends T) (stepped (Next LabelEndAfter) (past None (end_tree (x ∷ [])) (ended T)))
   unfolding past scratched
   goes-after T alone k on x cs whole here l ls e w h =
       let P : Tokenizer = past None (end_tree (x ∷ [])) (ended T) in
-      Goes-plain ready ends weight (weight_at 3 T) (start_ends T) (Next LabelEndAfter) P alone (within.after_ready P (after-there T x cs whole l ls e k here)) (rw within.after_weight (omega (arith, left-there T x cs whole)))
-      (λ ok U g. ends-there T x cs whole l ls e w h on here ok U (within.after_end P ok U g))
+      Goes-plain W (weight_at 3 T) (start_ends T) (Next LabelEndAfter) (within LabelEndAfter) P alone (after-there T x cs whole l ls e k here) (omega (arith, left-there T x cs whole)) (ends-there T x cs whole l ls e w h on here)
 
-  takes-start : (T : Tokenizer) → T.attempts ≡ [] → StartReady T → is_on T ≡ true → (x : Code) (cs : List Code) → ahead T ≡ x ∷ cs → is_value 93 x ≡ true → (ls : List Kept.LabelStart) → T.tokenize_state.label_starts ≡ ls → AreWithin T ls → GoesOn ready ends weight (weight_at 3 T) (start_ends T) (start_by ls T)
+  takes-start : (T : Tokenizer) → T.attempts ≡ [] → StartReady T → is_on T ≡ true → (x : Code) (cs : List Code) → ahead T ≡ x ∷ cs → is_value 93 x ≡ true → (ls : List Kept.LabelStart) → T.tokenize_state.label_starts ≡ ls → AreWithin T ls → GoesIn W (weight_at 3 T) (start_ends T) (start_by ls T)
   unfolding scratched
   takes-start T alone k on x cs whole here [] e w =
       nok-here T alone (reading-at T x cs on whole here ∙ bind-none (outcome_by T.tokenize_state.label_starts T (x ∷ [])) _ cs (ap (λ y. outcome_by y T (x ∷ []) cs) e))
       (if-true _ _ _ (ap (λ b. b && next_is (is_value 93) (ahead T)) on ∙ ap (next_is (is_value 93)) whole ∙ here) ∙ ap (λ y. lost_by y T.tokenize_state) e)
   takes-start T alone k on x cs whole here (l ∷ ls) e w =
       let n : ℕ = weight_at 3 T in
-      if-step (GoesOn ready ends weight n (start_ends T)) (bars l) _ _
-      (λ h. Goes-plain ready ends weight n (start_ends T) (Retry LabelEndNok) (ended T) alone (within.meets.nok_ready (ended T)) (rw within.meets.nok_weight (omega arith))
-      (λ ok U g. barred-there T x cs whole l ls e h on here ok U (within.meets.nok_end (ended T) ok U g)))
-      (λ h. subst (λ (y : Tokenizer). GoesOn ready ends weight n (start_ends T) (stepped (Next LabelEndAfter) y)) (sym (end-past T x cs whole)) (goes-after T alone k on x cs whole here l ls e w.0.within h))
+      if-step (GoesIn W n (start_ends T)) (bars l) _ _
+      (λ h. Goes-plain W n (start_ends T) (Retry LabelEndNok) (within LabelEndNok) (ended T) alone tt (omega arith) (barred-there T x cs whole l ls e h on here))
+      (λ h. subst (λ (y : Tokenizer). GoesIn W n (start_ends T) (stepped (Next LabelEndAfter) y)) (sym (end-past T x cs whole)) (goes-after T alone k on x cs whole here l ls e w.0.within h))
 
-  pub start-law : (T : Tokenizer) → T.attempts ≡ [] → StartReady T → GoesOn ready ends weight (weight_at 3 T) (start_ends T) (start_step T)
+  pub start-law : Law W start_words
   start-law T alone k =
-      let P : Stepped → Type 0 = GoesOn ready ends weight (weight_at 3 T) (start_ends T) in
+      let P : Stepped → Type 0 = GoesIn W (weight_at 3 T) (start_ends T) in
       code-step P (current_of T) (λ o. start_at o T)
       (λ e. let h : is_on T && next_is (is_value 93) (ahead T) ≡ false = ap (λ b. is_on T && b) (at-none T 93 e) ∙ and-off (is_on T) in other-here T alone h (by-switch T (is_on T) refl h))
       (λ c e.

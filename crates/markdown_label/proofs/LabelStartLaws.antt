@@ -1,27 +1,28 @@
 -- The laws of the states of the starts of labels.
-use Rattle.std.proofs.Common.{◌≡◌, ◌≢◌, ℕ, ◌+◌, ◌*◌, ◌<◌, ◌≤◌, ◌==◌, Bool, true, false, ◌&&◌, not, if◌then◌else◌, Option, Some, None, List, [], ◌∷◌, ◌++◌, length, drop, refl, sym, ap, subst, ◌∙◌, arith}
+use Rattle.std.proofs.Common.{◌≡◌, ℕ, ◌+◌, ◌<◌, ◌≤◌, ◌==◌, Bool, true, false, ◌&&◌, not, Option, Some, None, List, [], ◌++◌, length, drop, refl, sym, ap, subst, ◌∙◌, arith}
 use Rattle.markdown_engine.specs.Codes.{Code}
 use Rattle.markdown_engine.specs.Grown.{Grown}
-use Rattle.markdown_engine.specs.Lists.{first_of, rest_of}
-use Rattle.markdown_engine.specs.Ops.{Op, ahead, current_of, applied, done, moves, scratched, stays}
-use Rattle.markdown_engine.specs.Place.{value_of}
-use Rattle.markdown_engine.specs.Runs.{Stepped, stepped, GoesOn}
-use Rattle.markdown_engine.specs.Weights.{codes_left, weight_at}
+use Rattle.markdown_engine.specs.Lists.{rest_of}
+use Rattle.markdown_engine.specs.Ops.{Op, ahead, current_of, done, moves, stays}
+use Rattle.markdown_engine.specs.Runs.{Stepped, stepped}
+use Rattle.markdown_engine.specs.StateWords.{StateWords, Words, words_in, Law, GoesIn}
+use Rattle.markdown_engine.specs.Weights.{weight_at}
 use Rattle.markdown_engine.specs.declared.resolve.ResolveName.TheVariants as R
-use Rattle.markdown_engine.specs.declared.state.State.{State}
-use Rattle.markdown_engine.specs.declared.state.State.TheVariants.{Next, Retry, Ok, Nok}
+use Rattle.markdown_engine.specs.declared.state.State.TheVariants.{Next, Ok, Nok}
 use Rattle.markdown_engine.specs.declared.state.StateName.{StateName}
 use Rattle.markdown_engine.specs.declared.state.StateName.TheVariants.{GfmLabelStartFootnoteOpen, LabelStartImageOpen, LabelStartImageAfter}
 use Rattle.markdown_engine.specs.declared.tokenizer.LabelKind.{LabelKind}
 use Rattle.markdown_engine.specs.declared.tokenizer.Tokenizer.{Tokenizer}
-use Rattle.markdown_engine.proofs.Laws.{Goes-plain, Grown-refl, if-step, code-step}
-use Rattle.markdown_engine.proofs.OpRules.{Begins, ahead-none, ahead-some, attempts-scratched, current-ahead, some-codes}
+use Rattle.markdown_engine.proofs.Laws.{Grown-refl, if-step, code-step}
+use Rattle.markdown_engine.proofs.OpRules.{attempts-scratched, some-codes}
 use Rattle.markdown_engine.proofs.OpsLemmas.{ahead-done, attempts-done, left-done, scratch-done, input-done}
 use Rattle.markdown_engine.proofs.TreeLemmas.{done-append}
 use Rattle.markdown_construct.specs.Plan.{depth_after}
+use Rattle.markdown_construct.specs.Within.{Within}
 use Rattle.markdown_construct.proofs.PlanLemmas.{Grown-after}
+use Rattle.markdown_construct.proofs.StateLaws.{Goes-end, Goes-ops}
 use Rattle.markdown_model.specs.CodeTests.{is_value, next_is}
-use Rattle.markdown_label.specs.LabelStarts.{kept_start, link_ops, links_on, link_at, link_step, footnote_front, footnote_back, footnotes_on, footnote_at, footnote_step, footnote_open_at, footnote_open_step, image_front, image_back, images_on, image_at, image_step, image_open_at, image_open_step, is_caret, image_after_step, FootnoteOpenReady, ImageOpenReady, ImageAfterReady, BeginsNot, begins_as, link_test, link_ends, footnote_open_test, footnote_open_ends, footnote_test, footnote_ends, image_after_test, image_after_ends, image_open_test, image_open_ends, image_test, image_ends}
+use Rattle.markdown_label.specs.LabelStarts.{kept_start, link_ops, links_on, link_at, footnote_front, footnote_back, footnotes_on, footnote_at, footnote_open_at, image_front, image_back, images_on, image_at, image_open_at, is_caret, begins_as, link_test, link_ends, footnote_open_test, footnote_open_ends, footnote_test, footnote_ends, image_after_test, image_after_ends, image_open_test, image_open_ends, image_test, image_ends, states, link_words, footnote_words, footnote_open_words, image_words, image_open_words, image_after_words}
 use Rattle.markdown_label.proofs.LabelEndLemmas.{attempts-before}
 use Rattle.markdown_label.proofs.StartOps.{footnote-open-ready, image-open-ready, image-after-ready}
 use Rattle.markdown_resource.proofs.NextCodes.{at-value, at-none}
@@ -34,41 +35,28 @@ begins-then : (d : ℕ) (kind : LabelKind) (size : ℕ) (os ps : List Op) (p q :
 begins-then d kind size os ps p q T st e true U k = record { holds = e ∙ k.holds; left = k.left ∙ ap (kept_start kind size) (sym (done-append os ps T)) }
 begins-then d kind size os ps p q T st e false U k = record { refused = e ∙ k.refused; grown = Grown-after d os T U st k.grown; scratch = k.scratch ∙ scratch-done os T }
 
-module _ (ready : StateName → Tokenizer → Type 0) (ends : StateName → Tokenizer → Bool → Tokenizer → Type 0) (weight : StateName → Tokenizer → ℕ) where
+module _ (W : Words) where
   -- it does not hold
-  goes-not : (n d : ℕ) (kind : LabelKind) (size : ℕ) (os : List Op) (p : List Code → Bool) (T : Tokenizer) → T.attempts ≡ [] → 0 < n → p (ahead T) ≡ false → GoesOn ready ends weight n (begins_as d kind size os p T) (stepped Nok T)
-  goes-not n d kind size os p T alone some e = Goes-plain ready ends weight n (begins_as d kind size os p T) Nok T alone tt some (λ ok U h. fails ok U h)
+  goes-not : (n d : ℕ) (kind : LabelKind) (size : ℕ) (os : List Op) (p : List Code → Bool) (T : Tokenizer) → T.attempts ≡ [] → 0 < n → p (ahead T) ≡ false → GoesIn W n (begins_as d kind size os p T) (stepped Nok T)
+  goes-not n d kind size os p T alone some e = Goes-end W n (begins_as d kind size os p T) false T alone some fails
     where
       fails : (ok : Bool) (U : Tokenizer) → (ok ≡ false) × (U ≡ T) → begins_as d kind size os p T ok U
       fails true U h = cc
       fails false U h = record { refused = e; grown = subst (λ (x : Tokenizer). Grown d T x) (sym h.1) (Grown-refl d T); scratch = ap (λ (x : Tokenizer). x.tokenize_state) h.1 }
 
   -- it holds
-  goes-kept : (n d : ℕ) (kind : LabelKind) (size : ℕ) (os : List Op) (p : List Code → Bool) (T : Tokenizer) → T.attempts ≡ [] → 0 < n → p (ahead T) ≡ true → GoesOn ready ends weight n (begins_as d kind size os p T) (stepped Ok (kept_start kind size (done os T)))
-  goes-kept n d kind size os p T alone some e = Goes-plain ready ends weight n (begins_as d kind size os p T) Ok (kept_start kind size (done os T)) (attempts-kept kind size (done os T) (attempts-done os T ∙ alone)) tt some (λ ok U h. holds ok U h)
+  goes-kept : (n d : ℕ) (kind : LabelKind) (size : ℕ) (os : List Op) (p : List Code → Bool) (T : Tokenizer) → T.attempts ≡ [] → 0 < n → p (ahead T) ≡ true → GoesIn W n (begins_as d kind size os p T) (stepped Ok (kept_start kind size (done os T)))
+  goes-kept n d kind size os p T alone some e = Goes-end W n (begins_as d kind size os p T) true (kept_start kind size (done os T)) (attempts-kept kind size (done os T) (attempts-done os T ∙ alone)) some holds
     where
       holds : (ok : Bool) (U : Tokenizer) → (ok ≡ true) × (U ≡ kept_start kind size (done os T)) → begins_as d kind size os p T ok U
       holds true U h = record { holds = e; left = h.1 }
       holds false U h = cc
 
   -- on with a state
-  goes-next : (k j d : ℕ) (kind : LabelKind) (size : ℕ) (os ps : List Op) (p q : List Code → Bool) (T : Tokenizer) (st : StateName) → T.attempts ≡ [] → stays d os ≡ true → moves os ≡ 1 → 1 ≤ length (ahead T) → j < 256 + k → ready st (done os T) → weight st (done os T) ≡ weight_at j (done os T) → p (ahead T) ≡ q (ahead (done os T)) → ((ok : Bool) (U : Tokenizer) → ends st (done os T) ok U → begins_as (depth_after d os) kind size ps q (done os T) ok U)
-      → GoesOn ready ends weight (weight_at k T) (begins_as d kind size (os ++ ps) p T) (stepped (Next st) (done os T))
-  goes-next k j d kind size os ps p q T st alone stay one some less on w e closed =
-      let falls : weight st (done os T) < weight_at k T = subst (λ n. n < weight_at k T) (sym w) (omega (arith, left-done os T (omega (arith, one, some)), one, less)) in
-      Goes-plain ready ends weight (weight_at k T) (begins_as d kind size (os ++ ps) p T) (Next st) (done os T) (attempts-done os T ∙ alone) on falls (λ ok U x. begins-then d kind size os ps p q T stay e ok U (closed ok U x))
-
--- what the layer says of these states
-pub record Within (ready : StateName → Tokenizer → Type 0) (ends : StateName → Tokenizer → Bool → Tokenizer → Type 0) (weight : StateName → Tokenizer → ℕ) : Type 0 where
-  pub footnote_open_ready : (T : Tokenizer) → FootnoteOpenReady T → ready GfmLabelStartFootnoteOpen T
-  pub footnote_open_end : (T : Tokenizer) (ok : Bool) (U : Tokenizer) → ends GfmLabelStartFootnoteOpen T ok U → footnote_open_ends T ok U
-  pub footnote_open_weight : (T : Tokenizer) → weight GfmLabelStartFootnoteOpen T ≡ weight_at 1 T
-  pub image_open_ready : (T : Tokenizer) → ImageOpenReady T → ready LabelStartImageOpen T
-  pub image_open_end : (T : Tokenizer) (ok : Bool) (U : Tokenizer) → ends LabelStartImageOpen T ok U → image_open_ends T ok U
-  pub image_open_weight : (T : Tokenizer) → weight LabelStartImageOpen T ≡ weight_at 1 T
-  pub image_after_ready : (T : Tokenizer) → ImageAfterReady T → ready LabelStartImageAfter T
-  pub image_after_end : (T : Tokenizer) (ok : Bool) (U : Tokenizer) → ends LabelStartImageAfter T ok U → image_after_ends T ok U
-  pub image_after_weight : (T : Tokenizer) → weight LabelStartImageAfter T ≡ weight_at 1 T
+  goes-next : (k d : ℕ) (kind : LabelKind) (size : ℕ) (os ps : List Op) (p q : List Code → Bool) (T : Tokenizer) (st : StateName) {w : StateWords} → words_in W st ≡ w → T.attempts ≡ [] → stays d os ≡ true → moves os ≡ 1 → 1 ≤ length (ahead T) → w.rank < 256 + k → w.ready (done os T) → p (ahead T) ≡ q (ahead (done os T)) → ((ok : Bool) (U : Tokenizer) → w.ends (done os T) ok U → begins_as (depth_after d os) kind size ps q (done os T) ok U)
+      → GoesIn W (weight_at k T) (begins_as d kind size (os ++ ps) p T) (stepped (Next st) (done os T))
+  goes-next k d kind size os ps p q T st {w} say alone stay one some less on e closed =
+      Goes-ops W (weight_at k T) (begins_as d kind size (os ++ ps) p T) (Next st) {w = w} say os T alone on (omega (arith, left-done os T (omega (arith, one, some)), one, less)) (λ ok U x. begins-then d kind size os ps p q T stay e ok U (closed ok U x))
 
 and-both : (a b : Bool) → a && b ≡ true → (c : Bool) → (a && b) && c ≡ c
 and-both a b e c = ap (λ x. x && c) e
@@ -91,78 +79,78 @@ caret-is : (T : Tokenizer) (o : Option ℕ) → current_of T ≡ o → is_caret 
 caret-is T None e = sym (at-none T 94 e)
 caret-is T (Some c) e = sym (at-value T c 94 (c == 94) e refl)
 
-module _ (ready : StateName → Tokenizer → Type 0) (ends : StateName → Tokenizer → Bool → Tokenizer → Type 0) (weight : StateName → Tokenizer → ℕ) (within : Within ready ends weight) where
-  pub link-law : (T : Tokenizer) → T.attempts ≡ [] → GoesOn ready ends weight (weight_at 1 T) (link_ends T) (link_step T)
-  link-law T alone =
-      let P : Stepped → Type 0 = GoesOn ready ends weight (weight_at 1 T) (link_ends T) in
+module _ (W : Words) (within : Within states W) where
+  pub link-law : Law W link_words
+  link-law T alone _ =
+      let P : Stepped → Type 0 = GoesIn W (weight_at 1 T) (link_ends T) in
       code-step P (current_of T) (λ o. link_at o T)
-      (λ e. goes-not ready ends weight (weight_at 1 T) 0 LabelKind.Link 4 link_ops (link_test T) T alone (omega arith) (ap (λ b. links_on T && b) (at-none T 91 e) ∙ and-off (links_on T)))
+      (λ e. goes-not W (weight_at 1 T) 0 LabelKind.Link 4 link_ops (link_test T) T alone (omega arith) (ap (λ b. links_on T && b) (at-none T 91 e) ∙ and-off (links_on T)))
       (λ c e. let same : link_test T (ahead T) ≡ (links_on T && (c == 91)) = ap (λ b. links_on T && b) (at-value T c 91 (c == 91) e refl) in
       if-step P (links_on T && (c == 91)) _ _
-      (λ h. goes-kept ready ends weight (weight_at 1 T) 0 LabelKind.Link 4 link_ops (link_test T) T alone (omega arith) (same ∙ h))
-      (λ h. goes-not ready ends weight (weight_at 1 T) 0 LabelKind.Link 4 link_ops (link_test T) T alone (omega arith) (same ∙ h)))
+      (λ h. goes-kept W (weight_at 1 T) 0 LabelKind.Link 4 link_ops (link_test T) T alone (omega arith) (same ∙ h))
+      (λ h. goes-not W (weight_at 1 T) 0 LabelKind.Link 4 link_ops (link_test T) T alone (omega arith) (same ∙ h)))
 
-  pub footnote-open-law : (T : Tokenizer) → T.attempts ≡ [] → GoesOn ready ends weight (weight_at 1 T) (footnote_open_ends T) (footnote_open_step T)
-  footnote-open-law T alone =
-      let P : Stepped → Type 0 = GoesOn ready ends weight (weight_at 1 T) (footnote_open_ends T) in
+  pub footnote_open-law : Law W footnote_open_words
+  footnote_open-law T alone _ =
+      let P : Stepped → Type 0 = GoesIn W (weight_at 1 T) (footnote_open_ends T) in
       code-step P (current_of T) (λ o. footnote_open_at o T)
-      (λ e. goes-not ready ends weight (weight_at 1 T) 1 LabelKind.GfmFootnote 6 footnote_back footnote_open_test T alone (omega arith) (at-none T 94 e))
+      (λ e. goes-not W (weight_at 1 T) 1 LabelKind.GfmFootnote 6 footnote_back footnote_open_test T alone (omega arith) (at-none T 94 e))
       (λ c e. if-step P (c == 94) _ _
-      (λ h. goes-kept ready ends weight (weight_at 1 T) 1 LabelKind.GfmFootnote 6 footnote_back footnote_open_test T alone (omega arith) (at-value T c 94 true e h))
-      (λ h. goes-not ready ends weight (weight_at 1 T) 1 LabelKind.GfmFootnote 6 footnote_back footnote_open_test T alone (omega arith) (at-value T c 94 false e h)))
+      (λ h. goes-kept W (weight_at 1 T) 1 LabelKind.GfmFootnote 6 footnote_back footnote_open_test T alone (omega arith) (at-value T c 94 true e h))
+      (λ h. goes-not W (weight_at 1 T) 1 LabelKind.GfmFootnote 6 footnote_back footnote_open_test T alone (omega arith) (at-value T c 94 false e h)))
 
-  pub footnote-law : (T : Tokenizer) → T.attempts ≡ [] → GoesOn ready ends weight (weight_at 2 T) (footnote_ends T) (footnote_step T)
-  footnote-law T alone =
+  pub footnote-law : Law W footnote_words
+  footnote-law T alone _ =
       let n : ℕ = weight_at 2 T in
       let os : List Op = footnote_front ++ footnote_back in
-      let P : Stepped → Type 0 = GoesOn ready ends weight n (footnote_ends T) in
+      let P : Stepped → Type 0 = GoesIn W n (footnote_ends T) in
       let after : Bool = footnote_open_test (rest_of (ahead T)) in
       code-step P (current_of T) (λ o. footnote_at o T)
-      (λ e. goes-not ready ends weight n 0 LabelKind.GfmFootnote 6 os (footnote_test T) T alone (omega arith) (and-not (footnotes_on T) _ (ap (λ b. footnotes_on T && b) (at-none T 91 e) ∙ and-off (footnotes_on T)) after))
+      (λ e. goes-not W n 0 LabelKind.GfmFootnote 6 os (footnote_test T) T alone (omega arith) (and-not (footnotes_on T) _ (ap (λ b. footnotes_on T && b) (at-none T 91 e) ∙ and-off (footnotes_on T)) after))
       (λ c e. let same : (footnotes_on T && next_is (is_value 91) (ahead T)) ≡ (footnotes_on T && (c == 91)) = ap (λ b. footnotes_on T && b) (at-value T c 91 (c == 91) e refl) in
       if-step P (footnotes_on T && (c == 91)) _ _
-      (λ h. goes-next ready ends weight 2 1 0 LabelKind.GfmFootnote 6 footnote_front footnote_back (footnote_test T) footnote_open_test T GfmLabelStartFootnoteOpen alone refl refl (some-codes T c e) (omega arith) (within.footnote_open_ready _ (footnote-open-ready T)) (within.footnote_open_weight _)
+      (λ h. goes-next W 2 0 LabelKind.GfmFootnote 6 footnote_front footnote_back (footnote_test T) footnote_open_test T GfmLabelStartFootnoteOpen (within GfmLabelStartFootnoteOpen) alone refl refl (some-codes T c e) (omega arith) (footnote-open-ready T)
       (and-both (footnotes_on T) _ (same ∙ h) after ∙ ap footnote_open_test (sym (ahead-one footnote_front T refl)))
-      (λ ok U x. within.footnote_open_end _ ok U x))
-      (λ h. goes-not ready ends weight n 0 LabelKind.GfmFootnote 6 os (footnote_test T) T alone (omega arith) (and-not (footnotes_on T) _ (same ∙ h) after)))
+      (λ ok U x. x))
+      (λ h. goes-not W n 0 LabelKind.GfmFootnote 6 os (footnote_test T) T alone (omega arith) (and-not (footnotes_on T) _ (same ∙ h) after)))
 
-  pub image-after-law : (T : Tokenizer) → T.attempts ≡ [] → GoesOn ready ends weight (weight_at 1 T) (image_after_ends T) (image_after_step T)
-  image-after-law T alone =
+  pub image_after-law : Law W image_after_words
+  image_after-law T alone _ =
       let same : image_after_test T (ahead T) ≡ not (footnotes_on T && is_caret (current_of T)) = ap (λ b. not (footnotes_on T && b)) (sym (caret-is T (current_of T) refl)) in
-      if-step (GoesOn ready ends weight (weight_at 1 T) (image_after_ends T)) (footnotes_on T && is_caret (current_of T)) _ _
-      (λ h. goes-not ready ends weight (weight_at 1 T) 0 LabelKind.Image 6 [] (image_after_test T) T alone (omega arith) (same ∙ ap not h))
-      (λ h. goes-kept ready ends weight (weight_at 1 T) 0 LabelKind.Image 6 [] (image_after_test T) T alone (omega arith) (same ∙ ap not h))
+      if-step (GoesIn W (weight_at 1 T) (image_after_ends T)) (footnotes_on T && is_caret (current_of T)) _ _
+      (λ h. goes-not W (weight_at 1 T) 0 LabelKind.Image 6 [] (image_after_test T) T alone (omega arith) (same ∙ ap not h))
+      (λ h. goes-kept W (weight_at 1 T) 0 LabelKind.Image 6 [] (image_after_test T) T alone (omega arith) (same ∙ ap not h))
 
   after-same : (T : Tokenizer) → image_after_test T (rest_of (ahead T)) ≡ image_after_test (done image_back T) (ahead (done image_back T))
   after-same T = let a = sym (ahead-one image_back T refl) in let f = sym (footnotes-done image_back T) in (λ i. not (f i && next_is (is_value 94) (a i)))
 
-  pub image-open-law : (T : Tokenizer) → T.attempts ≡ [] → ImageOpenReady T → GoesOn ready ends weight (weight_at 1 T) (image_open_ends T) (image_open_step T)
-  image-open-law T alone k =
+  pub image_open-law : Law W image_open_words
+  image_open-law T alone k =
       let n : ℕ = weight_at 1 T in
-      let P : Stepped → Type 0 = GoesOn ready ends weight n (image_open_ends T) in
+      let P : Stepped → Type 0 = GoesIn W n (image_open_ends T) in
       let after : Bool = image_after_test T (rest_of (ahead T)) in
       code-step P (current_of T) (λ o. image_open_at o T)
-      (λ e. goes-not ready ends weight n 1 LabelKind.Image 6 image_back (image_open_test T) T alone (omega arith) (ap (λ b. b && after) (at-none T 91 e)))
+      (λ e. goes-not W n 1 LabelKind.Image 6 image_back (image_open_test T) T alone (omega arith) (ap (λ b. b && after) (at-none T 91 e)))
       (λ c e. if-step P (c == 91) _ _
-      (λ h. goes-next ready ends weight 1 1 1 LabelKind.Image 6 image_back [] (image_open_test T) (image_after_test (done image_back T)) T LabelStartImageAfter alone refl refl (some-codes T c e) (omega arith) (within.image_after_ready _ (image-after-ready T k)) (within.image_after_weight _)
+      (λ h. goes-next W 1 1 LabelKind.Image 6 image_back [] (image_open_test T) (image_after_test (done image_back T)) T LabelStartImageAfter (within LabelStartImageAfter) alone refl refl (some-codes T c e) (omega arith) (image-after-ready T k)
       (ap (λ b. b && after) (at-value T c 91 true e h) ∙ after-same T)
-      (λ ok U x. within.image_after_end _ ok U x))
-      (λ h. goes-not ready ends weight n 1 LabelKind.Image 6 image_back (image_open_test T) T alone (omega arith) (ap (λ b. b && after) (at-value T c 91 false e h))))
+      (λ ok U x. x))
+      (λ h. goes-not W n 1 LabelKind.Image 6 image_back (image_open_test T) T alone (omega arith) (ap (λ b. b && after) (at-value T c 91 false e h))))
 
-  pub image-law : (T : Tokenizer) → T.attempts ≡ [] → GoesOn ready ends weight (weight_at 2 T) (image_ends T) (image_step T)
-  image-law T alone =
+  pub image-law : Law W image_words
+  image-law T alone _ =
       let n : ℕ = weight_at 2 T in
       let os : List Op = image_front ++ image_back in
-      let P : Stepped → Type 0 = GoesOn ready ends weight n (image_ends T) in
+      let P : Stepped → Type 0 = GoesIn W n (image_ends T) in
       let after : Bool = image_open_test T (rest_of (ahead T)) in
       code-step P (current_of T) (λ o. image_at o T)
-      (λ e. goes-not ready ends weight n 0 LabelKind.Image 6 os (image_test T) T alone (omega arith) (and-not (images_on T) _ (ap (λ b. images_on T && b) (at-none T 33 e) ∙ and-off (images_on T)) after))
+      (λ e. goes-not W n 0 LabelKind.Image 6 os (image_test T) T alone (omega arith) (and-not (images_on T) _ (ap (λ b. images_on T && b) (at-none T 33 e) ∙ and-off (images_on T)) after))
       (λ c e. let same : (images_on T && next_is (is_value 33) (ahead T)) ≡ (images_on T && (c == 33)) = ap (λ b. images_on T && b) (at-value T c 33 (c == 33) e refl) in
       if-step P (images_on T && (c == 33)) _ _
-      (λ h. goes-next ready ends weight 2 1 0 LabelKind.Image 6 image_front image_back (image_test T) (image_open_test (done image_front T)) T LabelStartImageOpen alone refl refl (some-codes T c e) (omega arith) (within.image_open_ready _ (image-open-ready T)) (within.image_open_weight _)
+      (λ h. goes-next W 2 0 LabelKind.Image 6 image_front image_back (image_test T) (image_open_test (done image_front T)) T LabelStartImageOpen (within LabelStartImageOpen) alone refl refl (some-codes T c e) (omega arith) (image-open-ready T)
       (and-both (images_on T) _ (same ∙ h) after ∙ open-same T)
-      (λ ok U x. within.image_open_end _ ok U x))
-      (λ h. goes-not ready ends weight n 0 LabelKind.Image 6 os (image_test T) T alone (omega arith) (and-not (images_on T) _ (same ∙ h) after)))
+      (λ ok U x. x))
+      (λ h. goes-not W n 0 LabelKind.Image 6 os (image_test T) T alone (omega arith) (and-not (images_on T) _ (same ∙ h) after)))
     where
       open-same : (T : Tokenizer) → image_open_test T (rest_of (ahead T)) ≡ image_open_test (done image_front T) (ahead (done image_front T))
       open-same T = let a = sym (ahead-one image_front T refl) in let f = sym (footnotes-done image_front T) in (λ i. next_is (is_value 91) (a i) && not (f i && next_is (is_value 94) (rest_of (a i))))

@@ -14,5 +14,4 @@ pub mod ReferenceAround
 pub mod ReferenceFullLaws
 pub mod LabelStartLaws
 pub mod TailsSound
-pub mod Joined
 pub mod BegunStarts

@@ -1,52 +1,39 @@
 -- The laws of the states of a full reference.
-use Rattle.std.proofs.Common.{◌≡◌, ◌≢◌, ℕ, ◌+◌, ◌-◌, ◌*◌, ◌<◌, ◌≤◌, ◌==◌, Bool, true, false, ◌&&◌, not, if◌then◌else◌, Option, Some, None, List, [], ◌∷◌, ◌++◌, length, nat_lt, refl, sym, ap, subst, ◌∙◌, arith, append_assoc}
+use Rattle.std.proofs.Common.{◌≡◌, ℕ, ◌+◌, Bool, true, false, if◌then◌else◌, Some, None, List, [], ◌∷◌, ◌++◌, length, nat_lt, refl, sym, ap, subst, ◌∙◌, arith, append_assoc}
 use Rattle.std.specs.Prelude.{is_some, IsUtf8}
 use Rattle.std.specs.Str.{IsCharBoundary}
 use Rattle.markdown_engine.specs.Codes.{Code, stop_of, document_start}
 use Rattle.markdown_engine.specs.Grown.{Fails}
-use Rattle.markdown_engine.specs.Ops.{ahead, current_of, scratched}
-use Rattle.markdown_engine.specs.Past.{TreeReading, Reads, Refuses, EndsAs, past, appended_from}
-use Rattle.markdown_engine.specs.Runs.{Stepped, stepped, GoesOn}
-use Rattle.markdown_engine.specs.Tree.{Forest, leaf_codes}
+use Rattle.markdown_engine.specs.Ops.{ahead, scratched}
+use Rattle.markdown_engine.specs.Past.{Reads, EndsAs, past}
+use Rattle.markdown_engine.specs.StateWords.{Words, Law, GoesIn}
+use Rattle.markdown_engine.specs.Tree.{Forest}
 use Rattle.markdown_engine.specs.Weights.{codes_left, weight_at}
-use Rattle.markdown_engine.specs.declared.event.Name.TheVariants as N
-use Rattle.markdown_engine.specs.declared.state.State.TheVariants.{Next, Retry, Ok, Nok}
-use Rattle.markdown_engine.specs.declared.state.StateName.{StateName}
+use Rattle.markdown_engine.specs.declared.state.State.TheVariants.{Next, Retry}
 use Rattle.markdown_engine.specs.declared.state.StateName.TheVariants.{LabelEndReferenceFullAfter, LabelEndReferenceFullMissing, LabelStart}
 use Rattle.markdown_engine.specs.declared.tokenizer.TokenizeState.{TokenizeState}
 use Rattle.markdown_engine.specs.declared.tokenizer.Tokenizer.{Tokenizer}
 use Rattle.markdown_engine.proofs.EndsLemmas.{left-read, scratched-same}
-use Rattle.markdown_engine.proofs.Laws.{Follows, Goes-plain, Goes-attempt, Grown-refl, if-step, restored-fails}
+use Rattle.markdown_engine.proofs.Laws.{Grown-refl, if-step, restored-fails}
 use Rattle.markdown_engine.proofs.OpRules.{attempts-scratched, left-scratched}
 use Rattle.markdown_engine.proofs.TreeLemmas.{Fails-past}
+use Rattle.markdown_construct.specs.Within.{Within}
 use Rattle.markdown_construct.specs.Characters.{bytes_of, later_value}
+use Rattle.markdown_construct.proofs.StateLaws.{FollowsIn, follows, Goes-attempt, Goes-end}
 use Rattle.markdown_construct.proofs.TextPlaces.{text-places}
-use Rattle.markdown_model.specs.Grammar.{◌>>=◌, ◌>>◌, gives, provided}
+use Rattle.markdown_model.specs.Grammar.{gives}
 use Rattle.markdown_model.specs.LabelEnd.{full_reference, reference_identifier}
 use Rattle.markdown_model.specs.Resource.{label, reference_names}
 use Rattle.markdown_model.specs.Setting.{Setting, is_defined}
 use Rattle.markdown_model.proofs.LinkFree.{Passes}
 use Rattle.markdown_model.proofs.ReadingSteps.{bind-some, bind-none, switched-on, switched-off}
-use Rattle.markdown_partial.specs.EolSteps.{WhitespaceAtRest}
 use Rattle.markdown_string.specs.Label as SL
-use Rattle.markdown_string.specs.Text.{names_in}
-use Rattle.markdown_label.specs.LabelEnd.{place_at, names_set, label_seen, reference_full_step, reference_name, reference_full_after_step, reference_full_missing_step, ReferenceIsAround, FullReady, FullFails, reference_full_ends, reference_full_after_ends, reference_full_missing_ends}
+use Rattle.markdown_label.specs.LabelEnd.{names_set, label_seen, reference_name, ReferenceIsAround, FullReady, FullFails, reference_full_ends, reference_full_after_ends, reference_full_missing_ends, states, reference_full_words, reference_full_after_words, reference_full_missing_words}
 use Rattle.markdown_resource.specs.Parts.{names_rested, rested, PartReady}
 use Rattle.markdown_label.specs.Settings.{setting_in}
 use Rattle.markdown_label.proofs.ReferenceAround.{reference-around}
 use Rattle.markdown_label.proofs.ReferencePlaces.{HasText, label-text}
 use Rattle.markdown_label.proofs.ReferenceShape.{IsReference, label-shape, name-there}
-
-pub record FullWithin (ready : StateName → Tokenizer → Type 0) (ends : StateName → Tokenizer → Bool → Tokenizer → Type 0) (weight : StateName → Tokenizer → ℕ) : Type 0 where
-  pub label_ready : (T : Tokenizer) → SL.StartReady T → ready LabelStart T
-  pub label_end : (T : Tokenizer) (ok : Bool) (U : Tokenizer) → ends LabelStart T ok U → SL.start_ends T ok U
-  pub label_weight : (T : Tokenizer) → weight LabelStart T ≡ weight_at 11 T
-  pub after_ready : (T : Tokenizer) → ReferenceIsAround T → ready LabelEndReferenceFullAfter T
-  pub after_end : (T : Tokenizer) (ok : Bool) (U : Tokenizer) → ends LabelEndReferenceFullAfter T ok U → reference_full_after_ends T ok U
-  pub after_weight : (T : Tokenizer) → weight LabelEndReferenceFullAfter T ≡ weight_at 1 T
-  pub missing_ready : (T : Tokenizer) → ready LabelEndReferenceFullMissing T
-  pub missing_end : (T : Tokenizer) (ok : Bool) (U : Tokenizer) → ends LabelEndReferenceFullMissing T ok U → reference_full_missing_ends T ok U
-  pub missing_weight : (T : Tokenizer) → weight LabelEndReferenceFullMissing T ≡ weight_at 1 T
 
 -- The scratch fields.
 
@@ -170,18 +157,19 @@ unfolding scratched
 missing-ends T k none true V h = cc
 missing-ends T k none false V h = none-there T V k none h.1
 
-module _ (ready : StateName → Tokenizer → Type 0) (ends : StateName → Tokenizer → Bool → Tokenizer → Type 0) (weight : StateName → Tokenizer → ℕ) (within : FullWithin ready ends weight) where
-  pub missing-law : (T : Tokenizer) → T.attempts ≡ [] → GoesOn ready ends weight (weight_at 1 T) (reference_full_missing_ends T) (reference_full_missing_step T)
-  missing-law T alone = Goes-plain ready ends weight (weight_at 1 T) (reference_full_missing_ends T) Nok (scratched (names_rested T.tokenize_state) T) (attempts-scratched _ T ∙ alone) tt (omega arith) (λ ok U h. h)
+module _ (W : Words) (within : Within states W) where
+  pub reference_full_missing-law : Law W reference_full_missing_words
+  reference_full_missing-law T alone _ = Goes-end W (weight_at 1 T) (reference_full_missing_ends T) false (scratched (names_rested T.tokenize_state) T) (attempts-scratched _ T ∙ alone) (omega arith) (λ ok U h. h)
 
-  pub full-after-law : (T : Tokenizer) → T.attempts ≡ [] → GoesOn ready ends weight (weight_at 1 T) (reference_full_after_ends T) (reference_full_after_step T)
-  full-after-law T alone =
+  pub reference_full_after-law : Law W reference_full_after_words
+  reference_full_after-law T alone _ =
+      let n : ℕ = weight_at 1 T in
       let s : TokenizeState = names_rested T.tokenize_state in
       let b : Bool = is_defined (setting_in T).definitions (reference_name T) in
       let left : Bool → Tokenizer = λ ok. scratched (if ok then s else label_seen true s) T in
-      if-step (GoesOn ready ends weight (weight_at 1 T) (reference_full_after_ends T)) b _ _
-      (λ h. Goes-plain ready ends weight (weight_at 1 T) (reference_full_after_ends T) Ok (scratched s T) (attempts-scratched _ T ∙ alone) tt (omega arith) (λ ok U x. (x.0 ∙ sym h, x.1 ∙ ap left (sym x.0))))
-      (λ h. Goes-plain ready ends weight (weight_at 1 T) (reference_full_after_ends T) Nok (scratched (label_seen true s) T) (attempts-scratched _ T ∙ alone) tt (omega arith) (λ ok U x. (x.0 ∙ sym h, x.1 ∙ ap left (sym x.0))))
+      if-step (GoesIn W n (reference_full_after_ends T)) b _ _
+      (λ h. Goes-end W n (reference_full_after_ends T) true (scratched s T) (attempts-scratched _ T ∙ alone) (omega arith) (λ ok U x. (x.0 ∙ sym h, x.1 ∙ ap left (sym x.0))))
+      (λ h. Goes-end W n (reference_full_after_ends T) false (scratched (label_seen true s) T) (attempts-scratched _ T ∙ alone) (omega arith) (λ ok U x. (x.0 ∙ sym h, x.1 ∙ ap left (sym x.0))))
 
   -- behind a label
   defined-ends : (T U : Tokenizer) → FullReady T → LabelRead T U → (ok : Bool) (V : Tokenizer) → reference_full_after_ends U ok V → reference_full_ends T ok V
@@ -195,32 +183,24 @@ module _ (ready : StateName → Tokenizer → Type 0) (ends : StateName → Toke
       sym (h.0 ∙ (λ i. is_defined (setting-past r.tree T U r.left i).definitions (name-is r.tree T U (shape-of _ r.tree r.rest r.holds) k.end r.left i))) in
       whole-refused T U V k r found h.1
 
-  missing-goes : (T : Tokenizer) → FullReady T → label reference_names (ahead T) ≡ None → Follows ready ends weight (weight_at 12 T) (reference_full_ends T) (Next LabelEndReferenceFullMissing) (scratched (names_set T.tokenize_state) (scratched (names_set T.tokenize_state) T))
+  missing-goes : (T : Tokenizer) → FullReady T → label reference_names (ahead T) ≡ None → FollowsIn W (weight_at 12 T) (reference_full_ends T) (Next LabelEndReferenceFullMissing) (scratched (names_set T.tokenize_state) (scratched (names_set T.tokenize_state) T))
   missing-goes T k none =
-      let V : Tokenizer = scratched (names_set T.tokenize_state) (scratched (names_set T.tokenize_state) T) in
-      record {
-        goes_on = within.missing_ready V;
-        falls = rw within.missing_weight (omega (arith, left-scratched (names_set T.tokenize_state) (scratched (names_set T.tokenize_state) T), left-scratched (names_set T.tokenize_state) T));
-        closed = λ ok U x. missing-ends T k none ok U (within.missing_end V ok U x);
-      }
+      let q : TokenizeState = names_set T.tokenize_state in
+      follows W (weight_at 12 T) (reference_full_ends T) (Next LabelEndReferenceFullMissing) (within LabelEndReferenceFullMissing) (scratched q (scratched q T)) tt (omega (arith, left-scratched q (scratched q T), left-scratched q T)) (missing-ends T k none)
 
-  pub full-law : (T : Tokenizer) → T.attempts ≡ [] → FullReady T → GoesOn ready ends weight (weight_at 12 T) (reference_full_ends T) (reference_full_step T)
-  full-law T alone k =
+  pub reference_full-law : Law W reference_full_words
+  reference_full-law T alone k =
       let s : TokenizeState = T.tokenize_state in
       let M : Tokenizer = scratched (names_set s) T in
       let n : ℕ = weight_at 12 T in
       let same : codes_left M ≡ codes_left T = left-scratched _ T in
-      Goes-attempt ready ends weight n (reference_full_ends T) (Retry LabelStart) (Next LabelEndReferenceFullAfter) (Next LabelEndReferenceFullMissing) M (attempts-scratched _ T ∙ alone)
-      (within.label_ready M (label-ready T k.part))
-      (rw within.label_weight (omega (arith, same)))
+      Goes-attempt W n (reference_full_ends T) (Retry LabelStart) (within LabelStart) (Next LabelEndReferenceFullAfter) (Next LabelEndReferenceFullMissing) M (attempts-scratched _ T ∙ alone)
+      (label-ready T k.part)
+      (omega (arith, same))
       (λ U now h.
-      let r = label-read T U (within.label_end M true U h) in
-      record {
-        goes_on = within.after_ready U (text-around T U k r);
-        falls = rw within.after_weight (omega (arith, same, left-read _ _ _ M U r));
-        closed = λ ok V x. defined-ends T U k (as-label T U r) ok V (within.after_end U ok V x);
-      })
+      let r = label-read T U h in
+      follows W n (reference_full_ends T) (Next LabelEndReferenceFullAfter) (within LabelEndReferenceFullAfter) U (text-around T U k r) (omega (arith, same, left-read _ _ _ M U r)) (defined-ends T U k (as-label T U r)))
       (λ U now h.
-      let r = label-refused T U (within.label_end M false U h) in
-      subst (λ (y : Tokenizer). Follows ready ends weight n (reference_full_ends T) (Next LabelEndReferenceFullMissing) y) (sym (restored-fails false (Next LabelEndReferenceFullAfter) (Next LabelEndReferenceFullMissing) (names_set s) M U r.1))
+      let r = label-refused T U h in
+      subst (λ (y : Tokenizer). FollowsIn W n (reference_full_ends T) (Next LabelEndReferenceFullMissing) y) (sym (restored-fails false (Next LabelEndReferenceFullAfter) (Next LabelEndReferenceFullMissing) (names_set s) M U r.1))
       (missing-goes T k r.0))

@@ -1,5 +1,5 @@
 -- Where the text of a full reference begins and ends.
-use Rattle.std.proofs.Common.{◌≡◌, ◌≢◌, ℕ, Bool, true, false, ◌&&◌, not, Option, Some, None, List, [], ◌∷◌, ◌++◌, refl, sym, ap, subst, ◌∙◌, append_assoc, append-nil}
+use Rattle.std.proofs.Common.{◌≡◌, ℕ, Bool, true, false, ◌&&◌, not, Option, Some, None, List, [], ◌∷◌, ◌++◌, refl, sym, ap, subst, ◌∙◌, append-nil}
 use Rattle.std.specs.List.{list_any}
 use Rattle.std.proofs.lemmas.Bool.{eqb-true}
 use Rattle.markdown_engine.specs.Codes.{Code, is_line_ending, is_blank, stop_of, document_start}
@@ -9,8 +9,8 @@ use Rattle.markdown_engine.specs.declared.event.Name.{Name}
 use Rattle.markdown_engine.specs.declared.event.Name.TheVariants as N
 use Rattle.markdown_engine.specs.declared.event.Point.{Point}
 use Rattle.markdown_construct.proofs.StretchLemmas.{BeginsWith, stretches-begin}
-use Rattle.markdown_model.specs.CodeTests.{is_value, next_is, is_whitespace_code}
-use Rattle.markdown_model.specs.Grammar.{Reading, one, span}
+use Rattle.markdown_model.specs.CodeTests.{is_value, next_is}
+use Rattle.markdown_model.specs.Grammar.{one, span}
 use Rattle.markdown_model.specs.Lines.{lines, lines_from, lines_of, line_leaf, linked_leaf}
 use Rattle.markdown_model.specs.Resource.{label, reference_names, between_markers, string_group}
 use Rattle.markdown_model.proofs.LinkFree.{Passes, Yields, yields_bind, yields_gives, yields_passed, then_any}

@@ -1,5 +1,5 @@
 -- The tree of a full reference, and where its text stands among the events.
-use Rattle.std.proofs.Common.{◌≡◌, ◌≢◌, ℕ, zero, suc, ◌+◌, ◌-◌, ◌<◌, ◌≤◌, Bool, true, false, ◌&&◌, ◌||◌, not, Option, Some, None, List, [], ◌∷◌, ◌++◌, length, slice_get, refl, sym, ap, subst, ◌∙◌, arith, length-append, append_assoc}
+use Rattle.std.proofs.Common.{◌≡◌, ◌≢◌, ℕ, suc, ◌+◌, ◌-◌, Bool, true, false, Option, Some, None, List, [], ◌∷◌, ◌++◌, length, slice_get, refl, sym, ap, subst, ◌∙◌, arith, length-append, append_assoc}
 use Rattle.std.specs.List.{list_any}
 use Rattle.markdown_engine.specs.Codes.{Code, is_line_ending, stop_of, document_start}
 use Rattle.markdown_engine.specs.Past.{appended_from}
@@ -11,10 +11,9 @@ use Rattle.markdown_engine.specs.declared.event.Name.{Name}
 use Rattle.markdown_engine.specs.declared.event.Name.TheVariants as N
 use Rattle.markdown_engine.specs.declared.event.Point.{Point}
 use Rattle.markdown_construct.proofs.StretchLemmas.{BeginsWith, stretches-begin}
-use Rattle.markdown_model.specs.CodeTests.{next_is, is_whitespace_code}
 use Rattle.markdown_model.specs.Grammar.{Reading, ◌>>◌, provided, one}
 use Rattle.markdown_model.specs.LabelEnd.{bytes_between, reference_identifier}
-use Rattle.markdown_model.specs.Lines.{lines, lines_from, lines_of, line_leaf, linked_leaf}
+use Rattle.markdown_model.specs.Lines.{lines, lines_from, lines_of, linked_leaf}
 use Rattle.markdown_model.specs.Resource.{label, reference_names, between_markers, string_group}
 use Rattle.markdown_model.specs.Setting.{Setting}
 use Rattle.markdown_model.proofs.LinkFree.{Passes, Yields, yields_bind, yields_gives, yields_passed, then_any}

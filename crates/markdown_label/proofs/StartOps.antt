@@ -1,5 +1,5 @@
 -- The events of the starts of labels.
-use Rattle.std.proofs.Common.{◌≡◌, ℕ, ◌+◌, ◌≤◌, List, [], ◌∷◌, ◌++◌, length, refl, sym, ap, ◌∙◌, arith, length-append}
+use Rattle.std.proofs.Common.{◌≡◌, ℕ, ◌+◌, ◌≤◌, List, [], ◌∷◌, length, refl, arith, length-append}
 use Rattle.markdown_engine.specs.Ops.{Op, Enter, Exit, EnterLink, EnterConnected, Consume, applied, done}
 use Rattle.markdown_engine.specs.declared.tokenizer.Tokenizer.{Tokenizer}
 use Rattle.markdown_label.specs.LabelStarts.{link_ops, footnote_front, footnote_back, image_front, image_back, FootnoteOpenReady, ImageOpenReady, ImageAfterReady}

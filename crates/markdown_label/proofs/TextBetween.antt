@@ -1,5 +1,5 @@
 -- The bytes of a text between two places at which it may be cut.
-use Rattle.std.proofs.Common.{◌≡◌, ℕ, zero, suc, ◌+◌, ◌-◌, ◌<◌, ◌≤◌, Option, Some, None, List, [], ◌∷◌, length, get_or, slice_get, take, drop, ◌||◌, refl, sym, ap, subst, ◌∙◌, arith}
+use Rattle.std.proofs.Common.{◌≡◌, ℕ, zero, suc, ◌-◌, ◌<◌, ◌≤◌, List, [], ◌∷◌, length, get_or, take, drop, ◌||◌, refl, sym, ap, subst, ◌∙◌, arith}
 use Rattle.std.specs.Prelude.{IsUtf8, Bool, map, max}
 use Rattle.std.specs.List.{list_any}
 use Rattle.markdown_engine.specs.declared.event.Point.{Point}
@@ -7,7 +7,7 @@ use Rattle.markdown_util.specs.Identifier.{identifier_of}
 use Rattle.std.specs.List.{slice_range, slice_index_or}
 use Rattle.std.specs.Str.{IsCharBoundary}
 use Rattle.std.proofs.Math.Nat.{le-max_right, sub-add-eq-max}
-use Rattle.std.proofs.lemmas.Str.{IsUtf8-between, IsCharBoundary-after_ascii, IsCharBoundary-before_ascii, IsCharBoundary-start, IsCharBoundary-end}
+use Rattle.std.proofs.lemmas.Str.{IsUtf8-between}
 use Rattle.markdown_engine.specs.Chain.{chained}
 use Rattle.markdown_engine.specs.declared.event.Event.{Event}
 use Rattle.markdown_engine.specs.declared.tokenizer.Tokenizer.{Tokenizer}
@@ -15,18 +15,6 @@ use Rattle.markdown_engine.proofs.ChainLemmas.{chained-point}
 use Rattle.markdown_construct.specs.Characters.{bytes_of}
 use Rattle.markdown_label.specs.LabelEnd.{AreAround}
 use Rattle.markdown_label.specs.LabelEnd.{place_at, identifier_between}
-
--- behind an ASCII byte, up to an ASCII byte
-pub between-ascii : (bs : List ℕ) (i j : ℕ) → IsUtf8 bs → i < j → get_or bs i 0 < 128 → j < length bs → get_or bs j 0 < 128 → IsUtf8 (take (j - (i + 1)) (drop (i + 1) bs))
-between-ascii bs i j u order low within high =
-    IsUtf8-between bs (i + 1) j u (omega (arith, order)) (IsCharBoundary-after_ascii bs i u (omega (arith, order, within)) low) (IsCharBoundary-before_ascii bs j within high)
-
--- from the text's start, and up to its end
-pub from-start : (bs : List ℕ) (j : ℕ) → IsUtf8 bs → j < length bs → get_or bs j 0 < 128 → IsUtf8 (take (j - 0) (drop 0 bs))
-from-start bs j u within high = IsUtf8-between bs 0 j u (omega arith) (IsCharBoundary-start bs u) (IsCharBoundary-before_ascii bs j within high)
-
-pub up-to-end : (bs : List ℕ) (i : ℕ) → IsUtf8 bs → i < length bs → get_or bs i 0 < 128 → IsUtf8 (take (length bs - (i + 1)) (drop (i + 1) bs))
-up-to-end bs i u within low = IsUtf8-between bs (i + 1) (length bs) u (omega (arith, within)) (IsCharBoundary-after_ascii bs i u within low) (IsCharBoundary-end bs)
 
 -- what is lent for an event stands where the event does
 place-get : (es : List Event) (i : ℕ) (d : Event) → i < length es → (get_or es i d).point ≡ place_at es i

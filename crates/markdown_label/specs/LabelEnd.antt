@@ -1,15 +1,14 @@
 -- What the states of the end of a label do, and how runs from them end.
-use Rattle.std.specs.Prelude.{◌≡◌, ◌≢◌, ◌≤◌, ◌<◌, ℕ, ◌+◌, ◌-◌, Bool, true, false, ◌==◌, ◌&&◌, ◌||◌, not, is_some, if◌then◌else◌, List, [], ◌∷◌, ◌++◌, length, slice_get, Option, Some, None}
-use Rattle.std.specs.List.{list_any}
+use Rattle.std.specs.Prelude.{◌≡◌, ◌≢◌, ◌≤◌, ◌<◌, ℕ, ◌+◌, ◌-◌, Bool, true, false, ◌==◌, ◌&&◌, not, is_some, if◌then◌else◌, List, [], ◌∷◌, ◌++◌, length, slice_get, Option, Some, None}
 use Rattle.std.specs.Prelude.{IsUtf8}
 use Rattle.std.specs.Str.{IsCharBoundary}
 use Rattle.markdown_engine.specs.Codes.{Code, document_start}
 use Rattle.markdown_engine.specs.Grown.{Fails}
-use Rattle.markdown_engine.specs.Lists.{rest_of}
 use Rattle.markdown_engine.specs.Ops.{Op, Enter, Exit, Consume, IsOpen, ahead, attempted, current_of, done, registered_before, scratched}
 use Rattle.markdown_engine.specs.Past.{EndsAs, TreeReading, past}
 use Rattle.markdown_engine.specs.Runs.{Stepped, stepped}
-use Rattle.markdown_engine.specs.Tree.{Forest, empty, ◌⊕◌, leaf, group, leaf_codes, start_of}
+use Rattle.markdown_engine.specs.StateWords.{StateWords}
+use Rattle.markdown_engine.specs.Tree.{Forest, empty, leaf, group, leaf_codes, start_of}
 use Rattle.markdown_engine.specs.declared.event.Event.{Event}
 use Rattle.markdown_engine.specs.declared.event.Name.TheVariants as N
 use Rattle.markdown_engine.specs.declared.event.Point.{Point}
@@ -29,6 +28,8 @@ use Rattle.markdown_model.specs.LabelEnd.{is_footnote, bytes_between, full_refer
 use Rattle.markdown_model.specs.Resource.{label, reference_names}
 use Rattle.markdown_model.specs.Setting.{Setting, is_defined}
 use Rattle.markdown_resource.specs.Parts.{names_rested, PartReady}
+use Rattle.markdown_resource.specs.Resource as P
+use Rattle.markdown_string.specs.Label as SL
 use Rattle.markdown_util.specs.Identifier.{identifier_of}
 use Rattle.markdown_label.specs.Fields.{bars, with_kind, tried, labelled, loosened}
 use Rattle.markdown_label.specs.Settings.{setting_in}
@@ -370,3 +371,50 @@ collapsed_open_plan cs = if next_is (is_value 93) cs then Some collapsed_back el
 
 abbrev pub reference_collapsed_open_ends : Tokenizer → Bool → Tokenizer → Type 0
 reference_collapsed_open_ends T ok U = KeepsAs 1 collapsed_open_plan T ok U
+
+-- The states.
+
+abbrev pub start_words : StateWords
+start_words = record { ready = StartReady; step = start_step; ends = start_ends; rank = 3 }
+
+abbrev pub after_words : StateWords
+after_words = record { ready = AfterReady; step = after_step; ends = after_ends; rank = 13 }
+
+abbrev pub ok_words : StateWords
+ok_words = record { ready = λ T. Unit {0}; step = ok_step; ends = ok_ends; rank = 1 }
+
+abbrev pub nok_words : StateWords
+nok_words = record { ready = λ T. Unit {0}; step = nok_step; ends = nok_ends; rank = 1 }
+
+abbrev pub reference_full_words : StateWords
+reference_full_words = record { ready = FullReady; step = reference_full_step; ends = reference_full_ends; rank = 12 }
+
+abbrev pub reference_full_after_words : StateWords
+reference_full_after_words = record { ready = ReferenceIsAround; step = reference_full_after_step; ends = reference_full_after_ends; rank = 1 }
+
+abbrev pub reference_full_missing_words : StateWords
+reference_full_missing_words = record { ready = λ T. Unit {0}; step = reference_full_missing_step; ends = reference_full_missing_ends; rank = 1 }
+
+abbrev pub reference_not_full_words : StateWords
+reference_not_full_words = record { ready = λ T. Unit {0}; step = reference_not_full_step; ends = reference_not_full_ends; rank = 3 }
+
+abbrev pub reference_collapsed_words : StateWords
+reference_collapsed_words = record { ready = λ T. Unit {0}; step = reference_collapsed_step; ends = reference_collapsed_ends; rank = 2 }
+
+abbrev pub reference_collapsed_open_words : StateWords
+reference_collapsed_open_words = record { ready = IsOpen N.Reference; step = reference_collapsed_open_step; ends = reference_collapsed_open_ends; rank = 1 }
+
+-- those of these states with which another goes on, as they are said, and any other as it is given
+abbrev pub states : (StateName → StateWords) → StateName → StateWords
+states other LabelEndAfter = after_words
+states other LabelEndOk = ok_words
+states other LabelEndNok = nok_words
+states other LabelEndReferenceFull = reference_full_words
+states other LabelEndReferenceFullAfter = reference_full_after_words
+states other LabelEndReferenceFullMissing = reference_full_missing_words
+states other LabelEndReferenceNotFull = reference_not_full_words
+states other LabelEndReferenceCollapsed = reference_collapsed_words
+states other LabelEndReferenceCollapsedOpen = reference_collapsed_open_words
+states other LabelEndResourceStart = P.start_words
+states other LabelStart = SL.start_words
+states other s = other s

@@ -1,21 +1,19 @@
 -- What the states of the starts of labels do, and how runs from them end.
-use Rattle.std.specs.Prelude.{◌≡◌, ◌≤◌, ℕ, ◌+◌, ◌-◌, Bool, true, false, ◌==◌, ◌&&◌, not, if◌then◌else◌, List, [], ◌∷◌, ◌++◌, length, Option, Some, None}
+use Rattle.std.specs.Prelude.{◌≡◌, ◌≤◌, ℕ, ◌-◌, Bool, true, false, ◌==◌, ◌&&◌, not, if◌then◌else◌, List, [], ◌∷◌, ◌++◌, length, Option, Some, None}
 use Rattle.markdown_engine.specs.Codes.{Code}
-use Rattle.markdown_engine.specs.Grown.{Grown, Fails}
+use Rattle.markdown_engine.specs.Grown.{Grown}
 use Rattle.markdown_engine.specs.Lists.{rest_of}
 use Rattle.markdown_engine.specs.Ops.{Op, Enter, Exit, Consume, IsOpen, ahead, current_of, done, registered_before, scratched}
-use Rattle.markdown_engine.specs.Past.{past}
 use Rattle.markdown_engine.specs.Runs.{Stepped, stepped}
-use Rattle.markdown_engine.specs.Tree.{event_count}
+use Rattle.markdown_engine.specs.StateWords.{StateWords}
 use Rattle.markdown_engine.specs.declared.event.Name.TheVariants as N
 use Rattle.markdown_engine.specs.declared.resolve.ResolveName.TheVariants as R
-use Rattle.markdown_engine.specs.declared.state.State.TheVariants.{Next, Retry, Ok, Nok}
+use Rattle.markdown_engine.specs.declared.state.State.TheVariants.{Next, Ok, Nok}
+use Rattle.markdown_engine.specs.declared.state.StateName.{StateName}
 use Rattle.markdown_engine.specs.declared.state.StateName.TheVariants.{GfmLabelStartFootnoteOpen, LabelStartImageOpen, LabelStartImageAfter}
 use Rattle.markdown_engine.specs.declared.tokenizer.LabelKind.{LabelKind}
-use Rattle.markdown_engine.specs.declared.tokenizer.TokenizeState.{TokenizeState}
 use Rattle.markdown_engine.specs.declared.tokenizer.Tokenizer.{Tokenizer}
 use Rattle.markdown_model.specs.CodeTests.{is_value, next_is}
-use Rattle.markdown_model.specs.Passes.{start_tree}
 use Rattle.markdown_label.specs.Fields.{begun}
 
 -- a start is kept whose last events these are, so many
@@ -162,3 +160,30 @@ image_test T cs = (images_on T && next_is (is_value 33) cs) && image_open_test T
 
 abbrev pub image_ends : Tokenizer → Bool → Tokenizer → Type 0
 image_ends T ok U = begins_as 0 LabelKind.Image 6 (image_front ++ image_back) (image_test T) T ok U
+
+-- The states.
+
+abbrev pub link_words : StateWords
+link_words = record { ready = λ T. Unit {0}; step = link_step; ends = link_ends; rank = 1 }
+
+abbrev pub footnote_words : StateWords
+footnote_words = record { ready = λ T. Unit {0}; step = footnote_step; ends = footnote_ends; rank = 2 }
+
+abbrev pub footnote_open_words : StateWords
+footnote_open_words = record { ready = FootnoteOpenReady; step = footnote_open_step; ends = footnote_open_ends; rank = 1 }
+
+abbrev pub image_words : StateWords
+image_words = record { ready = λ T. Unit {0}; step = image_step; ends = image_ends; rank = 2 }
+
+abbrev pub image_open_words : StateWords
+image_open_words = record { ready = ImageOpenReady; step = image_open_step; ends = image_open_ends; rank = 1 }
+
+abbrev pub image_after_words : StateWords
+image_after_words = record { ready = ImageAfterReady; step = image_after_step; ends = image_after_ends; rank = 1 }
+
+-- those of these states with which another goes on, as they are said, and any other as it is given
+abbrev pub states : (StateName → StateWords) → StateName → StateWords
+states other GfmLabelStartFootnoteOpen = footnote_open_words
+states other LabelStartImageOpen = image_open_words
+states other LabelStartImageAfter = image_after_words
+states other s = other s

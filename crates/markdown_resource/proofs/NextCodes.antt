@@ -1,5 +1,5 @@
 -- Readings and tests by the code at hand.
-use Rattle.std.proofs.Common.{◌≡◌, ℕ, ◌==◌, Bool, true, false, Option, Some, None, List, refl, ap, ◌∙◌}
+use Rattle.std.proofs.Common.{◌≡◌, ℕ, ◌==◌, Bool, true, false, Some, None, List, refl, ap, ◌∙◌}
 use Rattle.markdown_engine.specs.Codes.{Code}
 use Rattle.markdown_engine.specs.Ops.{ahead, current_of}
 use Rattle.markdown_engine.specs.declared.tokenizer.Tokenizer.{Tokenizer}

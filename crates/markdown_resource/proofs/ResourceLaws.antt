@@ -1,38 +1,39 @@
 -- The laws of the states of a resource.
-use Rattle.std.proofs.Common.{◌≡◌, ◌≢◌, ℕ, ◌+◌, ◌-◌, ◌*◌, ◌<◌, ◌≤◌, ◌==◌, Bool, true, false, ◌&&◌, ◌||◌, not, if◌then◌else◌, Option, Some, None, List, [], ◌∷◌, ◌++◌, length, inl, inr, refl, sym, ap, subst, ◌∙◌, arith, append_assoc}
+use Rattle.std.proofs.Common.{◌≡◌, ℕ, ◌+◌, ◌<◌, ◌==◌, Bool, true, false, ◌||◌, Option, Some, None, List, [], ◌∷◌, ◌++◌, length, refl, sym, ap, subst, ◌∙◌, arith, append_assoc}
 use Rattle.markdown_engine.specs.Codes.{Code, is_blank, is_line_ending}
-use Rattle.markdown_engine.specs.Grown.{Grown, Fails}
-use Rattle.markdown_engine.specs.Lists.{first_of, rest_of}
-use Rattle.markdown_engine.specs.Ops.{Op, Enter, Exit, Consume, IsOpen, ahead, applied, attempted, current_of, done, frame_of, scratched}
-use Rattle.markdown_engine.specs.Past.{TreeReading, EndsAs, Reads, Refuses, past, last_link, behind}
-use Rattle.markdown_engine.specs.Runs.{Stepped, stepped, GoesOn, restored}
-use Rattle.markdown_engine.specs.Tree.{Forest, empty, leaf_then, group_then, leaf, ◌⊕◌, group, leaf_codes, event_count}
-use Rattle.markdown_engine.specs.Weights.{codes_left, weight_at}
+use Rattle.markdown_engine.specs.Grown.{Grown}
+use Rattle.markdown_engine.specs.Lists.{rest_of}
+use Rattle.markdown_engine.specs.Ops.{Exit, ahead, applied, current_of, frame_of, scratched}
+use Rattle.markdown_engine.specs.Past.{TreeReading, Reads, Refuses, past, last_link, behind}
+use Rattle.markdown_engine.specs.Runs.{restored}
+use Rattle.markdown_engine.specs.StateWords.{Words, Law, GoesIn}
+use Rattle.markdown_engine.specs.Tree.{Forest, empty, leaf_then, group_then, ◌⊕◌, leaf_codes, event_count}
+use Rattle.markdown_engine.specs.Weights.{weight_at}
 use Rattle.markdown_engine.specs.declared.event.Name.{Name}
 use Rattle.markdown_engine.specs.declared.event.Name.TheVariants as N
 use Rattle.markdown_engine.specs.declared.state.State.{State}
-use Rattle.markdown_engine.specs.declared.state.State.TheVariants.{Next, Retry, Ok, Nok}
+use Rattle.markdown_engine.specs.declared.state.State.TheVariants.{Next, Retry}
 use Rattle.markdown_engine.specs.declared.state.StateName.{StateName}
-use Rattle.markdown_engine.specs.declared.state.StateName.TheVariants.{DestinationStart, LabelEndResourceBefore, LabelEndResourceBetween, LabelEndResourceDestinationAfter, LabelEndResourceDestinationMissing, LabelEndResourceEnd, LabelEndResourceOpen, LabelEndResourceTitleAfter, SpaceOrTabEolStart, TitleStart}
+use Rattle.markdown_engine.specs.declared.state.StateName.TheVariants.{LabelEndResourceOpen, SpaceOrTabEolStart}
 use Rattle.markdown_engine.specs.declared.tokenizer.TokenizeState.{TokenizeState}
 use Rattle.markdown_engine.specs.declared.tokenizer.Tokenizer.{Tokenizer}
 use Rattle.markdown_engine.proofs.EndsLemmas.{left-read, scratched-same}
-use Rattle.markdown_engine.proofs.Laws.{Follows, Goes-plain, Goes-attempt, Grown-refl, if-step, restored-fails}
+use Rattle.markdown_engine.proofs.Laws.{if-step, restored-fails}
 use Rattle.markdown_engine.proofs.OpRules.{Begins, ahead-none, ahead-some, attempts-scratched, left-scratched}
 use Rattle.markdown_engine.proofs.OpsLemmas.{Grown-scratched}
 use Rattle.markdown_engine.proofs.TreeLemmas.{Grown-past, leaf_codes-row, past-past}
-use Rattle.markdown_model.specs.CodeTests.{is_value, is_among, next_is}
-use Rattle.markdown_model.specs.Resource.{begins_title, destination, resource_names, title, title_names}
+use Rattle.markdown_model.specs.CodeTests.{is_value, next_is}
 use Rattle.markdown_model.specs.Whitespace.{spacing, spaces_across, spaces_on_line}
 use Rattle.markdown_model.specs.Lines.{linked_leaf}
 use Rattle.markdown_model.proofs.LinkFree.{Passes, Yields, yields_either, yields_gives, then_any}
-use Rattle.markdown_model.proofs.ReadingSteps.{if-true, if-false}
-use Rattle.markdown_partial.specs.EolSteps as E
+use Rattle.markdown_model.proofs.ReadingSteps.{if-false}
+use Rattle.markdown_construct.specs.Within.{Within}
+use Rattle.markdown_construct.proofs.StateLaws.{FollowsIn, follows, Goes-attempt, Goes-plain}
 use Rattle.markdown_partial.specs.EolSteps.{WhitespaceAtRest, eol_asked, at_ending}
 use Rattle.markdown_partial.proofs.AskedLaws.{eol-asked-ready, eol-asked-ends}
 use Rattle.markdown_partial.proofs.SpacingLemmas.{spacing-none}
-use Rattle.markdown_resource.specs.Parts.{PartReady, rested, names_rested}
-use Rattle.markdown_resource.specs.Resource.{at_space, at_close, spaced, before_step, closes, or_without, and_then, opened, inside, InReady, RowReads, RowRefuses, RowEnds, before_ends, open_ends}
+use Rattle.markdown_resource.specs.Parts.{PartReady, rested}
+use Rattle.markdown_resource.specs.Resource.{at_space, at_close, spaced, or_without, opened, inside, InReady, RowEnds, before_ends, open_ends, before_words, states}
 
 -- Rows.
 
@@ -152,58 +153,43 @@ spacing-yields =
 pub spacing-unlinked : (cs : List Code) (t : Forest) (rest : List Code) → spacing None cs ≡ Some (t, rest) → NoLinks t
 spacing-unlinked cs t rest e = subst (λ o. Passes NoLinks o) e (spacing-yields.at cs)
 
--- What the layer says of the parts.
-pub record SpaceWithin (ready : StateName → Tokenizer → Type 0) (ends : StateName → Tokenizer → Bool → Tokenizer → Type 0) (weight : StateName → Tokenizer → ℕ) : Type 0 where
-  pub eol_ready : (T : Tokenizer) → E.StartReady T → ready SpaceOrTabEolStart T
-  pub eol_end : (T : Tokenizer) (ok : Bool) (U : Tokenizer) → ends SpaceOrTabEolStart T ok U → E.start_ends T ok U
-  pub eol_weight : (T : Tokenizer) → weight SpaceOrTabEolStart T ≡ weight_at 8 T
-  pub open_ready : (T : Tokenizer) → InReady T → ready LabelEndResourceOpen T
-  pub open_end : (T : Tokenizer) (ok : Bool) (U : Tokenizer) → ends LabelEndResourceOpen T ok U → open_ends T ok U
-  pub open_weight : (T : Tokenizer) → weight LabelEndResourceOpen T ≡ weight_at 14 T
-
 same-frame : (r : Bool) (ok nok : State) (s : TokenizeState) (T : Tokenizer) → frame_of r ok nok (scratched s T) ≡ frame_of r ok nok T
 unfolding frame_of scratched
 same-frame r ok nok s T = refl
 
-module _ (ready : StateName → Tokenizer → Type 0) (ends : StateName → Tokenizer → Bool → Tokenizer → Type 0) (weight : StateName → Tokenizer → ℕ) (within : SpaceWithin ready ends weight) where
+module _ (W : Words) (within : Within states W) where
   -- whitespace is tried
   pub spaced-law : (n : ℕ) (End : Bool → Tokenizer → Type 0) (ok nok : StateName) (T : Tokenizer) → T.attempts ≡ [] → PartReady T → weight_at 8 T < n
-      → ((U : Tokenizer) → Reads (spacing None) None T.tokenize_state T U → Follows ready ends weight n End (Next ok) U)
-      → (spacing None (ahead T) ≡ None → Follows ready ends weight n End (Next nok) T)
-      → GoesOn ready ends weight n End (spaced ok nok T)
+      → ((U : Tokenizer) → Reads (spacing None) None T.tokenize_state T U → FollowsIn W n End (Next ok) U)
+      → (spacing None (ahead T) ≡ None → FollowsIn W n End (Next nok) T)
+      → GoesIn W n End (spaced ok nok T)
   spaced-law n End ok nok T alone p room some none =
       let s : TokenizeState = eol_asked false None T.tokenize_state in
       let M : Tokenizer = scratched s T in
-      Goes-attempt ready ends weight n End (Retry SpaceOrTabEolStart) (Next ok) (Next nok) M (attempts-scratched s T ∙ alone)
-      (within.eol_ready M (eol-asked-ready false None T p.short p.spaces (λ e. cc) (λ e. cc) (λ e. refl)))
-      (rw within.eol_weight (omega (arith, left-scratched s T, room)))
-      (λ U now h. some U (eol-asked-ends false None T p.spaces true U (within.eol_end M true U h)))
+      Goes-attempt W n End (Retry SpaceOrTabEolStart) (within SpaceOrTabEolStart) (Next ok) (Next nok) M (attempts-scratched s T ∙ alone)
+      (eol-asked-ready false None T p.short p.spaces (λ e. cc) (λ e. cc) (λ e. refl))
+      (omega (arith, left-scratched s T, room))
+      (λ U now h. some U (eol-asked-ends false None T p.spaces true U h))
       (λ U now h.
-      let k : Refuses (spacing None) T.tokenize_state T U = eol-asked-ends false None T p.spaces false U (within.eol_end M false U h) in
-      subst (λ (x : Tokenizer). Follows ready ends weight n End (Next nok) x) (sym (ap (λ f. restored f U) (same-frame false (Next ok) (Next nok) s T) ∙ restored-fails false (Next ok) (Next nok) T.tokenize_state T U k.fails ∙ scratched-same T)) (none k.refused))
+      let k : Refuses (spacing None) T.tokenize_state T U = eol-asked-ends false None T p.spaces false U h in
+      subst (λ (x : Tokenizer). FollowsIn W n End (Next nok) x) (sym (ap (λ f. restored f U) (same-frame false (Next ok) (Next nok) s T) ∙ restored-fails false (Next ok) (Next nok) T.tokenize_state T U k.fails ∙ scratched-same T)) (none k.refused))
 
   -- behind the opening marker
-  before-open : (T U : Tokenizer) → InReady T → Reads (spacing None) None T.tokenize_state T U → Follows ready ends weight (weight_at 15 T) (before_ends T) (Next LabelEndResourceOpen) U
+  before-open : (T U : Tokenizer) → InReady T → Reads (spacing None) None T.tokenize_state T U → FollowsIn W (weight_at 15 T) (before_ends T) (Next LabelEndResourceOpen) U
   before-open T U p k =
-      record {
-        goes_on = within.open_ready U (in-read (spacing None) T U k p);
-        falls = rw within.open_weight (omega (arith, left-read (spacing None) None T.tokenize_state T U k));
-        closed = λ ok V h.
-            row-then inside opened k.tree T.tokenize_state T.tokenize_state T U (spacing-unlinked (ahead T) k.tree k.rest k.holds) k.left (k.whole ∙ ap (λ xs. leaf_codes k.tree ++ xs) (sym k.after))
-            (ap (λ o. or_without o opened (ahead T)) k.holds ∙ ap (λ xs. behind k.tree (opened xs)) (sym k.after)) ok V
-            (subst (λ (s : TokenizeState). RowEnds opened s U ok V) (fields-read (spacing None) T U k) (within.open_end U ok V h));
-      }
+      follows W (weight_at 15 T) (before_ends T) (Next LabelEndResourceOpen) (within LabelEndResourceOpen) U (in-read (spacing None) T U k p) (omega (arith, left-read (spacing None) None T.tokenize_state T U k))
+      (λ ok V h.
+      row-then inside opened k.tree T.tokenize_state T.tokenize_state T U (spacing-unlinked (ahead T) k.tree k.rest k.holds) k.left (k.whole ∙ ap (λ xs. leaf_codes k.tree ++ xs) (sym k.after))
+      (ap (λ o. or_without o opened (ahead T)) k.holds ∙ ap (λ xs. behind k.tree (opened xs)) (sym k.after)) ok V
+      (subst (λ (s : TokenizeState). RowEnds opened s U ok V) (fields-read (spacing None) T U k) h))
 
-  open-there : (T : Tokenizer) → InReady T → spacing None (ahead T) ≡ None → Follows ready ends weight (weight_at 15 T) (before_ends T) (Next LabelEndResourceOpen) T
-  open-there T p none =
-      record {
-        goes_on = within.open_ready T p;
-        falls = rw within.open_weight (omega arith);
-        closed = λ ok V h. row-same opened inside T.tokenize_state T (sym (ap (λ o. or_without o opened (ahead T)) none)) ok V (within.open_end T ok V h);
-      }
+  -- where no whitespace stands
+  open-closed : (T : Tokenizer) → spacing None (ahead T) ≡ None → (ok : Bool) (V : Tokenizer) → open_ends T ok V → before_ends T ok V
+  open-closed T none ok V h = row-same opened inside T.tokenize_state T (sym (ap (λ o. or_without o opened (ahead T)) none)) ok V h
 
-  pub before-law : (T : Tokenizer) → T.attempts ≡ [] → InReady T → GoesOn ready ends weight (weight_at 15 T) (before_ends T) (before_step T)
+  pub before-law : Law W before_words
   before-law T alone p =
-      if-step (GoesOn ready ends weight (weight_at 15 T) (before_ends T)) (at_space (current_of T)) _ _
-      (λ h. spaced-law (weight_at 15 T) (before_ends T) LabelEndResourceOpen LabelEndResourceOpen T alone p.part (omega arith) (λ U k. before-open T U p k) (λ none. open-there T p none))
-      (λ h. let f = open-there T p (no-space T (current_of T) refl h) in Goes-plain ready ends weight (weight_at 15 T) (before_ends T) (Retry LabelEndResourceOpen) T alone f.goes_on f.falls f.closed)
+      if-step (GoesIn W (weight_at 15 T) (before_ends T)) (at_space (current_of T)) _ _
+      (λ h. spaced-law (weight_at 15 T) (before_ends T) LabelEndResourceOpen LabelEndResourceOpen T alone p.part (omega arith) (λ U k. before-open T U p k)
+      (λ none. follows W (weight_at 15 T) (before_ends T) (Next LabelEndResourceOpen) (within LabelEndResourceOpen) T p (omega arith) (open-closed T none)))
+      (λ h. Goes-plain W (weight_at 15 T) (before_ends T) (Retry LabelEndResourceOpen) (within LabelEndResourceOpen) T alone p (omega arith) (open-closed T (no-space T (current_of T) refl h)))

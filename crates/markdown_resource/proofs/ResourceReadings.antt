@@ -1,16 +1,15 @@
 -- A resource, read part by part.
-use Rattle.std.proofs.Common.{ℕ, inl, inr, ◌≡◌, ◌==◌, Bool, true, false, ◌||◌, if◌then◌else◌, Option, Some, None, List, [], ◌∷◌, ◌++◌, refl, sym, ap, ◌∙◌}
+use Rattle.std.proofs.Common.{ℕ, inl, inr, ◌≡◌, ◌==◌, Bool, true, false, ◌||◌, if◌then◌else◌, Option, Some, None, List, [], ◌∷◌, refl, sym, ap, ◌∙◌}
 use Rattle.std.proofs.lemmas.Bool.{eqb-true, or_cases}
 use Rattle.markdown_engine.specs.Codes.{Code}
-use Rattle.markdown_engine.specs.Past.{TreeReading, behind}
+use Rattle.markdown_engine.specs.Past.{behind}
 use Rattle.markdown_engine.specs.Tree.{Forest, empty, leaf_then, group_then, leaf, ◌⊕◌, group}
 use Rattle.markdown_engine.specs.declared.event.Name.TheVariants as N
-use Rattle.markdown_engine.proofs.EndsLemmas.{row-empty}
-use Rattle.markdown_model.specs.CodeTests.{is_value, is_among, next_is}
+use Rattle.markdown_model.specs.CodeTests.{is_value, next_is}
 use Rattle.markdown_model.specs.Grammar.{Reading, ◌>>=◌, gives, either, before, if_next, one, optional_tree}
 use Rattle.markdown_model.specs.Resource.{begins_title, destination, resource_names, title, title_names, spaced_title, destination_and_title, resource}
 use Rattle.markdown_model.specs.Whitespace.{spacing}
-use Rattle.markdown_model.proofs.ReadingSteps.{bind-some, bind-none, one-here, one-not, before-some, before-other, before-none, either-some, either-second, if-true, if-false}
+use Rattle.markdown_model.proofs.ReadingSteps.{bind-some, bind-none, one-here, one-not, before-some, before-other, before-none, either-some, either-second}
 use Rattle.markdown_resource.specs.Resource.{closes, or_without, and_then, after_title, between, after_destination_of, after_destination, opened, inside}
 use Rattle.markdown_resource.proofs.NextCodes.{next-takes, next-leaves}
 
@@ -39,13 +38,6 @@ optional-none a cs e = either-second a (gives empty) cs e
 optional-some : (a : Reading Forest) (cs : List Code) (r : Forest × List Code) → a cs ≡ Some r → optional_tree a cs ≡ Some r
 unfolding optional_tree
 optional-some a cs r e = either-some a (gives empty) cs r e
-
--- behind a title
-
-closed-optional : (cs : List Code) (o : Option (Forest × List Code)) → spacing None cs ≡ o → closed (optional_tree (spacing None) cs) ≡ after_title cs
-unfolding closed
-closed-optional cs None e = ap closed (optional-none (spacing None) cs e) ∙ behind-none (closes cs) ∙ sym (ap (λ x. or_without x closes cs) e)
-closed-optional cs (Some r) e = ap closed (optional-some (spacing None) cs r e) ∙ sym (ap (λ x. or_without x closes cs) e)
 
 -- at a title nothing closes
 at-number : (v n : ℕ) → (v == n) ≡ true → (n == 41) ≡ false → (v == 41) ≡ false
@@ -125,9 +117,6 @@ after-closed cs (Some (sp, r1)) e =
     ] refl
 
 -- From the destination on.
-
-destination-part : List Code → Option (Forest × List Code)
-destination-part cs = destination_and_title cs
 
 part-by : (cs : List Code) (o : Option (Forest × List Code)) → destination 32 resource_names cs ≡ o → closed (destination_and_title cs) ≡ and_then o after_destination
 unfolding destination_and_title closed ◌>>=◌ gives after-part

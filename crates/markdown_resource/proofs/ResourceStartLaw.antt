@@ -1,24 +1,23 @@
 -- The law of the start of a resource: the group around its row.
-use Rattle.std.proofs.Common.{◌≡◌, ◌≢◌, ℕ, ◌+◌, ◌*◌, ◌<◌, ◌≤◌, ◌==◌, Bool, true, false, if◌then◌else◌, Option, Some, None, List, [], ◌∷◌, ◌++◌, length, refl, sym, ap, subst, ◌∙◌, arith, append-nil, append_assoc}
-use Rattle.markdown_engine.specs.Codes.{Code, stop_of, document_start}
+use Rattle.std.proofs.Common.{◌≡◌, ◌+◌, ◌==◌, Bool, true, false, if◌then◌else◌, Option, Some, None, List, [], ◌∷◌, ◌++◌, length, refl, sym, ap, subst, ◌∙◌, arith, append-nil}
+use Rattle.markdown_engine.specs.Codes.{Code, stop_of}
 use Rattle.markdown_engine.specs.Grown.{Grown, Fails}
 use Rattle.markdown_engine.specs.Lists.{rest_of}
-use Rattle.markdown_engine.specs.Ops.{Op, Enter, Exit, Consume, IsOpen, ahead, applied, current_of, done, scratched}
-use Rattle.markdown_engine.specs.Past.{TreeReading, EndsAs, Reads, Refuses, past, behind, moved_by}
+use Rattle.markdown_engine.specs.Ops.{Enter, Exit, ahead, applied, current_of, done, scratched}
+use Rattle.markdown_engine.specs.Past.{TreeReading, past, behind, moved_by}
 use Rattle.markdown_engine.specs.Place.{point_of, exit_point}
-use Rattle.markdown_engine.specs.Runs.{Stepped, stepped, GoesOn}
-use Rattle.markdown_engine.specs.Tree.{Forest, empty, leaf_then, group_then, leaf, ◌⊕◌, group, leaf_codes, enter_of, exit_after}
+use Rattle.markdown_engine.specs.Runs.{Stepped, stepped}
+use Rattle.markdown_engine.specs.StateWords.{Words, Law, GoesIn}
+use Rattle.markdown_engine.specs.Tree.{Forest, empty, leaf_then, group_then, leaf, ◌⊕◌, group, leaf_codes, exit_after}
 use Rattle.markdown_engine.specs.Weights.{codes_left, weight_at}
 use Rattle.markdown_engine.specs.declared.event.Name.TheVariants as N
 use Rattle.markdown_engine.specs.declared.event.Point.{Point}
 use Rattle.markdown_engine.specs.declared.state.State.TheVariants.{Next, Nok}
-use Rattle.markdown_engine.specs.declared.state.StateName.{StateName}
 use Rattle.markdown_engine.specs.declared.state.StateName.TheVariants.{LabelEndResourceBefore}
-use Rattle.markdown_engine.specs.declared.tokenizer.TokenizeState.{TokenizeState}
 use Rattle.markdown_engine.specs.declared.tokenizer.Tokenizer.{Tokenizer}
 use Rattle.markdown_engine.proofs.EndsLemmas.{scratched-same}
-use Rattle.markdown_engine.proofs.Laws.{Goes-plain, Grown-refl, if-step, code-step}
-use Rattle.markdown_engine.proofs.OpRules.{Begins, ahead-none, ahead-some, ahead-applied, left-ahead}
+use Rattle.markdown_engine.proofs.Laws.{Grown-refl, if-step, code-step}
+use Rattle.markdown_engine.proofs.OpRules.{Begins, ahead-some, ahead-applied, left-ahead}
 use Rattle.markdown_engine.proofs.OpsLemmas.{Grown-applied}
 use Rattle.markdown_engine.proofs.PlaceLemmas.{stop-moved}
 use Rattle.markdown_engine.proofs.PlaceRules.{point_ahead}
@@ -30,16 +29,13 @@ use Rattle.markdown_model.specs.Resource.{begins_title, destination, resource, r
 use Rattle.markdown_model.specs.Whitespace.{spacing}
 use Rattle.markdown_model.proofs.LinkFree.{Passes}
 use Rattle.markdown_model.proofs.ReadingSteps.{bind-some, one-here}
-use Rattle.markdown_resource.specs.Parts.{PartReady, rested}
-use Rattle.markdown_resource.specs.Resource.{resource_ends, front_ops, start_at, start_step, RowReads, RowRefuses, RowEnds, closes, or_without, and_then, after_title, between, after_destination_of, after_destination, opened, inside, InReady, before_ends}
+use Rattle.markdown_construct.specs.Within.{Within}
+use Rattle.markdown_construct.proofs.StateLaws.{Goes-end, Goes-plain}
+use Rattle.markdown_resource.specs.Parts.{PartReady}
+use Rattle.markdown_resource.specs.Resource.{resource_ends, front_ops, start_at, closes, or_without, and_then, after_title, between, after_destination_of, after_destination, opened, inside, InReady, before_ends, start_words, states}
 use Rattle.markdown_resource.proofs.NextCodes.{at-value, at-none}
 use Rattle.markdown_resource.proofs.ResourceLaws.{past-then}
 use Rattle.markdown_resource.proofs.ResourceReadings.{row-assoc, closes-none, grouped, resource-inside, resource-none}
-
-pub record StartWithin (ready : StateName → Tokenizer → Type 0) (ends : StateName → Tokenizer → Bool → Tokenizer → Type 0) (weight : StateName → Tokenizer → ℕ) : Type 0 where
-  pub before_ready : (T : Tokenizer) → InReady T → ready LabelEndResourceBefore T
-  pub before_end : (T : Tokenizer) (ok : Bool) (U : Tokenizer) → ends LabelEndResourceBefore T ok U → before_ends T ok U
-  pub before_weight : (T : Tokenizer) → weight LabelEndResourceBefore T ≡ weight_at 15 T
 
 -- The row ends with the closing marker.
 
@@ -174,24 +170,23 @@ module _ (T : Tokenizer) (x : Code) (cs : List Code) (whole : ahead T ≡ x ∷ 
   unfolding past applied
   attempts-there e = e
 
-module _ (ready : StateName → Tokenizer → Type 0) (ends : StateName → Tokenizer → Bool → Tokenizer → Type 0) (weight : StateName → Tokenizer → ℕ) (within : StartWithin ready ends weight) where
-  refuses-here : (T : Tokenizer) → T.attempts ≡ [] → resource (ahead T) ≡ None → GoesOn ready ends weight (weight_at 12 T) (resource_ends T) (stepped Nok T)
-  refuses-here T alone none = Goes-plain ready ends weight (weight_at 12 T) (resource_ends T) Nok T alone tt (omega arith) (λ ok U x. lost ok U x)
+module _ (W : Words) (within : Within states W) where
+  refuses-here : (T : Tokenizer) → T.attempts ≡ [] → resource (ahead T) ≡ None → GoesIn W (weight_at 12 T) (resource_ends T) (stepped Nok T)
+  refuses-here T alone none = Goes-end W (weight_at 12 T) (resource_ends T) false T alone (omega arith) lost
     where
       lost : (ok : Bool) (U : Tokenizer) → (ok ≡ false) × (U ≡ T) → resource_ends T ok U
       lost true U x = cc
       lost false U x = record { refused = none; fails = subst (λ y. Fails T.tokenize_state T y) (sym x.1) (record { grown = Grown-refl 0 T; scratch = refl }) }
 
-  goes-in : (T : Tokenizer) → T.attempts ≡ [] → PartReady T → (x : Code) (cs : List Code) → ahead T ≡ x ∷ cs → is_value 40 x ≡ true → GoesOn ready ends weight (weight_at 12 T) (resource_ends T) (stepped (Next LabelEndResourceBefore) (done (Enter N.Resource ∷ front_ops) T))
+  goes-in : (T : Tokenizer) → T.attempts ≡ [] → PartReady T → (x : Code) (cs : List Code) → ahead T ≡ x ∷ cs → is_value 40 x ≡ true → GoesIn W (weight_at 12 T) (resource_ends T) (stepped (Next LabelEndResourceBefore) (done (Enter N.Resource ∷ front_ops) T))
   goes-in T alone p x cs whole h =
       let A : Tokenizer = past None (leaf N.ResourceMarker (x ∷ [])) (applied (Enter N.Resource) T) in
-      subst (λ (y : Tokenizer). GoesOn ready ends weight (weight_at 12 T) (resource_ends T) (stepped (Next LabelEndResourceBefore) y)) (sym (opened-past T x cs whole))
-      (Goes-plain ready ends weight (weight_at 12 T) (resource_ends T) (Next LabelEndResourceBefore) A (attempts-there T x cs whole alone) (within.before_ready A (ready-there T x cs whole p)) (rw within.before_weight (omega (arith, left-there T x cs whole)))
-      (λ ok U g. ends-there T x cs whole h ok U (within.before_end A ok U g)))
+      subst (λ (y : Tokenizer). GoesIn W (weight_at 12 T) (resource_ends T) (stepped (Next LabelEndResourceBefore) y)) (sym (opened-past T x cs whole))
+      (Goes-plain W (weight_at 12 T) (resource_ends T) (Next LabelEndResourceBefore) (within LabelEndResourceBefore) A (attempts-there T x cs whole alone) (ready-there T x cs whole p) (omega (arith, left-there T x cs whole)) (ends-there T x cs whole h))
 
-  pub start-law : (T : Tokenizer) → T.attempts ≡ [] → PartReady T → GoesOn ready ends weight (weight_at 12 T) (resource_ends T) (start_step T)
+  pub start-law : Law W start_words
   start-law T alone p =
-      let P : Stepped → Type 0 = GoesOn ready ends weight (weight_at 12 T) (resource_ends T) in
+      let P : Stepped → Type 0 = GoesIn W (weight_at 12 T) (resource_ends T) in
       code-step P (current_of T) (λ o. start_at o T)
       (λ e. refuses-here T alone (resource-none (ahead T) (at-none T 40 e)))
       (λ c e.

@@ -1,12 +1,12 @@
 -- What may follow the end of a label is nothing or one group, all data of which is linked.
 use Rattle.std.proofs.Common.{◌≡◌, ℕ, Bool, true, false, ◌&&◌, not, Option, Some, None, List, [], ◌∷◌, refl}
 use Rattle.markdown_engine.specs.Codes.{Code, is_line_ending, is_blank}
-use Rattle.markdown_engine.specs.Tree.{Forest, empty, leaf_then, group_then, leaf, group, linked, ◌⊕◌}
+use Rattle.markdown_engine.specs.Tree.{Forest, empty, leaf_then, group_then, leaf, linked, ◌⊕◌}
 use Rattle.markdown_engine.specs.declared.event.Content.{Content}
 use Rattle.markdown_engine.specs.declared.event.Name.{Name}
 use Rattle.markdown_engine.specs.declared.event.Name.TheVariants as N
 use Rattle.markdown_model.specs.CodeTests.{next_is}
-use Rattle.markdown_model.specs.Grammar.{Reading, ◌>>=◌, ◌>>◌, gives, either, unless, if_next, provided, before, span, one, optional_tree}
+use Rattle.markdown_model.specs.Grammar.{Reading, span, optional_tree}
 use Rattle.markdown_model.specs.LabelEnd.{full_reference, collapsed_reference, shortcut, shortcut_before_bracket, reference_after_label, after_label}
 use Rattle.markdown_model.specs.Lines.{linked_leaf, line_leaf, lines_from, lines_of, lines}
 use Rattle.markdown_model.specs.Resource.{StringNames, string_group, between_markers, label, reference_names, title, title_between, title_names, literal_destination, raw_destination, destination, resource_names, spaced_title, destination_and_title, resource}

@@ -1,22 +1,26 @@
 -- What the states of a resource do, and how runs from them end.
-use Rattle.std.specs.Prelude.{◌≡◌, ◌≤◌, ℕ, Bool, true, false, ◌==◌, ◌||◌, ◌&&◌, if◌then◌else◌, List, [], ◌∷◌, ◌++◌, Option, Some, None}
+use Rattle.std.specs.Prelude.{◌≡◌, ℕ, Bool, true, false, ◌==◌, ◌||◌, if◌then◌else◌, List, [], ◌∷◌, ◌++◌, Option, Some, None}
 use Rattle.markdown_engine.specs.Codes.{Code}
 use Rattle.markdown_engine.specs.Grown.{Grown}
 use Rattle.markdown_engine.specs.Ops.{Op, Enter, Exit, Consume, IsOpen, ahead, applied, attempted, current_of, done, scratched}
 use Rattle.markdown_engine.specs.Past.{EndsAs, TreeReading, past, behind}
 use Rattle.markdown_engine.specs.Runs.{Stepped, stepped}
-use Rattle.markdown_engine.specs.Tree.{Forest, empty, leaf, ◌⊕◌, group, leaf_codes}
+use Rattle.markdown_engine.specs.StateWords.{StateWords}
+use Rattle.markdown_engine.specs.Tree.{Forest, leaf, leaf_codes}
 use Rattle.markdown_engine.specs.declared.event.Name.TheVariants as N
 use Rattle.markdown_engine.specs.declared.state.State.TheVariants.{Next, Retry, Ok, Nok}
 use Rattle.markdown_engine.specs.declared.state.StateName.{StateName}
-use Rattle.markdown_engine.specs.declared.state.StateName.TheVariants.{DestinationStart, LabelEndResourceBefore, LabelEndResourceBetween, LabelEndResourceDestinationAfter, LabelEndResourceDestinationMissing, LabelEndResourceEnd, LabelEndResourceOpen, LabelEndResourceTitleAfter, SpaceOrTabEolStart, TitleStart}
+use Rattle.markdown_engine.specs.declared.state.StateName.TheVariants.{DestinationStart, LabelEndResourceBefore, LabelEndResourceBetween, LabelEndResourceDestinationAfter, LabelEndResourceDestinationMissing, LabelEndResourceEnd, LabelEndResourceOpen, LabelEndResourceStart, LabelEndResourceTitleAfter, SpaceOrTabEolStart, TitleStart}
 use Rattle.markdown_engine.specs.declared.tokenizer.TokenizeState.{TokenizeState}
 use Rattle.markdown_engine.specs.declared.tokenizer.Tokenizer.{Tokenizer}
 use Rattle.markdown_model.specs.CodeTests.{is_value, next_is}
 use Rattle.markdown_model.specs.Grammar.{◌>>=◌, gives, one}
 use Rattle.markdown_model.specs.Resource.{begins_title, destination, resource, resource_names, title, title_names}
 use Rattle.markdown_model.specs.Whitespace.{spacing}
+use Rattle.markdown_partial.specs.EolSteps as E
 use Rattle.markdown_partial.specs.EolSteps.{eol_asked}
+use Rattle.markdown_string.specs.Destination as SD
+use Rattle.markdown_string.specs.Title as ST
 use Rattle.markdown_resource.specs.Parts.{names_rested, PartReady}
 
 -- The scratch fields.
@@ -185,3 +189,44 @@ end_ends T ok U = RowEnds closes T.tokenize_state T ok U
 -- the whole of it
 abbrev pub resource_ends : Tokenizer → Bool → Tokenizer → Type 0
 resource_ends T ok U = EndsAs resource None T.tokenize_state T ok U
+
+-- The states.
+
+abbrev pub start_words : StateWords
+start_words = record { ready = PartReady; step = start_step; ends = resource_ends; rank = 12 }
+
+abbrev pub before_words : StateWords
+before_words = record { ready = InReady; step = before_step; ends = before_ends; rank = 15 }
+
+abbrev pub open_words : StateWords
+open_words = record { ready = InReady; step = open_step; ends = open_ends; rank = 14 }
+
+abbrev pub destination_after_words : StateWords
+destination_after_words = record { ready = BehindReady destination_put; step = destination_after_step; ends = destination_after_ends; rank = 13 }
+
+abbrev pub missing_words : StateWords
+missing_words = record { ready = λ T. Unit {0}; step = missing_step; ends = missing_ends; rank = 1 }
+
+abbrev pub between_words : StateWords
+between_words = record { ready = InReady; step = between_step; ends = between_ends; rank = 12 }
+
+abbrev pub title_after_words : StateWords
+title_after_words = record { ready = BehindReady title_put; step = title_after_step; ends = title_after_ends; rank = 9 }
+
+abbrev pub end_words : StateWords
+end_words = record { ready = InReady; step = end_step; ends = end_ends; rank = 1 }
+
+-- these states as they are said, and any other as it is given
+abbrev pub states : (StateName → StateWords) → StateName → StateWords
+states other LabelEndResourceStart = start_words
+states other LabelEndResourceBefore = before_words
+states other LabelEndResourceOpen = open_words
+states other LabelEndResourceDestinationAfter = destination_after_words
+states other LabelEndResourceDestinationMissing = missing_words
+states other LabelEndResourceBetween = between_words
+states other LabelEndResourceTitleAfter = title_after_words
+states other LabelEndResourceEnd = end_words
+states other SpaceOrTabEolStart = E.start_words
+states other DestinationStart = SD.start_words
+states other TitleStart = ST.start_words
+states other s = other s

@@ -1,6 +1,6 @@
 -- The six events of a footnote call's start are there.
 use Rattle.std.proofs.Common.{◌≤◌, length, sym, ap, subst, ◌∙◌}
-use Rattle.markdown_engine.specs.Ops.{Enter, Exit, Consume, applied}
+use Rattle.markdown_engine.specs.Ops.{Exit, Consume, applied}
 use Rattle.markdown_engine.specs.declared.event.Name.TheVariants as N
 use Rattle.markdown_engine.specs.declared.tokenizer.Tokenizer.{Tokenizer}
 use Rattle.markdown_label.proofs.StartOps.{long-footnote}
