@@ -1,13 +1,11 @@
 -- The states of inline content by name: when they may be called, what they do, how runs from them end, and a number that falls.
-use Rattle.std.specs.Prelude.{◌≡◌, ℕ, Bool, List, Option, None}
-use Rattle.markdown_engine.specs.Ops.{IsOpen}
+use Rattle.std.specs.Prelude.{ℕ, Bool, List, Option, None}
 use Rattle.markdown_engine.specs.Runs.{Stepped, stepped}
 use Rattle.markdown_engine.specs.Weights.{weight_at}
 use Rattle.markdown_engine.specs.StateWords.{StateWords, Words}
-use Rattle.markdown_engine.specs.declared.event.Name.TheVariants as N
 use Rattle.markdown_engine.specs.declared.state.State.TheVariants.{Nok}
 use Rattle.markdown_engine.specs.declared.state.StateName.{StateName}
-use Rattle.markdown_engine.specs.declared.state.StateName.TheVariants.{CharacterEscapeStart, CharacterEscapeInside, CharacterReferenceStart, CharacterReferenceOpen, CharacterReferenceNumeric, CharacterReferenceValue, HardBreakEscapeStart, HardBreakEscapeAfter, AutolinkStart, AutolinkOpen, AutolinkSchemeOrEmailAtext, AutolinkSchemeInsideOrEmailAtext, AutolinkUrlInside, AutolinkEmailAtext, AutolinkEmailAtSignOrDot, AutolinkEmailLabel, AutolinkEmailValue, RawTextStart, RawTextSequenceOpen, RawTextBetween, RawTextData, RawTextSequenceClose, SpaceOrTabStart, SpaceOrTabInside, SpaceOrTabAfter, SpaceOrTabEolStart, SpaceOrTabEolAfterFirst, SpaceOrTabEolAtEol, SpaceOrTabEolAfterEol, SpaceOrTabEolAfterMore, DataStart, DataAtBreak, DataInside, StringStart, StringBefore, StringBeforeData, DestinationStart, DestinationEnclosedBefore, DestinationEnclosed, DestinationEnclosedEscape, DestinationRaw, DestinationRawEscape, TitleStart, TitleBegin, TitleAtBreak, TitleAfterEol, TitleInside, TitleEscape, TitleNok, LabelStart, LabelAtBreak, LabelEolAfter, LabelInside, LabelEscape, LabelNok, TextStart, TextBefore, TextBeforeHtml, TextBeforeHardBreakEscape, TextBeforeLabelStartLink, TextBeforeData, AttentionStart, AttentionInside, GfmAutolinkLiteralProtocolStart, GfmAutolinkLiteralWwwStart, GfmLabelStartFootnoteStart, GfmTaskListItemCheckStart, GfmTaskListItemCheckInside, GfmTaskListItemCheckClose, GfmTaskListItemCheckAfter, GfmTaskListItemCheckAfterSpaceOrTab, HtmlTextStart, HtmlTextOpen, HtmlTextDeclarationOpen, HtmlTextCommentOpenInside, HtmlTextComment, HtmlTextCommentClose, HtmlTextCommentEnd, HtmlTextCdata, HtmlTextCdataClose, HtmlTextCdataEnd, HtmlTextDeclaration, HtmlTextInstruction, HtmlTextInstructionClose, HtmlTextTagCloseStart, HtmlTextTagClose, HtmlTextTagCloseBetween, HtmlTextTagOpen, HtmlTextTagOpenBetween, HtmlTextTagOpenAttributeName, HtmlTextTagOpenAttributeNameAfter, HtmlTextTagOpenAttributeValueBefore, HtmlTextTagOpenAttributeValueQuotedAfter, HtmlTextTagOpenAttributeValueUnquoted, HtmlTextEnd, HtmlTextCdataOpenInside, HtmlTextTagOpenAttributeValueQuoted, HtmlTextLineEndingBefore, HtmlTextLineEndingAfter, HtmlTextLineEndingAfterPrefix, LabelEndStart, LabelStartImageStart, LabelStartLinkStart}
+use Rattle.markdown_engine.specs.declared.state.StateName.TheVariants.{CharacterEscapeStart, CharacterEscapeInside, CharacterReferenceStart, CharacterReferenceOpen, CharacterReferenceNumeric, CharacterReferenceValue, HardBreakEscapeStart, HardBreakEscapeAfter, AutolinkStart, AutolinkOpen, AutolinkSchemeOrEmailAtext, AutolinkSchemeInsideOrEmailAtext, AutolinkUrlInside, AutolinkEmailAtext, AutolinkEmailAtSignOrDot, AutolinkEmailLabel, AutolinkEmailValue, RawTextStart, RawTextSequenceOpen, RawTextBetween, RawTextData, RawTextSequenceClose, SpaceOrTabStart, SpaceOrTabInside, SpaceOrTabAfter, SpaceOrTabEolStart, SpaceOrTabEolAfterFirst, SpaceOrTabEolAtEol, SpaceOrTabEolAfterEol, SpaceOrTabEolAfterMore, DataStart, DataAtBreak, DataInside, StringStart, StringBefore, StringBeforeData, DestinationStart, DestinationEnclosedBefore, DestinationEnclosed, DestinationEnclosedEscape, DestinationRaw, DestinationRawEscape, TitleStart, TitleBegin, TitleAtBreak, TitleAfterEol, TitleInside, TitleEscape, TitleNok, LabelStart, LabelAtBreak, LabelEolAfter, LabelInside, LabelEscape, LabelNok, TextStart, TextBefore, TextBeforeHtml, TextBeforeHardBreakEscape, TextBeforeLabelStartLink, TextBeforeData, AttentionStart, AttentionInside, GfmAutolinkLiteralProtocolStart, GfmAutolinkLiteralWwwStart, GfmLabelStartFootnoteStart, GfmTaskListItemCheckStart, GfmTaskListItemCheckInside, GfmTaskListItemCheckClose, GfmTaskListItemCheckAfter, GfmTaskListItemCheckAfterSpaceOrTab, HtmlTextStart, HtmlTextOpen, HtmlTextDeclarationOpen, HtmlTextCommentOpenInside, HtmlTextComment, HtmlTextCommentClose, HtmlTextCommentEnd, HtmlTextCdata, HtmlTextCdataClose, HtmlTextCdataEnd, HtmlTextDeclaration, HtmlTextInstruction, HtmlTextInstructionClose, HtmlTextTagCloseStart, HtmlTextTagClose, HtmlTextTagCloseBetween, HtmlTextTagOpen, HtmlTextTagOpenBetween, HtmlTextTagOpenAttributeName, HtmlTextTagOpenAttributeNameAfter, HtmlTextTagOpenAttributeValueBefore, HtmlTextTagOpenAttributeValueQuotedAfter, HtmlTextTagOpenAttributeValueUnquoted, HtmlTextEnd, HtmlTextCdataOpenInside, HtmlTextTagOpenAttributeValueQuoted, HtmlTextLineEndingBefore, HtmlTextLineEndingAfter, HtmlTextLineEndingAfterPrefix, LabelEndStart, LabelStartImageStart, LabelStartLinkStart, GfmLabelStartFootnoteOpen, LabelStartImageOpen, LabelStartImageAfter, LabelEndAfter, LabelEndOk, LabelEndNok, LabelEndResourceStart, LabelEndResourceBefore, LabelEndResourceOpen, LabelEndResourceDestinationAfter, LabelEndResourceDestinationMissing, LabelEndResourceBetween, LabelEndResourceTitleAfter, LabelEndResourceEnd, LabelEndReferenceFull, LabelEndReferenceFullAfter, LabelEndReferenceFullMissing, LabelEndReferenceNotFull, LabelEndReferenceCollapsed, LabelEndReferenceCollapsedOpen}
 use Rattle.markdown_engine.specs.declared.tokenizer.TokenizeState.{TokenizeState}
 use Rattle.markdown_engine.specs.declared.tokenizer.Tokenizer.{Tokenizer}
 use Rattle.markdown_gfm.specs.GfmTaskListItemCheck as C
@@ -15,7 +13,7 @@ use Rattle.markdown_html.specs.HtmlText as H
 use Rattle.markdown_html.specs.Rests as Q
 use Rattle.markdown_attention.specs.Attention as AT
 use Rattle.markdown_label.specs.LabelEnd as LE
-use Rattle.markdown_label.specs.LabelStarts as LB
+use Rattle.markdown_label.specs.LabelStarts as LS
 use Rattle.markdown_leaf.specs.Autolink as A
 use Rattle.markdown_string.specs.Destination as SD
 use Rattle.markdown_string.specs.Title as ST
@@ -27,6 +25,7 @@ use Rattle.markdown_leaf.specs.RawText as X
 use Rattle.markdown_partial.specs.DataSteps as D
 use Rattle.markdown_partial.specs.EolSteps as L
 use Rattle.markdown_partial.specs.SpaceSteps as W
+use Rattle.markdown_resource.specs.Resource as LR
 use Rattle.markdown_inline.specs.StringSteps as S
 use Rattle.markdown_inline.specs.TextSteps as M
 use Rattle.markdown_inline.specs.Unbuilt.{never_step, never_ends}
@@ -122,6 +121,26 @@ said_of LabelEolAfter part = part SL.eol_after_words
 said_of LabelInside part = part SL.inside_words
 said_of LabelEscape part = part SL.escape_words
 said_of LabelNok part = part SL.nok_words
+said_of GfmLabelStartFootnoteOpen part = part LS.footnote_open_words
+said_of LabelStartImageOpen part = part LS.image_open_words
+said_of LabelStartImageAfter part = part LS.image_after_words
+said_of LabelEndAfter part = part LE.after_words
+said_of LabelEndOk part = part LE.ok_words
+said_of LabelEndNok part = part LE.nok_words
+said_of LabelEndResourceStart part = part LR.start_words
+said_of LabelEndResourceBefore part = part LR.before_words
+said_of LabelEndResourceOpen part = part LR.open_words
+said_of LabelEndResourceDestinationAfter part = part LR.destination_after_words
+said_of LabelEndResourceDestinationMissing part = part LR.missing_words
+said_of LabelEndResourceBetween part = part LR.between_words
+said_of LabelEndResourceTitleAfter part = part LR.title_after_words
+said_of LabelEndResourceEnd part = part LR.end_words
+said_of LabelEndReferenceFull part = part LE.reference_full_words
+said_of LabelEndReferenceFullAfter part = part LE.reference_full_after_words
+said_of LabelEndReferenceFullMissing part = part LE.reference_full_missing_words
+said_of LabelEndReferenceNotFull part = part LE.reference_not_full_words
+said_of LabelEndReferenceCollapsed part = part LE.reference_collapsed_words
+said_of LabelEndReferenceCollapsedOpen part = part LE.reference_collapsed_open_words
 said_of TextStart part = part (record { ready = M.StartReady; step = M.start_step; ends = M.start_ends; rank = 8 })
 said_of TextBefore part = part (record { ready = M.BeforeReady; step = M.before_step; ends = M.before_ends; rank = 7 })
 said_of TextBeforeHtml part = part (record { ready = M.BeforeHtmlReady; step = M.before_html_step; ends = M.before_ends; rank = 6 })
@@ -132,10 +151,10 @@ said_of AttentionStart part = part (record { ready = AT.StartReady; step = AT.st
 said_of AttentionInside part = part (record { ready = AT.InsideReady; step = AT.inside_step; ends = AT.inside_ends; rank = 1 })
 said_of GfmAutolinkLiteralProtocolStart part = part (record { ready = λ T. Unit {0}; step = never_step; ends = never_ends; rank = 0 })
 said_of GfmAutolinkLiteralWwwStart part = part (record { ready = λ T. Unit {0}; step = never_step; ends = never_ends; rank = 0 })
-said_of GfmLabelStartFootnoteStart part = part (record { ready = λ T. Unit {0}; step = LB.footnote_step; ends = LB.footnote_ends; rank = 2 })
-said_of LabelEndStart part = part (record { ready = LE.StartReady; step = LE.start_step; ends = LE.start_ends; rank = 3 })
-said_of LabelStartImageStart part = part (record { ready = λ T. Unit {0}; step = LB.image_step; ends = LB.image_ends; rank = 2 })
-said_of LabelStartLinkStart part = part (record { ready = λ T. Unit {0}; step = LB.link_step; ends = LB.link_ends; rank = 1 })
+said_of GfmLabelStartFootnoteStart part = part LS.footnote_words
+said_of LabelEndStart part = part LE.start_words
+said_of LabelStartImageStart part = part LS.image_words
+said_of LabelStartLinkStart part = part LS.link_words
 said_of _ part = part (record { ready = λ T. ⊥; step = stepped Nok; ends = λ T ok U. Unit {0}; rank = 0 })
 
 abbrev pub words_of : StateName → StateWords

@@ -2,6 +2,7 @@
 #![tactic(auto)]
 
 pub mod attention;
+pub mod label_end;
 pub mod laws;
 pub mod program;
 pub mod resolve;
@@ -12,6 +13,7 @@ pub mod text;
 
 pub use markdown_gfm::gfm_task_list_item_check;
 pub use markdown_html::html_text;
+pub use markdown_label::{gfm_label_start_footnote, label_start_image, label_start_link};
 pub use markdown_leaf::{
     autolink, character_escape, character_reference, hard_break_escape, raw_text,
 };

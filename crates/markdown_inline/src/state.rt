@@ -5,7 +5,7 @@ ghost use Rattle.markdown_inline.specs.Laws.{laws_of};
 ghost use Rattle.markdown_inline.specs.Laws.Steady.{steady_of};
 ghost use Rattle.markdown_inline.specs.Resolve.{may_resolve_of, resolves_of};
 
-use crate::{attention, resolve, string, text};
+use crate::{attention, label_end, resolve, string, text};
 use markdown_engine::bytes::ByteSet;
 use markdown_engine::layer::Layer;
 use markdown_engine::resolve::ResolveName;
@@ -14,6 +14,7 @@ use markdown_engine::subtokenize::Subresult;
 use markdown_engine::tokenizer::{TokenizeState, Tokenizer};
 use markdown_gfm::gfm_task_list_item_check;
 use markdown_html::html_text;
+use markdown_label::{gfm_label_start_footnote, label_start_image, label_start_link};
 use markdown_leaf::{autolink, character_escape, character_reference, hard_break_escape, raw_text};
 use markdown_partial::{partial_data, partial_space_or_tab, partial_space_or_tab_eol};
 use markdown_string::{partial_destination, partial_label, partial_title};
@@ -119,6 +120,34 @@ fn dispatch(name: StateName, tokenizer: &mut Tokenizer) -> Result<State, AllocEr
         StateName::LabelInside => partial_label::inside(tokenizer),
         StateName::LabelEscape => partial_label::escape(tokenizer),
         StateName::LabelNok => partial_label::nok(tokenizer),
+        StateName::GfmLabelStartFootnoteStart => gfm_label_start_footnote::start(tokenizer),
+        StateName::LabelStartImageStart => label_start_image::start(tokenizer),
+        StateName::LabelStartLinkStart => label_start_link::start(tokenizer),
+        StateName::LabelEndStart => label_end::start(tokenizer),
+        StateName::GfmLabelStartFootnoteOpen => gfm_label_start_footnote::open(tokenizer),
+        StateName::LabelStartImageOpen => label_start_image::open(tokenizer),
+        StateName::LabelStartImageAfter => label_start_image::after(tokenizer),
+        StateName::LabelEndAfter => label_end::after(tokenizer),
+        StateName::LabelEndOk => label_end::ok(tokenizer),
+        StateName::LabelEndNok => label_end::nok(tokenizer),
+        StateName::LabelEndResourceStart => label_end::resource_start(tokenizer),
+        StateName::LabelEndResourceBefore => label_end::resource_before(tokenizer),
+        StateName::LabelEndResourceOpen => label_end::resource_open(tokenizer),
+        StateName::LabelEndResourceDestinationAfter => {
+            label_end::resource_destination_after(tokenizer)
+        }
+        StateName::LabelEndResourceDestinationMissing => {
+            label_end::resource_destination_missing(tokenizer)
+        }
+        StateName::LabelEndResourceBetween => label_end::resource_between(tokenizer),
+        StateName::LabelEndResourceTitleAfter => label_end::resource_title_after(tokenizer),
+        StateName::LabelEndResourceEnd => label_end::resource_end(tokenizer),
+        StateName::LabelEndReferenceFull => label_end::reference_full(tokenizer),
+        StateName::LabelEndReferenceFullAfter => label_end::reference_full_after(tokenizer),
+        StateName::LabelEndReferenceFullMissing => label_end::reference_full_missing(tokenizer),
+        StateName::LabelEndReferenceNotFull => label_end::reference_not_full(tokenizer),
+        StateName::LabelEndReferenceCollapsed => label_end::reference_collapsed(tokenizer),
+        StateName::LabelEndReferenceCollapsedOpen => label_end::reference_collapsed_open(tokenizer),
         StateName::DataStart => partial_data::start(tokenizer),
         StateName::DataAtBreak => partial_data::at_break(tokenizer),
         StateName::DataInside => partial_data::inside(tokenizer),
@@ -136,10 +165,7 @@ fn dispatch(name: StateName, tokenizer: &mut Tokenizer) -> Result<State, AllocEr
         // These constructs are not built yet, and never hold.
         StateName::GfmAutolinkLiteralProtocolStart
         | StateName::GfmAutolinkLiteralWwwStart
-        | StateName::GfmLabelStartFootnoteStart
-        | StateName::LabelEndStart
-        | StateName::LabelStartImageStart
-        | StateName::LabelStartLinkStart => Ok(State::Nok),
+        => Ok(State::Nok),
         _ => unreachable!(),
     }
 }
