@@ -13,3 +13,4 @@ pub mod PassesRun
 pub mod TextTree
 pub mod RunEnds
 pub mod TextRun
+pub mod LabelConstructs

@@ -1,25 +1,33 @@
 -- Single constructs: what is read at a tokenizer's place, by the name of the state that starts it.
-use Rattle.std.specs.Prelude.{◌≡◌, ℕ, Bool, true, false, Option, Some, None}
+use Rattle.std.specs.Prelude.{◌≡◌, ℕ, Bool, true, false, List, Option, Some, None}
+use Rattle.markdown_engine.specs.Codes.{Code}
 use Rattle.markdown_engine.specs.Ops.{ahead, registered, scratched}
 use Rattle.markdown_engine.specs.Past.{TreeReading, Reads, link_before}
+use Rattle.markdown_engine.specs.Tree.{Forest}
+use Rattle.markdown_engine.specs.declared.configuration.Constructs.{Constructs}
 use Rattle.markdown_engine.specs.declared.resolve.ResolveName.{ResolveName}
 use Rattle.markdown_engine.specs.declared.resolve.ResolveName.TheVariants as P
 use Rattle.markdown_engine.specs.declared.state.StateName.{StateName}
-use Rattle.markdown_engine.specs.declared.state.StateName.TheVariants.{AttentionStart, AutolinkStart, CharacterEscapeStart, CharacterReferenceStart, DataStart, DestinationStart, LabelStart, TitleStart, GfmTaskListItemCheckStart, HardBreakEscapeStart, HtmlTextStart, RawTextStart, SpaceOrTabStart, SpaceOrTabEolStart}
+use Rattle.markdown_engine.specs.declared.state.StateName.TheVariants.{AttentionStart, AutolinkStart, CharacterEscapeStart, CharacterReferenceStart, DataStart, DestinationStart, LabelStart, TitleStart, GfmLabelStartFootnoteStart, GfmTaskListItemCheckStart, HardBreakEscapeStart, HtmlTextStart, LabelEndStart, LabelStartImageStart, LabelStartLinkStart, RawTextStart, SpaceOrTabStart, SpaceOrTabEolStart}
+use Rattle.markdown_engine.specs.declared.tokenizer.LabelKind.{LabelKind}
 use Rattle.markdown_engine.specs.declared.tokenizer.TokenizeState.{TokenizeState}
 use Rattle.markdown_engine.specs.declared.tokenizer.Tokenizer.{Tokenizer}
 use Rattle.markdown_attention.specs.Attention as AT
 use Rattle.markdown_gfm.specs.GfmTaskListItemCheck as C
 use Rattle.markdown_html.specs.HtmlText as H
+use Rattle.markdown_label.specs.LabelEnd as LE
 use Rattle.markdown_leaf.specs.CharacterReference as R
 use Rattle.markdown_leaf.specs.RawText as X
-use Rattle.markdown_model.specs.Grammar.{◌>>◌, provided}
+use Rattle.markdown_model.specs.Element.{switched, image_start, footnote_start, link_start}
+use Rattle.markdown_model.specs.Grammar.{Reading, ◌>>◌, provided}
+use Rattle.markdown_model.specs.LabelEnd.{Element, starts}
 use Rattle.markdown_model.specs.Leaf.{escape, reference, hard_break_escape, autolink}
 use Rattle.markdown_model.specs.Lines.{data_up_to}
 use Rattle.markdown_model.specs.Whitespace.{space_or_tab, spacing}
 use Rattle.markdown_model.specs.Resource.{destination, title, label}
 use Rattle.markdown_partial.specs.EolSteps as L
 use Rattle.markdown_partial.specs.SpaceSteps as W
+use Rattle.markdown_row.specs.Row.{begins, makes, past_mark}
 use Rattle.markdown_string.specs.Destination as SD
 use Rattle.markdown_string.specs.Title as ST
 use Rattle.markdown_string.specs.Label as SL
@@ -43,6 +51,10 @@ IsConstruct RawTextStart T = X.StartReady T
 IsConstruct DataStart T = Unit {0}
 IsConstruct AttentionStart T = AT.StartReady T
 IsConstruct GfmTaskListItemCheckStart T = C.MayLook T
+IsConstruct LabelStartImageStart T = Unit {0}
+IsConstruct LabelStartLinkStart T = Unit {0}
+IsConstruct GfmLabelStartFootnoteStart T = Unit {0}
+IsConstruct LabelEndStart T = LE.StartReady T
 IsConstruct SpaceOrTabStart T = W.StartReady T
 IsConstruct SpaceOrTabEolStart T = L.StartReady T
 IsConstruct _ T = ⊥
@@ -85,6 +97,17 @@ abbrev pub pass_after : StateName → Option ResolveName
 pass_after AttentionStart = Some P.Attention
 pass_after _ = None
 
+-- where it is looked for
+abbrev pub on_here : Tokenizer → Constructs
+on_here T = T.parse_state.now.options.now.constructs
+
+-- the start of a label that is read (CommonMark 6.3 and 6.4; footnotes)
+abbrev pub start_reading : StateName → Tokenizer → Reading Element
+start_reading LabelStartImageStart T = switched (on_here T).label_start_image (image_start (on_here T).gfm_label_start_footnote)
+start_reading LabelStartLinkStart T = switched (on_here T).label_start_link link_start
+start_reading GfmLabelStartFootnoteStart T = switched (on_here T).gfm_label_start_footnote footnote_start
+start_reading _ T = λ cs. None
+
 -- the codes at the place are read so, and U is T past the tree, with these scratch fields and this pass registered
 abbrev pub ReadsWith : Option ResolveName → TreeReading → Option ℕ → TokenizeState → Tokenizer → Tokenizer → Type 0
 ReadsWith None reading previous s T U = Reads reading previous s T U
@@ -94,3 +117,23 @@ ReadsWith (Some pass) reading previous s T U = (there : Tokenizer) × (Reads rea
 abbrev pub ReadsOrStays : Option ResolveName → TreeReading → Option ℕ → TokenizeState → Tokenizer → Bool → Tokenizer → Type 0
 ReadsOrStays pass reading previous s T true U = ReadsWith pass reading previous s T U
 ReadsOrStays pass reading previous s T false U = (reading (ahead T) ≡ None) × (U ≡ scratched s T)
+
+-- either a start of a label is read so, and U is T past it, which is kept; or none is, and U is T
+abbrev pub BeginsOrStays : Reading Element → Tokenizer → Bool → Tokenizer → Type 0
+BeginsOrStays reading T true U = (kind : LabelKind) × ((marker : List Code) × ((reading (ahead T) ≡ Some (starts kind marker, ahead U)) × (U ≡ past_mark (begins kind marker) T)))
+BeginsOrStays reading T false U = (reading (ahead T) ≡ None) × (U ≡ T)
+
+-- either an end of a label is read, with what follows it, and U is T past the label that it makes of the last start kept; or none is, and U is
+-- T but for the scratch fields: where a `]` stands here and ends are on, the last start is used up
+abbrev pub EndsOrLoses : Tokenizer → Bool → Tokenizer → Type 0
+EndsOrLoses T true U =
+    (back : List Code) × ((kind : LabelKind) × ((tail : Forest) × ((LE.end_reading T (ahead T) ≡ Some ((back, (kind, tail)), ahead U)) × (U ≡ past_mark (makes back kind tail) T))))
+EndsOrLoses T false U = (LE.end_reading T (ahead T) ≡ None) × (U ≡ scratched (LE.lost_fields T) T)
+
+-- how a construct ends
+abbrev pub ConstructEnds : StateName → Tokenizer → Bool → Tokenizer → Type 0
+ConstructEnds LabelStartImageStart T ok U = BeginsOrStays (start_reading LabelStartImageStart T) T ok U
+ConstructEnds LabelStartLinkStart T ok U = BeginsOrStays (start_reading LabelStartLinkStart T) T ok U
+ConstructEnds GfmLabelStartFootnoteStart T ok U = BeginsOrStays (start_reading GfmLabelStartFootnoteStart T) T ok U
+ConstructEnds LabelEndStart T ok U = EndsOrLoses T ok U
+ConstructEnds name T ok U = ReadsOrStays (pass_after name) (construct_reading name T) (chain_before name T) (fields_after name T.tokenize_state) T ok U

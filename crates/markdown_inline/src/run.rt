@@ -1,6 +1,6 @@
 //! Runs over a content.
 ghost use Rattle.std.specs.Prelude.{◌≡◌, ◌-◌, ◌≤◌, IsUtf8, true, false, [], ◌∷◌, take, drop, length, IfOk, IsErr, OnErr, IsTrue};
-ghost use Rattle.markdown_inline.specs.Construct.{IsConstruct, construct_reading, chain_before, fields_after, pass_after, ReadsOrStays};
+ghost use Rattle.markdown_inline.specs.Construct.{IsConstruct, ConstructEnds};
 ghost use Rattle.markdown_engine.specs.Chain.{chained};
 ghost use Rattle.markdown_engine.specs.Content.{IsContent, IsTextContent, content_of, document_limit};
 ghost use Rattle.markdown_inline.specs.Built.{as_built};
@@ -136,7 +136,7 @@ fn put_back<'a>(
 pub fn construct(name: StateName, tokenizer: &mut Tokenizer) -> Result<bool, AllocError>
     requires construct { IsConstruct name tokenizer.old }
     requires alone { tokenizer.old.attempts ≡ [] }
-    ensures reads { IfOk result (λ ok. ReadsOrStays (pass_after name) (construct_reading name tokenizer.old) (chain_before name tokenizer.old) (fields_after name tokenizer.old.tokenize_state) tokenizer.old ok tokenizer.new) }
+    ensures reads { IfOk result (λ ok. ConstructEnds name tokenizer.old ok tokenizer.new) }
     ensures failed { IsTrue tokenizer.old.failed → IsErr result }
     ensures err { OnErr result (IsTrue tokenizer.new.failed) }
 {

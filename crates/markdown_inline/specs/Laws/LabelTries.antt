@@ -34,12 +34,13 @@ use Rattle.markdown_inline.specs.Laws.TextTries.{now-built, end_in, first-none, 
 
 -- Codes that come next.
 
-record First (v : ℕ) (cs : List Code) : Type 0 where
-  code : Code
-  value : code.value ≡ v
-  whole : cs ≡ code ∷ rest_of cs
+-- the first of these codes has this value
+pub record First (v : ℕ) (cs : List Code) : Type 0 where
+  pub code : Code
+  pub value : code.value ≡ v
+  pub whole : cs ≡ code ∷ rest_of cs
 
-first-is : (v : ℕ) (cs : List Code) → next_is (is_value v) cs ≡ true → First v cs
+pub first-is : (v : ℕ) (cs : List Code) → next_is (is_value v) cs ≡ true → First v cs
 first-is v [] e = cc
 first-is v (c ∷ cs) e = record { code = c; value = eqb-true c.value v e; whole = refl }
 
@@ -78,42 +79,42 @@ pair-none v w (c ∷ d ∷ cs) e = by_tests (c.value == v) (d.value == w) e
 
 -- Switches.
 
-on-some : (on : Bool) (a : Reading Element) (cs : List Code) (r : Element × List Code) → on ≡ true → a cs ≡ Some r → switched on a cs ≡ Some r
+pub on-some : (on : Bool) (a : Reading Element) (cs : List Code) (r : Element × List Code) → on ≡ true → a cs ≡ Some r → switched on a cs ≡ Some r
 unfolding switched
 on-some on a cs r e h = switched-on a on cs e ∙ h
 
 -- it is off, or what is read does not stand here
-on-none : (on : Bool) (a : Reading Element) (cs : List Code) → (on ≡ true → a cs ≡ None) → switched on a cs ≡ None
+pub on-none : (on : Bool) (a : Reading Element) (cs : List Code) → (on ≡ true → a cs ≡ None) → switched on a cs ≡ None
 unfolding switched
 on-none true a cs h = switched-on a true cs refl ∙ h refl
 on-none false a cs h = switched-off a false cs refl
 
 -- Starts.
 
-footnote-some : (c d : Code) (cs : List Code) → c.value ≡ 91 → d.value ≡ 94 → footnote_start (c ∷ d ∷ cs) ≡ Some (starts LabelKind.GfmFootnote (c ∷ d ∷ []), cs)
+pub footnote-some : (c d : Code) (cs : List Code) → c.value ≡ 91 → d.value ≡ 94 → footnote_start (c ∷ d ∷ cs) ≡ Some (starts LabelKind.GfmFootnote (c ∷ d ∷ []), cs)
 unfolding footnote_start word gives
 footnote-some c d cs e f = bind-some (word "[^") _ (c ∷ d ∷ cs) (c ∷ d ∷ []) cs _ (pair-some 91 94 c d cs (is-the 91 c e) (is-the 94 d f)) refl
 
-footnote-none : (cs : List Code) → next_is (is_value 91) cs && next_is (is_value 94) (rest_of cs) ≡ false → footnote_start cs ≡ None
+pub footnote-none : (cs : List Code) → next_is (is_value 91) cs && next_is (is_value 94) (rest_of cs) ≡ false → footnote_start cs ≡ None
 unfolding footnote_start word
 footnote-none cs e = bind-none (word "[^") _ cs (pair-none 91 94 cs e)
 
-link-some : (c : Code) (cs : List Code) → c.value ≡ 91 → link_start (c ∷ cs) ≡ Some (starts LabelKind.Link (c ∷ []), cs)
+pub link-some : (c : Code) (cs : List Code) → c.value ≡ 91 → link_start (c ∷ cs) ≡ Some (starts LabelKind.Link (c ∷ []), cs)
 unfolding link_start gives
 link-some c cs e = bind-some (one (is_value 91)) _ (c ∷ cs) (c ∷ []) cs _ (one-here (is_value 91) c cs (is-the 91 c e)) refl
 
-link-none : (cs : List Code) → next_is (is_value 91) cs ≡ false → link_start cs ≡ None
+pub link-none : (cs : List Code) → next_is (is_value 91) cs ≡ false → link_start cs ≡ None
 unfolding link_start
 link-none cs e = bind-none (one (is_value 91)) _ cs (one-not (is_value 91) cs e)
 
-image-some : (footnotes : Bool) (c d : Code) (cs : List Code) → c.value ≡ 33 → d.value ≡ 91 → not (footnotes && next_is (is_value 94) cs) ≡ true → image_start footnotes (c ∷ d ∷ cs) ≡ Some (starts LabelKind.Image (c ∷ d ∷ []), cs)
+pub image-some : (footnotes : Bool) (c d : Code) (cs : List Code) → c.value ≡ 33 → d.value ≡ 91 → not (footnotes && next_is (is_value 94) cs) ≡ true → image_start footnotes (c ∷ d ∷ cs) ≡ Some (starts LabelKind.Image (c ∷ d ∷ []), cs)
 unfolding image_start word gives
 image-some footnotes c d cs e f h =
     bind-some (before (word "![") (λ xs. not (footnotes && next_is (is_value 94) xs))) _ (c ∷ d ∷ cs) (c ∷ d ∷ []) cs _
     (before-some (word "![") (λ xs. not (footnotes && next_is (is_value 94) xs)) (c ∷ d ∷ cs) (c ∷ d ∷ []) cs (pair-some 33 91 c d cs (is-the 33 c e) (is-the 91 d f)) h) refl
 
 -- where one of the tests fails
-image-none : (footnotes : Bool) (cs : List Code) → next_is (is_value 33) cs && (next_is (is_value 91) (rest_of cs) && not (footnotes && next_is (is_value 94) (rest_of (rest_of cs)))) ≡ false → image_start footnotes cs ≡ None
+pub image-none : (footnotes : Bool) (cs : List Code) → next_is (is_value 33) cs && (next_is (is_value 91) (rest_of cs) && not (footnotes && next_is (is_value 94) (rest_of (rest_of cs)))) ≡ false → image_start footnotes cs ≡ None
 unfolding image_start word
 image-none footnotes cs e = bind-none (before (word "![") (λ xs. not (footnotes && next_is (is_value 94) xs))) _ cs (by_first (next_is (is_value 33) cs && next_is (is_value 91) (rest_of cs)) refl)
   where
@@ -143,7 +144,7 @@ started : (kind : LabelKind) (marker rest : List Code) (T U : Tokenizer) → Pas
 started kind marker rest T U p finds =
     start-advances (text_choice_of T) kind marker T U p.is p.left (p.whole ∙ ap (λ xs. marker ++ xs) (sym p.after)) (λ earlier previous stands. finds earlier previous stands ∙ ap (λ xs. Some (starts kind marker, xs)) (sym p.after))
 
-two-whole : (v w : ℕ) (cs : List Code) (f : First v cs) (g : First w (rest_of cs)) → cs ≡ f.code ∷ g.code ∷ rest_of (rest_of cs)
+pub two-whole : (v w : ℕ) (cs : List Code) (f : First v cs) (g : First w (rest_of cs)) → cs ≡ f.code ∷ g.code ∷ rest_of (rest_of cs)
 two-whole v w cs f g = f.whole ∙ ap (λ xs. f.code ∷ xs) g.whole
 
 pub image-advances : (T U : Tokenizer) → image_ends T true U → Advances (text_choice_of T) T U
