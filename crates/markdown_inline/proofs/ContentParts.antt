@@ -140,7 +140,7 @@ module _ (bytes : List ℕ) (all : List Code) (part : (xs : List Code) → xs �
   parts-row empty before after e h = tt
   parts-row (leaf_then name link cs rest) before after e h =
       let apart : all ≡ before ++ (cs ++ (leaf_codes rest ++ after)) = e ∙ ap (λ x. before ++ x) (append_assoc cs (leaf_codes rest) after) in
-      (λ d l. part cs (h.0 (data-makes name d)).0 (h.0 (data-makes name d)).1 (before, leaf_codes rest ++ after, apart), parts-row rest (before ++ cs) after (apart ∙ sym (append_assoc before cs (leaf_codes rest ++ after))) h.1)
+      (λ d l. part cs (h.0 (data-makes name d) l).0 (h.0 (data-makes name d) l).1 (before, leaf_codes rest ++ after, apart), parts-row rest (before ++ cs) after (apart ∙ sym (append_assoc before cs (leaf_codes rest ++ after))) h.1)
   parts-row (group_then name enter exit inside rest) before after e h =
       let apart : all ≡ before ++ (leaf_codes inside ++ (leaf_codes rest ++ after)) = e ∙ ap (λ x. before ++ x) (append_assoc (leaf_codes inside) (leaf_codes rest) after) in
       (h.0, (parts-row inside before (leaf_codes rest ++ after) apart h.1.0, parts-row rest (before ++ leaf_codes inside) after (apart ∙ sym (append_assoc before (leaf_codes inside) (leaf_codes rest ++ after))) h.1.1))
@@ -158,22 +158,22 @@ some-more (c ∷ cs) ds h e = cc
 
 lines-onto : (cs : List Code) (f : Forest) → cs ≢ [] → list_any is_line_ending cs ≡ false → HasLines f → HasLines (data_onto cs f)
 lines-onto cs (leaf_then N.Data None more rest) some none h =
-    (λ e. (some-more cs more some, both-ending cs more none (h.0 refl).1), h.1)
-lines-onto cs rest some none h = (λ e. (some, none), h)
+    (λ e l. (some-more cs more some, both-ending cs more none (h.0 refl refl).1), h.1)
+lines-onto cs rest some none h = (λ e l. (some, none), h)
 
 pub HasLines-merged : (t : Forest) → HasLines t → HasLines (merged t)
 unfolding merged
 HasLines-merged empty h = tt
-HasLines-merged (leaf_then N.Data None cs rest) h = lines-onto cs (merged rest) (h.0 refl).0 (h.0 refl).1 (HasLines-merged rest h.1)
+HasLines-merged (leaf_then N.Data None cs rest) h = lines-onto cs (merged rest) (h.0 refl refl).0 (h.0 refl refl).1 (HasLines-merged rest h.1)
 HasLines-merged (leaf_then name link cs rest) h = (h.0, HasLines-merged rest h.1)
 HasLines-merged (group_then name enter exit inside rest) h = (h.0, (HasLines-merged inside h.1.0, HasLines-merged rest h.1.1))
 
 pub HasLines-HasData : (t : Forest) → HasLines t → HasData t
 HasLines-HasData empty h = tt
-HasLines-HasData (leaf_then name link cs rest) h = (λ e l. (h.0 (data-makes name e)).0, HasLines-HasData rest h.1)
+HasLines-HasData (leaf_then name link cs rest) h = (λ e l. (h.0 (data-makes name e) l).0, HasLines-HasData rest h.1)
 HasLines-HasData (group_then name enter exit inside rest) h = (h.0.0, (HasLines-HasData inside h.1.0, HasLines-HasData rest h.1.1))
 
 pub HasLines-HasCodes : (t : Forest) → HasLines t → HasCodes t
 HasLines-HasCodes empty h = tt
-HasLines-HasCodes (leaf_then name link cs rest) h = (λ e l. (h.0 (data-makes name e)).0, HasLines-HasCodes rest h.1)
+HasLines-HasCodes (leaf_then name link cs rest) h = (λ e l. (h.0 (data-makes name e) l).0, HasLines-HasCodes rest h.1)
 HasLines-HasCodes (group_then name enter exit inside rest) h = (HasLines-HasCodes inside h.1.0, HasLines-HasCodes rest h.1.1)

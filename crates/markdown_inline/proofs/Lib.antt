@@ -14,3 +14,5 @@ pub mod TextTree
 pub mod RunEnds
 pub mod TextRun
 pub mod LabelConstructs
+pub mod RowPasses
+pub mod StillRows

@@ -1,5 +1,5 @@
 -- Pairing keeps what is said of the lines of a tree: no data that it makes is empty or holds a line ending.
-use Rattle.std.proofs.Common.{◌≡◌, ◌≢◌, ℕ, suc, Bool, true, false, ◌==◌, Option, List, [], ◌∷◌, ◌++◌, length, take, drop, reverse, map, sum_by, ◌-◌, refl, sym, ap, ◌∙◌}
+use Rattle.std.proofs.Common.{◌≡◌, ◌≢◌, ℕ, suc, Bool, true, false, ◌==◌, Option, List, [], ◌∷◌, ◌++◌, length, take, drop, reverse, map, sum_by, ◌-◌, None, refl, sym, ap, ◌∙◌}
 use Rattle.std.specs.List.{list_any}
 use Rattle.std.proofs.lemmas.Bool.{or_parts}
 use Rattle.std.proofs.lemmas.List.{take-append-drop}
@@ -9,6 +9,8 @@ use Rattle.markdown_engine.specs.Tree.{Forest, empty, leaf_then, group_then, lea
 use Rattle.markdown_engine.specs.declared.event.Content.{Content}
 use Rattle.markdown_engine.specs.declared.event.Name.{Name}
 use Rattle.markdown_engine.specs.declared.event.Name.TheVariants as N
+use Rattle.markdown_attention.specs.Reading.{is_run}
+use Rattle.markdown_emphasis.specs.Trees.{HasStripes}
 use Rattle.markdown_model.specs.Groups.{item, opens, closes, onto, nest, after_loose, joined, loose, pair_names, pair_group, Token, closing_sizes, opening_sizes, cut_front, run_tokens, assembled, tokens_of, paired}
 use Rattle.markdown_model.specs.Pairs.{Pair}
 use Rattle.markdown_model.specs.Runs.{Run, marker_of, run_of, runs_of}
@@ -41,7 +43,7 @@ cut-lines (n ∷ ns) cs h =
 
 lines-leaf : (name : Name) (cs : List Code) → IsLine cs → HasLines (leaf name cs)
 lines-leaf name [] h = tt
-lines-leaf name (c ∷ cs) h = ((λ e. ((λ k. cc), h)), tt)
+lines-leaf name (c ∷ cs) h = ((λ e l. ((λ k. cc), h)), tt)
 
 -- Rows in lists.
 
@@ -146,21 +148,21 @@ run-codes s [] = refl
 run-codes s (c ∷ cs) = refl
 
 module _ (s : Setting) (pairs_of : List Run → List Pair) where
-  -- of a leaf: the run's codes are in lines
-  leaf-has : (name : Name) (link : Option Content) (cs : List Code) (rest : Forest) (ps : List Pair) (n : ℕ) → (makes_data name ≡ true → (cs ≢ []) × IsLine cs)
+  -- of a leaf: a run is not linked, and its codes are in lines
+  leaf-has : (name : Name) (link : Option Content) (cs : List Code) (rest : Forest) (ps : List Pair) (n : ℕ) → (makes_data name ≡ true → link ≡ None → (cs ≢ []) × IsLine cs) → (is_run name ≡ true → link ≡ None)
       → ((m : ℕ) → WordHas (tokens_of s pairs_of rest ps m)) → WordHas (tokens_of s pairs_of (leaf_then name link cs rest) ps n)
   unfolding tokens_of
-  leaf-has N.AttentionSequence link cs rest ps n g h =
-      word-append (run_tokens ps n (run_of s cs)) (tokens_of s pairs_of rest ps (suc n)) (run-has ps n (run_of s cs) (ap (list_any is_line_ending) (run-codes s cs) ∙ (g refl).1)) (h (suc n))
-  leaf-has name link cs rest ps n g h = ((g, tt), h n)
+  leaf-has N.AttentionSequence link cs rest ps n g bare h =
+      word-append (run_tokens ps n (run_of s cs)) (tokens_of s pairs_of rest ps (suc n)) (run-has ps n (run_of s cs) (ap (list_any is_line_ending) (run-codes s cs) ∙ (g refl (bare refl)).1)) (h (suc n))
+  leaf-has name link cs rest ps n g bare h = ((g, tt), h n)
 
-  tokens-has : (t : Forest) (ps : List Pair) (n : ℕ) → HasLines t → WordHas (tokens_of s pairs_of t ps n)
+  tokens-has : (t : Forest) (ps : List Pair) (n : ℕ) → HasLines t → HasStripes t → WordHas (tokens_of s pairs_of t ps n)
   unfolding tokens_of
-  tokens-has empty ps n h = tt
-  tokens-has (leaf_then name link cs rest) ps n h = leaf-has name link cs rest ps n h.0 (λ m. tokens-has rest ps m h.1)
-  tokens-has (group_then name a b inside rest) ps n h =
-      ((h.0, (assembled-has (tokens_of s pairs_of inside (pairs_of (runs_of s inside)) 0) (tokens-has inside (pairs_of (runs_of s inside)) 0 h.1.0), tt)), tokens-has rest ps n h.1.1)
+  tokens-has empty ps n h k = tt
+  tokens-has (leaf_then name link cs rest) ps n h k = leaf-has name link cs rest ps n h.0 (λ e. (k.0 e).0) (λ m. tokens-has rest ps m h.1 k.1)
+  tokens-has (group_then name a b inside rest) ps n h k =
+      ((h.0, (assembled-has (tokens_of s pairs_of inside (pairs_of (runs_of s inside)) 0) (tokens-has inside (pairs_of (runs_of s inside)) 0 h.1.0 k.1.0), tt)), tokens-has rest ps n h.1.1 k.1.1)
 
-  pub HasLines-paired : (t : Forest) → HasLines t → HasLines (paired s pairs_of t)
+  pub HasLines-paired : (t : Forest) → HasLines t → HasStripes t → HasLines (paired s pairs_of t)
   unfolding paired
-  HasLines-paired t h = assembled-has (tokens_of s pairs_of t (pairs_of (runs_of s t)) 0) (tokens-has t (pairs_of (runs_of s t)) 0 h)
+  HasLines-paired t h k = assembled-has (tokens_of s pairs_of t (pairs_of (runs_of s t)) 0) (tokens-has t (pairs_of (runs_of s t)) 0 h k)

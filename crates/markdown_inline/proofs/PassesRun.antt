@@ -29,9 +29,8 @@ use Rattle.markdown_model.specs.Setting.{Setting}
 use Rattle.markdown_model.proofs.Coverage.{codes-merged, codes-paired}
 use Rattle.markdown_partial.specs.TrimEvents.{HasParts, HasPlaces}
 use Rattle.markdown_partial.proofs.TrimLaws.{places-of}
-use Rattle.markdown_row.specs.Trees.{HasLines, HasOuterRuns, IsRunless}
-use Rattle.markdown_row.specs.Row.{passes_after, past_row}
-use Rattle.markdown_row.proofs.TreePasts.{outer-runless}
+use Rattle.markdown_row.specs.Fresh.{passes_of}
+use Rattle.markdown_row.specs.Trees.{HasLines, IsRunless}
 use Rattle.markdown_inline.specs.Resolve.{MayPair, PairsRuns, MergesData, MayTrim, TrimsData, may_resolve_of, resolves_of}
 use Rattle.markdown_inline.proofs.ContentParts.{parts-of, HasLines-merged, HasLines-HasData}
 use Rattle.markdown_inline.proofs.PairedLines.{HasLines-paired}
@@ -42,27 +41,31 @@ abbrev pub passes_first : Bool → List ResolveName → List ResolveName
 passes_first true ns = R.Attention ∷ ns
 passes_first false ns = ns
 
-first-after : (b : Bool) (ns : List ResolveName) → ns ≡ [] → passes_after b ns ≡ passes_first b []
-first-after true ns e = ap (λ (x : List ResolveName). passes_after true x) e
-first-after false ns e = e
+-- and before these the pass of labels if it is
+abbrev pub labels_first : Bool → List ResolveName → List ResolveName
+labels_first true ns = R.Label ∷ ns
+labels_first false ns = ns
+
 
 -- a pass that trims; `hard`: hard breaks are looked for; `whole`: at the start and the end of the whole too
 pub record IsTrimming (last : ResolveName) (hard : ParseState → Bool) (whole : Bool) : Type 0 where
   pub may : (T : Tokenizer) → MayTrim T → may_resolve_of last T
   pub leaves : (T U : Tokenizer) → resolves_of last T U → TrimsData (hard T.parse_state.now) whole T U
-  pub registers : (b : Bool) (X : Tokenizer) → X.resolvers ≡ passes_first b [] → registered last (registered R.Data X) ≡ record X { resolvers = passes_first b (R.Data ∷ last ∷ []) }
+  pub registers : (a b : Bool) (X : Tokenizer) → X.resolvers ≡ passes_of a b → registered last (registered R.Data X) ≡ record X { resolvers = labels_first a (passes_first b (R.Data ∷ last ∷ [])) }
 
 pub string-trims : IsTrimming R.String (λ p. false) false
 unfolding registered
 string-trims = record {
   may = λ T h. h;
   leaves = λ T U h. h;
-  registers = λ b X e. subst (λ (rs : List ResolveName). registered R.String (registered R.Data (record X { resolvers = rs })) ≡ record X { resolvers = passes_first b (R.Data ∷ R.String ∷ []) }) (sym e) (both b X);
+  registers = λ a b X e. subst (λ (rs : List ResolveName). registered R.String (registered R.Data (record X { resolvers = rs })) ≡ record X { resolvers = labels_first a (passes_first b (R.Data ∷ R.String ∷ [])) }) (sym e) (both a b X);
 }
   where
-    both : (b : Bool) (X : Tokenizer) → registered R.String (registered R.Data (record X { resolvers = passes_first b [] })) ≡ record X { resolvers = passes_first b (R.Data ∷ R.String ∷ []) }
-    both true X = refl
-    both false X = refl
+    both : (a b : Bool) (X : Tokenizer) → registered R.String (registered R.Data (record X { resolvers = passes_of a b })) ≡ record X { resolvers = labels_first a (passes_first b (R.Data ∷ R.String ∷ [])) }
+    both true true X = refl
+    both true false X = refl
+    both false true X = refl
+    both false false X = refl
 
 -- hard breaks by spaces are looked for
 abbrev pub breaks_on : ParseState → Bool
@@ -73,12 +76,14 @@ unfolding registered
 text-trims = record {
   may = λ T h. h;
   leaves = λ T U h. h;
-  registers = λ b X e. subst (λ (rs : List ResolveName). registered R.Text (registered R.Data (record X { resolvers = rs })) ≡ record X { resolvers = passes_first b (R.Data ∷ R.Text ∷ []) }) (sym e) (both b X);
+  registers = λ a b X e. subst (λ (rs : List ResolveName). registered R.Text (registered R.Data (record X { resolvers = rs })) ≡ record X { resolvers = labels_first a (passes_first b (R.Data ∷ R.Text ∷ [])) }) (sym e) (both a b X);
 }
   where
-    both : (b : Bool) (X : Tokenizer) → registered R.Text (registered R.Data (record X { resolvers = passes_first b [] })) ≡ record X { resolvers = passes_first b (R.Data ∷ R.Text ∷ []) }
-    both true X = refl
-    both false X = refl
+    both : (a b : Bool) (X : Tokenizer) → registered R.Text (registered R.Data (record X { resolvers = passes_of a b })) ≡ record X { resolvers = labels_first a (passes_first b (R.Data ∷ R.Text ∷ [])) }
+    both true true X = refl
+    both true false X = refl
+    both false true X = refl
+    both false false X = refl
 
 -- the events of X are those of a tree over this content, and no edit is left
 pub record IsRead (p : ParseState) (pieces : List Piece) (tree : Forest) (X : Tokenizer) : Type 0 where
@@ -168,7 +173,7 @@ module _ (p : ParseState) (pieces : List Piece) (tree : Forest) (s : Setting) (g
   paired-read : IsRead p pieces (paired s (pair_list s) tree) V
   paired-read = record {
     content = h.content;
-    has_lines = HasLines-paired s (pair_list s) tree h.has_lines;
+    has_lines = HasLines-paired s (pair_list s) tree h.has_lines meets.striped.1;
     codes = codes-paired s (pair_list s) tree ∙ h.codes;
     map = ap (λ (x : Tokenizer). x.map) m.same ∙ h.map;
     events = m.paired s tree (given-of s p X given h.input) runs meets.striped h.events;
@@ -177,6 +182,36 @@ module _ (p : ParseState) (pieces : List Piece) (tree : Forest) (s : Setting) (g
 
   paired-probes : IsProbed s tree V.tokenize_state.probes
   paired-probes = m.probed s tree (given-of s p X given h.input) runs h.events
+
+-- what the passes of a run over a content leave of its tree: its pairs grouped, merged and trimmed, and the number of looks that pairing took
+pub record IsResolved (s : Setting) (hard whole : Bool) (tree : Forest) (V : Tokenizer) : Type 0 where
+  pub events : V.events ≡ appended_from 0 None (trimmed hard whole whole (merged (paired s (pair_list s) tree)))
+  pub probed : IsProbed s tree V.tokenize_state.probes
+
+-- the passes behind that of labels: those of runs, if a run stands somewhere, of data and of the whole
+module _ (p : ParseState) (pieces : List Piece) (tree : Forest) (s : Setting) (given : IsGiven s p) (last : ResolveName) (hard : ParseState → Bool) (whole : Bool) (X : Tokenizer) (t : IsTrimming last hard whole) (read : IsRead p pieces tree X) where
+  pub first-may : (b : Bool) → (b ≡ true → IsGood p.bytes.now tree) → MayResolve may_resolve_of resolves_of (passes_first b (R.Data ∷ last ∷ [])) X
+  first-may true good = (
+    may-pair p pieces tree X read (good refl),
+    λ V m. passes-may p pieces (paired s (pair_list s) tree) last hard whole V t (paired-read p pieces tree s given X V read (good refl) m),
+  )
+  first-may false good = passes-may p pieces tree last hard whole X t read
+
+  pub first-leaves : (b : Bool) → (b ≡ true → IsGood p.bytes.now tree) → (b ≡ false → IsRunless tree) → X.tokenize_state.probes ≡ 0 → (V : Tokenizer)
+      → Resolves resolves_of (passes_first b (R.Data ∷ last ∷ [])) X V → IsResolved s (hard p) whole tree V
+  first-leaves true good runless none V r =
+      let m : PairsRuns X r.0 = r.1.0 in
+      let l = passes-leave p pieces (paired s (pair_list s) tree) last hard whole r.0 V t (paired-read p pieces tree s given X r.0 read (good refl) m) r.1.1 in
+      record {
+        events = l.0;
+        probed = subst (λ (x : TokenizeState). IsProbed s tree x.probes) (sym l.1) (paired-probes p pieces tree s given X r.0 read (good refl) m);
+      }
+  first-leaves false good runless none V r =
+      let l = passes-leave p pieces tree last hard whole X V t read r in
+      record {
+        events = l.0 ∙ ap (λ x. appended_from 0 None (trimmed (hard p) whole whole (merged x))) (sym (paired-runless s (pair_list s) tree (runless refl)));
+        probed = subst (λ (n : ℕ). IsProbed s tree n) (sym (ap (λ (x : TokenizeState). x.probes) l.1 ∙ none)) (unprobed s tree (runless refl));
+      }
 
 -- At the end of a run.
 
@@ -193,71 +228,3 @@ pub record IsStart (p : ParseState) (pieces : List Piece) (S : Tokenizer) : Type
 pub codes-ahead : (p : ParseState) (pieces : List Piece) (S : Tokenizer) → S.cursor ≡ start_of_content p.bytes.now pieces → ahead S ≡ content_of p.bytes.now pieces
 unfolding start_of_content ahead_at
 codes-ahead p pieces S e = ap ahead_at e
-
--- S past the tree, with no pass registered
-abbrev read_by : Forest → Tokenizer → Tokenizer
-read_by tree S = unregistered (past None tree S)
-
-read-past : (p : ParseState) (pieces : List Piece) (tree : Forest) (S : Tokenizer) → IsStart p pieces S → HasLines tree → leaf_codes tree ≡ ahead S → IsRead p pieces tree (read_by tree S)
-unfolding past unregistered
-read-past p pieces tree S h lines whole = record {
-  content = h.content;
-  has_lines = lines;
-  codes = whole ∙ codes-ahead p pieces S h.place;
-  map = h.map;
-  events = ap (λ (es : List Event). es ++ appended_from (length es) None tree) h.events;
-  input = h.input;
-}
-
-past-probes : (tree : Forest) (S : Tokenizer) → (read_by tree S).tokenize_state ≡ S.tokenize_state
-unfolding past unregistered
-past-probes tree S = refl
-
--- what the passes of a run over a content leave of its tree: its pairs grouped, merged and trimmed, and the number of looks that pairing took
-pub record IsResolved (s : Setting) (hard whole : Bool) (tree : Forest) (V : Tokenizer) : Type 0 where
-  pub events : V.events ≡ appended_from 0 None (trimmed hard whole whole (merged (paired s (pair_list s) tree)))
-  pub probed : IsProbed s tree V.tokenize_state.probes
-
-module _ (p : ParseState) (pieces : List Piece) (s : Setting) (given : IsGiven s p) (tree : Forest) (last : ResolveName) (hard : ParseState → Bool) (whole : Bool) (S U : Tokenizer) (t : IsTrimming last hard whole) (start : IsStart p pieces S)
-    (lines : HasLines tree) (outer : HasOuterRuns tree) (codes : leaf_codes tree ≡ ahead S) (good : has_run tree ≡ true → IsGood p.bytes.now tree) (left : U ≡ registered last (registered R.Data (past_row tree S))) where
-  read : IsRead p pieces tree (read_by tree S)
-  read = read-past p pieces tree S start lines codes
-
-  -- U is S past the tree, with the two passes registered, and before them that of runs if one stands in the tree
-  left-is : (b : Bool) → has_run tree ≡ b → U ≡ record (past None tree S) { resolvers = passes_first b (R.Data ∷ last ∷ []) }
-  unfolding past past_row
-  left-is b e = left ∙ t.registers b (past_row tree S) (ap (λ (x : Bool). passes_after x S.resolvers) e ∙ first-after b S.resolvers start.resolvers)
-
-  may-first : (b : Bool) → has_run tree ≡ b → MayResolve may_resolve_of resolves_of (passes_first b (R.Data ∷ last ∷ [])) (read_by tree S)
-  may-first true e = (
-    may-pair p pieces tree (read_by tree S) read (good e),
-    λ V m. passes-may p pieces (paired s (pair_list s) tree) last hard whole V t (paired-read p pieces tree s given (read_by tree S) V read (good e) m),
-  )
-  may-first false e = passes-may p pieces tree last hard whole (read_by tree S) t read
-
-  -- after the run the passes may be run
-  pub may-after : MayResolve may_resolve_of resolves_of U.resolvers (unregistered U)
-  unfolding unregistered
-  may-after = subst (λ (x : Tokenizer). MayResolve may_resolve_of resolves_of x.resolvers (unregistered x)) (sym (left-is (has_run tree) refl)) (may-first (has_run tree) refl)
-
-  first-leaves : (b : Bool) (V : Tokenizer) → has_run tree ≡ b → Resolves resolves_of (passes_first b (R.Data ∷ last ∷ [])) (read_by tree S) V → IsResolved s (hard p) whole tree V
-  first-leaves true V e r =
-      let m : PairsRuns (read_by tree S) r.0 = r.1.0 in
-      let l = passes-leave p pieces (paired s (pair_list s) tree) last hard whole r.0 V t (paired-read p pieces tree s given (read_by tree S) r.0 read (good e) m) r.1.1 in
-      record {
-        events = l.0;
-        probed = subst (λ (x : TokenizeState). IsProbed s tree x.probes) (sym l.1) (paired-probes p pieces tree s given (read_by tree S) r.0 read (good e) m);
-      }
-  first-leaves false V e r =
-      let l = passes-leave p pieces tree last hard whole (read_by tree S) V t read r in
-      let runless : IsRunless tree = outer-runless tree outer e in
-      record {
-        events = l.0 ∙ ap (λ x. appended_from 0 None (trimmed (hard p) whole whole (merged x))) (sym (paired-runless s (pair_list s) tree runless));
-        probed = subst (λ (n : ℕ). IsProbed s tree n) (sym (ap (λ (x : TokenizeState). x.probes) (l.1 ∙ past-probes tree S) ∙ start.probes)) (unprobed s tree runless);
-      }
-
-  -- and what they leave
-  pub left-after : (V : Tokenizer) → Resolves resolves_of U.resolvers (unregistered U) V → IsResolved s (hard p) whole tree V
-  unfolding unregistered
-  left-after V r =
-      first-leaves (has_run tree) V refl (subst (λ (x : Tokenizer). Resolves resolves_of x.resolvers (unregistered x) V) (left-is (has_run tree) refl) r)

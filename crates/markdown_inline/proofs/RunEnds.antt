@@ -1,9 +1,10 @@
 -- A whole run over the elements of a content, from its start to what the passes leave.
-use Rattle.std.proofs.Common.{◌≡◌, Bool, true, List, [], None, refl, ap, subst, ◌∙◌}
+use Rattle.std.proofs.Common.{◌≡◌, Bool, true, false, List, [], map, None, refl, sym, ap, subst, ◌∙◌}
 use Rattle.std.specs.Borrow.{Bor}
 use Rattle.std.specs.declared.alloc.Global.{Global}
 use Rattle.markdown_engine.specs.Begun.{begun}
 use Rattle.markdown_engine.specs.Chain.{chained}
+use Rattle.markdown_engine.specs.Codes.{Code}
 use Rattle.markdown_engine.specs.Content.{IsContent, content_of}
 use Rattle.markdown_engine.specs.Ops.{ahead, registered}
 use Rattle.markdown_engine.specs.Place.{Place, start_of_content, last_of}
@@ -14,30 +15,36 @@ use Rattle.markdown_engine.specs.declared.parser.ParseState.{ParseState}
 use Rattle.markdown_engine.specs.declared.parser.Piece.{Piece}
 use Rattle.markdown_engine.specs.declared.resolve.ResolveName.{ResolveName}
 use Rattle.markdown_engine.specs.declared.resolve.ResolveName.TheVariants as R
+use Rattle.markdown_engine.specs.declared.tokenizer.LabelStart.{LabelStart}
 use Rattle.markdown_engine.specs.declared.tokenizer.TokenizeState.{TokenizeState}
 use Rattle.markdown_engine.specs.declared.tokenizer.Tokenizer.{Tokenizer}
 use Rattle.markdown_engine.proofs.ChainTree.{chained-whole}
-use Rattle.markdown_leaf.specs.RawText.{follows_escape}
-use Rattle.markdown_model.proofs.DataLaws.{row_of}
-use Rattle.markdown_model.specs.Element.{Choice, AreElementsFrom}
-use Rattle.markdown_model.specs.LabelEnd.{Element}
-use Rattle.markdown_model.specs.Passes.{merged, trimmed}
-use Rattle.markdown_row.specs.Elements.{AllElements, Finishes, StandsAfter}
-use Rattle.markdown_inline.specs.Resolve.{may_resolve_of, resolves_of}
-use Rattle.markdown_cut.specs.CutData.{split}
-use Rattle.markdown_row.specs.Trees.{HasLines}
-use Rattle.markdown_attention.specs.Rows.{has_run}
-use Rattle.markdown_cut.proofs.Pairing.{paired-same}
-use Rattle.markdown_cut.proofs.Splitting.{merged-same}
+use Rattle.markdown_construct.specs.Characters.{IsText, ReadsText}
+use Rattle.markdown_construct.proofs.ContentTexts.{content-text}
+use Rattle.markdown_cut.specs.CutData.{split, HasCodes}
+use Rattle.markdown_cut.proofs.PairingCodes.{merged-paired}
 use Rattle.markdown_emphasis.specs.Pass.{IsProbed}
 use Rattle.markdown_emphasis.proofs.Good.{IsGood}
+use Rattle.markdown_label.specs.Starts.{StandFor}
+use Rattle.markdown_label_pass.specs.Brackets.{grouped}
+use Rattle.markdown_leaf.specs.RawText.{follows_escape}
+use Rattle.markdown_model.specs.Element.{Choice, AreElementsFrom}
 use Rattle.markdown_model.specs.Groups.{paired}
+use Rattle.markdown_model.specs.LabelEnd.{Element}
 use Rattle.markdown_model.specs.Pairs.{pair_list}
+use Rattle.markdown_model.specs.Passes.{labels_of, merged, trimmed}
 use Rattle.markdown_model.specs.Setting.{Setting}
+use Rattle.markdown_row.specs.Elements.{AllElements, Finishes, StandsAfter}
+use Rattle.markdown_row.specs.Fresh.{IsFresh}
+use Rattle.markdown_row.specs.Opened.{brackets_of}
+use Rattle.markdown_row.specs.Row.{Row, past_row, row_codes, row_has_run, IsRowAt, split_row, row_of_elements}
+use Rattle.markdown_row.proofs.RowElements.{grouped-alike}
+use Rattle.markdown_row.proofs.RowKeeps.{grouped-lines, codes-labels}
+use Rattle.markdown_inline.specs.Resolve.{may_resolve_of, resolves_of}
 use Rattle.markdown_inline.proofs.ContentParts.{HasLines-HasCodes}
-use Rattle.markdown_inline.proofs.PairedLines.{HasLines-paired}
-use Rattle.markdown_inline.proofs.PassesRun.{IsTrimming, IsStart, IsGiven, IsResolved, may-after, left-after, codes-ahead}
+use Rattle.markdown_inline.proofs.PassesRun.{IsTrimming, IsStart, IsGiven, IsResolved, codes-ahead}
 use Rattle.markdown_inline.proofs.ProbesAlike.{probes-alike}
+use Rattle.markdown_inline.proofs.RowPasses.{row-may, row-left}
 
 -- T stands at the start of the content of these pieces, with no events and these scratch fields
 pub record Starts (p : ParseState) (pieces : List Piece) (s : TokenizeState) (T : Tokenizer) : Type 0 where
@@ -64,39 +71,89 @@ pub start-with : (p : ParseState) (pieces : List Piece) (s r : TokenizeState) (T
 start-with p pieces s r T k = record { input = k.input; place = k.place; events = k.events; map = k.map; resolvers = k.resolvers; fields = refl }
 
 -- nothing stands before the start
-pub start-stands : (p : ParseState) (pieces : List Piece) (s : TokenizeState) (T : Tokenizer) → Starts p pieces s T → StandsAfter [] None T
+pub start-stands : (p : ParseState) (pieces : List Piece) (s : TokenizeState) (T : Tokenizer) → s.label_starts ≡ [] → Starts p pieces s T → StandsAfter [] None T
 unfolding start_of_content
-start-stands p pieces s T k = record { escaped = ap follows_escape k.events; before = ap (λ (x : Place). last_of x.codes x.at) k.place }
+start-stands p pieces s T none k =
+    record {
+      escaped = ap follows_escape k.events;
+      before = ap (λ (x : Place). last_of x.codes x.at) k.place;
+      keeps = subst (λ ls. StandFor T.events [] ls) (sym (ap (λ (x : TokenizeState). x.label_starts) k.fields ∙ none)) tt;
+    }
 
 pub start-ahead : (p : ParseState) (pieces : List Piece) (s : TokenizeState) (T : Tokenizer) → Starts p pieces s T → ahead T ≡ content_of p.bytes.now pieces
 start-ahead p pieces s T k = codes-ahead p pieces T k.place
 
-module _ (last : ResolveName) (hard : ParseState → Bool) (whole : Bool) (trims : IsTrimming last hard whole) (choice : Choice) (given : Type 0) (p : ParseState) (pieces : List Piece) (content : IsContent p.bytes.now pieces) (setting : Setting) (is_given : IsGiven setting p) (s : TokenizeState) (quiet : s.probes ≡ 0) (T U : Tokenizer) (start : Starts p pieces s T) (k : Finishes choice given (λ X. registered last (registered R.Data X)) T U) where
+-- and the document is a text, of which the content's codes are characters
+pub start-text : (p : ParseState) (pieces : List Piece) (s : TokenizeState) (T : Tokenizer) → IsContent p.bytes.now pieces → Starts p pieces s T → ReadsText T
+unfolding start_of_content
+start-text p pieces s T content k = subst (λ (x : ParseState). IsText x.bytes.now T.cursor) (sym k.input) (subst (λ (x : Place). IsText p.bytes.now x) (sym k.place) (content-text p.bytes.now pieces 0 content))
+
+-- scratch fields without labels and looks, those of ends at rest
+pub record AreFresh (s : TokenizeState) : Type 0 where
+  pub labels : s.labels ≡ []
+  pub starts : s.label_starts ≡ []
+  pub loose : s.label_starts_loose ≡ []
+  pub end : s.end ≡ 0
+  pub seen : s.seen ≡ false
+  pub probes : s.probes ≡ 0
+
+fresh-start : (p : ParseState) (pieces : List Piece) (s : TokenizeState) (T : Tokenizer) → AreFresh s → Starts p pieces s T → IsFresh T
+fresh-start p pieces s T h k = record {
+  events = k.events;
+  labels = ap (λ (x : TokenizeState). x.labels) k.fields ∙ h.labels;
+  starts = ap (λ (x : TokenizeState). x.label_starts) k.fields ∙ h.starts;
+  loose = ap (λ (x : TokenizeState). x.label_starts_loose) k.fields ∙ h.loose;
+  end = ap (λ (x : TokenizeState). x.end) k.fields ∙ h.end;
+  seen = ap (λ (x : TokenizeState). x.seen) k.fields ∙ h.seen;
+}
+
+-- the elements of these codes, after which a row with its labels grouped is the tree of labels but for how data is cut
+pub record IsFound (choice : Choice) (cs : List Code) (row : Row) : Type 0 where
+  pub elements : List Element
+  pub are : AreElementsFrom choice [] None cs elements
+  pub have_codes : HasCodes (labels_of elements)
+  pub alike : split_row row ≡ split_row (row_of_elements elements)
+  pub is_row : IsRowAt [] row
+  pub trees : split (grouped (brackets_of row)) ≡ split (labels_of elements)
+
+module _ (last : ResolveName) (hard : ParseState → Bool) (whole : Bool) (trims : IsTrimming last hard whole) (choice : Choice) (p : ParseState) (pieces : List Piece) (content : IsContent p.bytes.now pieces) (setting : Setting) (is_given : IsGiven setting p) (s : TokenizeState) (fresh : AreFresh s) (T U : Tokenizer) (start : Starts p pieces s T) (k : Finishes choice (λ X. registered last (registered R.Data X)) T U) where
+  -- the row with its labels grouped
+  abbrev pub Grouped : Forest
+  Grouped = grouped (brackets_of k.row)
+
   begins : IsStart p pieces T
-  begins = record { content = content; place = start.place; input = start.input; events = start.events; map = start.map; resolvers = start.resolvers; probes = ap (λ (x : TokenizeState). x.probes) start.fields ∙ quiet }
+  begins = record { content = content; place = start.place; input = start.input; events = start.events; map = start.map; resolvers = start.resolvers; probes = ap (λ (x : TokenizeState). x.probes) start.fields ∙ fresh.probes }
 
-  -- the tree is the row of the content's elements but for how data is cut
-  pub finished-elements : given → (es : List Element) × (AreElementsFrom choice [] None (content_of p.bytes.now pieces) es × (HasLines (row_of es) × (split k.tree ≡ split (row_of es))))
-  finished-elements g =
-      let all : AllElements choice [] None k.tree (ahead T) = k.elements g [] None (start-stands p pieces s T start) in
-      (all.elements, (subst (λ cs. AreElementsFrom choice [] None cs all.elements) (start-ahead p pieces s T start) all.are, (all.has_lines, all.alike)))
+  -- no start waits at the run's start
+  is_row : IsRowAt [] k.row
+  is_row = subst (λ ks. IsRowAt ks k.row) (ap (λ (x : TokenizeState). map (λ (l : LabelStart). l.kind) x.label_starts) start.fields ∙ ap (map (λ (l : LabelStart). l.kind)) fresh.starts) k.is_row
 
-  module _ (good : has_run k.tree ≡ true → IsGood p.bytes.now k.tree) where
+  pub finished-elements : IsFound choice (content_of p.bytes.now pieces) k.row
+  finished-elements =
+      let all : AllElements choice [] None k.row (ahead T) = k.elements [] None (start-stands p pieces s T fresh.starts start) in
+      record {
+        elements = all.elements;
+        are = subst (λ cs. AreElementsFrom choice [] None cs all.elements) (start-ahead p pieces s T start) all.are;
+        have_codes = codes-labels all.elements all.have_codes;
+        alike = all.alike;
+        is_row = is_row;
+        trees = grouped-alike k.row all.elements is_row all.alike;
+      }
+
+  module _ (good : row_has_run k.row ≡ true → IsGood p.bytes.now Grouped) where
     pub finished-may : MayResolve may_resolve_of resolves_of U.resolvers (unregistered U)
-    finished-may = may-after p pieces setting is_given k.tree last hard whole T U trims begins k.has_lines k.outer k.whole good k.left
+    finished-may = row-may p pieces setting is_given k.row last hard whole T U trims begins (fresh-start p pieces s T fresh start) is_row k.whole good k.left
 
-    pub finished-left : (V : Tokenizer) → Resolves resolves_of U.resolvers (unregistered U) V → IsResolved setting (hard p) whole k.tree V
-    finished-left V r = left-after p pieces setting is_given k.tree last hard whole T U trims begins k.has_lines k.outer k.whole good k.left V r
+    pub finished-left : (V : Tokenizer) → Resolves resolves_of U.resolvers (unregistered U) V → IsResolved setting (hard p) whole Grouped V
+    finished-left V r = row-left p pieces setting is_given k.row last hard whole T U trims begins (fresh-start p pieces s T fresh start) is_row k.whole good k.left V r
 
-    -- what the passes leave, of a row that differs from the tree only in how data is cut
-    pub finished-events : (V : Tokenizer) (row : Forest) → HasLines row → split k.tree ≡ split row → Resolves resolves_of U.resolvers (unregistered U) V
-        → chained V.events ≡ events_of (trimmed (hard p) whole whole (merged (paired setting (pair_list setting) row)))
-    finished-events V row lines alike r =
-        let t : Forest = paired setting (pair_list setting) k.tree in
-        let u : Forest = paired setting (pair_list setting) row in
-        let same : merged t ≡ merged u =
-        merged-same t u (HasLines-HasCodes t (HasLines-paired setting (pair_list setting) k.tree k.has_lines)) (HasLines-HasCodes u (HasLines-paired setting (pair_list setting) row lines)) (paired-same setting (pair_list setting) k.tree row alike) in
+    -- what the passes leave, of a tree that differs from it only in how data is cut
+    pub finished-events : (V : Tokenizer) (labels : Forest) → HasCodes labels → split Grouped ≡ split labels → Resolves resolves_of U.resolvers (unregistered U) V
+        → chained V.events ≡ events_of (trimmed (hard p) whole whole (merged (paired setting (pair_list setting) labels)))
+    finished-events V labels codes alike r =
+        let t : Forest = paired setting (pair_list setting) Grouped in
+        let same : merged t ≡ merged (paired setting (pair_list setting) labels) = merged-paired setting (pair_list setting) Grouped labels (HasLines-HasCodes Grouped (grouped-lines k.row is_row)) codes alike in
         ap chained (finished-left V r).events ∙ chained-whole (trimmed (hard p) whole whole (merged t)) ∙ ap (λ x. events_of (trimmed (hard p) whole whole x)) same
 
-    pub finished-probes : (V : Tokenizer) (row : Forest) → split k.tree ≡ split row → Resolves resolves_of U.resolvers (unregistered U) V → IsProbed setting row V.tokenize_state.probes
-    finished-probes V row alike r = probes-alike setting k.tree row V.tokenize_state.probes alike (finished-left V r).probed
+    pub finished-probes : (V : Tokenizer) (labels : Forest) → split Grouped ≡ split labels → Resolves resolves_of U.resolvers (unregistered U) V → IsProbed setting labels V.tokenize_state.probes
+    finished-probes V labels alike r = probes-alike setting Grouped labels V.tokenize_state.probes alike (finished-left V r).probed

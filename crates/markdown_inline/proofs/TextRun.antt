@@ -28,40 +28,34 @@ use Rattle.markdown_inline.specs.TextSteps.{StartReady, marked_fields, text_mark
 use Rattle.markdown_inline.specs.Laws.TextTries.{built-off}
 use Rattle.markdown_inline.proofs.PassesRun.{breaks_on, text-trims}
 use Rattle.markdown_engine.specs.Codes.{Code}
-use Rattle.markdown_attention.specs.Rows.{has_run}
-use Rattle.markdown_cut.specs.CutData.{split}
+use Rattle.markdown_label.specs.LabelEnd.{AreWithin}
+use Rattle.markdown_label_pass.specs.Brackets.{grouped}
+use Rattle.markdown_partial.specs.EolSteps as L
+use Rattle.markdown_resource.specs.Parts as Parts
+use Rattle.markdown_engine.specs.Tree.{Forest}
 use Rattle.markdown_emphasis.specs.Pass.{IsProbed}
 use Rattle.markdown_emphasis.proofs.Good.{IsGood}
 use Rattle.markdown_emphasis.proofs.Singles.{singles-content}
 use Rattle.markdown_emphasis.proofs.Striped.{good-tree}
 use Rattle.markdown_model.specs.Inline.{label_tree}
-use Rattle.markdown_model.specs.LabelEnd.{Element}
-use Rattle.markdown_model.specs.Passes.{merged}
-use Rattle.markdown_row.specs.Trees.{HasLines}
+use Rattle.markdown_model.specs.Passes.{labels_of, merged}
+use Rattle.markdown_row.specs.Opened.{brackets_of}
+use Rattle.markdown_row.specs.Row.{row_has_run}
+use Rattle.markdown_row.proofs.RowKeeps.{grouped-runless}
 use Rattle.markdown_inline.proofs.GoodCut.{good-alike}
 use Rattle.markdown_inline.proofs.PassesRun.{IsGiven}
 use Rattle.markdown_inline.proofs.ProbesAlike.{probes-built, paired-built}
 use Rattle.markdown_inline.proofs.Runless.{probes-none}
-use Rattle.markdown_inline.proofs.RunEnds.{Starts, start-with, finished-may, finished-events, finished-probes, finished-elements}
+use Rattle.markdown_inline.proofs.RunEnds.{Starts, start-with, start-text, AreFresh, IsFound, finished-may, finished-left, finished-events, finished-probes, finished-elements}
 use Rattle.markdown_inline.proofs.StartLemmas.{start-fits, unknown-runs}
-use Rattle.markdown_inline.proofs.TextTree.{text-labels, text-runless, text-finished}
-use Rattle.markdown_model.proofs.DataLaws.{row_of}
+use Rattle.markdown_inline.proofs.TextTree.{text-labels, text-still, text-finished}
+use Rattle.markdown_inline.proofs.StillRows.{row-still}
 
--- The constructs that are not built.
+-- The construct that is not built.
 
--- where they are off, nothing is switched off
+-- where it is off, nothing is switched off
 pub built-same : (s : Setting) → IsBuilt s.options.constructs → as_built s ≡ s
-built-same s off = λ i. record s {
-  options = record s.options {
-    constructs = record s.options.constructs {
-      gfm_autolink_literal = sym off.no_literals i;
-      gfm_label_start_footnote = sym off.no_footnotes i;
-      label_end = sym off.no_label_end i;
-      label_start_image = sym off.no_image i;
-      label_start_link = sym off.no_link i;
-    };
-  };
-}
+built-same s off = λ i. record s { options = record s.options { constructs = record s.options.constructs { gfm_autolink_literal = sym off.no_literals i } } }
 
 -- Runs.
 
@@ -84,6 +78,12 @@ text-ready p pieces first T content k =
     record {
       spans = record { rest = k.fields ∙ sym (ap X.rested k.fields); fits = omega (arith, fits); indexed = unknown-runs T.tokenize_state T.cursor.codes (ap (λ (s : TokenizeState). s.runs) k.fields) };
       look = record { resting = ap W.rested k.fields ∙ sym k.fields; short = fits };
+      ends = record {
+        part = record { short = fits; spaces = record { space = ap W.rested k.fields ∙ sym k.fields; eol = ap L.eol_rested k.fields ∙ sym k.fields }; rest = ap Parts.rested k.fields ∙ sym k.fields };
+        text = start-text p pieces (text_fields first) T content k;
+        within = subst (λ (s : TokenizeState). AreWithin T s.label_starts) (sym k.fields) tt;
+        resting = ap (λ (s : TokenizeState). s.end) k.fields;
+      };
     }
 
 -- where data stops at the markers of a text, and where the runs of its spans stand
@@ -93,11 +93,14 @@ marked-start p pieces first T k =
     let m : Starts p pieces (marked_fields T.cursor.codes T.tokenize_state) (text_marked T) = start-with p pieces (text_fields first) (marked_fields T.cursor.codes T.tokenize_state) T k in
     subst (λ (s : TokenizeState). Starts p pieces (marked_fields T.cursor.codes s) (text_marked T)) k.fields m
 
+fresh-fields : (first : Bool) (cs : List Code) → AreFresh (marked_fields cs (text_fields first))
+fresh-fields first cs = record { labels = refl; starts = refl; loose = refl; end = refl; seen = refl; probes = refl }
+
 module _ (p : ParseState) (pieces : List Piece) (first : Bool) (content : IsContent p.bytes.now pieces) (T U : Tokenizer) (start : text_start p pieces first T) where
   abbrev M : Tokenizer
   M = text_marked T
 
-  ended : (ok : Bool) → start_ends T ok U → Finishes (text_choice_of M) (Unit {0}) text_passed M U
+  ended : (ok : Bool) → start_ends T ok U → Finishes (text_choice_of M) text_passed M U
   ended true k = k
   ended false k = absurd k
 
@@ -122,43 +125,55 @@ module _ (p : ParseState) (pieces : List Piece) (first : Bool) (content : IsCont
   G = record { bytes = refl; options = refl }
 
   module _ (ok : Bool) (k : start_ends T ok U) where
-    abbrev E : Finishes (text_choice_of M) (Unit {0}) text_passed M U
+    abbrev E : Finishes (text_choice_of M) text_passed M U
     E = ended ok k
 
     abbrev S : Starts p pieces (marked_fields T.cursor.codes (text_fields first)) M
     S = marked-start p pieces first T start
 
-    found : (es : List Element) × (AreElementsFrom (text_choice_of M) [] None all_codes es × (HasLines (row_of es) × (split E.tree ≡ split (row_of es))))
-    found = finished-elements R.Text breaks_on true text-trims (text_choice_of M) (Unit {0}) p pieces content Given G _ refl M U S E tt
+    abbrev F : AreFresh (marked_fields T.cursor.codes (text_fields first))
+    F = fresh-fields first T.cursor.codes
 
-    are : AreElements Built all_codes found.0
-    are = subst (λ c. AreElementsFrom c [] None all_codes found.0) choice-is found.1.0
+    -- the row with its labels grouped
+    abbrev Tree : Forest
+    Tree = grouped (brackets_of E.row)
 
-    labels : label_tree Built all_codes ≡ row_of found.0
-    labels = text-labels Built all_codes found.0 (built-off Given) are
+    abbrev Found : Type 0
+    Found = IsFound (text_choice_of M) all_codes E.row
 
-    good : has_run E.tree ≡ true → IsGood p.bytes.now E.tree
+    found : Found
+    found = finished-elements R.Text breaks_on true text-trims (text_choice_of M) p pieces content Given G _ F M U S E
+
+    are : AreElements Built all_codes found.elements
+    are = subst (λ c. AreElementsFrom c [] None all_codes found.elements) choice-is found.are
+
+    labels : label_tree Built all_codes ≡ labels_of found.elements
+    labels = text-labels Built all_codes found.elements are
+
+    good : row_has_run E.row ≡ true → IsGood p.bytes.now Tree
     good e =
-        good-alike p.bytes.now E.tree (row_of found.0) found.1.1.1
+        good-alike p.bytes.now Tree (labels_of found.elements) found.trees
         (subst (λ t. IsGood p.bytes.now t) labels (good-tree p.bytes.now Built all_codes (singles-content p.bytes.now pieces content.in_order)))
 
     pub text-may : MayResolve may_resolve_of resolves_of U.resolvers (unregistered U)
-    text-may = finished-may R.Text breaks_on true text-trims (text_choice_of M) (Unit {0}) p pieces content Given G _ refl M U S E good
+    text-may = finished-may R.Text breaks_on true text-trims (text_choice_of M) p pieces content Given G _ F M U S E good
 
     module _ (V : Tokenizer) (r : Resolves resolves_of U.resolvers (unregistered U) V) where
       -- the looks that pairing took are within the bounds of the content's tree of labels
       pub text-probes : IsProbed Built (label_tree Built all_codes) V.tokenize_state.probes
       text-probes =
           subst (λ t. IsProbed Built t V.tokenize_state.probes) (sym labels)
-          (probes-built Given (row_of found.0) V.tokenize_state.probes (finished-probes R.Text breaks_on true text-trims (text_choice_of M) (Unit {0}) p pieces content Given G _ refl M U S E good V (row_of found.0) found.1.1.1 r))
+          (probes-built Given (labels_of found.elements) V.tokenize_state.probes (finished-probes R.Text breaks_on true text-trims (text_choice_of M) p pieces content Given G _ F M U S E good V (labels_of found.elements) found.trees r))
 
       -- where runs are not looked for none is taken
       pub text-no-probes : Given.options.constructs.attention ≡ false → Given.options.constructs.gfm_strikethrough ≡ false → V.tokenize_state.probes ≡ 0
-      text-no-probes off none = probes-none Built (label_tree Built all_codes) V.tokenize_state.probes (text-runless Built all_codes (built-off Given) off none) text-probes
+      text-no-probes off none =
+          let still : row_has_run E.row ≡ false = row-still E.row found.elements found.alike (text-still Built all_codes found.elements (built-off Given) are off none) in
+          probes-none Given Tree V.tokenize_state.probes (grouped-runless E.row found.is_row still) (finished-left R.Text breaks_on true text-trims (text_choice_of M) p pieces content Given G _ F M U S E good V r).probed
 
       -- the events after a run over a text and its passes
       pub text-run : chained V.events ≡ text_events Built pieces
       text-run =
-          finished-events R.Text breaks_on true text-trims (text_choice_of M) (Unit {0}) p pieces content Given G _ refl M U S E good V (row_of found.0) found.1.1.0 found.1.1.1 r
-          ∙ ap (λ t. events_of (trimmed (breaks_on p) true true (merged t))) (sym (paired-built Given (row_of found.0)))
-          ∙ ap events_of (sym (text-finished Built all_codes found.0 (built-off Given) are))
+          finished-events R.Text breaks_on true text-trims (text_choice_of M) p pieces content Given G _ F M U S E good V (labels_of found.elements) found.have_codes found.trees r
+          ∙ ap (λ t. events_of (trimmed (breaks_on p) true true (merged t))) (sym (paired-built Given (labels_of found.elements)))
+          ∙ ap events_of (sym (text-finished Built all_codes found.elements (built-off Given) are))

@@ -23,8 +23,9 @@ use Rattle.markdown_model.proofs.LinkFree.{Passes, Yields, yields_bind, yields_g
 use Rattle.markdown_inline.specs.Built.{IsBuilt}
 use Rattle.markdown_attention.specs.Reading.{is_run}
 use Rattle.markdown_row.specs.Trees.{IsNode, IsRunless}
-use Rattle.markdown_row.specs.Row.{Row, row_end, row_then, tree_onto, row_has_run, row_of_elements}
-use Rattle.markdown_row.proofs.TreePasts.{has_run-row, quiet-runless, leaf-runless, runless-no-run}
+use Rattle.markdown_row.specs.Row.{row_has_run, row_of_elements}
+use Rattle.markdown_inline.proofs.StillRows.{IsStill, still-first}
+use Rattle.markdown_row.proofs.TreePasts.{quiet-runless, leaf-runless}
 use Rattle.markdown_row.proofs.NodeLemmas.{check_yields, html_yields, escape_yields, reference_yields, break_yields, autolink_yields, span_here_yields, code_quiet, math_quiet}
 use Rattle.markdown_model.proofs.ReadingSteps.{switched-off}
 
@@ -171,11 +172,6 @@ text-are P s all (e ∷ es) earlier previous cs built h are = (
 
 -- Where no runs are looked for, none stands in them.
 
-abbrev IsStill : Element → Type 0
-IsStill (plain tree) = IsRunless tree
-IsStill (starts kind marker) = Unit {0}
-IsStill (ends marker outcome) = Unit {0}
-
 parts-still : (on : Constructs) → on.attention ≡ false → on.gfm_strikethrough ≡ false → HoldsOfParts IsStill on
 parts-still on off none = record {
   nodes = λ t h. quiet-runless t h.quiet;
@@ -187,16 +183,9 @@ parts-still on off none = record {
   closes = λ marker outcome. tt;
 }
 
-onto-still : (t : Forest) (r : Row) → has_run t ≡ false → row_has_run r ≡ false → row_has_run (tree_onto t r) ≡ false
-onto-still t (row_end u) h k = has_run-row t u ∙ (λ i. h i || k i)
-onto-still t (row_then u mark rest) h k = ap (λ b. b || row_has_run rest) (has_run-row t u ∙ ap (λ b. b || has_run u) h) ∙ k
-
 still-row : (es : List Element) → AllAre IsStill es → row_has_run (row_of_elements es) ≡ false
 still-row [] h = refl
-still-row (plain tree ∷ es) h = onto-still tree (row_of_elements es) (runless-no-run tree h.0) (still-row es h.1)
-still-row (starts kind marker ∷ es) h = still-row es h.1
-still-row (ends marker (Some outcome) ∷ es) h = still-row es h.1
-still-row (ends marker None ∷ es) h = onto-still (leaf N.Data marker) (row_of_elements es) (runless-no-run (leaf N.Data marker) (leaf-runless N.Data marker refl)) (still-row es h.1)
+still-row (e ∷ es) h = still-first e (row_of_elements es) h.0 (still-row es h.1)
 
 -- where runs are not looked for none stands in the row of the elements
 pub text-still : (s : Setting) (cs : List Code) (es : List Element) → IsBuilt s.options.constructs → AreElements s cs es → s.options.constructs.attention ≡ false → s.options.constructs.gfm_strikethrough ≡ false → row_has_run (row_of_elements es) ≡ false

@@ -12,12 +12,19 @@ use Rattle.markdown_attention.specs.Rows.{IsOf, HasRuns}
 use Rattle.markdown_emphasis.specs.Pass.{IsSmall, IsProbed}
 use Rattle.markdown_emphasis.specs.RunEdits.{HaveRunEnds, HaveRunRoom}
 use Rattle.markdown_emphasis.specs.Trees.{IsStriped}
+use Rattle.markdown_label_pass.specs.Brackets.{Brackets, grouped}
+use Rattle.markdown_label_pass.specs.Handover.{HasBrackets, MayGroup, unlabelled}
 use Rattle.markdown_model.specs.Groups.{paired}
 use Rattle.markdown_model.specs.Pairs.{pair_list}
 use Rattle.markdown_model.specs.Passes.{merged, trimmed}
 use Rattle.markdown_model.specs.Setting.{Setting}
 use Rattle.markdown_partial.specs.Merge.{HasData}
 use Rattle.markdown_partial.specs.TrimEvents.{HasParts, HasPlaces}
+
+-- U is T with other events and without labels and starts: where T hands over brackets, with the events of their grouped tree
+pub record GroupsLabels (T U : Tokenizer) : Type 0 where
+  pub same : U ≡ record T { events = U.events; tokenize_state = unlabelled T.tokenize_state }
+  pub grouped : (b : Brackets) → HasBrackets b T.tokenize_state T.events → U.events ≡ appended_from 0 None (grouped b)
 
 -- U is T with other events: where T has those of a tree, those of the tree with its data merged
 pub record MergesData (T U : Tokenizer) : Type 0 where
@@ -54,15 +61,15 @@ pub record PairsRuns (T U : Tokenizer) : Type 0 where
   pub probed : (s : Setting) (t : Forest) → IsOf s T → HasRuns T.parse_state.now.bytes.now t → T.events ≡ appended_from 0 None t → IsProbed s t U.tokenize_state.probes
 
 abbrev pub may_resolve_of : ResolveName → Tokenizer → Type 0
+may_resolve_of R.Label T = MayGroup T
 may_resolve_of R.Attention T = MayPair T
 may_resolve_of R.Data T = T.map ≡ []
 may_resolve_of R.String T = MayTrim T
 may_resolve_of R.Text T = MayTrim T
-may_resolve_of _ T = ⊥
 
 abbrev pub resolves_of : ResolveName → Tokenizer → Tokenizer → Type 0
+resolves_of R.Label T U = GroupsLabels T U
 resolves_of R.Attention T U = PairsRuns T U
 resolves_of R.Data T U = MergesData T U
 resolves_of R.String T U = TrimsData false false T U
 resolves_of R.Text T U = TrimsData T.parse_state.now.options.now.constructs.hard_break_trailing true T U
-resolves_of _ T U = Unit {0}

@@ -2,14 +2,14 @@
 ghost use Rattle.std.specs.Prelude.{◌≡◌, IfOk, IsErr, OnErr, IsTrue, None};
 ghost use Rattle.markdown_inline.specs.Resolve.{may_resolve_of, resolves_of};
 
-use crate::{attention, string, text};
+use crate::{attention, label_end, string, text};
 use markdown_engine::resolve::ResolveName;
 use markdown_engine::subtokenize::Subresult;
 use markdown_engine::tokenizer::Tokenizer;
 use markdown_partial::partial_data;
 use std::alloc::AllocError;
 
-// Calls the pass of this name, one of those that are built.
+// Calls the pass of this name.
 fn dispatch(name: ResolveName, tokenizer: &mut Tokenizer) -> Result<Option<Subresult>, AllocError>
     requires { may_resolve_of name tokenizer.old }
     ensures none { IfOk result (λ r. r ≡ None) }
@@ -17,11 +17,11 @@ fn dispatch(name: ResolveName, tokenizer: &mut Tokenizer) -> Result<Option<Subre
     ensures err { OnErr result (IsTrue tokenizer.new.failed) }
 {
     match name {
+        ResolveName::Label => label_end::resolve(tokenizer),
         ResolveName::Attention => attention::resolve(tokenizer),
         ResolveName::Data => partial_data::resolve(tokenizer),
         ResolveName::String => string::resolve(tokenizer),
         ResolveName::Text => text::resolve(tokenizer),
-        _ => unreachable!(),
     }
 }
 

@@ -83,11 +83,9 @@ pub fn text(
 ) -> Result<Run, AllocError>
     requires { IsTextContent parse_state.now.bytes.now pieces.now }
     ensures events { let on = parse_state.now.options.now.constructs in
-        on.gfm_autolink_literal ≡ false → on.gfm_label_start_footnote ≡ false → on.label_end ≡ false → on.label_start_image ≡ false → on.label_start_link ≡ false
-        → IfOk result (λ run. run.events.items ≡ text_events (text_setting_of parse_state.now first_of_item) pieces.now) }
+        on.gfm_autolink_literal ≡ false → IfOk result (λ run. run.events.items ≡ text_events (text_setting_of parse_state.now first_of_item) pieces.now) }
     ensures probes { let on = parse_state.now.options.now.constructs in let s = text_setting_of parse_state.now first_of_item in
-        on.gfm_autolink_literal ≡ false → on.gfm_label_start_footnote ≡ false → on.label_end ≡ false → on.label_start_image ≡ false → on.label_start_link ≡ false
-        → IfOk result (λ run. IsProbed s (label_tree s (content_of s.bytes pieces.now)) run.probes) }
+        on.gfm_autolink_literal ≡ false → IfOk result (λ run. IsProbed s (label_tree s (content_of s.bytes pieces.now)) run.probes) }
     ensures events_as_built { IfOk result (λ run. run.events.items ≡ text_events (as_built (text_setting_of parse_state.now first_of_item)) pieces.now) }
     ensures probes_as_built { let s = as_built (text_setting_of parse_state.now first_of_item) in IfOk result (λ run. IsProbed s (label_tree s (content_of s.bytes pieces.now)) run.probes) }
     ensures no_probes { let on = parse_state.now.options.now.constructs in on.attention ≡ false → on.gfm_strikethrough ≡ false → IfOk result (λ run. run.probes ≡ 0) }

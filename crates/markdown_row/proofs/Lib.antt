@@ -13,3 +13,4 @@ pub mod OpenTrees
 pub mod RowSplits
 pub mod RowElements
 pub mod RowKeeps
+pub mod RowTrees

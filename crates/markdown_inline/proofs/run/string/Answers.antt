@@ -1,7 +1,11 @@
 use Rattle.std.proofs.Common.{◌∙◌}
 use Rattle.markdown_inline.proofs.RunEnds.{begun-starts}
-use Rattle.markdown_inline.proofs.StringRun.{string-may, string-probes, string-run}
+use Rattle.markdown_inline.proofs.StringRun.{string-ready, string-may, string-probes, string-run}
 use Rattle.markdown_inline.proofs.run.string.Goals as goal
+
+pub run_state-requires-clause-ready : goal.run_state-requires-clause-ready
+run_state-requires-clause-ready c =
+    string-ready c.args.parse_state.now c.args.pieces.now c.new-tokenizer.result (begun-starts c.args.alloc c.args.parse_state c.args.pieces.now c.new-tokenizer.result c.new-tokenizer.ensures)
 
 pub resolve_all-requires : goal.resolve_all-requires
 resolve_all-requires c =
