@@ -1,0 +1,3 @@
+-- What contracts of innermost events speak of.
+pub mod Leaves
+pub mod Leaf
