@@ -24,7 +24,7 @@ use Rattle.markdown_model.specs.Lines.{linked_leaf}
 use Rattle.markdown_model.specs.Whitespace.{space_or_tab, spacing, begins_filled_line}
 use Rattle.markdown_partial.specs.SpaceSteps as S
 use Rattle.markdown_partial.specs.SpaceSteps.{most, at_blank, rested}
-use Rattle.markdown_partial.specs.EolSteps.{space_asked, eol_rested, held, joins, joined, at_line_ending, ending_entered, goes_on_line, EolReady, StartReady, AfterFirstReady, indent, at_ending, start_ends, after_first_ends, at_eol_ends, after_eol_ends, after_more_ends, states, after_eol_words, after_first_words, after_more_words, at_eol_words, start_words}
+use Rattle.markdown_partial.specs.EolSteps.{space_asked, eol_rested, held, joins, joined, at_line_ending, ending_entered, goes_on_line, EolReady, AfterFirstReady, indent, at_ending, start_ends, after_first_ends, at_eol_ends, after_eol_ends, after_more_ends, states, after_eol_words, after_first_words, after_more_words, at_eol_words, start_words}
 use Rattle.markdown_partial.proofs.RunLemmas.{EndsAs-same}
 use Rattle.markdown_partial.proofs.BlankLemmas.{Here, here, blank-ahead, ending-ahead, filled-ahead}
 use Rattle.markdown_partial.proofs.SpacingLemmas.{nothing, space-all, ending-here, ending-none, spacing-then, spacing-none}

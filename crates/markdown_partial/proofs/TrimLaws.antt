@@ -91,11 +91,11 @@ stop-over : (p : Point) (front : List Code) (c : Code) (cs : List Code) → stop
 stop-over p [] c cs = refl
 stop-over p (d ∷ front) c cs = stop-over d.stop front c cs
 
-record Part (bytes : List ℕ) (cs : List Code) : Type 0 where
-  stretch : IsStretch bytes (start_of cs) (stop_of document_start cs)
-  codes : between bytes (start_of cs) (stop_of document_start cs) ≡ cs
+pub record Part (bytes : List ℕ) (cs : List Code) : Type 0 where
+  pub stretch : IsStretch bytes (start_of cs) (stop_of document_start cs)
+  pub codes : between bytes (start_of cs) (stop_of document_start cs) ≡ cs
 
-part-of : (bytes : List ℕ) (cs : List Code) → IsPart bytes cs → Part bytes cs
+pub part-of : (bytes : List ℕ) (cs : List Code) → IsPart bytes cs → Part bytes cs
 unfolding between
 part-of bytes [] h = absurd (h.some refl)
 part-of bytes (c ∷ cs) h =
@@ -141,7 +141,7 @@ trimmed-row m q front back hard cs t =
     ∙ ap (λ xs. xs ++ appended_from (m + event_count D) (last_link m q D) t) (trimmed-same m q front back hard cs)
     ∙ ap (λ o. appended_from 0 None D ++ appended_from (m + event_count D) o t) (trimmed-last m q front back hard cs)
 
-count-row : (t u : Forest) → event_count (t ⊕ u) ≡ event_count t + event_count u
+pub count-row : (t u : Forest) → event_count (t ⊕ u) ≡ event_count t + event_count u
 count-row empty u = omega arith
 count-row (leaf_then name link cs rest) u = let r = count-row rest u in omega arith
 count-row (group_then name p q inside rest) u = let r = count-row rest u in omega arith

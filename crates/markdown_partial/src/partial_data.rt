@@ -91,8 +91,8 @@ pub fn inside_stops(fields: &TokenizeState) -> Option<ByteSet>
     Some(fields.markers.again())
 }
 
-// Whether this is the Enter of data without a link.
-pub(crate) fn opens_data(event: &Event) -> bool
+/// Whether this is the Enter of data without a link.
+pub fn opens_data(event: &Event) -> bool
     ensures { result ≡ opens_data event.now }
 {
     matches!(

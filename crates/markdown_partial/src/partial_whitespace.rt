@@ -39,8 +39,8 @@ fn is_real_space(bytes: &[u8], point: Point) -> bool
     code_from(bytes, point) == b' ' && point.vs == 0
 }
 
-// Whether two points are one place.
-fn is_same_place(left: Point, right: Point) -> bool
+/// Whether two points are one place.
+pub fn is_same_place(left: Point, right: Point) -> bool
     ensures { result ≡ is_same_place left right }
 {
     left.index == right.index && left.vs == right.vs
@@ -108,8 +108,13 @@ fn blank_name(bytes: &[u8], from: Point, to: Point, hard: bool) -> Name
     }
 }
 
-// Appends the events of a leaf, where it has a code.
-fn push_leaf(events: &mut Vec<Event>, name: Name, from: Point, to: Point) -> Result<(), AllocError>
+/// Appends the events of a leaf from a place to a place, where it has a code.
+pub fn push_leaf(
+    events: &mut Vec<Event>,
+    name: Name,
+    from: Point,
+    to: Point,
+) -> Result<(), AllocError>
     ensures { OnOk result (events.new.items ≡ events.old.items ++ leaf_events name from to) }
 {
     if !is_same_place(from, to) {
