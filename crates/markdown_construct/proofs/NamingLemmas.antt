@@ -1,12 +1,11 @@
 -- How the states inside a leaf follow one another whose name is settled only at its end.
-use Rattle.std.proofs.Common.{◌≡◌, ℕ, suc, ◌+◌, ◌-◌, ◌*◌, ◌<◌, ◌≤◌, Bool, true, false, Some, None, List, [], ◌∷◌, ◌++◌, length, take, drop, map, refl, sym, ap, subst, ◌∙◌, arith, append_assoc, append-nil}
+use Rattle.std.proofs.Common.{◌≡◌, ℕ, suc, ◌-◌, Bool, true, false, Some, None, List, [], ◌∷◌, ◌++◌, length, take, drop, map, refl, sym, ap, subst, ◌∙◌, arith, append_assoc, append-nil}
 use Rattle.std.proofs.lemmas.List.{take-append-drop}
 use Rattle.std.proofs.lemmas.Grind.{common_steps}
-use Rattle.markdown_engine.specs.Codes.{Code}
 use Rattle.markdown_engine.specs.Grown.{Grown, unwound}
 use Rattle.markdown_engine.specs.Lists.{rest_of}
-use Rattle.markdown_engine.specs.Ops.{Op, Enter, Consume, ahead, applied, done, scratched, stays, moves, enter_event}
-use Rattle.markdown_engine.specs.Runs.{GoesOn, stepped, ready_state, weight_state, ends_state}
+use Rattle.markdown_engine.specs.Ops.{Op, Enter, Consume, ahead, applied, done, scratched, stays, enter_event}
+use Rattle.markdown_engine.specs.Runs.{GoesOn, stepped}
 use Rattle.markdown_engine.specs.Weights.{weight_at, codes_left}
 use Rattle.markdown_engine.specs.declared.event.Event.{Event}
 use Rattle.markdown_engine.specs.declared.event.Name.{Name}
@@ -15,11 +14,11 @@ use Rattle.markdown_engine.specs.declared.state.StateName.{StateName}
 use Rattle.markdown_engine.specs.declared.tokenizer.TokenizeState.{TokenizeState}
 use Rattle.markdown_engine.specs.declared.tokenizer.Tokenizer.{Tokenizer}
 use Rattle.markdown_engine.proofs.Laws.{Goes-plain}
-use Rattle.markdown_engine.proofs.OpRules.{attempts-scratched, left-scratched}
-use Rattle.markdown_engine.proofs.OpsLemmas.{Grown-scratched, attempts-done, left-done, drop-rest}
-use Rattle.markdown_construct.proofs.PlanLemmas.{kept, done-scratched, ahead-after, DoesAs-then, Grown-after, scratch-same}
+use Rattle.markdown_engine.proofs.OpRules.{attempts-scratched}
+use Rattle.markdown_engine.proofs.OpsLemmas.{Grown-scratched, attempts-done, drop-rest}
+use Rattle.markdown_construct.proofs.PlanLemmas.{done-scratched, ahead-after, Grown-after, scratch-same}
 use Rattle.markdown_construct.proofs.RenamingLemmas.{attempts-renamed}
-use Rattle.markdown_construct.specs.Plan.{Plan, preceded, depth_after, DoesAs}
+use Rattle.markdown_construct.specs.Plan.{Plan, DoesAs}
 use Rattle.markdown_construct.specs.Renaming.{named, last_named, renamed, unopened, Naming, opened, under, preceded_by, NamesAs}
 
 -- Lists whose last event is known.
@@ -147,49 +146,13 @@ pub NamesAs-same : (d : ℕ) (p q : Naming) (s : TokenizeState) (T : Tokenizer) 
 NamesAs-same d p q s T e true U k = record { name = k.name; ops = k.ops; holds = e ∙ k.holds; left = k.left }
 NamesAs-same d p q s T e false U k = record { none = e ∙ k.none; grown = k.grown; scratch = k.scratch }
 
--- The steps of a state, by what the run from there is claimed to end with.
+-- The steps of a state to Ok and to Nok.
 module _ (ready : StateName → Tokenizer → Type 0) (ends : StateName → Tokenizer → Bool → Tokenizer → Type 0) (weight : StateName → Tokenizer → ℕ) where
-  -- on with a state, after operations on a tokenizer that has as many codes left
-  pub Goes-to : (k j : ℕ) (E : Bool → Tokenizer → Type 0) (os : List Op) (r : TokenizeState) (X T : Tokenizer) (st : State) → X.attempts ≡ [] → codes_left X ≡ codes_left T → moves os ≤ length (ahead X) → j < 256 * moves os + k → ready_state ready st (scratched r (done os X)) → weight_state weight st (scratched r (done os X)) ≡ weight_at j (scratched r (done os X)) → ((ok : Bool) (U : Tokenizer) → ends_state ends st (scratched r (done os X)) ok U → E ok U) → GoesOn ready ends weight (weight_at k T) E (stepped st (scratched r (done os X)))
-  Goes-to k j E os r X T st alone same within less on w closed =
-      let now : weight_state weight st (scratched r (done os X)) < weight_at k T = subst (λ n. n < weight_at k T) (sym w) (omega (arith, left-done os X within, left-scratched r (done os X), same)) in
-      Goes-plain ready ends weight (weight_at k T) E st (scratched r (done os X)) (attempts-scratched r (done os X) ∙ attempts-done os X ∙ alone) on now closed
-
-  -- on with a state past the Enter of a leaf and its first code
-  pub Goes-entered : (k j d : ℕ) (p : Plan) (q : Naming) (m : Name) (s r : TokenizeState) (T : Tokenizer) (st : State) → T.attempts ≡ [] → stays d (Consume ∷ []) ≡ true → 1 ≤ length (ahead T) → j < 256 + k → p (ahead T) ≡ opened (preceded_by (Consume ∷ []) (q (drop 1 (ahead T)))) → ready_state ready st (scratched r (done (Enter m ∷ Consume ∷ []) T)) → weight_state weight st (scratched r (done (Enter m ∷ Consume ∷ []) T)) ≡ weight_at j (scratched r (done (Enter m ∷ Consume ∷ []) T)) → ((ok : Bool) (U : Tokenizer) → ends_state ends st (scratched r (done (Enter m ∷ Consume ∷ []) T)) ok U → NamesAs d q s (scratched r (done (Enter m ∷ Consume ∷ []) T)) ok U) → GoesOn ready ends weight (weight_at k T) (DoesAs d p s T) (stepped st (scratched r (done (Enter m ∷ Consume ∷ []) T)))
-  Goes-entered k j d p q m s r T st alone st_ok within less e on w closed =
-      let one : Naming = λ cs. preceded_by (Consume ∷ []) (q (drop 1 cs)) in
-      Goes-to k j (DoesAs d p s T) (Enter m ∷ Consume ∷ []) r T T st alone refl within (omega (arith, less)) on w
-      (λ ok U x. DoesAs-entered d p one m s T e ok U (NamesAs-next d one q s r (applied (Enter m) T) st_ok refl ok U (closed ok U x)))
-
-  -- past a code of the leaf
-  pub Goes-inside : (k j d : ℕ) (p q : Naming) (s r : TokenizeState) (T : Tokenizer) (st : State) → T.attempts ≡ [] → stays d (Consume ∷ []) ≡ true → 1 ≤ length (ahead T) → j < 256 + k → p (ahead T) ≡ preceded_by (Consume ∷ []) (q (drop 1 (ahead T))) → ready_state ready st (scratched r (done (Consume ∷ []) T)) → weight_state weight st (scratched r (done (Consume ∷ []) T)) ≡ weight_at j (scratched r (done (Consume ∷ []) T)) → ((ok : Bool) (U : Tokenizer) → ends_state ends st (scratched r (done (Consume ∷ []) T)) ok U → NamesAs d q s (scratched r (done (Consume ∷ []) T)) ok U) → GoesOn ready ends weight (weight_at k T) (NamesAs d p s T) (stepped st (scratched r (done (Consume ∷ []) T)))
-  Goes-inside k j d p q s r T st alone st_ok within less e on w closed =
-      Goes-to k j (NamesAs d p s T) (Consume ∷ []) r T T st alone refl within (omega (arith, less)) on w (λ ok U x. NamesAs-next d p q s r T st_ok e ok U (closed ok U x))
-
-  -- on with a state after the leaf, under this name
-  pub Goes-settled : (k j d : ℕ) (p : Naming) (n : Name) (q : Plan) (os : List Op) (s r : TokenizeState) (T : Tokenizer) (st : State) → T.attempts ≡ [] → stays (suc d) os ≡ true → moves os ≤ length (ahead T) → j < 256 * moves os + k → p (ahead T) ≡ under n (preceded os (q (drop (moves os) (ahead T)))) → ready_state ready st (scratched r (done os (renamed n T))) → weight_state weight st (scratched r (done os (renamed n T))) ≡ weight_at j (scratched r (done os (renamed n T))) → ((ok : Bool) (U : Tokenizer) → ends_state ends st (scratched r (done os (renamed n T))) ok U → DoesAs (depth_after (suc d) os) q s (scratched r (done os (renamed n T))) ok U) → GoesOn ready ends weight (weight_at k T) (NamesAs d p s T) (stepped st (scratched r (done os (renamed n T))))
-  Goes-settled k j d p n q os s r T st alone st_ok within less e on w closed =
-      let both : Plan = λ cs. preceded os (q (drop (moves os) cs)) in
-      Goes-to k j (NamesAs d p s T) os r (renamed n T) T st (attempts-renamed n T ∙ alone) (left-renamed n T) (subst (λ (cs : List Code). moves os ≤ length cs) (sym (ahead-renamed n T)) within) less on w
-      (λ ok U x. NamesAs-under d p n both s T e ok U (DoesAs-then (suc d) both q os s r (renamed n T) st_ok refl ok U (closed ok U x)))
-
   -- the leaf and the construct end
   pub Goes-named : (k d : ℕ) (p : Naming) (n : Name) (os : List Op) (s : TokenizeState) (T : Tokenizer) → T.attempts ≡ [] → p (ahead T) ≡ Some (n, os) → GoesOn ready ends weight (weight_at k T) (NamesAs d p s T) (stepped State.Ok (scratched s (done os (renamed n T))))
   Goes-named k d p n os s T alone e =
       Goes-plain ready ends weight (weight_at k T) (NamesAs d p s T) State.Ok (scratched s (done os (renamed n T))) (attempts-scratched s (done os (renamed n T)) ∙ attempts-done os (renamed n T) ∙ attempts-renamed n T ∙ alone) tt (omega arith)
       (λ ok U x. subst (λ b. NamesAs d p s T b U) (sym x.0) (record { name = n; ops = os; holds = e; left = x.1 ∙ sym (done-scratched os s (renamed n T)) }))
-
-  -- the same, the scratch fields left alone
-  pub Goes-inside-kept : (k j d : ℕ) (p q : Naming) (s : TokenizeState) (T : Tokenizer) (st : State) → T.attempts ≡ [] → stays d (Consume ∷ []) ≡ true → 1 ≤ length (ahead T) → j < 256 + k → p (ahead T) ≡ preceded_by (Consume ∷ []) (q (drop 1 (ahead T))) → ready_state ready st (done (Consume ∷ []) T) → weight_state weight st (done (Consume ∷ []) T) ≡ weight_at j (done (Consume ∷ []) T) → ((ok : Bool) (U : Tokenizer) → ends_state ends st (done (Consume ∷ []) T) ok U → NamesAs d q s (done (Consume ∷ []) T) ok U) → GoesOn ready ends weight (weight_at k T) (NamesAs d p s T) (stepped st (done (Consume ∷ []) T))
-  Goes-inside-kept k j d p q s T st alone st_ok within less e =
-      subst (λ (V : Tokenizer). ready_state ready st V → weight_state weight st V ≡ weight_at j V → ((ok : Bool) (U : Tokenizer) → ends_state ends st V ok U → NamesAs d q s V ok U) → GoesOn ready ends weight (weight_at k T) (NamesAs d p s T) (stepped st V)) (kept (Consume ∷ []) T) (Goes-inside k j d p q s T.tokenize_state T st alone st_ok within less e)
-
-  -- on with a state at the same place
-  pub Goes-over : (k j d : ℕ) (p q : Naming) (s : TokenizeState) (T : Tokenizer) (st : State) → T.attempts ≡ [] → j < k → p (ahead T) ≡ q (ahead T) → ready_state ready st T → weight_state weight st T ≡ weight_at j T → ((ok : Bool) (U : Tokenizer) → ends_state ends st T ok U → NamesAs d q s T ok U) → GoesOn ready ends weight (weight_at k T) (NamesAs d p s T) (stepped st T)
-  Goes-over k j d p q s T st alone less e on w closed =
-      let now : weight_state weight st T < weight_at k T = subst (λ n. n < weight_at k T) (sym w) (omega (arith, less)) in
-      Goes-plain ready ends weight (weight_at k T) (NamesAs d p s T) st T alone on now (λ ok U x. NamesAs-same d p q s T e ok U (closed ok U x))
 
   -- the construct does not hold
   pub Goes-refused : (k d : ℕ) (p : Naming) (s : TokenizeState) (T : Tokenizer) → T.attempts ≡ [] → p (ahead T) ≡ None → GoesOn ready ends weight (weight_at k T) (NamesAs d p s T) (stepped State.Nok (scratched s T))

@@ -1,10 +1,10 @@
 -- How the states of a construct follow one another, by the operations that are to come.
-use Rattle.std.proofs.Common.{append_assoc, ◌≡◌, ℕ, ◌+◌, ◌*◌, ◌<◌, ◌≤◌, Bool, true, false, Option, Some, None, List, [], ◌∷◌, ◌++◌, length, drop, refl, sym, ap, subst, ◌∙◌, arith}
+use Rattle.std.proofs.Common.{append_assoc, ◌≡◌, ℕ, ◌≤◌, Bool, true, false, Option, Some, None, List, [], ◌∷◌, ◌++◌, length, drop, refl, sym, ap, subst, ◌∙◌, arith}
 use Rattle.markdown_engine.specs.Codes.{Code}
 use Rattle.markdown_engine.specs.Grown.{Grown}
 use Rattle.markdown_engine.specs.Ops.{Op, Enter, Exit, EnterLink, EnterConnected, Consume, ahead, applied, done, op_depth, op_stays, stays, moves, scratched}
 use Rattle.markdown_engine.specs.Past.{TreeReading, EndsAs}
-use Rattle.markdown_engine.specs.Runs.{Goes, GoesOn, Stepped, stepped, settled, ends_state, ready_state, weight_state}
+use Rattle.markdown_engine.specs.Runs.{Goes, GoesOn, Stepped, stepped, settled}
 use Rattle.markdown_engine.specs.Tree.{Forest, leaf_codes}
 use Rattle.markdown_engine.specs.TreeOps.{ops_of, consumes}
 use Rattle.markdown_engine.specs.Weights.{weight_at}
@@ -16,8 +16,8 @@ use Rattle.markdown_engine.specs.declared.tokenizer.TokenizeState.{TokenizeState
 use Rattle.markdown_engine.specs.declared.tokenizer.Tokenizer.{Tokenizer}
 use Rattle.markdown_engine.proofs.EndsLemmas.{scratched-same}
 use Rattle.markdown_engine.proofs.Laws.{Goes-plain, Grown-refl}
-use Rattle.markdown_engine.proofs.OpRules.{attempts-scratched, left-scratched}
-use Rattle.markdown_engine.proofs.OpsLemmas.{Grown-applied, Grown-scratched, ahead-done, attempts-done, left-done, scratch-done, and-left, and-right}
+use Rattle.markdown_engine.proofs.OpRules.{attempts-scratched}
+use Rattle.markdown_engine.proofs.OpsLemmas.{Grown-applied, Grown-scratched, ahead-done, attempts-done, scratch-done, and-left, and-right}
 use Rattle.markdown_engine.proofs.TreeLemmas.{done-append, ops-past, ahead-past}
 use Rattle.markdown_construct.proofs.WholeReadings.{Gives, Covers}
 use Rattle.markdown_construct.specs.Plan.{Plan, preceded, tree_ops, plan_of, depth_after, DoesAs, KeepsAs}
@@ -83,11 +83,7 @@ pub consumes-append : (xs ys : List Code) → consumes (xs ++ ys) ≡ consumes x
 consumes-append [] ys = refl
 consumes-append (x ∷ xs) ys = ap (λ os. Consume ∷ os) (consumes-append xs ys)
 
--- The steps of a state: on with another one, to Ok, and to Nok.
-
--- the number falls, by the codes passed and the ranks of the states
-falls : (os : List Op) (r : TokenizeState) (T : Tokenizer) (j k : ℕ) → moves os ≤ length (ahead T) → j < 256 * moves os + k → weight_at j (scratched r (done os T)) < weight_at k T
-falls os r T j k h l = omega (arith, left-done os T h, left-scratched r (done os T))
+-- The steps of a state to Ok and to Nok.
 
 Grown-same : (d : ℕ) (s : TokenizeState) (T U : Tokenizer) → U ≡ scratched s T → Grown d T U
 Grown-same d s T U e = subst (λ (x : Tokenizer). Grown d T x) (sym e) (Grown-scratched d s T (scratched s T) (Grown-refl d (scratched s T)))
@@ -108,22 +104,6 @@ module _ (ready : StateName → Tokenizer → Type 0) (ends : StateName → Toke
 
   pub GoesOn-map : (n : ℕ) (E F : Bool → Tokenizer → Type 0) (r : Stepped) → ((ok : Bool) (U : Tokenizer) → E ok U → F ok U) → GoesOn ready ends weight n E r → GoesOn ready ends weight n F r
   GoesOn-map n E F r f g = Goes-map n E F f r.left.attempts r.state (settled r.left) g
-
-  -- on with a state, with these scratch fields
-  pub Goes-on : (k j d : ℕ) (p q : Plan) (os : List Op) (s r : TokenizeState) (T : Tokenizer) (st : State) → T.attempts ≡ [] → stays d os ≡ true → moves os ≤ length (ahead T) → j < 256 * moves os + k → p (ahead T) ≡ preceded os (q (drop (moves os) (ahead T))) → ready_state ready st (scratched r (done os T)) → weight_state weight st (scratched r (done os T)) ≡ weight_at j (scratched r (done os T)) → ((ok : Bool) (U : Tokenizer) → ends_state ends st (scratched r (done os T)) ok U → DoesAs (depth_after d os) q s (scratched r (done os T)) ok U) → GoesOn ready ends weight (weight_at k T) (DoesAs d p s T) (stepped st (scratched r (done os T)))
-  Goes-on k j d p q os s r T st alone stay within less e on w closed =
-      let now : weight_state weight st (scratched r (done os T)) < weight_at k T = subst (λ n. n < weight_at k T) (sym w) (falls os r T j k within less) in
-      Goes-plain ready ends weight (weight_at k T) (DoesAs d p s T) st (scratched r (done os T)) (attempts-scratched r (done os T) ∙ attempts-done os T ∙ alone) on now (λ ok U x. DoesAs-then d p q os s r T stay e ok U (closed ok U x))
-
-  -- on with a state, the scratch fields left alone
-  pub Goes-kept : (k j d : ℕ) (p q : Plan) (os : List Op) (s : TokenizeState) (T : Tokenizer) (st : State) → T.attempts ≡ [] → stays d os ≡ true → moves os ≤ length (ahead T) → j < 256 * moves os + k → p (ahead T) ≡ preceded os (q (drop (moves os) (ahead T))) → ready_state ready st (done os T) → weight_state weight st (done os T) ≡ weight_at j (done os T) → ((ok : Bool) (U : Tokenizer) → ends_state ends st (done os T) ok U → DoesAs (depth_after d os) q s (done os T) ok U) → GoesOn ready ends weight (weight_at k T) (DoesAs d p s T) (stepped st (done os T))
-  Goes-kept k j d p q os s T st alone stay within less e =
-      subst (λ (V : Tokenizer). ready_state ready st V → weight_state weight st V ≡ weight_at j V → ((ok : Bool) (U : Tokenizer) → ends_state ends st V ok U → DoesAs (depth_after d os) q s V ok U) → GoesOn ready ends weight (weight_at k T) (DoesAs d p s T) (stepped st V)) (kept os T) (Goes-on k j d p q os s T.tokenize_state T st alone stay within less e)
-
-  -- the same, where all states leave them alone
-  pub Goes-next : (k j d : ℕ) (p q : Plan) (os : List Op) (T : Tokenizer) (st : State) → T.attempts ≡ [] → stays d os ≡ true → moves os ≤ length (ahead T) → j < 256 * moves os + k → p (ahead T) ≡ preceded os (q (drop (moves os) (ahead T))) → ready_state ready st (done os T) → weight_state weight st (done os T) ≡ weight_at j (done os T) → ((ok : Bool) (U : Tokenizer) → ends_state ends st (done os T) ok U → KeepsAs (depth_after d os) q (done os T) ok U) → GoesOn ready ends weight (weight_at k T) (KeepsAs d p T) (stepped st (done os T))
-  Goes-next k j d p q os T st alone stay within less e on w closed =
-      Goes-kept k j d p q os T.tokenize_state T st alone stay within less e on w (λ ok U x. subst (λ (s : TokenizeState). DoesAs (depth_after d os) q s (done os T) ok U) (scratch-done os T) (closed ok U x))
 
   -- all is done
   pub Goes-ok : (k d : ℕ) (p : Plan) (os : List Op) (s : TokenizeState) (T : Tokenizer) → T.attempts ≡ [] → p (ahead T) ≡ Some os → GoesOn ready ends weight (weight_at k T) (DoesAs d p s T) (stepped State.Ok (scratched s (done os T)))

@@ -1,5 +1,5 @@
 -- What is known of characters goes on along a content.
-use Rattle.std.proofs.Common.{◌≡◌, ℕ, List, [], ◌∷◌}
+use Rattle.std.proofs.Common.{ℕ, List, [], ◌∷◌}
 use Rattle.markdown_engine.specs.Ops.{Consume, applied, done, scratched}
 use Rattle.markdown_engine.specs.Place.{Place, moved}
 use Rattle.markdown_engine.specs.declared.tokenizer.TokenizeState.{TokenizeState}

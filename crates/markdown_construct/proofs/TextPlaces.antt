@@ -1,5 +1,5 @@
 -- Places of a content that stand between characters.
-use Rattle.std.proofs.Common.{◌≡◌, ℕ, zero, suc, nat_lt, Bool, true, false, Option, Some, None, List, [], ◌∷◌, ◌++◌, drop, slice_get, refl, sym, ap, ◌∙◌}
+use Rattle.std.proofs.Common.{◌≡◌, ℕ, zero, suc, nat_lt, true, false, Option, Some, None, List, [], ◌∷◌, ◌++◌, drop, slice_get, refl, ap, ◌∙◌}
 use Rattle.std.specs.Str.{IsCharBoundary}
 use Rattle.markdown_engine.specs.Codes.{Code, stop_of, document_start}
 use Rattle.markdown_engine.specs.Lists.{first_of, rest_of}
