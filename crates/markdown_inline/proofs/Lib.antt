@@ -16,3 +16,5 @@ pub mod TextRun
 pub mod LabelConstructs
 pub mod RowPasses
 pub mod StillRows
+pub mod TrimmedParts
+pub mod FinishTexts

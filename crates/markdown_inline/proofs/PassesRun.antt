@@ -31,7 +31,7 @@ use Rattle.markdown_partial.specs.TrimEvents.{HasParts, HasPlaces}
 use Rattle.markdown_partial.proofs.TrimLaws.{places-of}
 use Rattle.markdown_row.specs.Fresh.{passes_of}
 use Rattle.markdown_row.specs.Trees.{HasLines, IsRunless}
-use Rattle.markdown_inline.specs.Resolve.{MayPair, PairsRuns, MergesData, MayTrim, TrimsData, may_resolve_of, resolves_of}
+use Rattle.markdown_inline.specs.Resolve.{MayPair, PairsRuns, MergesData, MayFinish, mailed_where, may_resolve_of, resolves_of}
 use Rattle.markdown_inline.proofs.ContentParts.{parts-of, HasLines-merged, HasLines-HasData}
 use Rattle.markdown_inline.proofs.PairedLines.{HasLines-paired}
 use Rattle.markdown_inline.proofs.Runless.{paired-runless, unprobed}
@@ -47,17 +47,23 @@ labels_first true ns = R.Label ∷ ns
 labels_first false ns = ns
 
 
--- a pass that trims; `hard`: hard breaks are looked for; `whole`: at the start and the end of the whole too
-pub record IsTrimming (last : ResolveName) (hard : ParseState → Bool) (whole : Bool) : Type 0 where
-  pub may : (T : Tokenizer) → MayTrim T → may_resolve_of last T
-  pub leaves : (T U : Tokenizer) → resolves_of last T U → TrimsData (hard T.parse_state.now) whole T U
+-- the last pass, and what it leaves of a tree whose data is part of the document
+pub record IsTrimming (last : ResolveName) (finish : ParseState → Forest → Forest) : Type 0 where
+  pub may : (T : Tokenizer) → MayFinish T → may_resolve_of last T
+  pub same : (T U : Tokenizer) → resolves_of last T U → U ≡ record T { events = U.events }
+  pub leaves : (T U : Tokenizer) (t : Forest) → resolves_of last T U → HasParts T.parse_state.now.bytes.now t → T.events ≡ appended_from 0 None t → U.events ≡ appended_from 0 None (finish T.parse_state.now t)
   pub registers : (a b : Bool) (X : Tokenizer) → X.resolvers ≡ passes_of a b → registered last (registered R.Data X) ≡ record X { resolvers = labels_first a (passes_first b (R.Data ∷ last ∷ [])) }
 
-pub string-trims : IsTrimming R.String (λ p. false) false
+-- a string is trimmed beside its line endings
+abbrev pub string_finish : ParseState → Forest → Forest
+string_finish p t = trimmed false false false t
+
+pub string-trims : IsTrimming R.String string_finish
 unfolding registered
 string-trims = record {
-  may = λ T h. h;
-  leaves = λ T U h. h;
+  may = λ T h. record { map = h.map; fits = h.fits; places = places-of T.parse_state.now.bytes.now h.tree.0 T.events h.tree.1.0 h.tree.1.1 };
+  same = λ T U h. h.same;
+  leaves = λ T U t h parts e. h.trims t parts e;
   registers = λ a b X e. subst (λ (rs : List ResolveName). registered R.String (registered R.Data (record X { resolvers = rs })) ≡ record X { resolvers = labels_first a (passes_first b (R.Data ∷ R.String ∷ [])) }) (sym e) (both a b X);
 }
   where
@@ -67,15 +73,17 @@ string-trims = record {
     both false true X = refl
     both false false X = refl
 
--- hard breaks by spaces are looked for
-abbrev pub breaks_on : ParseState → Bool
-breaks_on p = p.options.now.constructs.hard_break_trailing
+-- a text is trimmed at the start and the end of the whole too, with hard breaks found, and then its email literals are set apart, both where
+-- they are looked for
+abbrev pub text_finish : ParseState → Forest → Forest
+text_finish p t = let on = p.options.now.constructs in mailed_where on.gfm_autolink_literal (trimmed on.hard_break_trailing true true t)
 
-pub text-trims : IsTrimming R.Text breaks_on true
+pub text-trims : IsTrimming R.Text text_finish
 unfolding registered
 text-trims = record {
   may = λ T h. h;
-  leaves = λ T U h. h;
+  same = λ T U h. h.same;
+  leaves = λ T U t h parts e. h.trims t parts e;
   registers = λ a b X e. subst (λ (rs : List ResolveName). registered R.Text (registered R.Data (record X { resolvers = rs })) ≡ record X { resolvers = labels_first a (passes_first b (R.Data ∷ R.Text ∷ [])) }) (sym e) (both a b X);
 }
   where
@@ -110,32 +118,34 @@ after-merging p pieces tree X V h m = record {
   input = ap (λ (x : Tokenizer). x.parse_state.now) m.same ∙ h.input;
 }
 
-may-trim : (p : ParseState) (pieces : List Piece) (tree : Forest) (X V : Tokenizer) → IsRead p pieces tree X → MergesData X V → MayTrim V
-may-trim p pieces tree X V h m =
+merged-there : (p : ParseState) (pieces : List Piece) (tree : Forest) (X V : Tokenizer) → IsRead p pieces tree X → V.parse_state.now ≡ p → HasParts V.parse_state.now.bytes.now (merged tree)
+merged-there p pieces tree X V h e = subst (λ (x : ParseState). HasParts x.bytes.now (merged tree)) (sym e) (merged-parts p pieces tree X h)
+
+may-finish : (p : ParseState) (pieces : List Piece) (tree : Forest) (X V : Tokenizer) → IsRead p pieces tree X → MergesData X V → MayFinish V
+may-finish p pieces tree X V h m =
     let k : IsMerged p tree V = after-merging p pieces tree X V h m in
     record {
       map = k.map;
       fits = subst (λ (x : ParseState). length x.bytes.now ≤ document_limit) (sym k.input) h.content.fits;
-      places = subst (λ (x : ParseState). HasPlaces x.bytes.now V.events) (sym k.input) (places-of p.bytes.now (merged tree) V.events (merged-parts p pieces tree X h) k.events);
+      tree = (merged tree, (merged-there p pieces tree X V h k.input, k.events));
     }
 
 -- the passes may be run
-pub passes-may : (p : ParseState) (pieces : List Piece) (tree : Forest) (last : ResolveName) (hard : ParseState → Bool) (whole : Bool) (X : Tokenizer) → IsTrimming last hard whole → IsRead p pieces tree X → MayResolve may_resolve_of resolves_of (R.Data ∷ last ∷ []) X
-passes-may p pieces tree last hard whole X t h =
-    (h.map, λ V m. (t.may V (may-trim p pieces tree X V h m), λ W l. tt))
+pub passes-may : (p : ParseState) (pieces : List Piece) (tree : Forest) (last : ResolveName) (finish : ParseState → Forest → Forest) (X : Tokenizer) → IsTrimming last finish → IsRead p pieces tree X → MayResolve may_resolve_of resolves_of (R.Data ∷ last ∷ []) X
+passes-may p pieces tree last finish X t h =
+    (h.map, λ V m. (t.may V (may-finish p pieces tree X V h m), λ W l. tt))
 
 -- what they leave
-pub passes-leave : (p : ParseState) (pieces : List Piece) (tree : Forest) (last : ResolveName) (hard : ParseState → Bool) (whole : Bool) (X V : Tokenizer) → IsTrimming last hard whole → IsRead p pieces tree X → Resolves resolves_of (R.Data ∷ last ∷ []) X V → (V.events ≡ appended_from 0 None (trimmed (hard p) whole whole (merged tree))) × (V.tokenize_state ≡ X.tokenize_state)
-passes-leave p pieces tree last hard whole X V t h r =
+pub passes-leave : (p : ParseState) (pieces : List Piece) (tree : Forest) (last : ResolveName) (finish : ParseState → Forest → Forest) (X V : Tokenizer) → IsTrimming last finish → IsRead p pieces tree X → Resolves resolves_of (R.Data ∷ last ∷ []) X V → (V.events ≡ appended_from 0 None (finish p (merged tree))) × (V.tokenize_state ≡ X.tokenize_state)
+passes-leave p pieces tree last finish X V t h r =
     let W : Tokenizer = r.0 in
     let U : Tokenizer = r.1.1.0 in
     let m : MergesData X W = r.1.0 in
-    let l : TrimsData (hard W.parse_state.now) whole W U = t.leaves W U r.1.1.1.0 in
     let same : V ≡ U = r.1.1.1.1 in
     let k : IsMerged p tree W = after-merging p pieces tree X W h m in
-    let parts : HasParts W.parse_state.now.bytes.now (merged tree) = subst (λ (x : ParseState). HasParts x.bytes.now (merged tree)) (sym k.input) (merged-parts p pieces tree X h) in (
-      ap (λ (x : Tokenizer). x.events) same ∙ l.trims (merged tree) parts k.events ∙ ap (λ (x : ParseState). appended_from 0 None (trimmed (hard x) whole whole (merged tree))) k.input,
-      ap (λ (x : Tokenizer). x.tokenize_state) same ∙ ap (λ (x : Tokenizer). x.tokenize_state) l.same ∙ ap (λ (x : Tokenizer). x.tokenize_state) m.same,
+    (
+      ap (λ (x : Tokenizer). x.events) same ∙ t.leaves W U (merged tree) r.1.1.1.0 (merged-there p pieces tree X W h k.input) k.events ∙ ap (λ (x : ParseState). appended_from 0 None (finish x (merged tree))) k.input,
+      ap (λ (x : Tokenizer). x.tokenize_state) same ∙ ap (λ (x : Tokenizer). x.tokenize_state) (t.same W U r.1.1.1.0) ∙ ap (λ (x : Tokenizer). x.tokenize_state) m.same,
     )
 
 -- The pass of runs, where it is registered.
@@ -183,33 +193,33 @@ module _ (p : ParseState) (pieces : List Piece) (tree : Forest) (s : Setting) (g
   paired-probes : IsProbed s tree V.tokenize_state.probes
   paired-probes = m.probed s tree (given-of s p X given h.input) runs h.events
 
--- what the passes of a run over a content leave of its tree: its pairs grouped, merged and trimmed, and the number of looks that pairing took
-pub record IsResolved (s : Setting) (hard whole : Bool) (tree : Forest) (V : Tokenizer) : Type 0 where
-  pub events : V.events ≡ appended_from 0 None (trimmed hard whole whole (merged (paired s (pair_list s) tree)))
+-- what the passes of a run over a content leave of its tree: its pairs grouped, merged and finished, and the number of looks that pairing took
+pub record IsResolved (s : Setting) (finish : Forest → Forest) (tree : Forest) (V : Tokenizer) : Type 0 where
+  pub events : V.events ≡ appended_from 0 None (finish (merged (paired s (pair_list s) tree)))
   pub probed : IsProbed s tree V.tokenize_state.probes
 
 -- the passes behind that of labels: those of runs, if a run stands somewhere, of data and of the whole
-module _ (p : ParseState) (pieces : List Piece) (tree : Forest) (s : Setting) (given : IsGiven s p) (last : ResolveName) (hard : ParseState → Bool) (whole : Bool) (X : Tokenizer) (t : IsTrimming last hard whole) (read : IsRead p pieces tree X) where
+module _ (p : ParseState) (pieces : List Piece) (tree : Forest) (s : Setting) (given : IsGiven s p) (last : ResolveName) (finish : ParseState → Forest → Forest) (X : Tokenizer) (t : IsTrimming last finish) (read : IsRead p pieces tree X) where
   pub first-may : (b : Bool) → (b ≡ true → IsGood p.bytes.now tree) → MayResolve may_resolve_of resolves_of (passes_first b (R.Data ∷ last ∷ [])) X
   first-may true good = (
     may-pair p pieces tree X read (good refl),
-    λ V m. passes-may p pieces (paired s (pair_list s) tree) last hard whole V t (paired-read p pieces tree s given X V read (good refl) m),
+    λ V m. passes-may p pieces (paired s (pair_list s) tree) last finish V t (paired-read p pieces tree s given X V read (good refl) m),
   )
-  first-may false good = passes-may p pieces tree last hard whole X t read
+  first-may false good = passes-may p pieces tree last finish X t read
 
   pub first-leaves : (b : Bool) → (b ≡ true → IsGood p.bytes.now tree) → (b ≡ false → IsRunless tree) → X.tokenize_state.probes ≡ 0 → (V : Tokenizer)
-      → Resolves resolves_of (passes_first b (R.Data ∷ last ∷ [])) X V → IsResolved s (hard p) whole tree V
+      → Resolves resolves_of (passes_first b (R.Data ∷ last ∷ [])) X V → IsResolved s (finish p) tree V
   first-leaves true good runless none V r =
       let m : PairsRuns X r.0 = r.1.0 in
-      let l = passes-leave p pieces (paired s (pair_list s) tree) last hard whole r.0 V t (paired-read p pieces tree s given X r.0 read (good refl) m) r.1.1 in
+      let l = passes-leave p pieces (paired s (pair_list s) tree) last finish r.0 V t (paired-read p pieces tree s given X r.0 read (good refl) m) r.1.1 in
       record {
         events = l.0;
         probed = subst (λ (x : TokenizeState). IsProbed s tree x.probes) (sym l.1) (paired-probes p pieces tree s given X r.0 read (good refl) m);
       }
   first-leaves false good runless none V r =
-      let l = passes-leave p pieces tree last hard whole X V t read r in
+      let l = passes-leave p pieces tree last finish X V t read r in
       record {
-        events = l.0 ∙ ap (λ x. appended_from 0 None (trimmed (hard p) whole whole (merged x))) (sym (paired-runless s (pair_list s) tree (runless refl)));
+        events = l.0 ∙ ap (λ x. appended_from 0 None (finish p (merged x))) (sym (paired-runless s (pair_list s) tree (runless refl)));
         probed = subst (λ (n : ℕ). IsProbed s tree n) (sym (ap (λ (x : TokenizeState). x.probes) l.1 ∙ none)) (unprobed s tree (runless refl));
       }
 

@@ -28,7 +28,7 @@ use Rattle.markdown_row.specs.Trees.{IsRunless}
 use Rattle.markdown_inline.specs.Resolve.{GroupsLabels, may_resolve_of, resolves_of}
 use Rattle.markdown_inline.proofs.PassesRun.{passes_first, labels_first, IsTrimming, IsRead, IsGiven, IsStart, IsResolved, codes-ahead, first-may, first-leaves}
 
-module _ (p : ParseState) (pieces : List Piece) (s : Setting) (given : IsGiven s p) (row : Row) (last : ResolveName) (hard : ParseState → Bool) (whole : Bool) (S U : Tokenizer) (t : IsTrimming last hard whole) (start : IsStart p pieces S) (fresh : IsFresh S)
+module _ (p : ParseState) (pieces : List Piece) (s : Setting) (given : IsGiven s p) (row : Row) (last : ResolveName) (finish : ParseState → Forest → Forest) (S U : Tokenizer) (t : IsTrimming last finish) (start : IsStart p pieces S) (fresh : IsFresh S)
     (at : IsRowAt [] row) (codes : row_codes row ≡ ahead S) (good : row_has_run row ≡ true → IsGood p.bytes.now (grouped (brackets_of row))) (left : U ≡ registered last (registered R.Data (past_row row S))) where
   -- the run's brackets, and the tree of their groups
   abbrev B : Brackets
@@ -103,19 +103,19 @@ module _ (p : ParseState) (pieces : List Piece) (s : Setting) (given : IsGiven s
   grouped-probes Y g = ap (λ (x : Tokenizer). x.tokenize_state.probes) g.same ∙ probes
 
   labels-may : (a : Bool) → row_registers row ≡ a → MayResolve may_resolve_of resolves_of (labels_first a Others) X
-  labels-may true e = (may-group, λ Y g. first-may p pieces tree s given last hard whole Y t (read-grouped Y g) (row_has_run row) good)
-  labels-may false e = first-may p pieces tree s given last hard whole X t (read-plain e) (row_has_run row) good
+  labels-may true e = (may-group, λ Y g. first-may p pieces tree s given last finish Y t (read-grouped Y g) (row_has_run row) good)
+  labels-may false e = first-may p pieces tree s given last finish X t (read-plain e) (row_has_run row) good
 
   -- after the run the passes may be run
   pub row-may : MayResolve may_resolve_of resolves_of U.resolvers (unregistered U)
   unfolding unregistered
   row-may = subst (λ (x : Tokenizer). MayResolve may_resolve_of resolves_of x.resolvers (unregistered x)) (sym left-is) (labels-may (row_registers row) refl)
 
-  labels-leave : (a : Bool) → row_registers row ≡ a → (V : Tokenizer) → Resolves resolves_of (labels_first a Others) X V → IsResolved s (hard p) whole tree V
-  labels-leave true e V r = first-leaves p pieces tree s given last hard whole r.0 t (read-grouped r.0 r.1.0) (row_has_run row) good runless (grouped-probes r.0 r.1.0) V r.1.1
-  labels-leave false e V r = first-leaves p pieces tree s given last hard whole X t (read-plain e) (row_has_run row) good runless plain-probes V r
+  labels-leave : (a : Bool) → row_registers row ≡ a → (V : Tokenizer) → Resolves resolves_of (labels_first a Others) X V → IsResolved s (finish p) tree V
+  labels-leave true e V r = first-leaves p pieces tree s given last finish r.0 t (read-grouped r.0 r.1.0) (row_has_run row) good runless (grouped-probes r.0 r.1.0) V r.1.1
+  labels-leave false e V r = first-leaves p pieces tree s given last finish X t (read-plain e) (row_has_run row) good runless plain-probes V r
 
   -- and what they leave
-  pub row-left : (V : Tokenizer) → Resolves resolves_of U.resolvers (unregistered U) V → IsResolved s (hard p) whole tree V
+  pub row-left : (V : Tokenizer) → Resolves resolves_of U.resolvers (unregistered U) V → IsResolved s (finish p) tree V
   unfolding unregistered
   row-left V r = labels-leave (row_registers row) refl V (subst (λ (x : Tokenizer). Resolves resolves_of x.resolvers (unregistered x) V) left-is r)

@@ -116,7 +116,7 @@ pub record IsFound (choice : Choice) (cs : List Code) (row : Row) : Type 0 where
   pub is_row : IsRowAt [] row
   pub trees : split (grouped (brackets_of row)) ≡ split (labels_of elements)
 
-module _ (last : ResolveName) (hard : ParseState → Bool) (whole : Bool) (trims : IsTrimming last hard whole) (choice : Choice) (p : ParseState) (pieces : List Piece) (content : IsContent p.bytes.now pieces) (setting : Setting) (is_given : IsGiven setting p) (s : TokenizeState) (fresh : AreFresh s) (T U : Tokenizer) (start : Starts p pieces s T) (k : Finishes choice (λ X. registered last (registered R.Data X)) T U) where
+module _ (last : ResolveName) (finish : ParseState → Forest → Forest) (trims : IsTrimming last finish) (choice : Choice) (p : ParseState) (pieces : List Piece) (content : IsContent p.bytes.now pieces) (setting : Setting) (is_given : IsGiven setting p) (s : TokenizeState) (fresh : AreFresh s) (T U : Tokenizer) (start : Starts p pieces s T) (k : Finishes choice (λ X. registered last (registered R.Data X)) T U) where
   -- the row with its labels grouped
   abbrev pub Grouped : Forest
   Grouped = grouped (brackets_of k.row)
@@ -142,18 +142,18 @@ module _ (last : ResolveName) (hard : ParseState → Bool) (whole : Bool) (trims
 
   module _ (good : row_has_run k.row ≡ true → IsGood p.bytes.now Grouped) where
     pub finished-may : MayResolve may_resolve_of resolves_of U.resolvers (unregistered U)
-    finished-may = row-may p pieces setting is_given k.row last hard whole T U trims begins (fresh-start p pieces s T fresh start) is_row k.whole good k.left
+    finished-may = row-may p pieces setting is_given k.row last finish T U trims begins (fresh-start p pieces s T fresh start) is_row k.whole good k.left
 
-    pub finished-left : (V : Tokenizer) → Resolves resolves_of U.resolvers (unregistered U) V → IsResolved setting (hard p) whole Grouped V
-    finished-left V r = row-left p pieces setting is_given k.row last hard whole T U trims begins (fresh-start p pieces s T fresh start) is_row k.whole good k.left V r
+    pub finished-left : (V : Tokenizer) → Resolves resolves_of U.resolvers (unregistered U) V → IsResolved setting (finish p) Grouped V
+    finished-left V r = row-left p pieces setting is_given k.row last finish T U trims begins (fresh-start p pieces s T fresh start) is_row k.whole good k.left V r
 
     -- what the passes leave, of a tree that differs from it only in how data is cut
     pub finished-events : (V : Tokenizer) (labels : Forest) → HasCodes labels → split Grouped ≡ split labels → Resolves resolves_of U.resolvers (unregistered U) V
-        → chained V.events ≡ events_of (trimmed (hard p) whole whole (merged (paired setting (pair_list setting) labels)))
+        → chained V.events ≡ events_of (finish p (merged (paired setting (pair_list setting) labels)))
     finished-events V labels codes alike r =
         let t : Forest = paired setting (pair_list setting) Grouped in
         let same : merged t ≡ merged (paired setting (pair_list setting) labels) = merged-paired setting (pair_list setting) Grouped labels (HasLines-HasCodes Grouped (grouped-lines k.row is_row)) codes alike in
-        ap chained (finished-left V r).events ∙ chained-whole (trimmed (hard p) whole whole (merged t)) ∙ ap (λ x. events_of (trimmed (hard p) whole whole x)) same
+        ap chained (finished-left V r).events ∙ chained-whole (finish p (merged t)) ∙ ap (λ x. events_of (finish p x)) same
 
     pub finished-probes : (V : Tokenizer) (labels : Forest) → split Grouped ≡ split labels → Resolves resolves_of U.resolvers (unregistered U) V → IsProbed setting labels V.tokenize_state.probes
     finished-probes V labels alike r = probes-alike setting Grouped labels V.tokenize_state.probes alike (finished-left V r).probed

@@ -18,7 +18,7 @@ use Rattle.markdown_row.specs.Elements.{Finishes}
 use Rattle.markdown_inline.specs.Resolve.{may_resolve_of, resolves_of}
 use Rattle.markdown_inline.specs.Settings.{setting_of}
 use Rattle.markdown_inline.specs.StringSteps.{string_markers, string_marked, string_passed, string_here, StartReady, start_ends}
-use Rattle.markdown_inline.proofs.PassesRun.{string-trims}
+use Rattle.markdown_inline.proofs.PassesRun.{string_finish, string-trims}
 use Rattle.std.proofs.lemmas.Bool.{both_ways}
 use Rattle.markdown_engine.proofs.ChainTree.{chained-whole}
 use Rattle.markdown_engine.specs.Tree.{Forest}
@@ -85,7 +85,7 @@ module _ (p : ParseState) (pieces : List Piece) (content : IsContent p.bytes.now
     Tree = grouped (brackets_of E.row)
 
     found : IsFound (string_here M) (content_of p.bytes.now pieces) E.row
-    found = finished-elements R.String (λ q. false) false string-trims (string_here M) p pieces content (setting_of p) G _ F M U S E
+    found = finished-elements R.String string_finish string-trims (string_here M) p pieces content (setting_of p) G _ F M U S E
 
     are : AreStringElements (setting_of p) (content_of p.bytes.now pieces) found.elements
     are = subst (λ c. AreElementsFrom c [] None (content_of p.bytes.now pieces) found.elements) choice-is found.are
@@ -101,14 +101,14 @@ module _ (p : ParseState) (pieces : List Piece) (content : IsContent p.bytes.now
     good e = absurd (both_ways (row_has_run E.row) none e)
 
     pub string-may : MayResolve may_resolve_of resolves_of U.resolvers (unregistered U)
-    string-may = finished-may R.String (λ q. false) false string-trims (string_here M) p pieces content (setting_of p) G _ F M U S E good
+    string-may = finished-may R.String string_finish string-trims (string_here M) p pieces content (setting_of p) G _ F M U S E good
 
     module _ (V : Tokenizer) (r : Resolves resolves_of U.resolvers (unregistered U) V) where
       runless : IsRunless Tree
       runless = grouped-runless E.row found.is_row none
 
-      left : IsResolved (setting_of p) false false Tree V
-      left = finished-left R.String (λ q. false) false string-trims (string_here M) p pieces content (setting_of p) G _ F M U S E good V r
+      left : IsResolved (setting_of p) (string_finish p) Tree V
+      left = finished-left R.String string_finish string-trims (string_here M) p pieces content (setting_of p) G _ F M U S E good V r
 
       pub string-probes : V.tokenize_state.probes ≡ 0
       string-probes = probes-none (setting_of p) Tree V.tokenize_state.probes runless left.probed

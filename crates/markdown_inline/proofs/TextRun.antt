@@ -18,15 +18,17 @@ use Rattle.markdown_leaf.specs.RawText as X
 use Rattle.markdown_partial.specs.SpaceSteps as W
 use Rattle.markdown_model.specs.Element.{AreElements, AreElementsFrom, text_choice}
 use Rattle.markdown_model.specs.Inline.{text_events}
+use Rattle.markdown_model.specs.Groups.{paired}
+use Rattle.markdown_model.specs.Pairs.{pair_list}
 use Rattle.markdown_model.specs.Passes.{trimmed}
 use Rattle.markdown_model.specs.Setting.{Setting}
 use Rattle.markdown_inline.specs.Built.{IsBuilt, as_built}
 use Rattle.markdown_row.specs.Elements.{Finishes}
-use Rattle.markdown_inline.specs.Resolve.{may_resolve_of, resolves_of}
+use Rattle.markdown_inline.specs.Resolve.{mailed_where, may_resolve_of, resolves_of}
 use Rattle.markdown_inline.specs.Settings.{text_setting_of}
 use Rattle.markdown_inline.specs.TextSteps.{StartReady, marked_fields, text_marked, text_passed, text_choice_of, start_ends}
 use Rattle.markdown_inline.specs.Laws.TextTries.{built-off}
-use Rattle.markdown_inline.proofs.PassesRun.{breaks_on, text-trims}
+use Rattle.markdown_inline.proofs.PassesRun.{text_finish, text-trims}
 use Rattle.markdown_engine.specs.Codes.{Code}
 use Rattle.markdown_label.specs.LabelEnd.{AreWithin}
 use Rattle.markdown_label_pass.specs.Brackets.{grouped}
@@ -142,7 +144,7 @@ module _ (p : ParseState) (pieces : List Piece) (first : Bool) (content : IsCont
     Found = IsFound (text_choice_of M) all_codes E.row
 
     found : Found
-    found = finished-elements R.Text breaks_on true text-trims (text_choice_of M) p pieces content Given G _ F M U S E
+    found = finished-elements R.Text text_finish text-trims (text_choice_of M) p pieces content Given G _ F M U S E
 
     are : AreElements Built all_codes found.elements
     are = subst (λ c. AreElementsFrom c [] None all_codes found.elements) choice-is found.are
@@ -156,24 +158,25 @@ module _ (p : ParseState) (pieces : List Piece) (first : Bool) (content : IsCont
         (subst (λ t. IsGood p.bytes.now t) labels (good-tree p.bytes.now Built all_codes (singles-content p.bytes.now pieces content.in_order)))
 
     pub text-may : MayResolve may_resolve_of resolves_of U.resolvers (unregistered U)
-    text-may = finished-may R.Text breaks_on true text-trims (text_choice_of M) p pieces content Given G _ F M U S E good
+    text-may = finished-may R.Text text_finish text-trims (text_choice_of M) p pieces content Given G _ F M U S E good
 
     module _ (V : Tokenizer) (r : Resolves resolves_of U.resolvers (unregistered U) V) where
       -- the looks that pairing took are within the bounds of the content's tree of labels
       pub text-probes : IsProbed Built (label_tree Built all_codes) V.tokenize_state.probes
       text-probes =
           subst (λ t. IsProbed Built t V.tokenize_state.probes) (sym labels)
-          (probes-built Given (labels_of found.elements) V.tokenize_state.probes (finished-probes R.Text breaks_on true text-trims (text_choice_of M) p pieces content Given G _ F M U S E good V (labels_of found.elements) found.trees r))
+          (probes-built Given (labels_of found.elements) V.tokenize_state.probes (finished-probes R.Text text_finish text-trims (text_choice_of M) p pieces content Given G _ F M U S E good V (labels_of found.elements) found.trees r))
 
       -- where runs are not looked for none is taken
       pub text-no-probes : Given.options.constructs.attention ≡ false → Given.options.constructs.gfm_strikethrough ≡ false → V.tokenize_state.probes ≡ 0
       text-no-probes off none =
           let still : row_has_run E.row ≡ false = row-still E.row found.elements found.alike (text-still Built all_codes found.elements (built-off Given) are off none) in
-          probes-none Given Tree V.tokenize_state.probes (grouped-runless E.row found.is_row still) (finished-left R.Text breaks_on true text-trims (text_choice_of M) p pieces content Given G _ F M U S E good V r).probed
+          probes-none Given Tree V.tokenize_state.probes (grouped-runless E.row found.is_row still) (finished-left R.Text text_finish text-trims (text_choice_of M) p pieces content Given G _ F M U S E good V r).probed
 
       -- the events after a run over a text and its passes
-      pub text-run : chained V.events ≡ text_events Built pieces
-      text-run =
-          finished-events R.Text breaks_on true text-trims (text_choice_of M) p pieces content Given G _ F M U S E good V (labels_of found.elements) found.have_codes found.trees r
-          ∙ ap (λ t. events_of (trimmed (breaks_on p) true true (merged t))) (sym (paired-built Given (labels_of found.elements)))
+      pub text-run : Given.options.constructs.gfm_autolink_literal ≡ false → chained V.events ≡ text_events Built pieces
+      text-run no_literals =
+          finished-events R.Text text_finish text-trims (text_choice_of M) p pieces content Given G _ F M U S E good V (labels_of found.elements) found.have_codes found.trees r
+          ∙ ap (λ t. events_of (text_finish p (merged t))) (sym (paired-built Given (labels_of found.elements)))
+          ∙ ap (λ b. events_of (mailed_where b (trimmed Given.options.constructs.hard_break_trailing true true (merged (paired Built (pair_list Built) (labels_of found.elements)))))) no_literals
           ∙ ap events_of (sym (text-finished Built all_codes found.elements (built-off Given) are))

@@ -16,7 +16,7 @@ use Rattle.markdown_label_pass.specs.Brackets.{Brackets, grouped}
 use Rattle.markdown_label_pass.specs.Handover.{HasBrackets, MayGroup, unlabelled}
 use Rattle.markdown_model.specs.Groups.{paired}
 use Rattle.markdown_model.specs.Pairs.{pair_list}
-use Rattle.markdown_model.specs.Passes.{merged, trimmed}
+use Rattle.markdown_model.specs.Passes.{mailed, merged, trimmed}
 use Rattle.markdown_model.specs.Setting.{Setting}
 use Rattle.markdown_partial.specs.Merge.{HasData}
 use Rattle.markdown_partial.specs.TrimEvents.{HasParts, HasPlaces}
@@ -37,11 +37,26 @@ pub record MayTrim (T : Tokenizer) : Type 0 where
   pub fits : length T.parse_state.now.bytes.now ≤ document_limit
   pub places : HasPlaces T.parse_state.now.bytes.now T.events
 
--- U is T with other events: where T has those of a tree, those of the tree with its data trimmed; `hard` says that hard breaks are looked
--- for, and `whole` that it is trimmed at the start and the end of the whole too
-pub record TrimsData (hard whole : Bool) (T U : Tokenizer) : Type 0 where
+-- no edit is left, the document has at most so many bytes, and the events are those of a tree whose data is part of the document
+pub record MayFinish (T : Tokenizer) : Type 0 where
+  pub map : T.map ≡ []
+  pub fits : length T.parse_state.now.bytes.now ≤ document_limit
+  pub tree : (t : Forest) × (HasParts T.parse_state.now.bytes.now t × (T.events ≡ appended_from 0 None t))
+
+-- the email literals of a tree set apart, where they are looked for
+abbrev pub mailed_where : Bool → Forest → Forest
+mailed_where true t = mailed t
+mailed_where false t = t
+
+-- U is T with other events: where T has those of a tree, those of the tree with its data trimmed, and then its email literals set apart, if
+-- they are looked for; `hard` says that hard breaks are looked for, and `whole` that it is trimmed at the start and the end of the whole too
+pub record TrimsData (hard whole emails : Bool) (T U : Tokenizer) : Type 0 where
   pub same : U ≡ record T { events = U.events }
-  pub trims : (t : Forest) → HasParts T.parse_state.now.bytes.now t → T.events ≡ appended_from 0 None t → U.events ≡ appended_from 0 None (trimmed hard whole whole t)
+  pub trims : (t : Forest) → HasParts T.parse_state.now.bytes.now t → T.events ≡ appended_from 0 None t → U.events ≡ appended_from 0 None (mailed_where emails (trimmed hard whole whole t))
+
+-- U is T as the passes behind a text leave it
+abbrev pub FinishesText : Tokenizer → Tokenizer → Type 0
+FinishesText T U = let on = T.parse_state.now.options.now.constructs in TrimsData on.hard_break_trailing true on.gfm_autolink_literal T U
 
 -- no edit is left, and runs of markers stand at places of the document, are few, and their events have room for what comes in their stead
 pub record MayPair (T : Tokenizer) : Type 0 where
@@ -65,11 +80,11 @@ may_resolve_of R.Label T = MayGroup T
 may_resolve_of R.Attention T = MayPair T
 may_resolve_of R.Data T = T.map ≡ []
 may_resolve_of R.String T = MayTrim T
-may_resolve_of R.Text T = MayTrim T
+may_resolve_of R.Text T = MayFinish T
 
 abbrev pub resolves_of : ResolveName → Tokenizer → Tokenizer → Type 0
 resolves_of R.Label T U = GroupsLabels T U
 resolves_of R.Attention T U = PairsRuns T U
 resolves_of R.Data T U = MergesData T U
-resolves_of R.String T U = TrimsData false false T U
-resolves_of R.Text T U = TrimsData T.parse_state.now.options.now.constructs.hard_break_trailing true T U
+resolves_of R.String T U = TrimsData false false false T U
+resolves_of R.Text T U = FinishesText T U

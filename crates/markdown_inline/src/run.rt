@@ -86,8 +86,6 @@ pub fn text(
         on.gfm_autolink_literal ≡ false → IfOk result (λ run. run.events.items ≡ text_events (text_setting_of parse_state.now first_of_item) pieces.now) }
     ensures probes { let on = parse_state.now.options.now.constructs in let s = text_setting_of parse_state.now first_of_item in
         on.gfm_autolink_literal ≡ false → IfOk result (λ run. IsProbed s (label_tree s (content_of s.bytes pieces.now)) run.probes) }
-    ensures events_as_built { IfOk result (λ run. run.events.items ≡ text_events (as_built (text_setting_of parse_state.now first_of_item)) pieces.now) }
-    ensures probes_as_built { let s = as_built (text_setting_of parse_state.now first_of_item) in IfOk result (λ run. IsProbed s (label_tree s (content_of s.bytes pieces.now)) run.probes) }
     ensures no_probes { let on = parse_state.now.options.now.constructs in on.attention ≡ false → on.gfm_strikethrough ≡ false → IfOk result (λ run. run.probes ≡ 0) }
 {
     let mut tokenizer = Tokenizer::new(alloc, parse_state, pieces);

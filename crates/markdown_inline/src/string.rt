@@ -81,7 +81,7 @@ pub fn before_data(tokenizer: &mut Tokenizer) -> Result<State, AllocError>
 pub fn resolve(tokenizer: &mut Tokenizer) -> Result<Option<Subresult>, AllocError>
     requires { MayTrim tokenizer.old }
     ensures none { IfOk result (λ r. r ≡ None) }
-    ensures ok { IfOk result (λ _. TrimsData false false tokenizer.old tokenizer.new) }
+    ensures ok { IfOk result (λ _. TrimsData false false false tokenizer.old tokenizer.new) }
     ensures err { OnErr result (IsTrue tokenizer.new.failed) }
 {
     partial_whitespace::resolve_whitespace(tokenizer, false, false)?;

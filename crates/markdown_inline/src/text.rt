@@ -4,9 +4,10 @@
 ghost use Rattle.std.specs.Prelude.{◌≡◌, IfOk, OnOk, OnErr, IsTrue, None, true};
 ghost use Rattle.markdown_engine.specs.Ops.{scratched};
 ghost use Rattle.markdown_engine.specs.RunIndex.{last_runs};
-ghost use Rattle.markdown_inline.specs.Resolve.{MayTrim, TrimsData};
+ghost use Rattle.markdown_inline.specs.Resolve.{MayFinish, FinishesText};
 ghost use Rattle.markdown_inline.specs.TextSteps.{span_markers, text_markers, first_try, trying, start_step, before_step, before_html_step, before_hard_break_escape_step, before_label_start_link_step, before_data_step};
 
+use crate::gfm_autolink_literal;
 use markdown_engine::byte_set;
 use markdown_engine::bytes::ByteSet;
 use markdown_engine::resolve::ResolveName;
@@ -187,16 +188,19 @@ pub fn before_data(tokenizer: &mut Tokenizer) -> Result<State, AllocError>
 }
 
 /// After the run over a text: sets whitespace beside line endings, and at the start and the end of the whole, apart; where they are on, finds
-/// hard breaks by spaces (CommonMark 6.7).
+/// hard breaks by spaces (CommonMark 6.7) and sets email literals apart (GFM 6.9).
 ///
 /// The error comes where memory is refused; then `failed` is true.
 pub fn resolve(tokenizer: &mut Tokenizer) -> Result<Option<Subresult>, AllocError>
-    requires { MayTrim tokenizer.old }
+    requires { MayFinish tokenizer.old }
     ensures none { IfOk result (λ r. r ≡ None) }
-    ensures ok { IfOk result (λ _. TrimsData tokenizer.old.parse_state.now.options.now.constructs.hard_break_trailing true tokenizer.old tokenizer.new) }
+    ensures ok { IfOk result (λ _. FinishesText tokenizer.old tokenizer.new) }
     ensures err { OnErr result (IsTrue tokenizer.new.failed) }
 {
     let hard_break = tokenizer.parse_state.options.constructs.hard_break_trailing;
     partial_whitespace::resolve_whitespace(tokenizer, hard_break, true)?;
+    if tokenizer.parse_state.options.constructs.gfm_autolink_literal {
+        gfm_autolink_literal::resolve(tokenizer)?;
+    }
     Ok(None)
 }

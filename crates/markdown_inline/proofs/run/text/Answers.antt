@@ -23,7 +23,7 @@ pub returns-clause-events : goal.returns-clause-events
 returns-clause-events c = λ no_literals.
     let start = begun-starts c.args.alloc c.args.parse_state c.args.pieces.now c.new-tokenizer.result c.new-tokenizer.ensures in
     c.found.ensures.events
-    ∙ text-run c.args.parse_state.now c.args.pieces.now c.args.first_of_item c.requires.is_content _ c.run_state.new.self (started c.args.parse_state.now c.args.pieces.now c.args.first_of_item c.new-tokenizer.result start) c.in_ok-run_state.field-0 c.in_ok-run_state.ensures.ends c.resolve_all.new.self c.in_ok-resolve_all.ensures.ok
+    ∙ text-run c.args.parse_state.now c.args.pieces.now c.args.first_of_item c.requires.is_content _ c.run_state.new.self (started c.args.parse_state.now c.args.pieces.now c.args.first_of_item c.new-tokenizer.result start) c.in_ok-run_state.field-0 c.in_ok-run_state.ensures.ends c.resolve_all.new.self c.in_ok-resolve_all.ensures.ok no_literals
     ∙ ap (λ (s : Setting). text_events s c.args.pieces.now)
     (built-same (text_setting_of c.args.parse_state.now c.args.first_of_item)
     (record { no_literals = no_literals }))
@@ -35,19 +35,6 @@ returns-clause-probes c = λ no_literals.
     let same = built-same (text_setting_of c.args.parse_state.now c.args.first_of_item) (record { no_literals = no_literals }) in
     subst (λ (n : ℕ). IsProbed (text_setting_of c.args.parse_state.now c.args.first_of_item) (label_tree (text_setting_of c.args.parse_state.now c.args.first_of_item) (content_of c.args.parse_state.now.bytes.now c.args.pieces.now)) n) (sym c.found.ensures.probes)
     (subst (λ (s : Setting). IsProbed s (label_tree s (content_of s.bytes c.args.pieces.now)) c.resolve_all.new.self.tokenize_state.probes) same k)
-
-pub returns-clause-events_as_built : goal.returns-clause-events_as_built
-returns-clause-events_as_built c =
-    let start = begun-starts c.args.alloc c.args.parse_state c.args.pieces.now c.new-tokenizer.result c.new-tokenizer.ensures in
-    c.found.ensures.events
-    ∙ text-run c.args.parse_state.now c.args.pieces.now c.args.first_of_item c.requires.is_content _ c.run_state.new.self (started c.args.parse_state.now c.args.pieces.now c.args.first_of_item c.new-tokenizer.result start) c.in_ok-run_state.field-0 c.in_ok-run_state.ensures.ends c.resolve_all.new.self c.in_ok-resolve_all.ensures.ok
-
-pub returns-clause-probes_as_built : goal.returns-clause-probes_as_built
-returns-clause-probes_as_built c =
-    let start = begun-starts c.args.alloc c.args.parse_state c.args.pieces.now c.new-tokenizer.result c.new-tokenizer.ensures in
-    let s : Setting = as_built (text_setting_of c.args.parse_state.now c.args.first_of_item) in
-    subst (λ (n : ℕ). IsProbed s (label_tree s (content_of s.bytes c.args.pieces.now)) n) (sym c.found.ensures.probes)
-    (text-probes c.args.parse_state.now c.args.pieces.now c.args.first_of_item c.requires.is_content _ c.run_state.new.self (started c.args.parse_state.now c.args.pieces.now c.args.first_of_item c.new-tokenizer.result start) c.in_ok-run_state.field-0 c.in_ok-run_state.ensures.ends c.resolve_all.new.self c.in_ok-resolve_all.ensures.ok)
 
 pub returns-clause-no_probes : goal.returns-clause-no_probes
 returns-clause-no_probes c = λ off none.
