@@ -43,17 +43,9 @@ Cut = List Code × List Code
 domain-takes : (slashes : Bool) (c : Code) (cs : List Code) → passes slashes (c ∷ cs) ≡ true → ◌≡◌ {A = Cut} (email_domain slashes (c ∷ cs)) (c ∷ (email_domain slashes cs).0, (email_domain slashes cs).1)
 domain-takes slashes c cs h = ap (λ b. elim b as (λ _. Cut) [ true ↦ (c ∷ (email_domain slashes cs).0, (email_domain slashes cs).1) | false ↦ ([], c ∷ cs) ]) h
 
-domain-stops : (slashes : Bool) (cs : List Code) → passes slashes cs ≡ false → ◌≡◌ {A = Cut} (email_domain slashes cs) ([], cs)
-domain-stops slashes [] h = refl
-domain-stops slashes (c ∷ cs) h = ap (λ b. elim b as (λ _. Cut) [ true ↦ (c ∷ (email_domain slashes cs).0, (email_domain slashes cs).1) | false ↦ ([], c ∷ cs) ]) h
-
 or-assoc : (a b c : Bool) → (a || b) || c ≡ a || (b || c)
 or-assoc true b c = refl
 or-assoc false b c = refl
-
-or-false : (a : Bool) → a || false ≡ a
-or-false true = refl
-or-false false = refl
 
 domain-more : (slashes dot letter : Bool) (p : Point) (c : Code) (cs : List Code) → passes slashes (c ∷ cs) ≡ true → domain_on slashes (dot || is_value 46 c) (is_letter c) c.stop cs ≡ domain_on slashes dot letter p (c ∷ cs)
 domain-more slashes dot letter p c cs h =
