@@ -127,13 +127,13 @@ end-at bytes (piece ∷ next ∷ more) u h e = end-at bytes (next ∷ more) u h.
 -- Codes of a content.
 
 -- the code of this number stands at an open place
-record Reached (bytes : List ℕ) (pieces : List Piece) (n : ℕ) : Type 0 where
-  piece : ℕ
-  point : Point
-  standing : IsStanding bytes pieces (drop piece pieces) point n
-  opens : is_open (place_of point) (drop piece pieces) ≡ true
+pub record Reached (bytes : List ℕ) (pieces : List Piece) (n : ℕ) : Type 0 where
+  pub piece : ℕ
+  pub point : Point
+  pub standing : IsStanding bytes pieces (drop piece pieces) point n
+  pub opens : is_open (place_of point) (drop piece pieces) ≡ true
 
-none-some : (o : Option Code) (c : Code) → o ≡ None → o ≡ Some c → ⊥
+pub none-some : (o : Option Code) (c : Code) → o ≡ None → o ≡ Some c → ⊥
 none-some o c e h = cc
 
 reached-by : (bytes : List ℕ) (pieces : List Piece) (n k : ℕ) (p : Point) (c : Code) → IsStanding bytes pieces (drop k pieces) p n → slice_get (content_of bytes pieces) n ≡ Some c → (b : Bool) → is_open (place_of p) (drop k pieces) ≡ b → Reached bytes pieces n
@@ -146,7 +146,7 @@ before-some n [] c e = cc
 before-some zero (x ∷ xs) c e = (x, refl)
 before-some (suc n) (x ∷ xs) c e = before-some n xs c e
 
-reached : (bytes : List ℕ) (pieces : List Piece) → IsContent bytes pieces → (n : ℕ) (c : Code) → slice_get (content_of bytes pieces) n ≡ Some c → Reached bytes pieces n
+pub reached : (bytes : List ℕ) (pieces : List Piece) → IsContent bytes pieces → (n : ℕ) (c : Code) → slice_get (content_of bytes pieces) n ≡ Some c → Reached bytes pieces n
 reached bytes pieces content zero c e = reached-by bytes pieces 0 0 (first_point bytes pieces) c (standing-start bytes pieces content) e (is_open (place_of (first_point bytes pieces)) pieces) refl
 reached bytes pieces content (suc n) c e =
     let d = before-some n (content_of bytes pieces) c e in
@@ -155,7 +155,7 @@ reached bytes pieces content (suc n) c e =
     let s : IsStanding bytes pieces (drop f.0 pieces) f.1 (suc n) = subst (λ m. IsStanding bytes pieces (drop f.0 pieces) f.1 m) (add-one n) (standing-next bytes pieces r.point n r.piece r.standing r.opens) in
     reached-by bytes pieces (suc n) f.0 f.1 c s e (is_open (place_of f.1) (drop f.0 pieces)) refl
 
-same-code : (o : Option Code) (c d : Code) → o ≡ Some c → o ≡ Some d → c ≡ d
+pub same-code : (o : Option Code) (c d : Code) → o ≡ Some c → o ≡ Some d → c ≡ d
 same-code o c d e h = cc
 
 after-at : (bytes : List ℕ) (pieces : List Piece) (n : ℕ) (c d : Code) → IsContent bytes pieces → slice_get (content_of bytes pieces) n ≡ Some c → slice_get (content_of bytes pieces) (suc n) ≡ Some d → nat_lt c.value 128 ≡ true → is_later_byte d ≡ false

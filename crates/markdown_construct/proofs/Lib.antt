@@ -8,5 +8,6 @@ pub mod RenamingLemmas
 pub mod NamingLemmas
 pub mod StateLaws
 pub mod ContentTexts
+pub mod ContentEnds
 pub mod TextPasses
 pub mod TextPlaces

@@ -18,7 +18,8 @@ use Rattle.markdown_model.specs.LabelEnd.{Element, plain, starts, ends}
 use Rattle.markdown_model.specs.Grammar.{Reading, ◌>>◌, provided, one, some, span}
 use Rattle.markdown_model.specs.Leaf.{escape, reference, hard_break_escape, autolink, in_angle_brackets, span_of, span_here, SpanNames, code_names, math_names, task_check}
 use Rattle.markdown_model.specs.Lines.{linked_leaf, line_leaf, line_leaves, lines_from, lines_of}
-use Rattle.markdown_model.proofs.Consuming.{Left, Consumes, passed_takes, either_takes, escape_takes, reference_takes, hard_break_takes, autolink_takes, span_here_takes, task_check_takes, html_takes}
+use Rattle.markdown_model.specs.Literal.{letters, domain, domain_from, is_domain, protocol_literal, www_from_here, www_literal, may_precede_www, begins_with_www}
+use Rattle.markdown_model.proofs.Consuming.{Left, Consumes, passed_takes, either_takes, escape_takes, reference_takes, hard_break_takes, autolink_takes, span_here_takes, task_check_takes, html_takes, protocol_takes, www_takes}
 use Rattle.markdown_model.proofs.LinkFree.{Passes, Yields, yields_bind, yields_gives, yields_passed, yields_either, yields_before, then_any}
 use Rattle.markdown_partial.specs.Merge.{is_data}
 use Rattle.markdown_partial.specs.TrimEvents.{is_ending}
@@ -211,6 +212,52 @@ html_yields = then_any _ _ _ λ text. yields_gives _ _ (group-node N.HtmlText _ 
 
 pub html-node : (on : Bool) (cs : List Code) (t : Forest) (rest : List Code) → (provided on >> html) cs ≡ Some (t, rest) → IsNode t × (1 + length rest ≤ length cs)
 html-node on = node-of _ (yields_passed IsNode on html html_yields) (passed_takes 1 on html html_takes)
+
+-- Literals.
+
+full-join : (a b : List Code) → IsFull a → IsFull (a ++ b)
+full-join [] b h = absurd (h refl)
+full-join (c ∷ a) b h = λ e. cc
+
+letters_yield : (n : ℕ) (ns : List ℕ) → Yields IsFull (letters (n ∷ ns))
+unfolding letters
+letters_yield n ns = yields_bind IsFull _ _ _ (one_yields _) λ a h. then_any _ _ _ λ b. yields_gives _ _ (full-join a b h)
+
+pub protocol_yields : (bytes : List ℕ) (end : ℕ) (previous : Option Code) → Yields IsNode (protocol_literal bytes end previous)
+unfolding protocol_literal
+protocol_yields bytes end previous =
+    yields_passed _ _ _ (yields_bind IsFull _ _ _ (yields_either _ _ _ (letters_yield 104 (codes "ttps")) (letters_yield 104 (codes "ttp"))) λ scheme h.
+    then_any _ _ _ λ slashes. then_any _ _ _ λ host. then_any _ _ _ λ further. yields_gives _ _
+    (leaf-node N.GfmAutolinkLiteralProtocol (scheme ++ slashes ++ host ++ further) refl refl refl (full-join (scheme ++ slashes ++ host) further (full-join (scheme ++ slashes) host (full-join scheme slashes h)))))
+
+-- a domain holds a code
+domain_yields : (bytes : List ℕ) (end : ℕ) → Yields IsFull (domain bytes end)
+unfolding domain
+domain_yields bytes end = record { at = λ cs. by_front (domain_from bytes end cs) }
+  where
+    by_test : (c : Code) (front rest : List Code) (b : Bool) → Passes IsFull (elim b as (λ _. Option (List Code × List Code)) [ true ↦ Some (c ∷ front, rest) | false ↦ None ])
+    by_test c front rest true = λ e. cc
+    by_test c front rest false = tt
+
+    by_front : (s : List Code × List Code) → Passes IsFull (elim (is_domain s.0) as (λ _. Option (List Code × List Code)) [ true ↦ Some s | false ↦ None ])
+    by_front ([], rest) = tt
+    by_front (c ∷ front, rest) = by_test c front rest (is_domain (c ∷ front))
+
+from_www_yields : (bytes : List ℕ) (end : ℕ) → Yields IsNode (www_from_here bytes end)
+unfolding www_from_here
+from_www_yields bytes end =
+    yields_bind IsFull _ _ _ (domain_yields bytes end) λ host h. then_any _ _ _ λ further. yields_gives _ _
+    (leaf-node N.GfmAutolinkLiteralWww (host ++ further) refl refl refl (full-join host further h))
+
+pub www_yields : (bytes : List ℕ) (end : ℕ) (previous : Option Code) → Yields IsNode (www_literal bytes end previous)
+unfolding www_literal
+www_yields bytes end previous = record { at = λ cs. (yields_passed IsNode (may_precede_www previous && begins_with_www cs) _ (from_www_yields bytes end)).at cs }
+
+pub protocol-node : (on : Bool) (bytes : List ℕ) (end : ℕ) (previous : Option Code) (cs : List Code) (t : Forest) (rest : List Code) → (provided on >> protocol_literal bytes end previous) cs ≡ Some (t, rest) → IsNode t × (1 + length rest ≤ length cs)
+protocol-node on bytes end previous = node-of _ (yields_passed IsNode on _ (protocol_yields bytes end previous)) (passed_takes 1 on _ (protocol_takes bytes end previous))
+
+pub www-node : (on : Bool) (bytes : List ℕ) (end : ℕ) (previous : Option Code) (cs : List Code) (t : Forest) (rest : List Code) → (provided on >> www_literal bytes end previous) cs ≡ Some (t, rest) → IsNode t × (1 + length rest ≤ length cs)
+www-node on bytes end previous = node-of _ (yields_passed IsNode on _ (www_yields bytes end previous)) (passed_takes 1 on _ (www_takes bytes end previous))
 
 -- Runs of markers.
 
