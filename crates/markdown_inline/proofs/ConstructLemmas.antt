@@ -7,7 +7,7 @@ use Rattle.markdown_engine.specs.Past.{TreeReading, Refuses}
 use Rattle.markdown_engine.specs.Runs.{restored}
 use Rattle.markdown_engine.specs.declared.state.State.TheVariants as State
 use Rattle.markdown_engine.specs.declared.state.StateName.{StateName}
-use Rattle.markdown_engine.specs.declared.state.StateName.TheVariants.{AttentionStart, AutolinkStart, CharacterEscapeStart, CharacterReferenceStart, DataStart, DestinationStart, LabelStart, TitleStart, GfmLabelStartFootnoteStart, GfmTaskListItemCheckStart, HardBreakEscapeStart, HtmlTextStart, LabelEndStart, LabelStartImageStart, LabelStartLinkStart, RawTextStart, SpaceOrTabStart, SpaceOrTabEolStart}
+use Rattle.markdown_engine.specs.declared.state.StateName.TheVariants.{AttentionStart, AutolinkStart, CharacterEscapeStart, CharacterReferenceStart, DataStart, DestinationStart, LabelStart, TitleStart, GfmAutolinkLiteralProtocolStart, GfmAutolinkLiteralWwwStart, GfmLabelStartFootnoteStart, GfmTaskListItemCheckStart, HardBreakEscapeStart, HtmlTextStart, LabelEndStart, LabelStartImageStart, LabelStartLinkStart, RawTextStart, SpaceOrTabStart, SpaceOrTabEolStart}
 use Rattle.markdown_engine.specs.declared.tokenizer.TokenizeState.{TokenizeState}
 use Rattle.markdown_engine.specs.declared.tokenizer.Tokenizer.{Tokenizer}
 use Rattle.markdown_engine.proofs.EndsLemmas.{scratched-same}
@@ -54,6 +54,8 @@ refused-stays HtmlTextStart T U V c k e = refuses-stays _ None T.tokenize_state 
 refused-stays RawTextStart T U V c k e = refuses-stays _ None T.tokenize_state T U V k e
 refused-stays DataStart T U V c k e = refuses-stays _ None T.tokenize_state T U V k e
 refused-stays GfmTaskListItemCheckStart T U V c k e = refuses-stays _ None T.tokenize_state T U V k e
+refused-stays GfmAutolinkLiteralProtocolStart T U V c k e = refuses-stays _ None T.tokenize_state T U V k e
+refused-stays GfmAutolinkLiteralWwwStart T U V c k e = refuses-stays _ None T.tokenize_state T U V k e
 refused-stays SpaceOrTabStart T U V c k e = refuses-stays _ (chain_before SpaceOrTabStart T) (fields_after SpaceOrTabStart T.tokenize_state) T U V k e
 refused-stays SpaceOrTabEolStart T U V c k e = refuses-stays _ (chain_before SpaceOrTabEolStart T) (fields_after SpaceOrTabEolStart T.tokenize_state) T U V k e
 refused-stays LabelStartImageStart T U V c k e = begins-not (start_reading LabelStartImageStart T) 0 (image_test T) T U V refl (image-not T) k e
@@ -85,6 +87,8 @@ read-so HtmlTextStart T U c k = k
 read-so RawTextStart T U c k = k
 read-so DataStart T U c k = k
 read-so GfmTaskListItemCheckStart T U c k = k
+read-so GfmAutolinkLiteralProtocolStart T U c k = k
+read-so GfmAutolinkLiteralWwwStart T U c k = k
 read-so SpaceOrTabStart T U c k = k
 read-so SpaceOrTabEolStart T U c k = k
 read-so LabelStartImageStart T U c k = image-begins T U k

@@ -1,4 +1,4 @@
--- The inline tree of a text where the construct that is not built is off: the labels of its elements grouped, paired, merged and trimmed.
+-- The inline tree of a text before emails are looked for: the labels of its elements grouped, paired, merged and trimmed.
 use Rattle.std.proofs.Common.{◌≡◌, ℕ, Bool, true, false, ◌==◌, ◌||◌, List, [], ◌∷◌, Option, None, Some, refl, sym, ap, subst, ◌∙◌}
 use Rattle.std.specs.List.{list_any}
 use Rattle.markdown_engine.specs.Codes.{Code, stop_of, document_start}
@@ -20,13 +20,13 @@ use Rattle.markdown_model.specs.Runs.{Run}
 use Rattle.markdown_model.specs.Setting.{Setting}
 use Rattle.markdown_model.proofs.ElementLaws.{text_elements, same_text_elements}
 use Rattle.markdown_model.proofs.LinkFree.{Passes, Yields, yields_bind, yields_gives, yields_passed, yields_either, then_any}
-use Rattle.markdown_inline.specs.Built.{IsBuilt}
+use Rattle.markdown_inline.specs.Unmailed.{unmailed_tree}
 use Rattle.markdown_attention.specs.Reading.{is_run}
 use Rattle.markdown_row.specs.Trees.{IsNode, IsRunless}
 use Rattle.markdown_row.specs.Row.{row_has_run, row_of_elements}
 use Rattle.markdown_inline.proofs.StillRows.{IsStill, still-first}
 use Rattle.markdown_row.proofs.TreePasts.{quiet-runless, leaf-runless}
-use Rattle.markdown_row.proofs.NodeLemmas.{check_yields, html_yields, escape_yields, reference_yields, break_yields, autolink_yields, span_here_yields, code_quiet, math_quiet}
+use Rattle.markdown_row.proofs.NodeLemmas.{check_yields, html_yields, escape_yields, reference_yields, break_yields, autolink_yields, protocol_yields, www_yields, span_here_yields, code_quiet, math_quiet}
 use Rattle.markdown_model.proofs.ReadingSteps.{switched-off}
 
 -- What is said of the elements of a text.
@@ -53,7 +53,7 @@ pub record HoldsOfParts (P : Element → Type 0) (on : Constructs) : Type 0 wher
   pub opens : (kind : LabelKind) (marker : List Code) → P (starts kind marker)
   pub closes : (marker : List Code) (outcome : Option (LabelKind × Forest)) → P (ends marker outcome)
 
-module _ (P : Element → Type 0) (s : Setting) (built : IsBuilt s.options.constructs) (h : HoldsOfParts P s.options.constructs) where
+module _ (P : Element → Type 0) (s : Setting) (h : HoldsOfParts P s.options.constructs) where
   plain_yields : (a : Reading Forest) → Yields IsNode a → Yields P (as_plain a)
   unfolding as_plain
   plain_yields a k = yields_bind IsNode _ _ _ k λ tree node. yields_gives _ (plain tree) (h.nodes tree node)
@@ -121,9 +121,9 @@ module _ (P : Element → Type 0) (s : Setting) (built : IsBuilt s.options.const
                     (
                       yields_either _ _ _ (on_yields _ _ _ (plain_yields _ autolink_yields)) (on_yields _ _ _ (plain_yields _ html_yields)),
                       (
-                        off_yields _ _ _ built.no_literals,
+                        on_yields _ _ _ (plain_yields _ (protocol_yields _ _ _)),
                         (
-                          off_yields _ _ _ built.no_literals,
+                          on_yields _ _ _ (plain_yields _ (www_yields _ _ _)),
                           (
                             yields_either _ _ _ (on_yields _ _ _ footnote_yields) (on_yields _ _ _ link_yields),
                             (
@@ -162,12 +162,12 @@ abbrev AllAre : (Element → Type 0) → List Element → Type 0
 AllAre P [] = Unit {0}
 AllAre P (e ∷ es) = P e × AllAre P es
 
-text-are : (P : Element → Type 0) (s : Setting) (all : List Code) (es earlier : List Element) (previous : Option Code) (cs : List Code) → IsBuilt s.options.constructs → HoldsOfParts P s.options.constructs
+text-are : (P : Element → Type 0) (s : Setting) (all : List Code) (es earlier : List Element) (previous : Option Code) (cs : List Code) → HoldsOfParts P s.options.constructs
     → AreElementsFrom (text_choice s all) earlier previous cs es → AllAre P es
-text-are P s all [] earlier previous cs built h are = tt
-text-are P s all (e ∷ es) earlier previous cs built h are = (
-  subst (λ o. Passes P o) are.1 ((text_yields P s built h (stop_of document_start all).index earlier previous).at cs),
-  text-are P s all es (e ∷ earlier) (code_before cs are.0) are.0 built h are.2,
+text-are P s all [] earlier previous cs h are = tt
+text-are P s all (e ∷ es) earlier previous cs h are = (
+  subst (λ o. Passes P o) are.1 ((text_yields P s h (stop_of document_start all).index earlier previous).at cs),
+  text-are P s all es (e ∷ earlier) (code_before cs are.0) are.0 h are.2,
 )
 
 -- Where no runs are looked for, none stands in them.
@@ -188,8 +188,8 @@ still-row [] h = refl
 still-row (e ∷ es) h = still-first e (row_of_elements es) h.0 (still-row es h.1)
 
 -- where runs are not looked for none stands in the row of the elements
-pub text-still : (s : Setting) (cs : List Code) (es : List Element) → IsBuilt s.options.constructs → AreElements s cs es → s.options.constructs.attention ≡ false → s.options.constructs.gfm_strikethrough ≡ false → row_has_run (row_of_elements es) ≡ false
-text-still s cs es built are off none = still-row es (text-are IsStill s cs es [] None cs built (parts-still s.options.constructs off none) are)
+pub text-still : (s : Setting) (cs : List Code) (es : List Element) → AreElements s cs es → s.options.constructs.attention ≡ false → s.options.constructs.gfm_strikethrough ≡ false → row_has_run (row_of_elements es) ≡ false
+text-still s cs es are off none = still-row es (text-are IsStill s cs es [] None cs (parts-still s.options.constructs off none) are)
 
 -- The tree of labels.
 
@@ -198,6 +198,11 @@ unfolding label_tree
 text-labels s cs es are = ap labels_of (same_text_elements s cs (elements_of s cs) es (text_elements s cs) are)
 
 -- The inline tree.
+
+pub text-unmailed : (s : Setting) (cs : List Code) (es : List Element) → AreElements s cs es → unmailed_tree s cs ≡ trimmed s.options.constructs.hard_break_trailing true true (merged (paired s (pair_list s) (labels_of es)))
+unfolding raw_tree
+text-unmailed s cs es are =
+    ap (λ (xs : List Element). trimmed s.options.constructs.hard_break_trailing true true (merged (raw_tree s (pair_list s) xs))) (same_text_elements s cs (elements_of s cs) es (text_elements s cs) are)
 
 -- a raw tree merged, trimmed and searched for emails, by the two switches
 finish : Bool → Bool → Forest → Forest
@@ -208,10 +213,9 @@ finished-is : (s : Setting) (pairs_of : List Run → List Pair) (es : List Eleme
 unfolding finished_text raw_tree finish
 finished-is s pairs_of es = refl
 
-pub text-finished : (s : Setting) (cs : List Code) (es : List Element) → IsBuilt s.options.constructs → AreElements s cs es
-    → text_tree s cs ≡ trimmed s.options.constructs.hard_break_trailing true true (merged (paired s (pair_list s) (labels_of es)))
-unfolding text_tree finish
-text-finished s cs es built are =
-    ap (finished_text s (pair_list s)) (same_text_elements s cs (elements_of s cs) es (text_elements s cs) are)
-    ∙ finished-is s (pair_list s) es
-    ∙ (λ i. finish s.options.constructs.hard_break_trailing (built.no_literals i) (paired s (pair_list s) (labels_of es)))
+-- where literals are off no emails are looked for
+pub text-finished : (s : Setting) (cs : List Code) → s.options.constructs.gfm_autolink_literal ≡ false → text_tree s cs ≡ unmailed_tree s cs
+unfolding text_tree raw_tree finish
+text-finished s cs off =
+    finished-is s (pair_list s) (elements_of s cs)
+    ∙ (λ i. finish s.options.constructs.hard_break_trailing (off i) (paired s (pair_list s) (labels_of (elements_of s cs))))

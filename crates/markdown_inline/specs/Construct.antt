@@ -8,11 +8,12 @@ use Rattle.markdown_engine.specs.declared.configuration.Constructs.{Constructs}
 use Rattle.markdown_engine.specs.declared.resolve.ResolveName.{ResolveName}
 use Rattle.markdown_engine.specs.declared.resolve.ResolveName.TheVariants as P
 use Rattle.markdown_engine.specs.declared.state.StateName.{StateName}
-use Rattle.markdown_engine.specs.declared.state.StateName.TheVariants.{AttentionStart, AutolinkStart, CharacterEscapeStart, CharacterReferenceStart, DataStart, DestinationStart, LabelStart, TitleStart, GfmLabelStartFootnoteStart, GfmTaskListItemCheckStart, HardBreakEscapeStart, HtmlTextStart, LabelEndStart, LabelStartImageStart, LabelStartLinkStart, RawTextStart, SpaceOrTabStart, SpaceOrTabEolStart}
+use Rattle.markdown_engine.specs.declared.state.StateName.TheVariants.{AttentionStart, AutolinkStart, CharacterEscapeStart, CharacterReferenceStart, DataStart, DestinationStart, LabelStart, TitleStart, GfmAutolinkLiteralProtocolStart, GfmAutolinkLiteralWwwStart, GfmLabelStartFootnoteStart, GfmTaskListItemCheckStart, HardBreakEscapeStart, HtmlTextStart, LabelEndStart, LabelStartImageStart, LabelStartLinkStart, RawTextStart, SpaceOrTabStart, SpaceOrTabEolStart}
 use Rattle.markdown_engine.specs.declared.tokenizer.LabelKind.{LabelKind}
 use Rattle.markdown_engine.specs.declared.tokenizer.TokenizeState.{TokenizeState}
 use Rattle.markdown_engine.specs.declared.tokenizer.Tokenizer.{Tokenizer}
 use Rattle.markdown_attention.specs.Attention as AT
+use Rattle.markdown_gfm.specs.GfmAutolinkLiteral as G
 use Rattle.markdown_gfm.specs.GfmTaskListItemCheck as C
 use Rattle.markdown_html.specs.HtmlText as H
 use Rattle.markdown_label.specs.LabelEnd as LE
@@ -34,10 +35,11 @@ use Rattle.markdown_string.specs.Label as SL
 use Rattle.markdown_string.specs.Text as SX
 use Rattle.markdown_util.specs.Reference.{html_5_rows}
 
--- The states that start a construct, each with what it asks for: the scratch fields that it counts in are at rest. A span, and whitespace
--- with a line ending, ask that fewer codes are left than a `usize` counts, which holds over every content; a span also that what is known of
--- the runs is right. Whitespace has the fields of what it reads as its setter leaves them: where it is to go on with a chain, a linked event
--- stands just before, and where whitespace with a line ending is linked, no blank code is at hand.
+-- The states that start a construct, each with what it asks for: the scratch fields that it counts in are at rest. A span, whitespace with a
+-- line ending, and a literal ask that fewer codes are left than a `usize` counts, which holds over every content; a span also that what is known
+-- of the runs is right, and a literal that the content is read as characters, as every content is. Whitespace has the fields of what it reads as
+-- its setter leaves them: where it is to go on with a chain, a linked event stands just before, and where whitespace with a line ending is
+-- linked, no blank code is at hand.
 abbrev pub IsConstruct : StateName → Tokenizer → Type 0
 IsConstruct CharacterEscapeStart T = Unit {0}
 IsConstruct CharacterReferenceStart T = R.IsAtRest T
@@ -51,6 +53,8 @@ IsConstruct RawTextStart T = X.StartReady T
 IsConstruct DataStart T = Unit {0}
 IsConstruct AttentionStart T = AT.StartReady T
 IsConstruct GfmTaskListItemCheckStart T = C.MayLook T
+IsConstruct GfmAutolinkLiteralProtocolStart T = G.StartReady T
+IsConstruct GfmAutolinkLiteralWwwStart T = G.StartReady T
 IsConstruct LabelStartImageStart T = Unit {0}
 IsConstruct LabelStartLinkStart T = Unit {0}
 IsConstruct GfmLabelStartFootnoteStart T = Unit {0}
@@ -74,6 +78,8 @@ construct_reading RawTextStart T = X.span_at T
 construct_reading AttentionStart T = AT.run_tree T
 construct_reading DataStart T = data_up_to T.tokenize_state.markers
 construct_reading GfmTaskListItemCheckStart T = C.check_here T
+construct_reading GfmAutolinkLiteralProtocolStart T = G.protocol_here T
+construct_reading GfmAutolinkLiteralWwwStart T = G.www_here T
 construct_reading SpaceOrTabStart T =
     let s : TokenizeState = T.tokenize_state in
     space_or_tab s.space_or_tab_token s.space_or_tab_content s.space_or_tab_min s.space_or_tab_max

@@ -1,13 +1,13 @@
 -- The states of inline content by name: when they may be called, what they do, how runs from them end, and a number that falls.
 use Rattle.std.specs.Prelude.{ℕ, Bool, List, Option, None}
-use Rattle.markdown_engine.specs.Runs.{Stepped, stepped}
+use Rattle.markdown_engine.specs.Runs.{Stepped}
 use Rattle.markdown_engine.specs.Weights.{weight_at}
 use Rattle.markdown_engine.specs.StateWords.{StateWords, Words}
-use Rattle.markdown_engine.specs.declared.state.State.TheVariants.{Nok}
 use Rattle.markdown_engine.specs.declared.state.StateName.{StateName}
-use Rattle.markdown_engine.specs.declared.state.StateName.TheVariants.{CharacterEscapeStart, CharacterEscapeInside, CharacterReferenceStart, CharacterReferenceOpen, CharacterReferenceNumeric, CharacterReferenceValue, HardBreakEscapeStart, HardBreakEscapeAfter, AutolinkStart, AutolinkOpen, AutolinkSchemeOrEmailAtext, AutolinkSchemeInsideOrEmailAtext, AutolinkUrlInside, AutolinkEmailAtext, AutolinkEmailAtSignOrDot, AutolinkEmailLabel, AutolinkEmailValue, RawTextStart, RawTextSequenceOpen, RawTextBetween, RawTextData, RawTextSequenceClose, SpaceOrTabStart, SpaceOrTabInside, SpaceOrTabAfter, SpaceOrTabEolStart, SpaceOrTabEolAfterFirst, SpaceOrTabEolAtEol, SpaceOrTabEolAfterEol, SpaceOrTabEolAfterMore, DataStart, DataAtBreak, DataInside, StringStart, StringBefore, StringBeforeData, DestinationStart, DestinationEnclosedBefore, DestinationEnclosed, DestinationEnclosedEscape, DestinationRaw, DestinationRawEscape, TitleStart, TitleBegin, TitleAtBreak, TitleAfterEol, TitleInside, TitleEscape, TitleNok, LabelStart, LabelAtBreak, LabelEolAfter, LabelInside, LabelEscape, LabelNok, TextStart, TextBefore, TextBeforeHtml, TextBeforeHardBreakEscape, TextBeforeLabelStartLink, TextBeforeData, AttentionStart, AttentionInside, GfmAutolinkLiteralProtocolStart, GfmAutolinkLiteralWwwStart, GfmLabelStartFootnoteStart, GfmTaskListItemCheckStart, GfmTaskListItemCheckInside, GfmTaskListItemCheckClose, GfmTaskListItemCheckAfter, GfmTaskListItemCheckAfterSpaceOrTab, HtmlTextStart, HtmlTextOpen, HtmlTextDeclarationOpen, HtmlTextCommentOpenInside, HtmlTextComment, HtmlTextCommentClose, HtmlTextCommentEnd, HtmlTextCdata, HtmlTextCdataClose, HtmlTextCdataEnd, HtmlTextDeclaration, HtmlTextInstruction, HtmlTextInstructionClose, HtmlTextTagCloseStart, HtmlTextTagClose, HtmlTextTagCloseBetween, HtmlTextTagOpen, HtmlTextTagOpenBetween, HtmlTextTagOpenAttributeName, HtmlTextTagOpenAttributeNameAfter, HtmlTextTagOpenAttributeValueBefore, HtmlTextTagOpenAttributeValueQuotedAfter, HtmlTextTagOpenAttributeValueUnquoted, HtmlTextEnd, HtmlTextCdataOpenInside, HtmlTextTagOpenAttributeValueQuoted, HtmlTextLineEndingBefore, HtmlTextLineEndingAfter, HtmlTextLineEndingAfterPrefix, LabelEndStart, LabelStartImageStart, LabelStartLinkStart, GfmLabelStartFootnoteOpen, LabelStartImageOpen, LabelStartImageAfter, LabelEndAfter, LabelEndOk, LabelEndNok, LabelEndResourceStart, LabelEndResourceBefore, LabelEndResourceOpen, LabelEndResourceDestinationAfter, LabelEndResourceDestinationMissing, LabelEndResourceBetween, LabelEndResourceTitleAfter, LabelEndResourceEnd, LabelEndReferenceFull, LabelEndReferenceFullAfter, LabelEndReferenceFullMissing, LabelEndReferenceNotFull, LabelEndReferenceCollapsed, LabelEndReferenceCollapsedOpen}
+use Rattle.markdown_engine.specs.declared.state.StateName.TheVariants.{CharacterEscapeStart, CharacterEscapeInside, CharacterReferenceStart, CharacterReferenceOpen, CharacterReferenceNumeric, CharacterReferenceValue, HardBreakEscapeStart, HardBreakEscapeAfter, AutolinkStart, AutolinkOpen, AutolinkSchemeOrEmailAtext, AutolinkSchemeInsideOrEmailAtext, AutolinkUrlInside, AutolinkEmailAtext, AutolinkEmailAtSignOrDot, AutolinkEmailLabel, AutolinkEmailValue, RawTextStart, RawTextSequenceOpen, RawTextBetween, RawTextData, RawTextSequenceClose, SpaceOrTabStart, SpaceOrTabInside, SpaceOrTabAfter, SpaceOrTabEolStart, SpaceOrTabEolAfterFirst, SpaceOrTabEolAtEol, SpaceOrTabEolAfterEol, SpaceOrTabEolAfterMore, DataStart, DataAtBreak, DataInside, StringStart, StringBefore, StringBeforeData, DestinationStart, DestinationEnclosedBefore, DestinationEnclosed, DestinationEnclosedEscape, DestinationRaw, DestinationRawEscape, TitleStart, TitleBegin, TitleAtBreak, TitleAfterEol, TitleInside, TitleEscape, TitleNok, LabelStart, LabelAtBreak, LabelEolAfter, LabelInside, LabelEscape, LabelNok, TextStart, TextBefore, TextBeforeHtml, TextBeforeHardBreakEscape, TextBeforeLabelStartLink, TextBeforeData, AttentionStart, AttentionInside, GfmAutolinkLiteralProtocolStart, GfmAutolinkLiteralProtocolAfter, GfmAutolinkLiteralProtocolPrefixInside, GfmAutolinkLiteralProtocolSlashesInside, GfmAutolinkLiteralWwwStart, GfmAutolinkLiteralWwwPrefixInside, GfmAutolinkLiteralWwwPrefixAfter, GfmAutolinkLiteralWwwAfter, GfmAutolinkLiteralDomainInside, GfmAutolinkLiteralDomainAtPunctuation, GfmAutolinkLiteralDomainAfter, GfmAutolinkLiteralPathInside, GfmAutolinkLiteralPathAtPunctuation, GfmAutolinkLiteralPathAfter, GfmAutolinkLiteralTrail, GfmAutolinkLiteralTrailBracketAfter, GfmAutolinkLiteralTrailCharRefStart, GfmAutolinkLiteralTrailCharRefInside, GfmLabelStartFootnoteStart, GfmTaskListItemCheckStart, GfmTaskListItemCheckInside, GfmTaskListItemCheckClose, GfmTaskListItemCheckAfter, GfmTaskListItemCheckAfterSpaceOrTab, HtmlTextStart, HtmlTextOpen, HtmlTextDeclarationOpen, HtmlTextCommentOpenInside, HtmlTextComment, HtmlTextCommentClose, HtmlTextCommentEnd, HtmlTextCdata, HtmlTextCdataClose, HtmlTextCdataEnd, HtmlTextDeclaration, HtmlTextInstruction, HtmlTextInstructionClose, HtmlTextTagCloseStart, HtmlTextTagClose, HtmlTextTagCloseBetween, HtmlTextTagOpen, HtmlTextTagOpenBetween, HtmlTextTagOpenAttributeName, HtmlTextTagOpenAttributeNameAfter, HtmlTextTagOpenAttributeValueBefore, HtmlTextTagOpenAttributeValueQuotedAfter, HtmlTextTagOpenAttributeValueUnquoted, HtmlTextEnd, HtmlTextCdataOpenInside, HtmlTextTagOpenAttributeValueQuoted, HtmlTextLineEndingBefore, HtmlTextLineEndingAfter, HtmlTextLineEndingAfterPrefix, LabelEndStart, LabelStartImageStart, LabelStartLinkStart, GfmLabelStartFootnoteOpen, LabelStartImageOpen, LabelStartImageAfter, LabelEndAfter, LabelEndOk, LabelEndNok, LabelEndResourceStart, LabelEndResourceBefore, LabelEndResourceOpen, LabelEndResourceDestinationAfter, LabelEndResourceDestinationMissing, LabelEndResourceBetween, LabelEndResourceTitleAfter, LabelEndResourceEnd, LabelEndReferenceFull, LabelEndReferenceFullAfter, LabelEndReferenceFullMissing, LabelEndReferenceNotFull, LabelEndReferenceCollapsed, LabelEndReferenceCollapsedOpen}
 use Rattle.markdown_engine.specs.declared.tokenizer.TokenizeState.{TokenizeState}
 use Rattle.markdown_engine.specs.declared.tokenizer.Tokenizer.{Tokenizer}
+use Rattle.markdown_gfm.specs.GfmAutolinkLiteral as G
 use Rattle.markdown_gfm.specs.GfmTaskListItemCheck as C
 use Rattle.markdown_html.specs.HtmlText as H
 use Rattle.markdown_html.specs.Rests as Q
@@ -28,7 +28,6 @@ use Rattle.markdown_partial.specs.SpaceSteps as W
 use Rattle.markdown_resource.specs.Resource as LR
 use Rattle.markdown_inline.specs.StringSteps as S
 use Rattle.markdown_inline.specs.TextSteps as M
-use Rattle.markdown_inline.specs.Unbuilt.{never_step, never_ends}
 
 -- a part of what is said of a state: the part is taken in each row, so that a name that is not known yet leaves a row to choose, not a field
 abbrev pub said_of {ℓ} : {A : Type ℓ} → StateName → (StateWords → A) → A
@@ -141,21 +140,36 @@ said_of LabelEndReferenceFullMissing part = part LE.reference_full_missing_words
 said_of LabelEndReferenceNotFull part = part LE.reference_not_full_words
 said_of LabelEndReferenceCollapsed part = part LE.reference_collapsed_words
 said_of LabelEndReferenceCollapsedOpen part = part LE.reference_collapsed_open_words
-said_of TextStart part = part (record { ready = M.StartReady; step = M.start_step; ends = M.start_ends; rank = 8 })
-said_of TextBefore part = part (record { ready = M.BeforeReady; step = M.before_step; ends = M.before_ends; rank = 7 })
+said_of TextStart part = part (record { ready = M.StartReady; step = M.start_step; ends = M.start_ends; rank = 9 })
+said_of TextBefore part = part (record { ready = M.BeforeReady; step = M.before_step; ends = M.before_ends; rank = 8 })
 said_of TextBeforeHtml part = part (record { ready = M.BeforeHtmlReady; step = M.before_html_step; ends = M.before_ends; rank = 6 })
 said_of TextBeforeHardBreakEscape part = part (record { ready = M.BeforeBreakReady; step = M.before_hard_break_escape_step; ends = M.before_ends; rank = 6 })
 said_of TextBeforeLabelStartLink part = part (record { ready = M.BeforeLinkReady; step = M.before_label_start_link_step; ends = M.before_ends; rank = 6 })
 said_of TextBeforeData part = part (record { ready = M.BeforeDataReady; step = M.before_data_step; ends = M.data_ends; rank = 5 })
 said_of AttentionStart part = part (record { ready = AT.StartReady; step = AT.start_step; ends = AT.start_ends; rank = 2 })
 said_of AttentionInside part = part (record { ready = AT.InsideReady; step = AT.inside_step; ends = AT.inside_ends; rank = 1 })
-said_of GfmAutolinkLiteralProtocolStart part = part (record { ready = λ T. Unit {0}; step = never_step; ends = never_ends; rank = 0 })
-said_of GfmAutolinkLiteralWwwStart part = part (record { ready = λ T. Unit {0}; step = never_step; ends = never_ends; rank = 0 })
+said_of GfmAutolinkLiteralProtocolStart part = part G.protocol_start_words
+said_of GfmAutolinkLiteralProtocolAfter part = part G.protocol_after_words
+said_of GfmAutolinkLiteralProtocolPrefixInside part = part G.prefix_words
+said_of GfmAutolinkLiteralProtocolSlashesInside part = part G.slashes_words
+said_of GfmAutolinkLiteralWwwStart part = part G.www_start_words
+said_of GfmAutolinkLiteralWwwPrefixInside part = part G.www_prefix_words
+said_of GfmAutolinkLiteralWwwPrefixAfter part = part G.www_prefix_after_words
+said_of GfmAutolinkLiteralWwwAfter part = part G.www_after_words
+said_of GfmAutolinkLiteralDomainInside part = part G.domain_words
+said_of GfmAutolinkLiteralDomainAtPunctuation part = part G.domain_punctuation_words
+said_of GfmAutolinkLiteralDomainAfter part = part G.domain_after_words
+said_of GfmAutolinkLiteralPathInside part = part G.path_words
+said_of GfmAutolinkLiteralPathAtPunctuation part = part G.path_punctuation_words
+said_of GfmAutolinkLiteralPathAfter part = part G.path_after_words
+said_of GfmAutolinkLiteralTrail part = part G.trail_words
+said_of GfmAutolinkLiteralTrailBracketAfter part = part G.bracket_after_words
+said_of GfmAutolinkLiteralTrailCharRefStart part = part G.reference_start_words
+said_of GfmAutolinkLiteralTrailCharRefInside part = part G.reference_words
 said_of GfmLabelStartFootnoteStart part = part LS.footnote_words
 said_of LabelEndStart part = part LE.start_words
 said_of LabelStartImageStart part = part LS.image_words
 said_of LabelStartLinkStart part = part LS.link_words
-said_of _ part = part (record { ready = λ T. ⊥; step = stepped Nok; ends = λ T ok U. Unit {0}; rank = 0 })
 
 abbrev pub words_of : StateName → StateWords
 words_of s = said_of s (λ (w : StateWords). w)

@@ -1,7 +1,7 @@
 pub mod Settings
 pub mod StringSteps
 pub mod Built
-pub mod Unbuilt
+pub mod Unmailed
 pub mod TextSteps
 pub mod Layer
 pub mod Laws

@@ -1,7 +1,8 @@
 -- What the states of a text do, and how runs from them end.
 use Rattle.std.specs.Prelude.{◌≡◌, ◌≢◌, ℕ, Bool, true, false, ◌==◌, ◌||◌, if◌then◌else◌, List, [], ◌∷◌, Option, Some, None}
-use Rattle.markdown_engine.specs.Codes.{Code}
+use Rattle.markdown_engine.specs.Codes.{Code, stop_of, document_start}
 use Rattle.markdown_engine.specs.Ops.{attempted, scratched, registered, current_of, ahead}
+use Rattle.markdown_engine.specs.Place.{Place}
 use Rattle.markdown_engine.specs.RunIndex.{last_runs}
 use Rattle.markdown_engine.specs.Runs.{Stepped, stepped}
 use Rattle.markdown_engine.specs.declared.resolve.ResolveName.TheVariants as R
@@ -10,6 +11,7 @@ use Rattle.markdown_engine.specs.declared.state.StateName.{StateName}
 use Rattle.markdown_engine.specs.declared.state.StateName.TheVariants.{AttentionStart, AutolinkStart, CharacterEscapeStart, CharacterReferenceStart, DataStart, GfmAutolinkLiteralProtocolStart, GfmAutolinkLiteralWwwStart, GfmLabelStartFootnoteStart, GfmTaskListItemCheckStart, HardBreakEscapeStart, HtmlTextStart, LabelEndStart, LabelStartImageStart, LabelStartLinkStart, RawTextStart, TextBefore, TextBeforeData, TextBeforeHardBreakEscape, TextBeforeHtml, TextBeforeLabelStartLink}
 use Rattle.markdown_engine.specs.declared.tokenizer.TokenizeState.{TokenizeState}
 use Rattle.markdown_engine.specs.declared.tokenizer.Tokenizer.{Tokenizer}
+use Rattle.markdown_gfm.specs.GfmAutolinkLiteral as G
 use Rattle.markdown_gfm.specs.GfmTaskListItemCheck as C
 use Rattle.markdown_label.specs.LabelEnd as E
 use Rattle.markdown_label.specs.LabelStarts.{footnote_test}
@@ -21,7 +23,6 @@ use Rattle.markdown_model.specs.Element.{Choice, text_choice}
 use Rattle.markdown_model.specs.LabelEnd.{Element, plain}
 use Rattle.markdown_model.specs.Lines.{data_up_to}
 use Rattle.markdown_model.specs.Setting.{Setting}
-use Rattle.markdown_inline.specs.Built.{as_built}
 use Rattle.markdown_row.specs.Elements.{DataFinishes, Finishes, StandsAfter}
 use Rattle.markdown_inline.specs.Settings.{text_setting_of}
 
@@ -89,29 +90,37 @@ before_label_start_link_step T = trying LabelStartLinkStart TextBeforeData T
 abbrev pub before_data_step : Tokenizer → Stepped
 before_data_step T = stepped (Retry DataStart) (attempted false (Next TextBefore) Nok T)
 
--- What is read: the construct that is not built is as if switched off.
+-- What is read.
 
 abbrev pub text_setting : Tokenizer → Setting
-text_setting T = as_built (text_setting_of T.parse_state.now T.tokenize_state.document_at_first_paragraph_of_list_item)
+text_setting T = text_setting_of T.parse_state.now T.tokenize_state.document_at_first_paragraph_of_list_item
 
 abbrev pub text_choice_of : Tokenizer → Choice
 text_choice_of T = text_choice (text_setting T) T.cursor.codes
 
 -- When they may be called.
 
--- at the start: the fields in which spans, references and autolinks count are at rest, those in which whitespace behind a check does, and those
--- of ends of labels; and the starts that are kept end between characters
+-- a content that has codes ends with the last of them
+abbrev pub EndsWithCodes : Place → Type 0
+EndsWithCodes p = p.codes ≢ [] → p.end.index ≡ (stop_of document_start p.codes).index
+
+-- at the start: the fields in which spans, references and autolinks count are at rest, those in which whitespace behind a check does, those
+-- of literals, and those of ends of labels; the starts that are kept end between characters; and the content ends with its last code
 pub record StartReady (T : Tokenizer) : Type 0 where
   pub spans : X.StartReady T
   pub look : C.MayLook T
+  pub literals : G.StartReady T
   pub ends : E.StartReady T
+  pub last : EndsWithCodes T.cursor
 
 -- besides, data stops at the markers of a text
 pub record IsMarked (T : Tokenizer) : Type 0 where
   pub markers : T.tokenize_state.markers ≡ text_markers
   pub spans : X.StartReady T
   pub look : C.MayLook T
+  pub literals : G.StartReady T
   pub ends : E.StartReady T
+  pub last : EndsWithCodes T.cursor
 
 -- and no check of a list item stands here
 pub record BeforeReady (T : Tokenizer) : Type 0 where

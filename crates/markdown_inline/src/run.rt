@@ -114,7 +114,8 @@ fn put_back<'a>(
 }
 
 /// Reads one construct at the tokenizer's place, by the name of the state that starts it: `CharacterEscapeStart`, `CharacterReferenceStart`,
-/// `HardBreakEscapeStart`, `AutolinkStart`, `HtmlTextStart`, `RawTextStart` (a code span, or a math span), `GfmTaskListItemCheckStart`;
+/// `HardBreakEscapeStart`, `AutolinkStart`, `HtmlTextStart`, `RawTextStart` (a code span, or a math span), `GfmTaskListItemCheckStart`,
+/// `GfmAutolinkLiteralProtocolStart`, `GfmAutolinkLiteralWwwStart`;
 /// `AttentionStart` (a run of markers, past which the pass that pairs runs is registered);
 /// `DestinationStart`, `TitleStart` and `LabelStart`, which take their names from the scratch fields `token_1` to `token_5`, and a destination
 /// the depth of its parentheses from `size_b`; `DataStart`, which takes the bytes at which it stops from the scratch field `markers`, and holds
@@ -126,7 +127,8 @@ fn put_back<'a>(
 ///
 /// The scratch fields that a construct counts in are at rest before, as they are in a new tokenizer. Where a construct counts codes, or reads
 /// whitespace, it asks that fewer are left than a `usize` counts, which holds over every content: it has at most four codes for each byte.
-/// `RawTextStart` also asks that the scratch field `runs` is right for the content; in a new tokenizer nothing is known there. Whitespace that
+/// `RawTextStart` also asks that the scratch field `runs` is right for the content; in a new tokenizer nothing is known there. A literal asks that
+/// the codes of the content are those of its characters, which holds over every content. Whitespace that
 /// is to be connected asks for a linked event just before, and with a line ending for a content too; and where whitespace with
 /// a line ending has a content, no blank code is at hand.
 pub fn construct(name: StateName, tokenizer: &mut Tokenizer) -> Result<bool, AllocError>

@@ -12,7 +12,7 @@ use markdown_engine::resolve::ResolveName;
 use markdown_engine::state::{State, StateName};
 use markdown_engine::subtokenize::Subresult;
 use markdown_engine::tokenizer::{TokenizeState, Tokenizer};
-use markdown_gfm::gfm_task_list_item_check;
+use markdown_gfm::{gfm_autolink_literal, gfm_task_list_item_check};
 use markdown_html::html_text;
 use markdown_label::{gfm_label_start_footnote, label_start_image, label_start_link};
 use markdown_leaf::{autolink, character_escape, character_reference, hard_break_escape, raw_text};
@@ -20,7 +20,7 @@ use markdown_partial::{partial_data, partial_space_or_tab, partial_space_or_tab_
 use markdown_string::{partial_destination, partial_label, partial_title};
 use std::alloc::AllocError;
 
-// Calls the state of this name, one of those that are built.
+// Calls the state of this name.
 fn dispatch(name: StateName, tokenizer: &mut Tokenizer) -> Result<State, AllocError>
     requires { ready_of name tokenizer.old }
     ensures ok { IfOk result (λ s. step_of name tokenizer.old ≡ record { state = s; left = tokenizer.new }) }
@@ -162,11 +162,41 @@ fn dispatch(name: StateName, tokenizer: &mut Tokenizer) -> Result<State, AllocEr
         StateName::TextBeforeData => text::before_data(tokenizer),
         StateName::AttentionStart => attention::start(tokenizer),
         StateName::AttentionInside => attention::inside(tokenizer),
-        // These constructs are not built yet, and never hold.
-        StateName::GfmAutolinkLiteralProtocolStart
-        | StateName::GfmAutolinkLiteralWwwStart
-        => Ok(State::Nok),
-        _ => unreachable!(),
+        StateName::GfmAutolinkLiteralProtocolStart => gfm_autolink_literal::protocol_start(
+            tokenizer,
+        ),
+        StateName::GfmAutolinkLiteralProtocolAfter => gfm_autolink_literal::protocol_after(
+            tokenizer,
+        ),
+        StateName::GfmAutolinkLiteralProtocolPrefixInside =>
+            gfm_autolink_literal::protocol_prefix_inside(tokenizer),
+        StateName::GfmAutolinkLiteralProtocolSlashesInside =>
+            gfm_autolink_literal::protocol_slashes_inside(tokenizer),
+        StateName::GfmAutolinkLiteralWwwStart => gfm_autolink_literal::www_start(tokenizer),
+        StateName::GfmAutolinkLiteralWwwPrefixInside => gfm_autolink_literal::www_prefix_inside(
+            tokenizer,
+        ),
+        StateName::GfmAutolinkLiteralWwwPrefixAfter => gfm_autolink_literal::www_prefix_after(
+            tokenizer,
+        ),
+        StateName::GfmAutolinkLiteralWwwAfter => gfm_autolink_literal::www_after(tokenizer),
+        StateName::GfmAutolinkLiteralDomainInside => gfm_autolink_literal::domain_inside(tokenizer),
+        StateName::GfmAutolinkLiteralDomainAtPunctuation =>
+            gfm_autolink_literal::domain_at_punctuation(tokenizer),
+        StateName::GfmAutolinkLiteralDomainAfter => gfm_autolink_literal::domain_after(tokenizer),
+        StateName::GfmAutolinkLiteralPathInside => gfm_autolink_literal::path_inside(tokenizer),
+        StateName::GfmAutolinkLiteralPathAtPunctuation => gfm_autolink_literal::path_at_punctuation(
+            tokenizer,
+        ),
+        StateName::GfmAutolinkLiteralPathAfter => gfm_autolink_literal::path_after(tokenizer),
+        StateName::GfmAutolinkLiteralTrail => gfm_autolink_literal::trail(tokenizer),
+        StateName::GfmAutolinkLiteralTrailBracketAfter => gfm_autolink_literal::trail_bracket_after(
+            tokenizer,
+        ),
+        StateName::GfmAutolinkLiteralTrailCharRefStart =>
+            gfm_autolink_literal::trail_char_ref_start(tokenizer),
+        StateName::GfmAutolinkLiteralTrailCharRefInside =>
+            gfm_autolink_literal::trail_char_ref_inside(tokenizer),
     }
 }
 

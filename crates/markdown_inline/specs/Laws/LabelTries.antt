@@ -30,7 +30,7 @@ use Rattle.markdown_row.proofs.LabelElements.{start-advances, end-advances, lost
 use Rattle.markdown_row.proofs.LabelReads.{PastStart, link-past, footnote-past, image-past, end-made-of}
 use Rattle.markdown_inline.specs.TextSteps.{text_markers, text_setting, text_choice_of, StandsAlone}
 use Rattle.markdown_inline.specs.Laws.TextElements.{bang_row, bracket_row, image-element, no-image-element, bracket-element, no-bracket-element, end-element, no-end-element}
-use Rattle.markdown_inline.specs.Laws.TextTries.{now-built, end_in, first-none, other-data, value-here}
+use Rattle.markdown_inline.specs.Laws.TextTries.{end_in, first-none, other-data, value-here}
 
 -- Codes that come next.
 
@@ -156,13 +156,13 @@ image-advances T U k =
     started LabelKind.Image (f.code ∷ g.code ∷ []) rest T U (image-past f.code g.code rest T U whole f.value g.value k)
     (λ earlier previous stands.
     ap (text_choice_of T earlier previous) whole
-    ∙ image-element (text_setting T) (now-built T) (end_in T) earlier previous f.code (g.code ∷ rest) (starts LabelKind.Image (f.code ∷ g.code ∷ []), rest) f.value
+    ∙ image-element (text_setting T) (end_in T) earlier previous f.code (g.code ∷ rest) (starts LabelKind.Image (f.code ∷ g.code ∷ []), rest) f.value
     (on-some T.parse_state.now.options.now.constructs.label_start_image _ (f.code ∷ g.code ∷ rest) _ (and-left _ _ (and-left _ _ k.holds))
     (image-some (footnotes_on T) f.code g.code rest f.value g.value (and-right _ _ (and-right _ _ k.holds)))))
 
 pub image-alone : (T : Tokenizer) → current_of T ≡ Some 33 → image_test T (ahead T) ≡ false → StandsAlone T
 image-alone T e refused earlier previous c cs stands w =
-    no-image-element (text_setting T) (now-built T) (end_in T) earlier previous c cs (value-here T 33 c cs e w)
+    no-image-element (text_setting T) (end_in T) earlier previous c cs (value-here T 33 c cs e w)
     (on-none T.parse_state.now.options.now.constructs.label_start_image _ (c ∷ cs) (λ on.
     image-none (footnotes_on T) (c ∷ cs) (ap (λ xs. next_is (is_value 33) xs && (next_is (is_value 91) (rest_of xs) && not (footnotes_on T && next_is (is_value 94) (rest_of (rest_of xs))))) (sym w) ∙ tests T.parse_state.now.options.now.constructs.label_start_image _ _ on refused)))
   where
@@ -180,7 +180,7 @@ footnote-advances T U none k =
     started LabelKind.GfmFootnote (f.code ∷ g.code ∷ []) rest T U (footnote-past f.code g.code rest T U whole f.value g.value k)
     (λ earlier previous stands.
     ap (text_choice_of T earlier previous) whole
-    ∙ bracket-element (text_setting T) (now-built T) (end_in T) earlier previous f.code (g.code ∷ rest) found (first-none T earlier previous f.code (g.code ∷ rest) none stands whole) f.value
+    ∙ bracket-element (text_setting T) (end_in T) earlier previous f.code (g.code ∷ rest) found (first-none T earlier previous f.code (g.code ∷ rest) none stands whole) f.value
     (either-some _ _ (f.code ∷ g.code ∷ rest) found (on-some (footnotes_on T) footnote_start (f.code ∷ g.code ∷ rest) found (and-left _ _ (and-left _ _ k.holds)) (footnote-some f.code g.code rest f.value g.value))))
 
 -- no footnote call begins here
@@ -200,12 +200,12 @@ link-advances T U none refused k =
     started LabelKind.Link (f.code ∷ []) rest T U (link-past f.code rest T U f.whole f.value k)
     (λ earlier previous stands.
     ap (text_choice_of T earlier previous) f.whole
-    ∙ bracket-element (text_setting T) (now-built T) (end_in T) earlier previous f.code rest found (first-none T earlier previous f.code rest none stands f.whole) f.value
+    ∙ bracket-element (text_setting T) (end_in T) earlier previous f.code rest found (first-none T earlier previous f.code rest none stands f.whole) f.value
     (either-second _ _ (f.code ∷ rest) (no-footnote T (f.code ∷ rest) f.whole refused) ∙ on-some T.parse_state.now.options.now.constructs.label_start_link link_start (f.code ∷ rest) found (and-left _ _ k.holds) (link-some f.code rest f.value)))
 
 pub bracket-alone : (T : Tokenizer) → check_here T (ahead T) ≡ None → current_of T ≡ Some 91 → footnote_test T (ahead T) ≡ false → link_test T (ahead T) ≡ false → StandsAlone T
 bracket-alone T none e no_footnote refused earlier previous c cs stands w =
-    no-bracket-element (text_setting T) (now-built T) (end_in T) earlier previous c cs (first-none T earlier previous c cs none stands w) (value-here T 91 c cs e w)
+    no-bracket-element (text_setting T) (end_in T) earlier previous c cs (first-none T earlier previous c cs none stands w) (value-here T 91 c cs e w)
     (either-second _ _ (c ∷ cs) (no-footnote T (c ∷ cs) w no_footnote)
     ∙ on-none T.parse_state.now.options.now.constructs.label_start_link link_start (c ∷ cs) (λ on. link-none (c ∷ cs) (ap (next_is (is_value 91)) (sym w) ∙ right-of _ _ on refused)))
   where
@@ -261,7 +261,7 @@ module _ (T : Tokenizer) (here : current_of T ≡ Some 93) (on : is_on T ≡ tru
       let parts = some-back (B.code ∷ []) (outcome_by T.tokenize_state.label_starts T (B.code ∷ []) behind) k.back k.kind k.tail k.rest (sym reads ∙ k.holds) in
       end-advances (text_choice_of T) T U k (end-made-of T k.back k.kind k.tail k.rest k.holds) (λ earlier previous stands.
       ap (text_choice_of T earlier previous) B.whole
-      ∙ end-element (text_setting T) (now-built T) (end_in T) earlier previous B.code behind (ends (B.code ∷ []) (Some (k.kind, k.tail)), k.rest) B.value on
+      ∙ end-element (text_setting T) (end_in T) earlier previous B.code behind (ends (B.code ∷ []) (Some (k.kind, k.tail)), k.rest) B.value on
       (same-end T earlier (B.code ∷ behind)
       ∙ end-made (setting_in T) earlier T.events T.tokenize_state.label_starts B.code behind k.kind k.tail k.rest stands.keeps closes (sym (same-made T.tokenize_state.label_starts T (B.code ∷ []) behind) ∙ parts.1))
       ∙ ap (λ ws. Some (ends ws (Some (k.kind, k.tail)), k.rest)) parts.0)
@@ -271,7 +271,7 @@ module _ (T : Tokenizer) (here : current_of T ≡ Some 93) (on : is_on T ≡ tru
   failed-advances V none k =
       lost-advances (text_choice_of T) text_markers T V B.code behind B.whole (ap (λ v. v == 10) B.value) k
       (λ earlier previous stands.
-      end-element (text_setting T) (now-built T) (end_in T) earlier previous B.code behind (ends (B.code ∷ []) None, behind) B.value on
+      end-element (text_setting T) (end_in T) earlier previous B.code behind (ends (B.code ∷ []) None, behind) B.value on
       (same-end T earlier (B.code ∷ behind)
       ∙ end-fails (setting_in T) earlier T.events T.tokenize_state.label_starts B.code behind stands.keeps closes
       (sym (same-made T.tokenize_state.label_starts T (B.code ∷ []) behind) ∙ none-back (B.code ∷ []) _ (sym reads ∙ none))))
@@ -279,4 +279,4 @@ module _ (T : Tokenizer) (here : current_of T ≡ Some 93) (on : is_on T ≡ tru
 
 -- where ends are off
 pub end-alone : (T : Tokenizer) → current_of T ≡ Some 93 → is_on T ≡ false → StandsAlone T
-end-alone T e off earlier previous c cs stands w = no-end-element (text_setting T) (now-built T) (end_in T) earlier previous c cs (value-here T 93 c cs e w) off
+end-alone T e off earlier previous c cs stands w = no-end-element (text_setting T) (end_in T) earlier previous c cs (value-here T 93 c cs e w) off

@@ -1,8 +1,8 @@
--- Which element of a text stands at the codes at hand, where the construct that is not built is off.
-use Rattle.std.proofs.Common.{◌≡◌, ℕ, Bool, true, false, not, ◌&&◌, ◌||◌, ◌==◌, List, [], ◌∷◌, Option, None, Some, refl, sym, ap, subst, ◌∙◌}
+-- Which element of a text stands at the codes at hand.
+use Rattle.std.proofs.Common.{◌≡◌, ℕ, Bool, true, false, not, ◌&&◌, ◌||◌, ◌==◌, List, [], ◌∷◌, Option, None, Some, refl, sym, ap, subst, ◌∙◌, inl, inr}
 use Rattle.std.specs.Prelude.{is_none, nat_lt}
 use Rattle.std.specs.List.{list_any}
-use Rattle.std.proofs.lemmas.Bool.{or_parts, or_from, eqb-true}
+use Rattle.std.proofs.lemmas.Bool.{or_parts, or_from, or_cases, eqb-true}
 use Rattle.markdown_engine.specs.Codes.{Code, is_line_ending}
 use Rattle.markdown_engine.specs.Tree.{Forest, leaf}
 use Rattle.markdown_engine.specs.declared.event.Name.TheVariants as N
@@ -16,11 +16,11 @@ use Rattle.markdown_model.specs.Element.{attention_run, as_plain, switched, line
 use Rattle.markdown_model.specs.Grammar.{Reading, ◌>>◌, ◌>>=◌, provided, either, gives, one}
 use Rattle.markdown_model.specs.Html.{html}
 use Rattle.markdown_model.specs.LabelEnd.{Element, plain, label_end}
+use Rattle.markdown_model.specs.Literal.{protocol_literal, www_literal}
 use Rattle.markdown_model.specs.Leaf.{escape, reference, hard_break_escape, autolink, task_check, span_here, code_names, math_names}
 use Rattle.markdown_model.specs.Setting.{Setting}
 use Rattle.markdown_model.proofs.DataLaws.{code_leaf}
 use Rattle.markdown_row.specs.Elements.{StandsAfter}
-use Rattle.markdown_inline.specs.Built.{IsBuilt}
 use Rattle.markdown_inline.specs.TextSteps.{text_markers}
 use Rattle.markdown_model.proofs.ReadingSteps.{bind-some, bind-none, one-here, one-other, either-first, either-second, either-some, switched-on, switched-off}
 
@@ -38,10 +38,6 @@ pub plain-switched : (on : Bool) (a : Reading Forest) (cs : List Code) → switc
 unfolding switched as_plain ◌>>◌ ◌>>=◌ provided gives plain_of
 plain-switched true a cs = refl
 plain-switched false a cs = refl
-
-switched-none : (on : Bool) (a : Reading Element) (cs : List Code) → on ≡ false → switched on a cs ≡ None
-unfolding switched
-switched-none on a cs e = switched-off a on cs e
 
 pub off-or-none : (on : Bool) (a : Reading Forest) (cs : List Code) → a cs ≡ None → (provided on >> a) cs ≡ None
 off-or-none true a cs e = switched-on a true cs refl ∙ e
@@ -98,11 +94,6 @@ skip-one v n e = ap (λ b. b || false) e
 skip-two : (v n m : ℕ) → (v == n) ≡ false → (v == m) ≡ false → ((v == n) || ((v == m) || false)) ≡ false
 skip-two v n m e f = λ i. e i || (f i || false)
 
--- The codes of constructs that are off.
-
-abbrev pub off_markers : List ℕ
-off_markers = 72 ∷ 104 ∷ 87 ∷ 119 ∷ []
-
 -- The markers of runs.
 
 abbrev pub run_markers : List ℕ
@@ -146,7 +137,7 @@ only-math p escaped previous c cs e =
     (here-off p.math_text_single_dollar 96 code_names (λ n. true) p.constructs.code_text escaped previous (c ∷ cs)
     (ap (λ v. (v == 96) && (p.constructs.code_text && (escaped || not (is_some_code (is_value 96) previous)))) e))
 
-module _ (s : Setting) (built : IsBuilt s.options.constructs) (end : ℕ) (earlier : List Element) (previous : Option Code) where
+module _ (s : Setting) (end : ℕ) (earlier : List Element) (previous : Option Code) where
   -- a check begins with a bracket
   no-check : (c : Code) (cs : List Code) → (c.value == 91) ≡ false → first_check s end earlier previous (c ∷ cs) ≡ None
   unfolding first_check plain_of task_check
@@ -286,8 +277,6 @@ module _ (s : Setting) (built : IsBuilt s.options.constructs) (end : ℕ) (earli
       let r = run-row v m in
       text-row v (switched (begins_run s.options.constructs v) (attention_run v)) c cs e r.1.0 r.1.1 ∙ either-some (switched (begins_run s.options.constructs v) (attention_run v)) data_code (c ∷ cs) (plain t, rest) h
 
-  -- Constructs that are off.
-
   -- a row that does not hold
   row-none : (v : ℕ) (row : Reading Element) (c : Code) (cs : List Code) → c.value ≡ v → (v == 10) ≡ false → (v == 91) ≡ false → tried (tries s end earlier previous) v ≡ row → row (c ∷ cs) ≡ None
       → text_element s end earlier previous (c ∷ cs) ≡ Some (plain (code_leaf c), cs)
@@ -300,30 +289,29 @@ module _ (s : Setting) (built : IsBuilt s.options.constructs) (end : ℕ) (earli
       let r = run-row v m in
       row-none v (switched (begins_run s.options.constructs v) (attention_run v)) c cs e r.0 r.1.0 r.1.1 h
 
-  off-row : (v : ℕ) (on : Bool) (a : Reading Element) (c : Code) (cs : List Code) → c.value ≡ v → (v == 10) ≡ false → (v == 91) ≡ false → tried (tries s end earlier previous) v ≡ switched on a → on ≡ false
-      → text_element s end earlier previous (c ∷ cs) ≡ Some (plain (code_leaf c), cs)
-  off-row v on a c cs e k n r h = row-none v (switched on a) c cs e k n r (switched-none on a (c ∷ cs) h)
+  -- Literals, in either case of the letter that they begin with.
 
-  off-large-h : (c : Code) (cs : List Code) → c.value ≡ 72 → text_element s end earlier previous (c ∷ cs) ≡ Some (plain (code_leaf c), cs)
+  -- a code of one of two values, whose rows are the same
+  two-rows : (v a b : ℕ) (on : Bool) (k : Reading Forest) (c : Code) (cs : List Code) (o : Option (Forest × List Code)) → c.value ≡ v → (v == a || v == b) ≡ true
+      → (a == 10 || b == 10) ≡ false → (a == 91 || b == 91) ≡ false → tried (tries s end earlier previous) a ≡ switched on (as_plain k) → tried (tries s end earlier previous) b ≡ switched on (as_plain k)
+      → (provided on >> k) (c ∷ cs) ≡ o → text_element s end earlier previous (c ∷ cs) ≡ element_here c cs o
+  two-rows v a b on k c cs o e h lines brackets first second read =
+      let line = or_parts (a == 10) (b == 10) lines in
+      let bracket = or_parts (a == 91) (b == 91) brackets in
+      elim (or_cases (v == a) (v == b) h) [
+        | inl x ↦ one-row a on k c cs o (e ∙ eqb-true v a x) line.0 bracket.0 first read
+        | inr x ↦ one-row b on k c cs o (e ∙ eqb-true v b x) line.1 bracket.1 second read
+      ]
+
+  pub protocol-element : (v : ℕ) (c : Code) (cs : List Code) (o : Option (Forest × List Code)) → c.value ≡ v → (v == 72 || v == 104) ≡ true
+      → (provided s.options.constructs.gfm_autolink_literal >> protocol_literal s.bytes end previous) (c ∷ cs) ≡ o → text_element s end earlier previous (c ∷ cs) ≡ element_here c cs o
   unfolding tries tried
-  off-large-h c cs e = off-row 72 s.options.constructs.gfm_autolink_literal _ c cs e refl refl refl built.no_literals
+  protocol-element v c cs o e h read = two-rows v 72 104 s.options.constructs.gfm_autolink_literal (protocol_literal s.bytes end previous) c cs o e h refl refl refl refl read
 
-  off-small-h : (c : Code) (cs : List Code) → c.value ≡ 104 → text_element s end earlier previous (c ∷ cs) ≡ Some (plain (code_leaf c), cs)
+  pub www-element : (v : ℕ) (c : Code) (cs : List Code) (o : Option (Forest × List Code)) → c.value ≡ v → (v == 87 || v == 119) ≡ true
+      → (provided s.options.constructs.gfm_autolink_literal >> www_literal s.bytes end previous) (c ∷ cs) ≡ o → text_element s end earlier previous (c ∷ cs) ≡ element_here c cs o
   unfolding tries tried
-  off-small-h c cs e = off-row 104 s.options.constructs.gfm_autolink_literal _ c cs e refl refl refl built.no_literals
-
-  off-large-w : (c : Code) (cs : List Code) → c.value ≡ 87 → text_element s end earlier previous (c ∷ cs) ≡ Some (plain (code_leaf c), cs)
-  unfolding tries tried
-  off-large-w c cs e = off-row 87 s.options.constructs.gfm_autolink_literal _ c cs e refl refl refl built.no_literals
-
-  off-small-w : (c : Code) (cs : List Code) → c.value ≡ 119 → text_element s end earlier previous (c ∷ cs) ≡ Some (plain (code_leaf c), cs)
-  unfolding tries tried
-  off-small-w c cs e = off-row 119 s.options.constructs.gfm_autolink_literal _ c cs e refl refl refl built.no_literals
-
-  pub off-element : (v : ℕ) (c : Code) (cs : List Code) → list_any (λ n. v == n) off_markers ≡ true → c.value ≡ v → text_element s end earlier previous (c ∷ cs) ≡ Some (plain (code_leaf c), cs)
-  off-element v c cs h =
-      one-of (λ n. c.value ≡ n → text_element s end earlier previous (c ∷ cs) ≡ Some (plain (code_leaf c), cs)) off_markers v
-      (off-large-h c cs, (off-small-h c cs, (off-large-w c cs, (off-small-w c cs, tt)))) h
+  www-element v c cs o e h read = two-rows v 87 119 s.options.constructs.gfm_autolink_literal (www_literal s.bytes end previous) c cs o e h refl refl refl refl read
 
   -- Starts and ends of labels.
 

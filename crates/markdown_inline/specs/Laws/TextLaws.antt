@@ -4,7 +4,8 @@ use Rattle.markdown_model.specs.CodeTests.{is_value, last_code, next_is}
 use Rattle.std.proofs.Common.{◌≡◌, ◌≢◌, ℕ, ◌+◌, ◌*◌, ◌<◌, ◌≤◌, ◌==◌, ◌||◌, Bool, true, false, if◌then◌else◌, Option, Some, None, List, [], ◌∷◌, inl, inr, refl, sym, ap, subst, ◌∙◌, arith, length, length-append, is_none, ◌&&◌, ◌++◌, append-nil}
 use Rattle.std.specs.List.{list_any}
 use Rattle.std.proofs.lemmas.Bool.{eqb-true, or_cases}
-use Rattle.markdown_engine.specs.Codes.{Code}
+use Rattle.markdown_engine.specs.Codes.{Code, stop_of, document_start}
+use Rattle.markdown_engine.specs.declared.event.Point.{Point}
 use Rattle.markdown_engine.specs.Ops.{ahead, current_of, is_registered, registered, scratched, previous_of}
 use Rattle.markdown_engine.specs.Past.{past, moved_by, EndsAs, Reads, Refuses, TreeReading}
 use Rattle.markdown_engine.specs.Place.{Place, moved, code_before, last_of, value_of}
@@ -22,12 +23,13 @@ use Rattle.markdown_engine.specs.declared.tokenizer.Tokenizer.{Tokenizer}
 use Rattle.markdown_engine.proofs.EndsLemmas.{scratched-same}
 use Rattle.markdown_engine.proofs.Laws.{Follows, Goes-plain, Goes-attempt, code-step, restored-fails, Grown-refl}
 use Rattle.markdown_engine.proofs.OpRules.{Begins, ahead-some, attempts-registered, attempts-scratched, left-scratched, left-ahead}
+use Rattle.markdown_gfm.specs.GfmAutolinkLiteral as G
 use Rattle.markdown_gfm.specs.GfmTaskListItemCheck as C
 use Rattle.markdown_html.specs.HtmlText as H
 use Rattle.markdown_attention.specs.Attention as AT
 use Rattle.markdown_attention.specs.Attention.{ReadsRun, run_tree}
 use Rattle.markdown_partial.specs.SpaceSteps as W
-use Rattle.markdown_construct.specs.Characters.{ReadsText}
+use Rattle.markdown_construct.specs.Characters.{bytes_of, ReadsText}
 use Rattle.markdown_construct.proofs.TextPasses.{text-scratched}
 use Rattle.markdown_label.specs.LabelEnd as E
 use Rattle.markdown_label.specs.LabelEnd.{AreWithin}
@@ -51,14 +53,12 @@ use Rattle.markdown_row.specs.Row.{EndsRest, Row, loses, row_end, row_then, past
 use Rattle.markdown_row.proofs.LabelElements.{empty-part, mark-alone}
 use Rattle.markdown_row.proofs.RowFields.{relisted, row-cursor, row-input, row-text, row-fields, tree-within, made-within, lost-within}
 use Rattle.markdown_inline.specs.StringSteps.{is_on}
-use Rattle.markdown_inline.specs.TextSteps.{text_markers, marked_fields, text_marked, text_passed, trying, start_step, first_try, tries_at, before_at, before_step, before_html_step, before_hard_break_escape_step, before_label_start_link_step, before_data_step, text_choice_of, StartReady, IsMarked, BeforeReady, BeforeHtmlReady, BeforeDataReady, BeforeBreakReady, BeforeLinkReady, StandsAlone, before_ends, data_ends, start_ends}
-use Rattle.markdown_inline.specs.Unbuilt.{never, never_step, never_ends}
-use Rattle.markdown_row.proofs.NodeLemmas.{check-node, html-node, escape-node, reference-node, break-node, autolink-node, span-node}
-use Rattle.markdown_inline.specs.Laws.TextElements.{off_markers, is_marker}
-use Rattle.markdown_inline.specs.Laws.TextTries.{ReadsNodes, ReadsElements, none-valued, check-reads, no-check-at-end, reference-reads, reference-alone, autolink-reads, html-reads, html-alone, escape-reads, break-reads, break-alone, span-reads, span-alone, run-reads, run-alone, run-leaf, off-alone, other-alone, other-data}
+use Rattle.markdown_inline.specs.TextSteps.{text_markers, marked_fields, text_marked, text_passed, trying, start_step, first_try, tries_at, before_at, before_step, before_html_step, before_hard_break_escape_step, before_label_start_link_step, before_data_step, text_choice_of, EndsWithCodes, StartReady, IsMarked, BeforeReady, BeforeHtmlReady, BeforeDataReady, BeforeBreakReady, BeforeLinkReady, StandsAlone, before_ends, data_ends, start_ends}
+use Rattle.markdown_row.proofs.NodeLemmas.{protocol-node, www-node, check-node, html-node, escape-node, reference-node, break-node, autolink-node, span-node}
+use Rattle.markdown_inline.specs.Laws.TextElements.{is_marker}
+use Rattle.markdown_inline.specs.Laws.TextTries.{ReadsNodes, ReadsElements, none-valued, check-reads, no-check-at-end, reference-reads, reference-alone, autolink-reads, html-reads, html-alone, escape-reads, break-reads, break-alone, span-reads, span-alone, run-reads, run-alone, run-leaf, protocol-reads, protocol-alone, www-reads, www-alone, other-alone, other-data}
 use Rattle.markdown_row.proofs.ElementLemmas.{DataRead, data-read, last-some, some-ahead, advances-finishes, finishes-end, node-advances, run-advances, data-advances}
 use Rattle.markdown_model.proofs.ReadingSteps.{if-true, if-false, switched-off}
-use Rattle.markdown_inline.specs.Built.{as_built}
 use Rattle.markdown_inline.specs.Settings.{text_setting_of}
 use Rattle.markdown_inline.specs.Laws.LabelTries.{image-advances, image-alone, footnote-advances, link-advances, bracket-alone, made-advances, failed-advances, end-alone}
 
@@ -69,11 +69,17 @@ unfolding moved
 same-codes [] p = refl
 same-codes (c ∷ cs) p = same-codes cs (moved p)
 
+same-end : (cs : List Code) (p : Place) → (moved_by cs p).end ≡ p.end
+unfolding moved
+same-end [] p = refl
+same-end (c ∷ cs) p = same-end cs (moved p)
+
 -- what stays as it was
 record IsSame (T U : Tokenizer) : Type 0 where
   fields : U.tokenize_state ≡ relisted U.tokenize_state T.tokenize_state
   input : U.parse_state ≡ T.parse_state
   codes : U.cursor.codes ≡ T.cursor.codes
+  end : U.cursor.end ≡ T.cursor.end
   text : ReadsText U
 
 ends-rest : (T : Tokenizer) → E.StartReady T → EndsRest T.tokenize_state
@@ -86,13 +92,14 @@ same-row row T U left is r =
       fields = row-fields (kinds_of T) row T refl is (ends-rest T r);
       input = row-input row T;
       codes = ap (λ (p : Place). p.codes) (row-cursor (kinds_of T) row T is) ∙ same-codes (row_codes row) T.cursor;
+      end = ap (λ (p : Place). p.end) (row-cursor (kinds_of T) row T is) ∙ same-end (row_codes row) T.cursor;
       text = row-text (kinds_of T) row T is r.text;
     })
 
 choice-same : (T U : Tokenizer) → IsSame T U → text_choice_of U ≡ text_choice_of T
 choice-same T U k =
-    (λ i. text_choice (as_built (text_setting_of (k.input i).now U.tokenize_state.document_at_first_paragraph_of_list_item)) (k.codes i))
-    ∙ ap (λ (s : TokenizeState). text_choice (as_built (text_setting_of T.parse_state.now s.document_at_first_paragraph_of_list_item)) T.cursor.codes) k.fields
+    (λ i. text_choice (text_setting_of (k.input i).now U.tokenize_state.document_at_first_paragraph_of_list_item) (k.codes i))
+    ∙ ap (λ (s : TokenizeState). text_choice (text_setting_of T.parse_state.now s.document_at_first_paragraph_of_list_item) T.cursor.codes) k.fields
 
 -- what is known of the runs stays right
 indexed-past : (T U : Tokenizer) → IsSame T U → X.IsIndexed T → X.IsIndexed U
@@ -109,6 +116,11 @@ part-past T U e l k =
       rest = ap Parts.rested e.fields ∙ ap (relisted u) k.rest ∙ sym e.fields;
     }
 
+-- the content ends with its last code
+last-past : (T U : Tokenizer) → IsSame T U → EndsWithCodes T.cursor → EndsWithCodes U.cursor
+last-past T U e last =
+    λ some. ap (λ (p : Point). p.index) e.end ∙ last (subst (λ cs. cs ≢ []) e.codes some) ∙ ap (λ cs. (stop_of document_start cs).index) (sym e.codes)
+
 marked-past : (T U : Tokenizer) → IsSame T U → codes_left U ≤ codes_left T → AreWithin U U.tokenize_state.label_starts → IsMarked T → IsMarked U
 marked-past T U e l within r =
     let u : TokenizeState = U.tokenize_state in
@@ -116,7 +128,9 @@ marked-past T U e l within r =
       markers = ap (λ (s : TokenizeState). s.markers) e.fields ∙ r.markers;
       spans = record { rest = e.fields ∙ ap (relisted u) r.spans.rest ∙ ap X.rested (sym e.fields); fits = omega (arith, l, r.spans.fits); indexed = indexed-past T U e r.spans.indexed };
       look = record { resting = ap W.rested e.fields ∙ ap (relisted u) r.look.resting ∙ sym e.fields; short = omega (arith, l, r.look.short) };
+      literals = record { text = e.text; resting = ap G.rested e.fields ∙ ap (relisted u) r.literals.resting ∙ sym e.fields; short = omega (arith, l, r.literals.short) };
       ends = record { part = part-past T U e l r.ends.part; text = e.text; within = within; resting = ap (λ (s : TokenizeState). s.end) e.fields ∙ r.ends.resting };
+      last = last-past T U e r.last;
     }
 
 -- past an element no check may begin
@@ -216,12 +230,6 @@ to-data rank T v l ready e alone =
 
 -- Which codes are which.
 
-off-one : (v n : ℕ) → (v == n) ≡ true → list_any (λ m. n == m) off_markers ≡ true → list_any (λ m. v == m) off_markers ≡ true
-off-one v n h k = ap (λ x. list_any (λ m. x == m) off_markers) (eqb-true v n h) ∙ k
-
-off-two : (v a b : ℕ) → (v == a || v == b) ≡ true → list_any (λ m. a == m) off_markers ≡ true → list_any (λ m. b == m) off_markers ≡ true → list_any (λ m. v == m) off_markers ≡ true
-off-two v a b h k l = elim (or_cases (v == a) (v == b) h) [ inl e ↦ off-one v a e k | inr e ↦ off-one v b e l ]
-
 or-last : (a b c : Bool) → (a || (b || c)) ≡ true → (a || (b || (c || false))) ≡ true
 or-last true b c e = refl
 or-last false true c e = refl
@@ -252,23 +260,14 @@ unmarked v a b c d f g i j k l =
 
 -- The laws.
 
-weight-marked : (T : Tokenizer) → weight_at 8 (text_marked T) ≡ weight_at 8 T
-weight-marked T = ap (λ n. 256 * n + 8 + 1) (left-scratched (marked_fields T.cursor.codes T.tokenize_state) T)
+weight-marked : (T : Tokenizer) → weight_at 9 (text_marked T) ≡ weight_at 9 T
+weight-marked T = ap (λ n. 256 * n + 9 + 1) (left-scratched (marked_fields T.cursor.codes T.tokenize_state) T)
 
 at-rest-reference : (T : Tokenizer) → IsMarked T → IsAtRest T
 at-rest-reference T r = record { marker = ap (λ (s : TokenizeState). s.marker) r.spans.rest; size = ap (λ (s : TokenizeState). s.size) r.spans.rest }
 
 run-ready : (T : Tokenizer) → IsMarked T → AT.StartReady T
 run-ready T r = r.spans.rest ∙ ap (AT.with_marker 0) (sym r.spans.rest)
-
--- the start of a construct that is not built
-pub never-law : (T : Tokenizer) → T.attempts ≡ [] → GoesOn ready_of ends_of weight_of (weight_at 0 T) (never_ends T) (never_step T)
-never-law T alone =
-    Goes-plain ready_of ends_of weight_of (weight_at 0 T) (never_ends T) Nok T alone tt (omega arith) (λ ok U h. never-end T ok U h)
-  where
-    never-end : (T : Tokenizer) (ok : Bool) (U : Tokenizer) → (ok ≡ false) × (U ≡ T) → never_ends T ok U
-    never-end T true U h = cc
-    never-end T false U h = record { refused = refl; fails = subst (λ x. Fails T.tokenize_state T x) (sym h.1) (record { grown = Grown-refl 0 T; scratch = refl }) }
 
 passed-attempts : (T : Tokenizer) → T.attempts ≡ [] → (text_passed T).attempts ≡ []
 passed-attempts T alone = attempts-registered P.Text (registered P.Data T) ∙ attempts-registered P.Data T ∙ alone
@@ -325,63 +324,70 @@ same-lost T r =
 
 module _ (T : Tokenizer) (alone : T.attempts ≡ []) (ready : BeforeReady T) where
   abbrev Before : Stepped → Type 0
-  Before r = GoesOn ready_of ends_of weight_of (weight_at 7 T) (before_ends T) r
+  Before r = GoesOn ready_of ends_of weight_of (weight_at 8 T) (before_ends T) r
 
   tries-span : (v : ℕ) → current_of T ≡ Some v → (v == 36 || v == 96) ≡ true → Before (trying RawTextStart TextBeforeData T)
   tries-span v e h =
-      try-law 7 T RawTextStart TextBeforeData (X.span_at T) alone ready.marked.spans (omega arith) ready.marked (λ ok U g. g) (λ t rest g. span-node T (ahead T) t rest g) (span-reads T v e h) (λ none. to-data 7 T v (omega arith) ready e (span-alone T v e h none))
+      try-law 8 T RawTextStart TextBeforeData (X.span_at T) alone ready.marked.spans (omega arith) ready.marked (λ ok U g. g) (λ t rest g. span-node T (ahead T) t rest g) (span-reads T v e h) (λ none. to-data 8 T v (omega arith) ready e (span-alone T v e h none))
 
   tries-reference : current_of T ≡ Some 38 → Before (trying CharacterReferenceStart TextBeforeData T)
   tries-reference d =
-      try-law 7 T CharacterReferenceStart TextBeforeData (reference_here T) alone (at-rest-reference T ready.marked) (omega arith) ready.marked (λ ok U g. g) (λ t rest g. reference-node (is_on T).character_reference html_5_rows (ahead T) t rest g) (reference-reads T d) (λ none. to-data 7 T 38 (omega arith) ready d (reference-alone T d none))
+      try-law 8 T CharacterReferenceStart TextBeforeData (reference_here T) alone (at-rest-reference T ready.marked) (omega arith) ready.marked (λ ok U g. g) (λ t rest g. reference-node (is_on T).character_reference html_5_rows (ahead T) t rest g) (reference-reads T d) (λ none. to-data 8 T 38 (omega arith) ready d (reference-alone T d none))
 
   tries-autolink : current_of T ≡ Some 60 → Before (trying AutolinkStart TextBeforeHtml T)
   tries-autolink d =
-      try-law 7 T AutolinkStart TextBeforeHtml (link_here T) alone (at-rest-reference T ready.marked).size (omega arith) ready.marked (λ ok U g. g) (λ t rest g. autolink-node (is_on T).autolink (ahead T) t rest g) (autolink-reads T d)
+      try-law 8 T AutolinkStart TextBeforeHtml (link_here T) alone (at-rest-reference T ready.marked).size (omega arith) ready.marked (λ ok U g. g) (λ t rest g. autolink-node (is_on T).autolink (ahead T) t rest g) (autolink-reads T d)
       (λ none. record { goes_on = record { before = ready; angle = d; no_autolink = none }; falls = omega arith; closed = λ ok V h. h })
 
   tries-escape : current_of T ≡ Some 92 → Before (trying CharacterEscapeStart TextBeforeHardBreakEscape T)
   tries-escape d =
-      try-law 7 T CharacterEscapeStart TextBeforeHardBreakEscape (escape_here T) alone tt (omega arith) ready.marked (λ ok U g. g) (λ t rest g. escape-node (is_on T).character_escape (ahead T) t rest g) (escape-reads T d)
+      try-law 8 T CharacterEscapeStart TextBeforeHardBreakEscape (escape_here T) alone tt (omega arith) ready.marked (λ ok U g. g) (λ t rest g. escape-node (is_on T).character_escape (ahead T) t rest g) (escape-reads T d)
       (λ none. record { goes_on = record { before = ready; slash = d; no_escape = none }; falls = omega arith; closed = λ ok V h. h })
 
   -- a run of markers, past which its pass is registered
   tries-run : (v : ℕ) → current_of T ≡ Some v → is_marker v ≡ true → Before (trying AttentionStart TextBeforeData T)
   tries-run v e h =
-      Goes-attempt ready_of ends_of weight_of (weight_at 7 T) (before_ends T) (Retry AttentionStart) (Next TextBefore) (Next TextBeforeData) T alone (run-ready T ready.marked) (omega arith)
+      Goes-attempt ready_of ends_of weight_of (weight_at 8 T) (before_ends T) (Retry AttentionStart) (Next TextBefore) (Next TextBeforeData) T alone (run-ready T ready.marked) (omega arith)
       (λ U now k. let r : ReadsRun T U = k in
-      on-before (weight_at 7 T) T U (omega arith) ready.marked
+      on-before (weight_at 8 T) T U (omega arith) ready.marked
       (registered-kept T U r.there r.reads.tree (r.reads.left ∙ ap (past None r.reads.tree) (scratched-same T)) r.left ready.marked.ends.within)
       (run-advances (text_choice_of T) (run_tree T) T U r.there r.reads r.left (run-leaf T v r.reads.tree r.reads.rest e h r.reads.holds) (run-reads T v e h r.reads.tree r.reads.rest r.reads.holds)))
       (λ U now k. let r : Refuses (run_tree T) T.tokenize_state T U = k in
-      rw (restored-fails false (Next TextBefore) (Next TextBeforeData) T.tokenize_state T U r.fails, scratched-same T) (to-data 7 T v (omega arith) ready e (run-alone T v e h r.refused)))
+      rw (restored-fails false (Next TextBefore) (Next TextBeforeData) T.tokenize_state T U r.fails, scratched-same T) (to-data 8 T v (omega arith) ready e (run-alone T v e h r.refused)))
 
-  -- the construct that is not built, and then the code by itself
-  tries-off : (v : ℕ) (construct : StateName) → current_of T ≡ Some v → list_any (λ n. v == n) off_markers ≡ true → ready_of construct T → weight_of construct T < weight_at 7 T → EndsOf construct never T → Before (trying construct TextBeforeData T)
-  tries-off v construct e h on falls ends =
-      try-law 7 T construct TextBeforeData never alone on falls ready.marked ends (λ t rest k. cc) (λ t rest k. cc) (λ none. to-data 7 T v (omega arith) ready e (off-alone T v e h))
+  tries-protocol : (v : ℕ) → current_of T ≡ Some v → (v == 72 || v == 104) ≡ true → Before (trying GfmAutolinkLiteralProtocolStart TextBeforeData T)
+  tries-protocol v e h =
+      try-law 8 T GfmAutolinkLiteralProtocolStart TextBeforeData (G.protocol_here T) alone ready.marked.literals (omega arith) ready.marked (λ ok U g. g)
+      (λ t rest g. protocol-node (G.is_on T) (bytes_of T) (G.end_of T) (G.before_of T) (ahead T) t rest g) (protocol-reads T v ready.marked.last e h)
+      (λ none. to-data 8 T v (omega arith) ready e (protocol-alone T v ready.marked.last e h none))
+
+  tries-www : (v : ℕ) → current_of T ≡ Some v → (v == 87 || v == 119) ≡ true → Before (trying GfmAutolinkLiteralWwwStart TextBeforeData T)
+  tries-www v e h =
+      try-law 8 T GfmAutolinkLiteralWwwStart TextBeforeData (G.www_here T) alone ready.marked.literals (omega arith) ready.marked (λ ok U g. g)
+      (λ t rest g. www-node (G.is_on T) (bytes_of T) (G.end_of T) (G.before_of T) (ahead T) t rest g) (www-reads T v ready.marked.last e h)
+      (λ none. to-data 8 T v (omega arith) ready e (www-alone T v ready.marked.last e h none))
 
   tries-image : current_of T ≡ Some 33 → Before (trying LabelStartImageStart TextBeforeData T)
   tries-image d =
-      Goes-attempt ready_of ends_of weight_of (weight_at 7 T) (before_ends T) (Retry LabelStartImageStart) (Next TextBefore) (Next TextBeforeData) T alone tt (omega arith)
+      Goes-attempt ready_of ends_of weight_of (weight_at 8 T) (before_ends T) (Retry LabelStartImageStart) (Next TextBefore) (Next TextBeforeData) T alone tt (omega arith)
       (λ U now k. let r : image_ends T true U = k in
-      on-before (weight_at 7 T) T U (omega arith) ready.marked
+      on-before (weight_at 8 T) T U (omega arith) ready.marked
       (subst (λ (x : Tokenizer). AreWithin x x.tokenize_state.label_starts) (sym r.left) (image-within T ready.marked.ends.text ready.marked.ends.within r.holds)) (image-advances T U r))
       (λ U now k. let r : image_ends T false U = k in
-      rw (restored-fails false (Next TextBefore) (Next TextBeforeData) T.tokenize_state T U (record { grown = r.grown; scratch = r.scratch }), scratched-same T) (to-data 7 T 33 (omega arith) ready d (image-alone T d r.refused)))
+      rw (restored-fails false (Next TextBefore) (Next TextBeforeData) T.tokenize_state T U (record { grown = r.grown; scratch = r.scratch }), scratched-same T) (to-data 8 T 33 (omega arith) ready d (image-alone T d r.refused)))
 
   tries-footnote : current_of T ≡ Some 91 → Before (trying GfmLabelStartFootnoteStart TextBeforeLabelStartLink T)
   tries-footnote d =
-      Goes-attempt ready_of ends_of weight_of (weight_at 7 T) (before_ends T) (Retry GfmLabelStartFootnoteStart) (Next TextBefore) (Next TextBeforeLabelStartLink) T alone tt (omega arith)
+      Goes-attempt ready_of ends_of weight_of (weight_at 8 T) (before_ends T) (Retry GfmLabelStartFootnoteStart) (Next TextBefore) (Next TextBeforeLabelStartLink) T alone tt (omega arith)
       (λ U now k. let r : footnote_ends T true U = k in
-      on-before (weight_at 7 T) T U (omega arith) ready.marked
+      on-before (weight_at 8 T) T U (omega arith) ready.marked
       (subst (λ (x : Tokenizer). AreWithin x x.tokenize_state.label_starts) (sym r.left) (footnote-within T ready.marked.ends.text ready.marked.ends.within r.holds)) (footnote-advances T U ready.unchecked r))
       (λ U now k. let r : footnote_ends T false U = k in
       rw (restored-fails false (Next TextBefore) (Next TextBeforeLabelStartLink) T.tokenize_state T U (record { grown = r.grown; scratch = r.scratch }), scratched-same T)
       (record { goes_on = record { before = ready; bracket = d; no_footnote = r.refused }; falls = omega arith; closed = λ ok V h. h }))
 
   -- an end that makes no label uses up its start, and its `]` begins data
-  to-lost : current_of T ≡ Some 93 → E.is_on T ≡ true → E.end_reading T (ahead T) ≡ None → (let F : Tokenizer = past_mark loses T in Follows ready_of ends_of weight_of (weight_at 7 T) (before_ends T) (Next TextBeforeData) F)
+  to-lost : current_of T ≡ Some 93 → E.is_on T ≡ true → E.end_reading T (ahead T) ≡ None → (let F : Tokenizer = past_mark loses T in Follows ready_of ends_of weight_of (weight_at 8 T) (before_ends T) (Next TextBeforeData) F)
   to-lost d on none =
       let F : Tokenizer = past_mark loses T in
       let e : IsSame T F = same-lost T ready.marked.ends in
@@ -400,22 +406,22 @@ module _ (T : Tokenizer) (alone : T.attempts ≡ []) (ready : BeforeReady T) whe
 
   tries-end : current_of T ≡ Some 93 → Before (trying LabelEndStart TextBeforeData T)
   tries-end d =
-      Goes-attempt ready_of ends_of weight_of (weight_at 7 T) (before_ends T) (Retry LabelEndStart) (Next TextBefore) (Next TextBeforeData) T alone ready.marked.ends (omega arith)
+      Goes-attempt ready_of ends_of weight_of (weight_at 8 T) (before_ends T) (Retry LabelEndStart) (Next TextBefore) (Next TextBeforeData) T alone ready.marked.ends (omega arith)
       (λ U now k. let r : E.Ends T U = k in
-      on-before (weight_at 7 T) T U (omega arith) ready.marked (made-kept T U r ready.marked.ends.within) (made-advances T d (ends-on T U r) U r))
+      on-before (weight_at 8 T) T U (omega arith) ready.marked (made-kept T U r ready.marked.ends.within) (made-advances T d (ends-on T U r) U r))
       (λ U now k. let r : E.EndFails T U = k in
-      subst (λ (x : Tokenizer). Follows ready_of ends_of weight_of (weight_at 7 T) (before_ends T) (Next TextBeforeData) x) (sym (restored-fails false (Next TextBefore) (Next TextBeforeData) (E.lost_fields T) T U r.fails))
+      subst (λ (x : Tokenizer). Follows ready_of ends_of weight_of (weight_at 8 T) (before_ends T) (Next TextBeforeData) x) (sym (restored-fails false (Next TextBefore) (Next TextBeforeData) (E.lost_fields T) T U r.fails))
       (by_switch (E.is_on T) refl r.refused))
     where
-      by_switch : (b : Bool) → E.is_on T ≡ b → E.end_reading T (ahead T) ≡ None → Follows ready_of ends_of weight_of (weight_at 7 T) (before_ends T) (Next TextBeforeData) (scratched (E.lost_fields T) T)
-      by_switch true on none = subst (λ (x : Tokenizer). Follows ready_of ends_of weight_of (weight_at 7 T) (before_ends T) (Next TextBeforeData) x) (sym (lost-there T d on)) (to-lost d on none)
+      by_switch : (b : Bool) → E.is_on T ≡ b → E.end_reading T (ahead T) ≡ None → Follows ready_of ends_of weight_of (weight_at 8 T) (before_ends T) (Next TextBeforeData) (scratched (E.lost_fields T) T)
+      by_switch true on none = subst (λ (x : Tokenizer). Follows ready_of ends_of weight_of (weight_at 8 T) (before_ends T) (Next TextBeforeData) x) (sym (lost-there T d on)) (to-lost d on none)
       by_switch false off none =
-          subst (λ (x : Tokenizer). Follows ready_of ends_of weight_of (weight_at 7 T) (before_ends T) (Next TextBeforeData) x) (sym (not-lost T off)) (to-data 7 T 93 (omega arith) ready d (end-alone T d off))
+          subst (λ (x : Tokenizer). Follows ready_of ends_of weight_of (weight_at 8 T) (before_ends T) (Next TextBeforeData) x) (sym (not-lost T off)) (to-data 8 T 93 (omega arith) ready d (end-alone T d off))
 
   tries-none : (v : ℕ) → current_of T ≡ Some v → list_any (λ n. v == n) text_markers ≡ false → Before (stepped (Retry TextBeforeData) T)
   tries-none v e h =
-      let f = to-data 7 T v (omega arith) ready e (other-alone T v e h) in
-      Goes-plain ready_of ends_of weight_of (weight_at 7 T) (before_ends T) (Retry TextBeforeData) T alone f.goes_on f.falls f.closed
+      let f = to-data 8 T v (omega arith) ready e (other-alone T v e h) in
+      Goes-plain ready_of ends_of weight_of (weight_at 8 T) (before_ends T) (Retry TextBeforeData) T alone f.goes_on f.falls f.closed
 
   tries : (v : ℕ) → current_of T ≡ Some v → Before (tries_at (first_try v) T)
   tries v e =
@@ -425,17 +431,17 @@ module _ (T : Tokenizer) (alone : T.attempts ≡ []) (ready : BeforeReady T) whe
       (λ b. if-choice Q (v == 38) _ _ (λ h. tries-reference (value-is T v 38 e h))
       (λ c. if-choice Q (v == 42 || (v == 95 || v == 126)) _ _ (λ h. tries-run v e (as-marker v h))
       (λ d. if-choice Q (v == 60) _ _ (λ h. tries-autolink (value-is T v 60 e h))
-      (λ f. if-choice Q (v == 72 || v == 104) _ _ (λ h. tries-off v GfmAutolinkLiteralProtocolStart e (off-two v 72 104 h refl refl) tt (omega arith) (λ ok U g. g))
-      (λ g. if-choice Q (v == 87 || v == 119) _ _ (λ h. tries-off v GfmAutolinkLiteralWwwStart e (off-two v 87 119 h refl refl) tt (omega arith) (λ ok U g. g))
+      (λ f. if-choice Q (v == 72 || v == 104) _ _ (λ h. tries-protocol v e h)
+      (λ g. if-choice Q (v == 87 || v == 119) _ _ (λ h. tries-www v e h)
       (λ i. if-choice Q (v == 91) _ _ (λ h. tries-footnote (value-is T v 91 e h))
       (λ j. if-choice Q (v == 92) _ _ (λ h. tries-escape (value-is T v 92 e h))
       (λ k. if-choice Q (v == 93) _ _ (λ h. tries-end (value-is T v 93 e h))
       (λ l. tries-none v e (unmarked v a b c d f g i j k l)))))))))))
 
-  pub before-law : GoesOn ready_of ends_of weight_of (weight_at 7 T) (before_ends T) (before_step T)
+  pub before-law : GoesOn ready_of ends_of weight_of (weight_at 8 T) (before_ends T) (before_step T)
   before-law =
       code-step Before (current_of T) (λ o. before_at o T)
-      (λ e. Goes-plain ready_of ends_of weight_of (weight_at 7 T) (before_ends T) Ok (text_passed T) (passed-attempts T alone) tt (omega arith) (at-end T e))
+      (λ e. Goes-plain ready_of ends_of weight_of (weight_at 8 T) (before_ends T) Ok (text_passed T) (passed-attempts T alone) tt (omega arith) (at-end T e))
       (λ v e. tries v e)
 
 html-ready : (T : Tokenizer) → IsMarked T → H.StartReady T
@@ -502,6 +508,12 @@ look-marked : (T : Tokenizer) → C.MayLook T → C.MayLook (text_marked T)
 unfolding scratched
 look-marked T r = record { resting = ap {A = TokenizeState} (λ s. marked_fields T.cursor.codes s) r.resting; short = r.short }
 
+literals-marked : (T : Tokenizer) → G.StartReady T → G.StartReady (text_marked T)
+unfolding scratched
+literals-marked T r =
+    let s : TokenizeState → TokenizeState = marked_fields T.cursor.codes in
+    record { text = text-scratched (s T.tokenize_state) T r.text; resting = ap s r.resting; short = r.short }
+
 ends-marked : (T : Tokenizer) → E.StartReady T → E.StartReady (text_marked T)
 unfolding scratched
 ends-marked T r =
@@ -516,18 +528,18 @@ ends-marked T r =
 
 marked-start : (T : Tokenizer) → StartReady T → IsMarked (text_marked T)
 unfolding scratched
-marked-start T r = record { markers = refl; spans = spans-marked T r.spans; look = look-marked T r.look; ends = ends-marked T r.ends }
+marked-start T r = record { markers = refl; spans = spans-marked T r.spans; look = look-marked T r.look; literals = literals-marked T r.literals; ends = ends-marked T r.ends; last = r.last }
 
 check-elements : (T : Tokenizer) (o : Option ℕ) → current_of T ≡ o → ReadsElements (C.check_here T) T
 check-elements T None e = no-check-at-end T e
 check-elements T (Some v) e = check-reads T v e
 
-pub start-law : (T : Tokenizer) → T.attempts ≡ [] → StartReady T → GoesOn ready_of ends_of weight_of (weight_at 8 T) (start_ends T) (start_step T)
+pub start-law : (T : Tokenizer) → T.attempts ≡ [] → StartReady T → GoesOn ready_of ends_of weight_of (weight_at 9 T) (start_ends T) (start_step T)
 start-law T alone r =
     let M : Tokenizer = text_marked T in
     let s : TokenizeState = marked_fields T.cursor.codes T.tokenize_state in
     let marked : IsMarked M = marked-start T r in
     subst (λ n. GoesOn ready_of ends_of weight_of n (before_ends M) (start_step T)) (weight-marked T)
-    (try-law 8 M GfmTaskListItemCheckStart TextBefore (C.check_here M) (attempts-scratched s T ∙ alone) marked.look (omega arith) marked (λ ok U g. g)
+    (try-law 9 M GfmTaskListItemCheckStart TextBefore (C.check_here M) (attempts-scratched s T ∙ alone) marked.look (omega arith) marked (λ ok U g. g)
     (λ t rest g. check-node (C.may_begin M) (ahead M) t rest g) (check-elements M (current_of M) refl)
     (λ none. record { goes_on = record { marked = marked; unchecked = none }; falls = omega arith; closed = λ ok V h. h }))

@@ -1,16 +1,18 @@
 -- What is tried at a code of a text: where it holds, it is the element at hand, and where nothing holds, the code is one by itself.
 use Rattle.markdown_model.specs.Element.{first_check}
 use Rattle.markdown_model.specs.Grammar.{◌>>◌, provided, one}
-use Rattle.std.proofs.Common.{◌≡◌, ℕ, ◌+◌, ◌≤◌, ◌==◌, ◌||◌, true, false, Option, Some, None, List, ◌∷◌, length, refl, sym, ap, ◌∙◌, Bool, ◌&&◌, is_none, []}
+use Rattle.std.proofs.Common.{◌≡◌, ℕ, zero, suc, drop, ◌+◌, ◌≤◌, ◌==◌, ◌||◌, true, false, Option, Some, None, List, ◌∷◌, length, refl, sym, ap, ◌∙◌, Bool, ◌&&◌, is_none, []}
 use Rattle.std.specs.List.{list_any}
 use Rattle.markdown_engine.specs.Codes.{Code, stop_of, document_start}
 use Rattle.markdown_engine.specs.Lists.{first_of, rest_of}
 use Rattle.markdown_engine.specs.Ops.{ahead, current_of}
 use Rattle.markdown_engine.specs.Past.{TreeReading}
-use Rattle.markdown_engine.specs.Place.{value_of, code_before}
+use Rattle.markdown_engine.specs.Place.{ahead_at, value_of, code_before}
 use Rattle.markdown_engine.specs.Tree.{Forest}
 use Rattle.markdown_engine.specs.declared.tokenizer.Tokenizer.{Tokenizer}
 use Rattle.markdown_engine.proofs.OpRules.{Begins, ahead-some, current-ahead, ahead-none}
+use Rattle.markdown_construct.specs.Characters.{bytes_of}
+use Rattle.markdown_gfm.specs.GfmAutolinkLiteral.{is_on, end_of, protocol_here, www_here}
 use Rattle.markdown_gfm.specs.GfmTaskListItemCheck.{check_here, may_begin}
 use Rattle.markdown_html.specs.HtmlText.{html_here}
 use Rattle.markdown_leaf.specs.Autolink.{link_here}
@@ -21,18 +23,17 @@ use Rattle.markdown_leaf.specs.RawText.{span_at, code_just_before}
 use Rattle.markdown_model.proofs.DataLaws.{code_leaf}
 use Rattle.markdown_model.specs.CodeTests.{is_among, is_value}
 use Rattle.markdown_model.specs.Leaf.{task_check}
+use Rattle.markdown_model.specs.Literal.{protocol_literal, www_literal}
 use Rattle.markdown_model.specs.LabelEnd.{Element, plain}
 use Rattle.markdown_model.specs.Setting.{Setting}
-use Rattle.markdown_inline.specs.Built.{IsBuilt, as_built}
 use Rattle.markdown_row.specs.Elements.{StandsAfter}
 use Rattle.markdown_row.specs.Trees.{IsNode, IsRunLeaf}
-use Rattle.markdown_inline.specs.Settings.{text_setting_of}
-use Rattle.markdown_inline.specs.TextSteps.{text_markers, text_setting, text_choice_of, StandsAlone}
+use Rattle.markdown_inline.specs.TextSteps.{text_markers, text_setting, text_choice_of, EndsWithCodes, StandsAlone}
 use Rattle.markdown_attention.specs.Attention.{begins_run, switches_of, run_at_code, plain_tree, run_tree}
 use Rattle.markdown_attention.proofs.AttentionLaws.{run-some, run-none}
 use Rattle.markdown_model.specs.Element.{switched, attention_run}
 use Rattle.markdown_row.proofs.NodeLemmas.{run-node}
-use Rattle.markdown_inline.specs.Laws.TextElements.{is_marker, run_markers, one-of, run-element, run-off, off_markers, plain_of, plain-switched, off-or-none, check-element, span-element, reference-element, autolink-element, html-element, escape-element, break-element, off-element, other-element}
+use Rattle.markdown_inline.specs.Laws.TextElements.{is_marker, run_markers, one-of, run-element, run-off, plain_of, plain-switched, off-or-none, check-element, span-element, reference-element, autolink-element, html-element, escape-element, break-element, other-element, protocol-element, www-element}
 use Rattle.markdown_model.proofs.ReadingSteps.{bind-none}
 
 -- what a construct reads is a tree that stands by itself
@@ -47,13 +48,6 @@ ReadsElements reading T =
 -- where it does not hold, the code is an element by itself
 abbrev pub OrStandsAlone : TreeReading → Tokenizer → Type 0
 OrStandsAlone reading T = reading (ahead T) ≡ None → StandsAlone T
-
--- the construct that is not built is off
-pub built-off : (s : Setting) → IsBuilt (as_built s).options.constructs
-built-off s = record { no_literals = refl }
-
-pub now-built : (T : Tokenizer) → IsBuilt (text_setting T).options.constructs
-now-built T = built-off (text_setting_of T.parse_state.now T.tokenize_state.document_at_first_paragraph_of_list_item)
 
 -- where the content of a tokenizer ends
 abbrev pub end_in : Tokenizer → ℕ
@@ -83,15 +77,15 @@ alone-at reading T v e h none earlier previous c cs stands w =
 
 pub reference-reads : (T : Tokenizer) → current_of T ≡ Some 38 → ReadsElements (reference_here T) T
 reference-reads T e =
-    at-hand (reference_here T) T 38 e (λ c cs t rest v holds earlier previous stands. reference-element (text_setting T) (now-built T) (end_in T) earlier previous c cs (Some (t, rest)) v holds)
+    at-hand (reference_here T) T 38 e (λ c cs t rest v holds earlier previous stands. reference-element (text_setting T) (end_in T) earlier previous c cs (Some (t, rest)) v holds)
 
 pub reference-alone : (T : Tokenizer) → current_of T ≡ Some 38 → OrStandsAlone (reference_here T) T
 reference-alone T e =
-    alone-at (reference_here T) T 38 e (λ c cs v none earlier previous stands. reference-element (text_setting T) (now-built T) (end_in T) earlier previous c cs None v none)
+    alone-at (reference_here T) T 38 e (λ c cs v none earlier previous stands. reference-element (text_setting T) (end_in T) earlier previous c cs None v none)
 
 pub autolink-reads : (T : Tokenizer) → current_of T ≡ Some 60 → ReadsElements (link_here T) T
 autolink-reads T e =
-    at-hand (link_here T) T 60 e (λ c cs t rest v holds earlier previous stands. autolink-element (text_setting T) (now-built T) (end_in T) earlier previous c cs t rest v holds)
+    at-hand (link_here T) T 60 e (λ c cs t rest v holds earlier previous stands. autolink-element (text_setting T) (end_in T) earlier previous c cs t rest v holds)
 
 -- HTML where no autolink is
 no-link-at : (T : Tokenizer) (c : Code) (cs : List Code) → link_here T (ahead T) ≡ None → ahead T ≡ c ∷ cs → link_here T (c ∷ cs) ≡ None
@@ -101,15 +95,15 @@ pub html-reads : (T : Tokenizer) → current_of T ≡ Some 60 → link_here T (a
 html-reads T e none t rest holds earlier previous stands =
     let b : Begins 60 (ahead T) = ahead-some T 60 e in
     ap (text_choice_of T earlier previous) b.whole
-    ∙ html-element (text_setting T) (now-built T) (end_in T) earlier previous b.code (rest_of (ahead T)) (Some (t, rest)) b.value (no-link-at T b.code (rest_of (ahead T)) none b.whole) (ap (html_here T) (sym b.whole) ∙ holds)
+    ∙ html-element (text_setting T) (end_in T) earlier previous b.code (rest_of (ahead T)) (Some (t, rest)) b.value (no-link-at T b.code (rest_of (ahead T)) none b.whole) (ap (html_here T) (sym b.whole) ∙ holds)
 
 pub html-alone : (T : Tokenizer) → current_of T ≡ Some 60 → link_here T (ahead T) ≡ None → OrStandsAlone (html_here T) T
 html-alone T e none refused earlier previous c cs stands w =
-    html-element (text_setting T) (now-built T) (end_in T) earlier previous c cs None (value-here T 60 c cs e w) (no-link-at T c cs none w) (ap (html_here T) (sym w) ∙ refused)
+    html-element (text_setting T) (end_in T) earlier previous c cs None (value-here T 60 c cs e w) (no-link-at T c cs none w) (ap (html_here T) (sym w) ∙ refused)
 
 pub escape-reads : (T : Tokenizer) → current_of T ≡ Some 92 → ReadsElements (escape_here T) T
 escape-reads T e =
-    at-hand (escape_here T) T 92 e (λ c cs t rest v holds earlier previous stands. escape-element (text_setting T) (now-built T) (end_in T) earlier previous c cs t rest v holds)
+    at-hand (escape_here T) T 92 e (λ c cs t rest v holds earlier previous stands. escape-element (text_setting T) (end_in T) earlier previous c cs t rest v holds)
 
 -- a hard break where no escape is
 no-escape-at : (T : Tokenizer) (c : Code) (cs : List Code) → escape_here T (ahead T) ≡ None → ahead T ≡ c ∷ cs → escape_here T (c ∷ cs) ≡ None
@@ -119,11 +113,11 @@ pub break-reads : (T : Tokenizer) → current_of T ≡ Some 92 → escape_here T
 break-reads T e none t rest holds earlier previous stands =
     let b : Begins 92 (ahead T) = ahead-some T 92 e in
     ap (text_choice_of T earlier previous) b.whole
-    ∙ break-element (text_setting T) (now-built T) (end_in T) earlier previous b.code (rest_of (ahead T)) (Some (t, rest)) b.value (no-escape-at T b.code (rest_of (ahead T)) none b.whole) (ap (break_here T) (sym b.whole) ∙ holds)
+    ∙ break-element (text_setting T) (end_in T) earlier previous b.code (rest_of (ahead T)) (Some (t, rest)) b.value (no-escape-at T b.code (rest_of (ahead T)) none b.whole) (ap (break_here T) (sym b.whole) ∙ holds)
 
 pub break-alone : (T : Tokenizer) → current_of T ≡ Some 92 → escape_here T (ahead T) ≡ None → OrStandsAlone (break_here T) T
 break-alone T e none refused earlier previous c cs stands w =
-    break-element (text_setting T) (now-built T) (end_in T) earlier previous c cs None (value-here T 92 c cs e w) (no-escape-at T c cs none w) (ap (break_here T) (sym w) ∙ refused)
+    break-element (text_setting T) (end_in T) earlier previous c cs None (value-here T 92 c cs e w) (no-escape-at T c cs none w) (ap (break_here T) (sym w) ∙ refused)
 
 -- Spans.
 
@@ -133,12 +127,53 @@ is-span v n e h = ap (λ x. x == 36 || x == 96) e ∙ h
 pub span-reads : (T : Tokenizer) (v : ℕ) → current_of T ≡ Some v → (v == 36 || v == 96) ≡ true → ReadsElements (span_at T) T
 span-reads T v e h =
     at-hand (span_at T) T v e (λ c cs t rest k holds earlier previous stands.
-    span-element (text_setting T) (now-built T) (end_in T) earlier previous T c cs (Some (t, rest)) refl stands (is-span c.value v k h) holds)
+    span-element (text_setting T) (end_in T) earlier previous T c cs (Some (t, rest)) refl stands (is-span c.value v k h) holds)
 
 pub span-alone : (T : Tokenizer) (v : ℕ) → current_of T ≡ Some v → (v == 36 || v == 96) ≡ true → OrStandsAlone (span_at T) T
 span-alone T v e h =
     alone-at (span_at T) T v e (λ c cs k none earlier previous stands.
-    span-element (text_setting T) (now-built T) (end_in T) earlier previous T c cs None refl stands (is-span c.value v k h) none)
+    span-element (text_setting T) (end_in T) earlier previous T c cs None refl stands (is-span c.value v k h) none)
+
+-- Literals.
+
+-- where a code is at hand, the content ends with its last code
+end-here : (T : Tokenizer) (v : ℕ) → EndsWithCodes T.cursor → current_of T ≡ Some v → end_of T ≡ end_in T
+unfolding ahead_at
+end-here T v last e = last (λ none. no-code T.cursor.at T.cursor.codes none (ahead-some T v e).whole)
+  where
+    no-code : {b : Code} {rest : List Code} (n : ℕ) (cs : List Code) → cs ≡ [] → drop n cs ≡ b ∷ rest → ⊥
+    no-code zero [] none h = cc
+    no-code (suc n) [] none h = cc
+    no-code n (c ∷ cs) none h = cc
+
+-- what is read of a literal, as the definition reads it
+protocol-so : (T : Tokenizer) (v : ℕ) (earlier : List Element) (previous : Option Code) (cs : List Code) → EndsWithCodes T.cursor → current_of T ≡ Some v → StandsAfter earlier previous T
+    → (provided (is_on T) >> protocol_literal (bytes_of T) (end_in T) previous) cs ≡ protocol_here T cs
+protocol-so T v earlier previous cs last e k = λ i. (provided (is_on T) >> protocol_literal (bytes_of T) (sym (end-here T v last e) i) (sym k.before i)) cs
+
+pub protocol-reads : (T : Tokenizer) (v : ℕ) → EndsWithCodes T.cursor → current_of T ≡ Some v → (v == 72 || v == 104) ≡ true → ReadsElements (protocol_here T) T
+protocol-reads T v last e h =
+    at-hand (protocol_here T) T v e (λ c cs t rest k holds earlier previous stands.
+    protocol-element (text_setting T) (end_in T) earlier previous v c cs (Some (t, rest)) k h (protocol-so T v earlier previous (c ∷ cs) last e stands ∙ holds))
+
+pub protocol-alone : (T : Tokenizer) (v : ℕ) → EndsWithCodes T.cursor → current_of T ≡ Some v → (v == 72 || v == 104) ≡ true → OrStandsAlone (protocol_here T) T
+protocol-alone T v last e h =
+    alone-at (protocol_here T) T v e (λ c cs k none earlier previous stands.
+    protocol-element (text_setting T) (end_in T) earlier previous v c cs None k h (protocol-so T v earlier previous (c ∷ cs) last e stands ∙ none))
+
+www-so : (T : Tokenizer) (v : ℕ) (earlier : List Element) (previous : Option Code) (cs : List Code) → EndsWithCodes T.cursor → current_of T ≡ Some v → StandsAfter earlier previous T
+    → (provided (is_on T) >> www_literal (bytes_of T) (end_in T) previous) cs ≡ www_here T cs
+www-so T v earlier previous cs last e k = λ i. (provided (is_on T) >> www_literal (bytes_of T) (sym (end-here T v last e) i) (sym k.before i)) cs
+
+pub www-reads : (T : Tokenizer) (v : ℕ) → EndsWithCodes T.cursor → current_of T ≡ Some v → (v == 87 || v == 119) ≡ true → ReadsElements (www_here T) T
+www-reads T v last e h =
+    at-hand (www_here T) T v e (λ c cs t rest k holds earlier previous stands.
+    www-element (text_setting T) (end_in T) earlier previous v c cs (Some (t, rest)) k h (www-so T v earlier previous (c ∷ cs) last e stands ∙ holds))
+
+pub www-alone : (T : Tokenizer) (v : ℕ) → EndsWithCodes T.cursor → current_of T ≡ Some v → (v == 87 || v == 119) ≡ true → OrStandsAlone (www_here T) T
+www-alone T v last e h =
+    alone-at (www_here T) T v e (λ c cs k none earlier previous stands.
+    www-element (text_setting T) (end_in T) earlier previous v c cs None k h (www-so T v earlier previous (c ∷ cs) last e stands ∙ none))
 
 -- Runs of markers.
 
@@ -149,12 +184,12 @@ run-at T v cs e = ap (λ o. plain_tree (run_at_code (switches_of T) o cs)) (sym 
 pub run-reads : (T : Tokenizer) (v : ℕ) → current_of T ≡ Some v → is_marker v ≡ true → ReadsElements (run_tree T) T
 run-reads T v e m =
     at-hand (run_tree T) T v e (λ c cs t rest k holds earlier previous stands.
-    run-element (text_setting T) (now-built T) (end_in T) earlier previous v c cs t rest m k (run-some t rest v (begins_run (switches_of T) v) (c ∷ cs) (run-at T v (c ∷ cs) e ∙ holds)))
+    run-element (text_setting T) (end_in T) earlier previous v c cs t rest m k (run-some t rest v (begins_run (switches_of T) v) (c ∷ cs) (run-at T v (c ∷ cs) e ∙ holds)))
 
 pub run-alone : (T : Tokenizer) (v : ℕ) → current_of T ≡ Some v → is_marker v ≡ true → OrStandsAlone (run_tree T) T
 run-alone T v e m =
     alone-at (run_tree T) T v e (λ c cs k none earlier previous stands.
-    run-off (text_setting T) (now-built T) (end_in T) earlier previous v c cs m k (run-none v (begins_run (switches_of T) v) (c ∷ cs) (run-at T v (c ∷ cs) e ∙ none)))
+    run-off (text_setting T) (end_in T) earlier previous v c cs m k (run-none v (begins_run (switches_of T) v) (c ∷ cs) (run-at T v (c ∷ cs) e ∙ none)))
 
 -- and it is a leaf that stands by itself
 pub run-leaf : (T : Tokenizer) (v : ℕ) (t : Forest) (rest : List Code) → current_of T ≡ Some v → is_marker v ≡ true → run_tree T (ahead T) ≡ Some (t, rest) → IsRunLeaf t
@@ -195,7 +230,7 @@ checks-so T earlier previous cs k = ap (λ b. (provided b >> task_check) cs) (ch
 pub check-reads : (T : Tokenizer) (v : ℕ) → current_of T ≡ Some v → ReadsElements (check_here T) T
 check-reads T v e =
     at-hand (check_here T) T v e (λ c cs t rest k holds earlier previous stands.
-    check-element (text_setting T) (now-built T) (end_in T) earlier previous c cs t rest (checks-so T earlier previous (c ∷ cs) stands ∙ holds))
+    check-element (text_setting T) (end_in T) earlier previous c cs t rest (checks-so T earlier previous (c ∷ cs) stands ∙ holds))
 
 -- no check is read at no code
 pub no-check-at-end : (T : Tokenizer) → current_of T ≡ None → ReadsElements (check_here T) T
@@ -212,15 +247,12 @@ unfolding first_check plain_of
 first-none T earlier previous c cs none k w =
     plain-switched _ task_check (c ∷ cs) ∙ ap plain_of (checks-so T earlier previous (c ∷ cs) k ∙ ap (check_here T) (sym w) ∙ none)
 
--- The construct that is not built, and codes at which nothing is tried.
-
-pub off-alone : (T : Tokenizer) (v : ℕ) → current_of T ≡ Some v → list_any (λ n. v == n) off_markers ≡ true → StandsAlone T
-off-alone T v e h earlier previous c cs stands w = off-element (text_setting T) (now-built T) (end_in T) earlier previous v c cs h (value-here T v c cs e w)
+-- Codes at which nothing is tried.
 
 pub other-alone : (T : Tokenizer) (v : ℕ) → current_of T ≡ Some v → list_any (λ n. v == n) text_markers ≡ false → StandsAlone T
 other-alone T v e h earlier previous c cs stands w =
-    other-element (text_setting T) (now-built T) (end_in T) earlier previous c cs (ap (λ x. list_any (λ n. x == n) text_markers) (value-here T v c cs e w) ∙ h)
+    other-element (text_setting T) (end_in T) earlier previous c cs (ap (λ x. list_any (λ n. x == n) text_markers) (value-here T v c cs e w) ∙ h)
 
 -- each other code of data
 pub other-data : (T : Tokenizer) → (earlier : List Element) (previous : Option Code) (c : Code) (cs : List Code) → is_among text_markers c ≡ false → text_choice_of T earlier previous (c ∷ cs) ≡ Some (plain (code_leaf c), cs)
-other-data T earlier previous c cs h = other-element (text_setting T) (now-built T) (end_in T) earlier previous c cs h
+other-data T earlier previous c cs h = other-element (text_setting T) (end_in T) earlier previous c cs h
