@@ -157,6 +157,8 @@ mod attention_tests;
 #[cfg(test)]
 mod fixtures;
 #[cfg(test)]
+mod literal_tests;
+#[cfg(test)]
 mod string_part_tests;
 #[cfg(test)]
 mod string_tests;
