@@ -3,7 +3,7 @@ use Rattle.markdown_partial.specs.SpaceSteps.{most}
 use Rattle.markdown_engine.specs.Weights.{codes_left}
 use Rattle.std.proofs.Common.{◌≡◌, Bool, true, false, List, [], None, refl, sym, ap, subst, ◌∙◌, arith, ◌≤◌}
 use Rattle.markdown_engine.specs.Chain.{chained}
-use Rattle.markdown_engine.specs.Content.{IsContent, content_of}
+use Rattle.markdown_engine.specs.Content.{IsContent, IsTextContent, content_of}
 use Rattle.markdown_engine.specs.Ops.{scratched}
 use Rattle.markdown_engine.specs.Place.{Place, start_of_content}
 use Rattle.markdown_engine.specs.Rest.{at_rest}
@@ -14,6 +14,7 @@ use Rattle.markdown_engine.specs.declared.parser.Piece.{Piece}
 use Rattle.markdown_engine.specs.declared.resolve.ResolveName.TheVariants as R
 use Rattle.markdown_engine.specs.declared.tokenizer.TokenizeState.{TokenizeState}
 use Rattle.markdown_engine.specs.declared.tokenizer.Tokenizer.{Tokenizer}
+use Rattle.markdown_gfm.specs.GfmAutolinkLiteral as G
 use Rattle.markdown_leaf.specs.RawText as X
 use Rattle.markdown_partial.specs.SpaceSteps as W
 use Rattle.markdown_model.specs.Element.{AreElements, AreElementsFrom, text_choice}
@@ -22,12 +23,10 @@ use Rattle.markdown_model.specs.Groups.{paired}
 use Rattle.markdown_model.specs.Pairs.{pair_list}
 use Rattle.markdown_model.specs.Passes.{trimmed}
 use Rattle.markdown_model.specs.Setting.{Setting}
-use Rattle.markdown_inline.specs.Built.{IsBuilt, as_built}
 use Rattle.markdown_row.specs.Elements.{Finishes}
 use Rattle.markdown_inline.specs.Resolve.{mailed_where, may_resolve_of, resolves_of}
 use Rattle.markdown_inline.specs.Settings.{text_setting_of}
 use Rattle.markdown_inline.specs.TextSteps.{StartReady, marked_fields, text_marked, text_passed, text_choice_of, start_ends}
-use Rattle.markdown_inline.specs.Laws.TextTries.{built-off}
 use Rattle.markdown_inline.proofs.PassesRun.{text_finish, text-trims}
 use Rattle.markdown_engine.specs.Codes.{Code}
 use Rattle.markdown_label.specs.LabelEnd.{AreWithin}
@@ -46,18 +45,11 @@ use Rattle.markdown_row.specs.Row.{row_has_run}
 use Rattle.markdown_row.proofs.RowKeeps.{grouped-runless}
 use Rattle.markdown_inline.proofs.GoodCut.{good-alike}
 use Rattle.markdown_inline.proofs.PassesRun.{IsGiven}
-use Rattle.markdown_inline.proofs.ProbesAlike.{probes-built, paired-built}
 use Rattle.markdown_inline.proofs.Runless.{probes-none}
 use Rattle.markdown_inline.proofs.RunEnds.{Starts, start-with, start-text, AreFresh, IsFound, finished-may, finished-left, finished-events, finished-probes, finished-elements}
-use Rattle.markdown_inline.proofs.StartLemmas.{start-fits, unknown-runs}
+use Rattle.markdown_inline.proofs.StartLemmas.{start-fits, start-last, unknown-runs}
 use Rattle.markdown_inline.proofs.TextTree.{text-labels, text-still, text-finished}
 use Rattle.markdown_inline.proofs.StillRows.{row-still}
-
--- The construct that is not built.
-
--- where it is off, nothing is switched off
-pub built-same : (s : Setting) → IsBuilt s.options.constructs → as_built s ≡ s
-built-same s off = λ i. record s { options = record s.options { constructs = record s.options.constructs { gfm_autolink_literal = sym off.no_literals i } } }
 
 -- Runs.
 
@@ -74,12 +66,15 @@ started p pieces first B k =
     let m : Starts p pieces (record B.tokenize_state { document_at_first_paragraph_of_list_item = first }) (record B { tokenize_state = record B.tokenize_state { document_at_first_paragraph_of_list_item = first } }) = start-with p pieces at_rest (record B.tokenize_state { document_at_first_paragraph_of_list_item = first }) B k in
     subst (λ (s : TokenizeState). Starts p pieces (record s { document_at_first_paragraph_of_list_item = first }) (record B { tokenize_state = record B.tokenize_state { document_at_first_paragraph_of_list_item = first } })) k.fields m
 
-pub text-ready : (p : ParseState) (pieces : List Piece) (first : Bool) (T : Tokenizer) → IsContent p.bytes.now pieces → text_start p pieces first T → StartReady T
-text-ready p pieces first T content k =
+pub text-ready : (p : ParseState) (pieces : List Piece) (first : Bool) (T : Tokenizer) → IsTextContent p.bytes.now pieces → text_start p pieces first T → StartReady T
+text-ready p pieces first T text k =
+    let content : IsContent p.bytes.now pieces = text.is_content in
     let fits : codes_left T ≤ most = start-fits p.bytes.now pieces T content k.place in
     record {
       spans = record { rest = k.fields ∙ sym (ap X.rested k.fields); fits = omega (arith, fits); indexed = unknown-runs T.tokenize_state T.cursor.codes (ap (λ (s : TokenizeState). s.runs) k.fields) };
       look = record { resting = ap W.rested k.fields ∙ sym k.fields; short = fits };
+      literals = record { text = start-text p pieces (text_fields first) T content k; resting = ap G.rested k.fields ∙ sym k.fields; short = fits };
+      last = start-last p.bytes.now pieces T.cursor text k.place;
       ends = record {
         part = record { short = fits; spaces = record { space = ap W.rested k.fields ∙ sym k.fields; eol = ap L.eol_rested k.fields ∙ sym k.fields }; rest = ap Parts.rested k.fields ∙ sym k.fields };
         text = start-text p pieces (text_fields first) T content k;
@@ -107,24 +102,20 @@ module _ (p : ParseState) (pieces : List Piece) (first : Bool) (content : IsCont
   ended false k = absurd k
 
   -- what is read
-  choice-is : text_choice_of M ≡ text_choice (as_built (text_setting_of p first)) (content_of p.bytes.now pieces)
+  choice-is : text_choice_of M ≡ text_choice (text_setting_of p first) (content_of p.bytes.now pieces)
   unfolding scratched start_of_content
   choice-is =
-      ap (λ (s : Setting). text_choice s T.cursor.codes) (ap (λ (x : ParseState). as_built (text_setting_of x T.tokenize_state.document_at_first_paragraph_of_list_item)) start.input ∙ ap (λ (s : TokenizeState). as_built (text_setting_of p s.document_at_first_paragraph_of_list_item)) start.fields)
-      ∙ ap (λ (x : Place). text_choice (as_built (text_setting_of p first)) x.codes) start.place
+      ap (λ (s : Setting). text_choice s T.cursor.codes) (ap (λ (x : ParseState). text_setting_of x T.tokenize_state.document_at_first_paragraph_of_list_item) start.input ∙ ap (λ (s : TokenizeState). text_setting_of p s.document_at_first_paragraph_of_list_item) start.fields)
+      ∙ ap (λ (x : Place). text_choice (text_setting_of p first) x.codes) start.place
 
   abbrev Given : Setting
   Given = text_setting_of p first
 
-  -- the setting in which what is not built is off
-  abbrev Built : Setting
-  Built = as_built (text_setting_of p first)
-
   abbrev all_codes : List Code
   all_codes = content_of p.bytes.now pieces
 
-  abbrev G : IsGiven Given p
-  G = record { bytes = refl; options = refl }
+  abbrev Is : IsGiven Given p
+  Is = record { bytes = refl; options = refl }
 
   module _ (ok : Bool) (k : start_ends T ok U) where
     abbrev E : Finishes (text_choice_of M) text_passed M U
@@ -144,39 +135,37 @@ module _ (p : ParseState) (pieces : List Piece) (first : Bool) (content : IsCont
     Found = IsFound (text_choice_of M) all_codes E.row
 
     found : Found
-    found = finished-elements R.Text text_finish text-trims (text_choice_of M) p pieces content Given G _ F M U S E
+    found = finished-elements R.Text text_finish text-trims (text_choice_of M) p pieces content Given Is _ F M U S E
 
-    are : AreElements Built all_codes found.elements
+    are : AreElements Given all_codes found.elements
     are = subst (λ c. AreElementsFrom c [] None all_codes found.elements) choice-is found.are
 
-    labels : label_tree Built all_codes ≡ labels_of found.elements
-    labels = text-labels Built all_codes found.elements are
+    labels : label_tree Given all_codes ≡ labels_of found.elements
+    labels = text-labels Given all_codes found.elements are
 
     good : row_has_run E.row ≡ true → IsGood p.bytes.now Tree
     good e =
         good-alike p.bytes.now Tree (labels_of found.elements) found.trees
-        (subst (λ t. IsGood p.bytes.now t) labels (good-tree p.bytes.now Built all_codes (singles-content p.bytes.now pieces content.in_order)))
+        (subst (λ t. IsGood p.bytes.now t) labels (good-tree p.bytes.now Given all_codes (singles-content p.bytes.now pieces content.in_order)))
 
     pub text-may : MayResolve may_resolve_of resolves_of U.resolvers (unregistered U)
-    text-may = finished-may R.Text text_finish text-trims (text_choice_of M) p pieces content Given G _ F M U S E good
+    text-may = finished-may R.Text text_finish text-trims (text_choice_of M) p pieces content Given Is _ F M U S E good
 
     module _ (V : Tokenizer) (r : Resolves resolves_of U.resolvers (unregistered U) V) where
       -- the looks that pairing took are within the bounds of the content's tree of labels
-      pub text-probes : IsProbed Built (label_tree Built all_codes) V.tokenize_state.probes
+      pub text-probes : IsProbed Given (label_tree Given all_codes) V.tokenize_state.probes
       text-probes =
-          subst (λ t. IsProbed Built t V.tokenize_state.probes) (sym labels)
-          (probes-built Given (labels_of found.elements) V.tokenize_state.probes (finished-probes R.Text text_finish text-trims (text_choice_of M) p pieces content Given G _ F M U S E good V (labels_of found.elements) found.trees r))
+          subst (λ t. IsProbed Given t V.tokenize_state.probes) (sym labels)
+          (finished-probes R.Text text_finish text-trims (text_choice_of M) p pieces content Given Is _ F M U S E good V (labels_of found.elements) found.trees r)
 
       -- where runs are not looked for none is taken
       pub text-no-probes : Given.options.constructs.attention ≡ false → Given.options.constructs.gfm_strikethrough ≡ false → V.tokenize_state.probes ≡ 0
       text-no-probes off none =
-          let still : row_has_run E.row ≡ false = row-still E.row found.elements found.alike (text-still Built all_codes found.elements (built-off Given) are off none) in
-          probes-none Given Tree V.tokenize_state.probes (grouped-runless E.row found.is_row still) (finished-left R.Text text_finish text-trims (text_choice_of M) p pieces content Given G _ F M U S E good V r).probed
+          let still : row_has_run E.row ≡ false = row-still E.row found.elements found.alike (text-still Given all_codes found.elements are off none) in
+          probes-none Given Tree V.tokenize_state.probes (grouped-runless E.row found.is_row still) (finished-left R.Text text_finish text-trims (text_choice_of M) p pieces content Given Is _ F M U S E good V r).probed
 
       -- the events after a run over a text and its passes
-      pub text-run : Given.options.constructs.gfm_autolink_literal ≡ false → chained V.events ≡ text_events Built pieces
-      text-run no_literals =
-          finished-events R.Text text_finish text-trims (text_choice_of M) p pieces content Given G _ F M U S E good V (labels_of found.elements) found.have_codes found.trees r
-          ∙ ap (λ t. events_of (text_finish p (merged t))) (sym (paired-built Given (labels_of found.elements)))
-          ∙ ap (λ b. events_of (mailed_where b (trimmed Given.options.constructs.hard_break_trailing true true (merged (paired Built (pair_list Built) (labels_of found.elements)))))) no_literals
-          ∙ ap events_of (sym (text-finished Built all_codes found.elements (built-off Given) are))
+      pub text-run : chained V.events ≡ text_events Given pieces
+      text-run =
+          finished-events R.Text text_finish text-trims (text_choice_of M) p pieces content Given Is _ F M U S E good V (labels_of found.elements) found.have_codes found.trees r
+          ∙ ap events_of (sym (text-finished Given all_codes found.elements are))

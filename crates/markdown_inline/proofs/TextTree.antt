@@ -1,4 +1,4 @@
--- The inline tree of a text before emails are looked for: the labels of its elements grouped, paired, merged and trimmed.
+-- The inline tree of a text: the labels of its elements grouped, paired, merged and trimmed, and its emails set apart.
 use Rattle.std.proofs.Common.{◌≡◌, ℕ, Bool, true, false, ◌==◌, ◌||◌, List, [], ◌∷◌, Option, None, Some, refl, sym, ap, subst, ◌∙◌}
 use Rattle.std.specs.List.{list_any}
 use Rattle.markdown_engine.specs.Codes.{Code, stop_of, document_start}
@@ -20,7 +20,7 @@ use Rattle.markdown_model.specs.Runs.{Run}
 use Rattle.markdown_model.specs.Setting.{Setting}
 use Rattle.markdown_model.proofs.ElementLaws.{text_elements, same_text_elements}
 use Rattle.markdown_model.proofs.LinkFree.{Passes, Yields, yields_bind, yields_gives, yields_passed, yields_either, then_any}
-use Rattle.markdown_inline.specs.Unmailed.{unmailed_tree}
+use Rattle.markdown_inline.specs.Resolve.{mailed_where}
 use Rattle.markdown_attention.specs.Reading.{is_run}
 use Rattle.markdown_row.specs.Trees.{IsNode, IsRunless}
 use Rattle.markdown_row.specs.Row.{row_has_run, row_of_elements}
@@ -199,11 +199,6 @@ text-labels s cs es are = ap labels_of (same_text_elements s cs (elements_of s c
 
 -- The inline tree.
 
-pub text-unmailed : (s : Setting) (cs : List Code) (es : List Element) → AreElements s cs es → unmailed_tree s cs ≡ trimmed s.options.constructs.hard_break_trailing true true (merged (paired s (pair_list s) (labels_of es)))
-unfolding raw_tree
-text-unmailed s cs es are =
-    ap (λ (xs : List Element). trimmed s.options.constructs.hard_break_trailing true true (merged (raw_tree s (pair_list s) xs))) (same_text_elements s cs (elements_of s cs) es (text_elements s cs) are)
-
 -- a raw tree merged, trimmed and searched for emails, by the two switches
 finish : Bool → Bool → Forest → Forest
 finish hard literals t = let u = trimmed hard true true (merged t) in elim literals [ true ↦ mailed u | false ↦ u ]
@@ -213,9 +208,15 @@ finished-is : (s : Setting) (pairs_of : List Run → List Pair) (es : List Eleme
 unfolding finished_text raw_tree finish
 finished-is s pairs_of es = refl
 
--- where literals are off no emails are looked for
-pub text-finished : (s : Setting) (cs : List Code) → s.options.constructs.gfm_autolink_literal ≡ false → text_tree s cs ≡ unmailed_tree s cs
-unfolding text_tree raw_tree finish
-text-finished s cs off =
-    finished-is s (pair_list s) (elements_of s cs)
-    ∙ (λ i. finish s.options.constructs.hard_break_trailing (off i) (paired s (pair_list s) (labels_of (elements_of s cs))))
+finish-where : (hard literals : Bool) (t : Forest) → finish hard literals t ≡ mailed_where literals (trimmed hard true true (merged t))
+unfolding finish
+finish-where hard true t = refl
+finish-where hard false t = refl
+
+pub text-finished : (s : Setting) (cs : List Code) (es : List Element) → AreElements s cs es
+    → text_tree s cs ≡ mailed_where s.options.constructs.gfm_autolink_literal (trimmed s.options.constructs.hard_break_trailing true true (merged (paired s (pair_list s) (labels_of es))))
+unfolding text_tree
+text-finished s cs es are =
+    ap (finished_text s (pair_list s)) (same_text_elements s cs (elements_of s cs) es (text_elements s cs) are)
+    ∙ finished-is s (pair_list s) es
+    ∙ finish-where s.options.constructs.hard_break_trailing s.options.constructs.gfm_autolink_literal (paired s (pair_list s) (labels_of es))

@@ -1,7 +1,5 @@
 pub mod Settings
 pub mod StringSteps
-pub mod Built
-pub mod Unmailed
 pub mod TextSteps
 pub mod Layer
 pub mod Laws

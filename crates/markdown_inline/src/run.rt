@@ -3,7 +3,6 @@ ghost use Rattle.std.specs.Prelude.{◌≡◌, ◌-◌, ◌≤◌, IsUtf8, true,
 ghost use Rattle.markdown_inline.specs.Construct.{IsConstruct, ConstructEnds};
 ghost use Rattle.markdown_engine.specs.Chain.{chained};
 ghost use Rattle.markdown_engine.specs.Content.{IsContent, IsTextContent, content_of, document_limit};
-ghost use Rattle.markdown_inline.specs.Built.{as_built};
 ghost use Rattle.markdown_inline.specs.Settings.{setting_of, text_setting_of};
 ghost use Rattle.markdown_inline.specs.Words.{whole_piece};
 ghost use Rattle.markdown_emphasis.specs.Pass.{IsProbed};
@@ -73,8 +72,7 @@ pub fn string(alloc: Global, parse_state: &ParseState, pieces: &[Piece]) -> Resu
 /// The number of looks that pairing took at earlier runs of markers (CommonMark 6.2) is at least the number of pairs, and at most each of two
 /// bounds by the runs and pairs of the content; it is 0 where no run stands.
 ///
-/// The constructs whose switches the clauses `events` and `probes` name are not built yet: where one of them is on, the run goes on as if it
-/// were off. The error comes only where memory is refused.
+/// The error comes only where memory is refused.
 pub fn text(
     alloc: Global,
     parse_state: &ParseState,
@@ -82,10 +80,8 @@ pub fn text(
     first_of_item: bool,
 ) -> Result<Run, AllocError>
     requires { IsTextContent parse_state.now.bytes.now pieces.now }
-    ensures events { let on = parse_state.now.options.now.constructs in
-        on.gfm_autolink_literal ≡ false → IfOk result (λ run. run.events.items ≡ text_events (text_setting_of parse_state.now first_of_item) pieces.now) }
-    ensures probes { let on = parse_state.now.options.now.constructs in let s = text_setting_of parse_state.now first_of_item in
-        on.gfm_autolink_literal ≡ false → IfOk result (λ run. IsProbed s (label_tree s (content_of s.bytes pieces.now)) run.probes) }
+    ensures events { IfOk result (λ run. run.events.items ≡ text_events (text_setting_of parse_state.now first_of_item) pieces.now) }
+    ensures probes { let s = text_setting_of parse_state.now first_of_item in IfOk result (λ run. IsProbed s (label_tree s (content_of s.bytes pieces.now)) run.probes) }
     ensures no_probes { let on = parse_state.now.options.now.constructs in on.attention ≡ false → on.gfm_strikethrough ≡ false → IfOk result (λ run. run.probes ≡ 0) }
 {
     let mut tokenizer = Tokenizer::new(alloc, parse_state, pieces);
