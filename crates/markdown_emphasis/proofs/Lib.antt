@@ -22,4 +22,3 @@ pub mod PairCounts
 pub mod Room
 pub mod Caller
 pub mod Passing
-pub mod Joining

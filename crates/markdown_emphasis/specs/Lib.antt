@@ -4,4 +4,3 @@ pub mod Trees
 pub mod RunEdits
 pub mod Sides
 pub mod Pass
-pub mod Fixtures

@@ -138,6 +138,3 @@ pub fn resolve(tokenizer: &mut Tokenizer) -> Result<Option<Subresult>, AllocErro
     tokenizer.tokenize_state.probes = probes;
     Ok(None)
 }
-
-#[cfg(test)]
-mod tests;

@@ -91,32 +91,3 @@ macro_rules! byte_set {
             247 248 249 250 251 252 253 254 255))
     };
 }
-
-#[cfg(test)]
-mod tests {
-    use super::*;
-    use crate::byte_set;
-
-    fn hyphen_and_tab() -> ByteSet
-        ensures { result ≡ 45 ∷ 9 ∷ [] }
-    {
-        byte_set!(b'-', b'\t')
-    }
-
-    #[test]
-    fn tells_bytes(rt: HostRuntime) {
-        let set = hyphen_and_tab();
-        assert_eq!(rt; set.as_slice(), b"-\t".as_slice());
-        for (byte, contained, plain) in [
-            (b'-', true, false),
-            (b'\t', true, false),
-            (b'\r', false, false),
-            (14, false, true),
-            (b'a', false, true),
-            (255, false, true),
-        ] {
-            assert_eq!(rt; set.contains(byte), contained);
-            assert_eq!(rt; set.again().is_plain(byte), plain);
-        }
-    }
-}

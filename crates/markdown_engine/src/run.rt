@@ -14,9 +14,9 @@ use crate::tokenizer::{Attempt, Tokenizer};
 use std::alloc::AllocError;
 use std::mem;
 
-// Goes on with an attempt, after an Ok or a Nok.
+/// Goes on with an attempt, after an Ok or a Nok.
 #[tactic(auto, unfolding(crate::specs::Runs::restored))]
-fn resume<'a>(tokenizer: &mut Tokenizer<'a>, attempt: Attempt<'a>, ok: bool) -> State
+pub fn resume<'a>(tokenizer: &mut Tokenizer<'a>, attempt: Attempt<'a>, ok: bool) -> State
     ensures state { result ≡ going_state attempt.entry ok }
     ensures left { tokenizer.new ≡ going_in attempt.entry ok tokenizer.old }
 {
@@ -128,6 +128,3 @@ impl<'a> Tokenizer<'a> {
         Ok(())
     }
 }
-
-#[cfg(test)]
-mod tests;

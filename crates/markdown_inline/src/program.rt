@@ -366,6 +366,3 @@ pub fn run<R: Read, W: Write, E: Write>(
         }
     }
 }
-
-#[cfg(test)]
-mod tests;

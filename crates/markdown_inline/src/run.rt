@@ -147,18 +147,3 @@ pub fn construct(name: StateName, tokenizer: &mut Tokenizer) -> Result<bool, All
     }
     Ok(held)
 }
-
-#[cfg(test)]
-mod attention_tests;
-#[cfg(test)]
-mod fixtures;
-#[cfg(test)]
-mod literal_tests;
-#[cfg(test)]
-mod string_part_tests;
-#[cfg(test)]
-mod string_tests;
-#[cfg(test)]
-mod tests;
-#[cfg(test)]
-mod text_tests;

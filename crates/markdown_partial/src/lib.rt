@@ -1,8 +1,6 @@
 //! The parts that several constructs share: data, whitespace on one line, whitespace with a line ending.
 #![tactic(auto)]
 
-#[cfg(test)]
-mod fixtures;
 mod leaf;
 pub mod partial_data;
 pub mod partial_space_or_tab;

@@ -5,5 +5,3 @@ mod linked_text;
 pub mod partial_destination;
 pub mod partial_label;
 pub mod partial_title;
-#[cfg(test)]
-mod tests;

@@ -295,8 +295,3 @@ fn string_of(alloc: Global, c: char) -> Result<String, AllocError>
     text.push(c)?;
     Ok(text)
 }
-
-#[cfg(test)]
-mod row_tests;
-#[cfg(test)]
-mod tests;

@@ -1,0 +1,41 @@
+-- A new tokenizer is ready for each part.
+use Rattle.std.proofs.Common.{◌≡◌, ◌≤◌, ap, sym, ◌∙◌}
+use Rattle.markdown_engine.specs.Rest.{at_rest}
+use Rattle.markdown_engine.specs.Weights.{codes_left}
+use Rattle.markdown_engine.specs.declared.tokenizer.Tokenizer.{Tokenizer}
+use Rattle.markdown_html.specs.HtmlText as H
+use Rattle.markdown_inline.proofs.StartLemmas.{start-fits}
+use Rattle.markdown_partial.specs.EolSteps as L
+use Rattle.markdown_partial.specs.SpaceSteps as W
+use Rattle.markdown_partial.specs.SpaceSteps.{most}
+use Rattle.markdown_string.specs.Label as SL
+use Rattle.markdown_string.specs.Text.{TextReady}
+use Rattle.markdown_string.specs.Title as ST
+use Rattle.markdown_inline_tests.proofs.parts.at_start.Goals as goal
+
+start-text : (T : Tokenizer) → T.tokenize_state ≡ at_rest → codes_left T ≤ most → TextReady T
+start-text T e fits = record { short = fits; resting = record { space = ap W.rested e ∙ sym e; eol = ap L.eol_rested e ∙ sym e } }
+
+start-title : (T : Tokenizer) → T.tokenize_state ≡ at_rest → codes_left T ≤ most → ST.StartReady T
+start-title T e fits = record { text = start-text T e fits; rest = ap ST.rested e ∙ sym e }
+
+start-label : (T : Tokenizer) → T.tokenize_state ≡ at_rest → codes_left T ≤ most → SL.StartReady T
+start-label T e fits = record { text = start-text T e fits; rest = ap SL.rested e ∙ sym e }
+
+start-html : (T : Tokenizer) → T.tokenize_state ≡ at_rest → codes_left T ≤ most → H.StartReady T
+start-html T e fits = record { spaces = record { resting = ap W.rested e ∙ sym e; short = fits }; rest = ap H.rested e ∙ sym e }
+
+pub returns-clause-title : goal.returns-clause-title
+returns-clause-title c =
+    start-title c.new.result (ap (λ (x : Tokenizer). x.tokenize_state) c.new.ensures)
+    (start-fits c.args.parse_state.now.bytes.now c.args.pieces.now c.new.result c.requires (ap (λ (x : Tokenizer). x.cursor) c.new.ensures))
+
+pub returns-clause-label : goal.returns-clause-label
+returns-clause-label c =
+    start-label c.new.result (ap (λ (x : Tokenizer). x.tokenize_state) c.new.ensures)
+    (start-fits c.args.parse_state.now.bytes.now c.args.pieces.now c.new.result c.requires (ap (λ (x : Tokenizer). x.cursor) c.new.ensures))
+
+pub returns-clause-html : goal.returns-clause-html
+returns-clause-html c =
+    start-html c.new.result (ap (λ (x : Tokenizer). x.tokenize_state) c.new.ensures)
+    (start-fits c.args.parse_state.now.bytes.now c.args.pieces.now c.new.result c.requires (ap (λ (x : Tokenizer). x.cursor) c.new.ensures))

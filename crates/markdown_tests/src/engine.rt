@@ -1,0 +1,12 @@
+// Tests of `markdown_engine`, a module for each of its modules.
+mod bytes;
+mod content;
+mod cursor;
+mod edit_map;
+mod events;
+mod run;
+mod run_index;
+mod seq;
+mod skip;
+mod slice;
+mod walk;
