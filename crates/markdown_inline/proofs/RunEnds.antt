@@ -19,8 +19,6 @@ use Rattle.markdown_engine.specs.declared.tokenizer.LabelStart.{LabelStart}
 use Rattle.markdown_engine.specs.declared.tokenizer.TokenizeState.{TokenizeState}
 use Rattle.markdown_engine.specs.declared.tokenizer.Tokenizer.{Tokenizer}
 use Rattle.markdown_engine.proofs.ChainTree.{chained-whole}
-use Rattle.markdown_construct.specs.Characters.{IsText, ReadsText}
-use Rattle.markdown_construct.proofs.ContentTexts.{content-text}
 use Rattle.markdown_cut.specs.CutData.{split, HasCodes}
 use Rattle.markdown_cut.proofs.PairingCodes.{merged-paired}
 use Rattle.markdown_emphasis.specs.Pass.{IsProbed}
@@ -82,11 +80,6 @@ start-stands p pieces s T none k =
 
 pub start-ahead : (p : ParseState) (pieces : List Piece) (s : TokenizeState) (T : Tokenizer) → Starts p pieces s T → ahead T ≡ content_of p.bytes.now pieces
 start-ahead p pieces s T k = codes-ahead p pieces T k.place
-
--- and the document is a text, of which the content's codes are characters
-pub start-text : (p : ParseState) (pieces : List Piece) (s : TokenizeState) (T : Tokenizer) → IsContent p.bytes.now pieces → Starts p pieces s T → ReadsText T
-unfolding start_of_content
-start-text p pieces s T content k = subst (λ (x : ParseState). IsText x.bytes.now T.cursor) (sym k.input) (subst (λ (x : Place). IsText p.bytes.now x) (sym k.place) (content-text p.bytes.now pieces 0 content))
 
 -- scratch fields without labels and looks, those of ends at rest
 pub record AreFresh (s : TokenizeState) : Type 0 where

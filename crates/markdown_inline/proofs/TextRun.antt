@@ -46,8 +46,8 @@ use Rattle.markdown_row.proofs.RowKeeps.{grouped-runless}
 use Rattle.markdown_inline.proofs.GoodCut.{good-alike}
 use Rattle.markdown_inline.proofs.PassesRun.{IsGiven}
 use Rattle.markdown_inline.proofs.Runless.{probes-none}
-use Rattle.markdown_inline.proofs.RunEnds.{Starts, start-with, start-text, AreFresh, IsFound, finished-may, finished-left, finished-events, finished-probes, finished-elements}
-use Rattle.markdown_inline.proofs.StartLemmas.{start-fits, start-last, unknown-runs}
+use Rattle.markdown_inline.proofs.RunEnds.{Starts, start-with, AreFresh, IsFound, finished-may, finished-left, finished-events, finished-probes, finished-elements}
+use Rattle.markdown_inline.proofs.StartLemmas.{start-fits, start-last, start-literals, start-reads, unknown-runs}
 use Rattle.markdown_inline.proofs.TextTree.{text-labels, text-still, text-finished}
 use Rattle.markdown_inline.proofs.StillRows.{row-still}
 
@@ -70,14 +70,15 @@ pub text-ready : (p : ParseState) (pieces : List Piece) (first : Bool) (T : Toke
 text-ready p pieces first T text k =
     let content : IsContent p.bytes.now pieces = text.is_content in
     let fits : codes_left T ≤ most = start-fits p.bytes.now pieces T content k.place in
+    let input : T.parse_state.now.bytes.now ≡ p.bytes.now = ap (λ (x : ParseState). x.bytes.now) k.input in
     record {
       spans = record { rest = k.fields ∙ sym (ap X.rested k.fields); fits = omega (arith, fits); indexed = unknown-runs T.tokenize_state T.cursor.codes (ap (λ (s : TokenizeState). s.runs) k.fields) };
       look = record { resting = ap W.rested k.fields ∙ sym k.fields; short = fits };
-      literals = record { text = start-text p pieces (text_fields first) T content k; resting = ap G.rested k.fields ∙ sym k.fields; short = fits };
+      literals = start-literals p.bytes.now pieces T content input k.place (ap G.rested k.fields ∙ sym k.fields);
       last = start-last p.bytes.now pieces T.cursor text k.place;
       ends = record {
         part = record { short = fits; spaces = record { space = ap W.rested k.fields ∙ sym k.fields; eol = ap L.eol_rested k.fields ∙ sym k.fields }; rest = ap Parts.rested k.fields ∙ sym k.fields };
-        text = start-text p pieces (text_fields first) T content k;
+        text = start-reads p.bytes.now pieces T content input k.place;
         within = subst (λ (s : TokenizeState). AreWithin T s.label_starts) (sym k.fields) tt;
         resting = ap (λ (s : TokenizeState). s.end) k.fields;
       };

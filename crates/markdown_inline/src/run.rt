@@ -16,6 +16,8 @@ use markdown_engine::parser::ParseState;
 pub use markdown_engine::parser::Piece;
 use markdown_engine::state::StateName;
 use markdown_engine::tokenizer::Tokenizer;
+pub use markdown_leaves::leaf::{Leaf, Leaves};
+pub use markdown_leaves::leaves;
 use std::alloc::{AllocError, Global};
 
 /// What a run finds.
@@ -112,21 +114,24 @@ fn put_back<'a>(
 /// Reads one construct at the tokenizer's place, by the name of the state that starts it: `CharacterEscapeStart`, `CharacterReferenceStart`,
 /// `HardBreakEscapeStart`, `AutolinkStart`, `HtmlTextStart`, `RawTextStart` (a code span, or a math span), `GfmTaskListItemCheckStart`,
 /// `GfmAutolinkLiteralProtocolStart`, `GfmAutolinkLiteralWwwStart`;
+/// `LabelStartLinkStart`, `LabelStartImageStart` and `GfmLabelStartFootnoteStart`, which are kept; `LabelEndStart`, which makes a label of the last
+/// start kept, with the resource or reference behind it (CommonMark 6.3 and 6.4, and footnote calls);
 /// `AttentionStart` (a run of markers, past which the pass that pairs runs is registered);
 /// `DestinationStart`, `TitleStart` and `LabelStart`, which take their names from the scratch fields `token_1` to `token_5`, and a destination
 /// the depth of its parentheses from `size_b`; `DataStart`, which takes the bytes at which it stops from the scratch field `markers`, and holds
 /// everywhere; `SpaceOrTabStart` or `SpaceOrTabEolStart`, after the setter that asks for it.
 ///
 /// Where the construct holds, its events are appended, and the tokenizer stands at its end; otherwise it is as before. The scratch fields are
-/// as before in either case, but that whitespace puts its own fields to rest. The error comes where a growth is refused; then `failed` is
-/// true. It comes at once where `failed` is true already.
+/// as before in either case, but that whitespace puts its own fields to rest, that starts and labels are kept, and that an end that makes no
+/// label uses up the last start. The error comes where a growth is refused; then `failed` is true. It comes at once where `failed` is true already.
 ///
 /// The scratch fields that a construct counts in are at rest before, as they are in a new tokenizer. Where a construct counts codes, or reads
 /// whitespace, it asks that fewer are left than a `usize` counts, which holds over every content: it has at most four codes for each byte.
 /// `RawTextStart` also asks that the scratch field `runs` is right for the content; in a new tokenizer nothing is known there. A literal asks that
 /// the codes of the content are those of its characters, which holds over every content. Whitespace that
 /// is to be connected asks for a linked event just before, and with a line ending for a content too; and where whitespace with
-/// a line ending has a content, no blank code is at hand.
+/// a line ending has a content, no blank code is at hand. An end of a label asks that the starts kept end between characters, as each does that
+/// was read.
 pub fn construct(name: StateName, tokenizer: &mut Tokenizer) -> Result<bool, AllocError>
     requires construct { IsConstruct name tokenizer.old }
     requires alone { tokenizer.old.attempts ≡ [] }
