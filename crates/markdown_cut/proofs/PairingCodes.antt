@@ -1,5 +1,5 @@
 -- No data is empty behind the pairs either; so texts that differ only in how data is cut are merged to one tree.
-use Rattle.std.proofs.Common.{◌≡◌, ◌≢◌, ℕ, suc, true, Option, None, List, [], ◌∷◌, ◌++◌, length, take, drop, reverse, map, sum_by, ◌-◌, sym, ap, ◌∙◌}
+use Rattle.std.proofs.Common.{◌≡◌, ◌≢◌, ℕ, suc, true, Option, None, List, [], ◌∷◌, ◌++◌, length, take, drop, reverse, map, sum_by, ◌-◌}
 use Rattle.markdown_engine.specs.Codes.{Code, stop_of, document_start}
 use Rattle.markdown_engine.specs.Tree.{Forest, empty, leaf_then, group_then, leaf, ◌⊕◌, start_of}
 use Rattle.markdown_engine.specs.declared.event.Content.{Content}

@@ -1,5 +1,5 @@
 -- The last pass of a text: trimming, and then emails where they are looked for.
-use Rattle.std.proofs.Common.{◌≡◌, ℕ, Bool, true, List, None, sym, ap, subst, ◌∙◌}
+use Rattle.std.proofs.Common.{◌≡◌, ℕ, true, List, None, sym, ap, subst, ◌∙◌}
 use Rattle.markdown_engine.specs.Past.{appended_from}
 use Rattle.markdown_engine.specs.Tree.{Forest}
 use Rattle.markdown_engine.specs.declared.configuration.Constructs.{Constructs}

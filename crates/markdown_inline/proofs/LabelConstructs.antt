@@ -1,5 +1,5 @@
 -- The starts of labels, as constructs by themselves.
-use Rattle.std.proofs.Common.{◌≡◌, ◌&&◌, not, Bool, true, false, List, [], ◌∷◌, Option, None, Some, sym, ap, ◌∙◌}
+use Rattle.std.proofs.Common.{◌≡◌, ◌&&◌, Bool, true, false, List, [], ◌∷◌, None, Some, sym, ap, ◌∙◌}
 use Rattle.markdown_engine.specs.Codes.{Code}
 use Rattle.markdown_engine.specs.Lists.{rest_of}
 use Rattle.markdown_engine.specs.Ops.{ahead}
@@ -8,7 +8,6 @@ use Rattle.markdown_engine.specs.declared.tokenizer.LabelKind.{LabelKind}
 use Rattle.markdown_engine.specs.declared.tokenizer.Tokenizer.{Tokenizer}
 use Rattle.markdown_label.specs.LabelStarts.{links_on, link_test, link_ends, footnotes_on, footnote_test, footnote_ends, images_on, image_test, image_ends}
 use Rattle.markdown_model.proofs.ReadingSteps.{and-left, and-right}
-use Rattle.markdown_model.specs.CodeTests.{is_value, next_is}
 use Rattle.markdown_model.specs.Element.{image_start, footnote_start, link_start}
 use Rattle.markdown_model.specs.Grammar.{Reading}
 use Rattle.markdown_model.specs.LabelEnd.{Element, starts}

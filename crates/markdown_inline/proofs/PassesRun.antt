@@ -1,11 +1,11 @@
 -- The passes of a string and of a text, after a run over a content: they may be called, and leave its tree merged and trimmed.
-use Rattle.std.proofs.Common.{◌≡◌, ℕ, Bool, true, false, List, [], ◌∷◌, ◌++◌, length, None, refl, sym, ap, subst, ◌∙◌, ◌≤◌, arith}
+use Rattle.std.proofs.Common.{◌≡◌, ℕ, Bool, true, false, List, [], ◌∷◌, length, None, refl, sym, ap, subst, ◌∙◌, ◌≤◌, arith}
 use Rattle.std.specs.Prelude.{IsUtf8}
 use Rattle.markdown_engine.specs.Content.{IsContent, content_of, document_limit}
 use Rattle.markdown_engine.specs.Ops.{registered, ahead}
-use Rattle.markdown_engine.specs.Past.{past, appended_from}
+use Rattle.markdown_engine.specs.Past.{appended_from}
 use Rattle.markdown_engine.specs.Place.{start_of_content, ahead_at}
-use Rattle.markdown_engine.specs.Resolves.{MayResolve, Resolves, unregistered}
+use Rattle.markdown_engine.specs.Resolves.{MayResolve, Resolves}
 use Rattle.markdown_engine.specs.Tree.{Forest, leaf_codes}
 use Rattle.markdown_engine.specs.declared.event.Event.{Event}
 use Rattle.markdown_engine.specs.declared.parser.ParseState.{ParseState}
@@ -16,7 +16,7 @@ use Rattle.markdown_engine.specs.declared.tokenizer.Tokenizer.{Tokenizer}
 use Rattle.markdown_engine.specs.declared.tokenizer.TokenizeState.{TokenizeState}
 use Rattle.markdown_engine.proofs.Bounds.{content_fits}
 use Rattle.markdown_attention.specs.Reading.{outermost, runs_from, HaveRunPlaces}
-use Rattle.markdown_attention.specs.Rows.{has_run, IsOf, HasRuns}
+use Rattle.markdown_attention.specs.Rows.{IsOf, HasRuns}
 use Rattle.markdown_emphasis.specs.Pass.{IsSmall, IsProbed}
 use Rattle.markdown_emphasis.specs.RunEdits.{HaveRunEnds, HaveRunRoom}
 use Rattle.markdown_emphasis.proofs.Caller.{tree-small}
@@ -27,7 +27,7 @@ use Rattle.markdown_model.specs.Pairs.{pair_list}
 use Rattle.markdown_model.specs.Passes.{merged, trimmed}
 use Rattle.markdown_model.specs.Setting.{Setting}
 use Rattle.markdown_model.proofs.Coverage.{codes-merged, codes-paired}
-use Rattle.markdown_partial.specs.TrimEvents.{HasParts, HasPlaces}
+use Rattle.markdown_partial.specs.TrimEvents.{HasParts}
 use Rattle.markdown_partial.proofs.TrimLaws.{places-of}
 use Rattle.markdown_row.specs.Fresh.{passes_of}
 use Rattle.markdown_row.specs.Trees.{HasLines, IsRunless}
@@ -45,7 +45,6 @@ passes_first false ns = ns
 abbrev pub labels_first : Bool → List ResolveName → List ResolveName
 labels_first true ns = R.Label ∷ ns
 labels_first false ns = ns
-
 
 -- the last pass, and what it leaves of a tree whose data is part of the document
 pub record IsTrimming (last : ResolveName) (finish : ParseState → Forest → Forest) : Type 0 where
@@ -142,8 +141,7 @@ passes-leave p pieces tree last finish X V t h r =
     let U : Tokenizer = r.1.1.0 in
     let m : MergesData X W = r.1.0 in
     let same : V ≡ U = r.1.1.1.1 in
-    let k : IsMerged p tree W = after-merging p pieces tree X W h m in
-    (
+    let k : IsMerged p tree W = after-merging p pieces tree X W h m in (
       ap (λ (x : Tokenizer). x.events) same ∙ t.leaves W U (merged tree) r.1.1.1.0 (merged-there p pieces tree X W h k.input) k.events ∙ ap (λ (x : ParseState). appended_from 0 None (finish x (merged tree))) k.input,
       ap (λ (x : Tokenizer). x.tokenize_state) same ∙ ap (λ (x : Tokenizer). x.tokenize_state) (t.same W U r.1.1.1.0) ∙ ap (λ (x : Tokenizer). x.tokenize_state) m.same,
     )

@@ -1,13 +1,12 @@
 -- The bounds of looks, and the pairs themselves, depend on the runs of a tree's containers alone.
-use Rattle.std.proofs.Common.{◌≡◌, ℕ, ◌+◌, ◌*◌, ◌≤◌, List, length, sum_by, refl, subst}
+use Rattle.std.proofs.Common.{◌≡◌, ℕ, ◌+◌, ◌*◌, ◌≤◌, List, length, sum_by, subst}
 use Rattle.std.specs.List.{count_by}
 use Rattle.markdown_engine.specs.Tree.{Forest}
 use Rattle.markdown_cut.specs.CutData.{split}
 use Rattle.markdown_cut.proofs.SplitRuns.{containers-same}
 use Rattle.markdown_emphasis.specs.Pass.{IsProbed}
-use Rattle.markdown_model.specs.Groups.{tokens_of, paired}
-use Rattle.markdown_model.specs.Pairs.{is_eligible, opener_below, next_pair_from, pairs_after, pair_list}
-use Rattle.markdown_model.specs.Runs.{Run, run_of, runs_of, rows_inside, containers_of}
+use Rattle.markdown_model.specs.Pairs.{pair_list}
+use Rattle.markdown_model.specs.Runs.{Run, containers_of}
 use Rattle.markdown_model.specs.Setting.{Setting}
 
 -- of trees that differ only in how data is cut

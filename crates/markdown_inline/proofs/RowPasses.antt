@@ -1,12 +1,9 @@
 -- The passes of a text after a run that leaves a row: labels are grouped, then pairs, and the tree is merged and trimmed.
-use Rattle.std.proofs.Common.{◌≡◌, Bool, true, false, ◌||◌, List, [], ◌∷◌, ◌++◌, None, refl, sym, ap, subst, ◌∙◌}
-use Rattle.std.proofs.lemmas.Bool.{or_parts}
-use Rattle.markdown_engine.specs.Content.{IsContent, content_of}
+use Rattle.std.proofs.Common.{◌≡◌, Bool, true, false, List, [], ◌∷◌, None, refl, sym, ap, subst, ◌∙◌}
 use Rattle.markdown_engine.specs.Ops.{registered, ahead}
 use Rattle.markdown_engine.specs.Past.{appended_from}
 use Rattle.markdown_engine.specs.Resolves.{MayResolve, Resolves, unregistered}
-use Rattle.markdown_engine.specs.Tree.{Forest, empty, ◌⊕◌}
-use Rattle.markdown_engine.specs.declared.event.Event.{Event}
+use Rattle.markdown_engine.specs.Tree.{Forest}
 use Rattle.markdown_engine.specs.declared.parser.ParseState.{ParseState}
 use Rattle.markdown_engine.specs.declared.parser.Piece.{Piece}
 use Rattle.markdown_engine.specs.declared.resolve.ResolveName.{ResolveName}
@@ -15,7 +12,7 @@ use Rattle.markdown_engine.specs.declared.tokenizer.TokenizeState.{TokenizeState
 use Rattle.markdown_engine.specs.declared.tokenizer.Tokenizer.{Tokenizer}
 use Rattle.markdown_emphasis.proofs.Good.{IsGood}
 use Rattle.markdown_label_pass.specs.Brackets.{Brackets, grouped}
-use Rattle.markdown_label_pass.specs.Handover.{HasBrackets, MayGroup, unlabelled}
+use Rattle.markdown_label_pass.specs.Handover.{HasBrackets, MayGroup}
 use Rattle.markdown_model.specs.Setting.{Setting}
 use Rattle.markdown_row.specs.Fresh.{IsFresh, IsPast, row_registers}
 use Rattle.markdown_row.specs.Opened.{brackets_of}

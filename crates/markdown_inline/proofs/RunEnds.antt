@@ -1,5 +1,5 @@
 -- A whole run over the elements of a content, from its start to what the passes leave.
-use Rattle.std.proofs.Common.{◌≡◌, Bool, true, false, List, [], map, None, refl, sym, ap, subst, ◌∙◌}
+use Rattle.std.proofs.Common.{◌≡◌, true, false, List, [], map, None, refl, sym, ap, subst, ◌∙◌}
 use Rattle.std.specs.Borrow.{Bor}
 use Rattle.std.specs.declared.alloc.Global.{Global}
 use Rattle.markdown_engine.specs.Begun.{begun}
@@ -30,12 +30,12 @@ use Rattle.markdown_model.specs.Element.{Choice, AreElementsFrom}
 use Rattle.markdown_model.specs.Groups.{paired}
 use Rattle.markdown_model.specs.LabelEnd.{Element}
 use Rattle.markdown_model.specs.Pairs.{pair_list}
-use Rattle.markdown_model.specs.Passes.{labels_of, merged, trimmed}
+use Rattle.markdown_model.specs.Passes.{labels_of, merged}
 use Rattle.markdown_model.specs.Setting.{Setting}
 use Rattle.markdown_row.specs.Elements.{AllElements, Finishes, StandsAfter}
 use Rattle.markdown_row.specs.Fresh.{IsFresh}
 use Rattle.markdown_row.specs.Opened.{brackets_of}
-use Rattle.markdown_row.specs.Row.{Row, past_row, row_codes, row_has_run, IsRowAt, split_row, row_of_elements}
+use Rattle.markdown_row.specs.Row.{Row, row_has_run, IsRowAt, split_row, row_of_elements}
 use Rattle.markdown_row.proofs.RowElements.{grouped-alike}
 use Rattle.markdown_row.proofs.RowKeeps.{grouped-lines, codes-labels}
 use Rattle.markdown_inline.specs.Resolve.{may_resolve_of, resolves_of}

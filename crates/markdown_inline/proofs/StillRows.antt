@@ -1,9 +1,8 @@
 -- Rows in which no run of markers stands.
-use Rattle.std.proofs.Common.{◌≡◌, Bool, true, false, ◌||◌, List, [], ◌∷◌, Option, None, Some, refl, sym, ap, ◌∙◌}
-use Rattle.markdown_engine.specs.Tree.{Forest, leaf, ◌⊕◌}
+use Rattle.std.proofs.Common.{◌≡◌, false, ◌||◌, List, None, Some, refl, sym, ap, ◌∙◌}
+use Rattle.markdown_engine.specs.Tree.{Forest, leaf}
 use Rattle.markdown_engine.specs.declared.event.Name.TheVariants as N
 use Rattle.markdown_attention.specs.Rows.{has_run}
-use Rattle.markdown_cut.specs.CutData.{split}
 use Rattle.markdown_model.specs.LabelEnd.{Element, plain, starts, ends}
 use Rattle.markdown_row.specs.Row.{Row, row_end, row_then, tree_onto, element_onto, row_has_run, row_of_elements, split_row}
 use Rattle.markdown_row.specs.Trees.{IsRunless}

@@ -1,20 +1,19 @@
 -- The inline tree of a string, by its elements.
-use Rattle.std.proofs.Common.{◌≡◌, false, ◌||◌, Option, List, [], ◌∷◌, None, refl, ap, subst, ◌∙◌}
+use Rattle.std.proofs.Common.{◌≡◌, false, Option, List, [], ◌∷◌, None, refl, ap, subst, ◌∙◌}
 use Rattle.markdown_engine.specs.Codes.{Code}
-use Rattle.markdown_engine.specs.Tree.{Forest, empty, leaf_then, group_then, leaf, ◌⊕◌}
+use Rattle.markdown_engine.specs.Tree.{Forest, leaf}
 use Rattle.markdown_engine.specs.declared.event.Name.TheVariants as N
-use Rattle.markdown_attention.specs.Rows.{has_run}
 use Rattle.markdown_model.specs.Grammar.{Reading}
 use Rattle.markdown_model.specs.Leaf.{escape, reference}
 use Rattle.markdown_model.proofs.LinkFree.{Passes, Yields, yields_bind, yields_gives, yields_either, yields_passed, then_any}
-use Rattle.markdown_row.specs.Trees.{IsNode, IsRunless}
+use Rattle.markdown_row.specs.Trees.{IsNode}
 use Rattle.markdown_row.proofs.NodeLemmas.{escape_yields, reference_yields}
 use Rattle.markdown_row.specs.Row.{row_has_run, row_of_elements}
 use Rattle.markdown_row.proofs.TreePasts.{quiet-runless, leaf-runless}
 use Rattle.markdown_inline.proofs.StillRows.{IsStill, still-first}
 use Rattle.markdown_model.specs.Element.{AreStringElements, string_elements_of, AreElementsFrom, string_choice, string_element, as_plain, switched, line_ending, data_code, code_before}
 use Rattle.markdown_model.specs.Inline.{finished_string, string_tree}
-use Rattle.markdown_model.specs.LabelEnd.{Element, plain, starts, ends}
+use Rattle.markdown_model.specs.LabelEnd.{Element, plain}
 use Rattle.markdown_model.specs.Passes.{labels_of, merged, trimmed}
 use Rattle.markdown_model.specs.Setting.{Setting}
 use Rattle.markdown_model.proofs.DataLaws.{labels_of-plain, row_of, string_are_plain}

@@ -19,12 +19,9 @@ use Rattle.markdown_leaf.specs.RawText as X
 use Rattle.markdown_partial.specs.SpaceSteps as W
 use Rattle.markdown_model.specs.Element.{AreElements, AreElementsFrom, text_choice}
 use Rattle.markdown_model.specs.Inline.{text_events}
-use Rattle.markdown_model.specs.Groups.{paired}
-use Rattle.markdown_model.specs.Pairs.{pair_list}
-use Rattle.markdown_model.specs.Passes.{trimmed}
 use Rattle.markdown_model.specs.Setting.{Setting}
 use Rattle.markdown_row.specs.Elements.{Finishes}
-use Rattle.markdown_inline.specs.Resolve.{mailed_where, may_resolve_of, resolves_of}
+use Rattle.markdown_inline.specs.Resolve.{may_resolve_of, resolves_of}
 use Rattle.markdown_inline.specs.Settings.{text_setting_of}
 use Rattle.markdown_inline.specs.TextSteps.{StartReady, marked_fields, text_marked, text_passed, text_choice_of, start_ends}
 use Rattle.markdown_inline.proofs.PassesRun.{text_finish, text-trims}
@@ -39,7 +36,7 @@ use Rattle.markdown_emphasis.proofs.Good.{IsGood}
 use Rattle.markdown_emphasis.proofs.Singles.{singles-content}
 use Rattle.markdown_emphasis.proofs.Striped.{good-tree}
 use Rattle.markdown_model.specs.Inline.{label_tree}
-use Rattle.markdown_model.specs.Passes.{labels_of, merged}
+use Rattle.markdown_model.specs.Passes.{labels_of}
 use Rattle.markdown_row.specs.Opened.{brackets_of}
 use Rattle.markdown_row.specs.Row.{row_has_run}
 use Rattle.markdown_row.proofs.RowKeeps.{grouped-runless}

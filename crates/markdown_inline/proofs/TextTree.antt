@@ -1,13 +1,12 @@
 -- The inline tree of a text: the labels of its elements grouped, paired, merged and trimmed, and its emails set apart.
-use Rattle.std.proofs.Common.{◌≡◌, ℕ, Bool, true, false, ◌==◌, ◌||◌, List, [], ◌∷◌, Option, None, Some, refl, sym, ap, subst, ◌∙◌}
+use Rattle.std.proofs.Common.{◌≡◌, ℕ, Bool, true, false, ◌==◌, List, [], ◌∷◌, Option, None, Some, refl, sym, ap, subst, ◌∙◌}
 use Rattle.std.specs.List.{list_any}
 use Rattle.markdown_engine.specs.Codes.{Code, stop_of, document_start}
-use Rattle.markdown_engine.specs.Tree.{Forest, empty, leaf_then, group_then, leaf, ◌⊕◌}
+use Rattle.markdown_engine.specs.Tree.{Forest, leaf}
 use Rattle.markdown_engine.specs.declared.event.Name.{Name}
 use Rattle.markdown_engine.specs.declared.event.Name.TheVariants as N
 use Rattle.markdown_engine.specs.declared.configuration.Constructs.{Constructs}
 use Rattle.markdown_engine.specs.declared.tokenizer.LabelKind.{LabelKind}
-use Rattle.markdown_attention.specs.Rows.{has_run}
 use Rattle.markdown_model.specs.Element.{attention_run, as_plain, switched, line_ending, data_code, code_span, math_span, Tries, tries, tried, first_check, text_element, image_start, footnote_start, link_start, AreElementsFrom, text_choice, code_before, AreElements, elements_of}
 use Rattle.markdown_model.specs.Grammar.{Reading}
 use Rattle.markdown_model.specs.Groups.{paired}
@@ -22,7 +21,7 @@ use Rattle.markdown_model.proofs.ElementLaws.{text_elements, same_text_elements}
 use Rattle.markdown_model.proofs.LinkFree.{Passes, Yields, yields_bind, yields_gives, yields_passed, yields_either, then_any}
 use Rattle.markdown_inline.specs.Resolve.{mailed_where}
 use Rattle.markdown_attention.specs.Reading.{is_run}
-use Rattle.markdown_row.specs.Trees.{IsNode, IsRunless}
+use Rattle.markdown_row.specs.Trees.{IsNode}
 use Rattle.markdown_row.specs.Row.{row_has_run, row_of_elements}
 use Rattle.markdown_inline.proofs.StillRows.{IsStill, still-first}
 use Rattle.markdown_row.proofs.TreePasts.{quiet-runless, leaf-runless}

@@ -1,7 +1,7 @@
 -- The data of a trimmed tree is part of the document where the data of the tree is.
-use Rattle.std.proofs.Common.{◌≡◌, ◌≢◌, ℕ, Bool, true, false, ◌||◌, ◌&&◌, List, [], ◌∷◌, ◌++◌, reverse, None, refl, sym, ap, subst, ◌∙◌, append_assoc, append-nil}
+use Rattle.std.proofs.Common.{◌≡◌, ℕ, Bool, true, false, ◌||◌, ◌&&◌, List, [], ◌∷◌, ◌++◌, reverse, None, refl, sym, ap, ◌∙◌, append_assoc, append-nil}
 use Rattle.std.proofs.lemmas.List.{reverse-append, reverse-reverse}
-use Rattle.markdown_engine.specs.Codes.{Code, codes_of, is_blank}
+use Rattle.markdown_engine.specs.Codes.{Code, is_blank}
 use Rattle.markdown_engine.specs.Tree.{Forest, empty, leaf_then, group_then, leaf, ◌⊕◌}
 use Rattle.markdown_engine.specs.declared.event.Name.{Name}
 use Rattle.markdown_engine.specs.declared.event.Name.TheVariants as N
@@ -28,17 +28,19 @@ other-leaf bytes name (c ∷ cs) e = (λ d l. absurd (both (is_data name) d e), 
 -- codes amid those of a part
 data-leaf : (bytes : List ℕ) (all front cs back : List Code) → all ≡ front ++ (cs ++ back) → IsPart bytes all → HasParts bytes (leaf N.Data cs)
 data-leaf bytes all front [] back e h = tt
-data-leaf bytes all front (c ∷ cs) back e h =
-    (λ d l. record {
-      before = h.before ++ front;
-      after = back ++ h.after;
-      whole =
-          h.whole
-          ∙ ap (λ xs. h.before ++ (xs ++ h.after)) e
-          ∙ ap (λ xs. h.before ++ xs) (append_assoc front ((c ∷ cs) ++ back) h.after ∙ ap (λ xs. front ++ xs) (append_assoc (c ∷ cs) back h.after))
-          ∙ sym (append_assoc h.before front ((c ∷ cs) ++ (back ++ h.after)));
-      some = λ k. cc;
-    }, tt)
+data-leaf bytes all front (c ∷ cs) back e h = (
+  λ d l. record {
+    before = h.before ++ front;
+    after = back ++ h.after;
+    whole =
+        h.whole
+        ∙ ap (λ xs. h.before ++ (xs ++ h.after)) e
+        ∙ ap (λ xs. h.before ++ xs) (append_assoc front ((c ∷ cs) ++ back) h.after ∙ ap (λ xs. front ++ xs) (append_assoc (c ∷ cs) back h.after))
+        ∙ sym (append_assoc h.before front ((c ∷ cs) ++ (back ++ h.after)));
+    some = λ k. cc;
+  },
+  tt,
+)
 
 blank-leaf : (b : Bool) → is_data (elim b as (λ _. Name) [ true ↦ N.HardBreakTrailing | false ↦ N.SpaceOrTab ]) ≡ false
 blank-leaf true = refl

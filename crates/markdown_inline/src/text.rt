@@ -199,7 +199,12 @@ pub fn resolve(tokenizer: &mut Tokenizer) -> Result<Option<Subresult>, AllocErro
 {
     let hard_break = tokenizer.parse_state.options.constructs.hard_break_trailing;
     partial_whitespace::resolve_whitespace(tokenizer, hard_break, true)?;
-    if tokenizer.parse_state.options.constructs.gfm_autolink_literal {
+    if tokenizer
+        .parse_state
+        .options
+        .constructs
+        .gfm_autolink_literal
+    {
         gfm_autolink_literal::resolve(tokenizer)?;
     }
     Ok(None)

@@ -17,7 +17,6 @@ use Rattle.markdown_engine.specs.declared.tokenizer.Tokenizer.{Tokenizer}
 use Rattle.markdown_engine.proofs.EndsLemmas.{row-empty, scratched-same}
 use Rattle.markdown_engine.proofs.OpRules.{ahead-moved, ahead-none, current-ahead, first-drop, left-ahead}
 use Rattle.markdown_engine.specs.declared.resolve.ResolveName.TheVariants as R
-use Rattle.markdown_engine.proofs.TreeLemmas.{leaf_codes-row}
 use Rattle.markdown_leaf.specs.RawText.{ends_escape, follows_escape, code_just_before, is_escape}
 use Rattle.markdown_construct.proofs.StretchLemmas.{BeginsWith, stretches-begin}
 use Rattle.markdown_construct.proofs.WholeReadings.{both-parts}
@@ -26,10 +25,10 @@ use Rattle.markdown_model.specs.Element.{Choice, AreElementsFrom, code_before, e
 use Rattle.markdown_model.specs.Grammar.{span}
 use Rattle.markdown_model.specs.LabelEnd.{Element, plain, starts, ends}
 use Rattle.markdown_model.specs.Lines.{linked_leaf, data_up_to, line_leaf, line_leaves, lines_of, onto_stretch}
-use Rattle.markdown_model.proofs.DataLaws.{code_leaf, code_leaves, row_of}
+use Rattle.markdown_model.proofs.DataLaws.{code_leaf, code_leaves}
 use Rattle.markdown_model.proofs.ReadingLaws.{code_before-append}
 use Rattle.markdown_model.proofs.Leaves.{span-append}
-use Rattle.markdown_row.specs.Elements.{StandsAfter, Elements, Advances, AllElements, Finishes, DataFinishes}
+use Rattle.markdown_row.specs.Elements.{StandsAfter, Elements, Advances, AllElements, Finishes}
 use Rattle.markdown_row.specs.Row.{Row, row_end, row_then, loses, tree_onto, joined_rows, past_tree, past_row, row_codes, kinds_of, split_row, row_of_elements, element_onto, HasElementCodes, HaveCodes, IsRowAt}
 use Rattle.markdown_row.specs.Trees.{makes_data, HasLines, HasOuterRuns, IsPart, IsRunless, IsRunLeaf, IsSingle, IsNode}
 use Rattle.markdown_row.proofs.KindLemmas.{kinds-row}
@@ -41,7 +40,6 @@ use Rattle.markdown_label.specs.Starts.{StandFor, KeepsStarts}
 use Rattle.markdown_label.proofs.StartStack.{starts-plain}
 use Rattle.markdown_model.specs.Laws.{unused_starts}
 use Rattle.markdown_partial.specs.Merge.{is_data}
-use Rattle.markdown_cut.proofs.Splitting.{row-assoc, split-join}
 use Rattle.markdown_cut.proofs.SplitLines.{lines-cut}
 
 -- Rows.

@@ -1,5 +1,5 @@
 -- The kinds of the starts that wait for an end, past a row.
-use Rattle.std.proofs.Common.{◌≡◌, ℕ, Bool, true, false, if◌then◌else◌, List, [], ◌∷◌, map, refl, sym, ap, ◌∙◌}
+use Rattle.std.proofs.Common.{◌≡◌, ℕ, Bool, true, false, if◌then◌else◌, List, [], ◌∷◌, map, refl, ap, ◌∙◌}
 use Rattle.markdown_engine.specs.Codes.{Code}
 use Rattle.markdown_engine.specs.Lists.{rest_of}
 use Rattle.markdown_engine.specs.Ops.{scratched}
@@ -10,7 +10,7 @@ use Rattle.markdown_engine.specs.declared.tokenizer.LabelKind.{LabelKind}
 use Rattle.markdown_engine.specs.declared.tokenizer.LabelStart as Kept
 use Rattle.markdown_engine.specs.declared.tokenizer.TokenizeState.{TokenizeState}
 use Rattle.markdown_engine.specs.declared.tokenizer.Tokenizer.{Tokenizer}
-use Rattle.markdown_label.specs.Fields.{bars, marked, barred_by, with_kind, tried, labelled, loosened}
+use Rattle.markdown_label.specs.Fields.{bars, marked, barred_by, with_kind, tried, labelled}
 use Rattle.markdown_label.specs.LabelEnd.{end_made, made, lost_by, lost_starts}
 use Rattle.markdown_label.proofs.LabelEndLemmas.{scratch-before}
 use Rattle.markdown_model.specs.LabelEnd.{is_image}

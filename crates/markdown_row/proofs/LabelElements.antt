@@ -1,13 +1,11 @@
 -- Past the start of a label, past an end that makes one, and past one that makes none, with the data behind it.
-use Rattle.std.proofs.Common.{◌≡◌, ◌≢◌, ℕ, ◌+◌, ◌-◌, ◌<◌, ◌≤◌, ◌⊎◌, Bool, true, false, if◌then◌else◌, List, [], ◌∷◌, ◌++◌, length, slice_get, Option, None, Some, refl, sym, ap, subst, ◌∙◌, arith, length-append, append_assoc, append-nil}
-use Rattle.std.specs.List.{list_any}
+use Rattle.std.proofs.Common.{◌≡◌, ◌≢◌, ℕ, ◌+◌, ◌-◌, ◌<◌, ◌≤◌, Bool, true, false, if◌then◌else◌, List, [], ◌∷◌, ◌++◌, length, slice_get, Option, None, Some, refl, sym, ap, subst, ◌∙◌, arith, length-append, append_assoc, append-nil}
 use Rattle.markdown_engine.specs.Codes.{Code, is_line_ending, document_start, stop_of}
 use Rattle.markdown_engine.specs.Lists.{rest_of}
 use Rattle.markdown_engine.specs.Ops.{ahead, scratched}
 use Rattle.markdown_engine.specs.Past.{Reads, past, moved_by, appended_from}
 use Rattle.markdown_engine.specs.Place.{Place, last_of}
-use Rattle.markdown_engine.specs.Tree.{Forest, empty, leaf_then, group_then, leaf, ◌⊕◌, leaf_codes, event, event_count}
-use Rattle.markdown_engine.specs.Weights.{codes_left}
+use Rattle.markdown_engine.specs.Tree.{Forest, empty, leaf_then, group_then, leaf, leaf_codes, event, event_count}
 use Rattle.markdown_engine.specs.declared.event.Event.{Event}
 use Rattle.markdown_engine.specs.declared.event.Kind.TheVariants as Kind
 use Rattle.markdown_engine.specs.declared.event.Name.{Name}
@@ -19,10 +17,9 @@ use Rattle.markdown_engine.specs.declared.tokenizer.TokenizeState.{TokenizeState
 use Rattle.markdown_engine.specs.declared.tokenizer.Tokenizer.{Tokenizer}
 use Rattle.markdown_engine.proofs.PlaceLemmas.{moved_by-append}
 use Rattle.markdown_model.proofs.Leaves.{codes-leaf}
-use Rattle.markdown_cut.specs.CutData.{split, HasCodes}
+use Rattle.markdown_cut.specs.CutData.{HasCodes}
 use Rattle.markdown_label.specs.Fields.{bars, barred_by, begun, with_kind, labelled, tried}
-use Rattle.markdown_label.specs.LabelEnd.{point_or, place_at, end_made, end_tree, ended, made, lost_by, lost_starts, Ends}
-use Rattle.markdown_label.specs.LabelStarts.{kept_start}
+use Rattle.markdown_label.specs.LabelEnd.{point_or, place_at, end_made, end_tree, made, lost_by, lost_starts, Ends}
 use Rattle.markdown_label.specs.Starts.{StandFor, KeepsStarts}
 use Rattle.markdown_label.proofs.LabelEndLemmas.{cursor-before, events-before, scratch-before}
 use Rattle.markdown_label.proofs.StartStack.{starts-start, starts-made, starts-lost}
@@ -36,12 +33,11 @@ use Rattle.markdown_model.specs.Laws.{unused_starts}
 use Rattle.markdown_model.specs.Lines.{data_up_to, line_leaves, lines_of}
 use Rattle.markdown_model.specs.Passes.{start_tree}
 use Rattle.markdown_partial.specs.DataLines.{HasLines}
-use Rattle.markdown_partial.specs.Merge.{is_data}
 use Rattle.markdown_resource.specs.Tails.{IsTail}
-use Rattle.markdown_row.specs.Elements.{StandsAfter, Elements, Advances}
-use Rattle.markdown_row.specs.Row.{Mark, begins, makes, loses, row_end, row_then, tree_onto, past_tree, past_mark, past_row, mark_codes, kinds_of, IsFront, IsStart, IsMade, IsMarkAt, split_row, row_of_elements, element_onto, HasElementCodes}
+use Rattle.markdown_row.specs.Elements.{StandsAfter, Advances}
+use Rattle.markdown_row.specs.Row.{Mark, begins, makes, loses, row_end, row_then, tree_onto, past_tree, past_mark, past_row, mark_codes, kinds_of, IsFront, IsStart, IsMade, IsMarkAt, split_row, row_of_elements, HasElementCodes}
 use Rattle.markdown_row.specs.Trees.{IsPart}
-use Rattle.markdown_row.proofs.ElementLemmas.{DataRead, data-read, before-past, events-past, group-escaped, last-some, fewer-left, one-element, kept-tree, unmarked, leaf_elements, have-leaves, past_leaves, past_code, stands-behind, follow-behind, data-alike, leaves-first}
+use Rattle.markdown_row.proofs.ElementLemmas.{DataRead, data-read, group-escaped, last-some, fewer-left, one-element, kept-tree, unmarked, leaf_elements, have-leaves, past_leaves, past_code, stands-behind, follow-behind, data-alike, leaves-first}
 use Rattle.markdown_row.proofs.TreePasts.{past_tree-empty}
 
 pub empty-part : IsPart empty

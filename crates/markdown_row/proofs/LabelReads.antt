@@ -1,36 +1,31 @@
 -- What a run leaves past the start of a label is a mark of a row; so is what it leaves past an end that makes one.
 use Rattle.std.proofs.Common.{◌≡◌, ℕ, ◌==◌, ◌⊎◌, inl, inr, Bool, true, false, ◌&&◌, ◌||◌, not, List, [], ◌∷◌, ◌++◌, map, Option, None, Some, refl, sym, ap, subst, ◌∙◌}
-use Rattle.std.specs.List.{list_any}
-use Rattle.std.proofs.lemmas.Bool.{eqb-true, or_parts}
+use Rattle.std.proofs.lemmas.Bool.{or_parts}
 use Rattle.markdown_engine.specs.Codes.{Code, is_line_ending}
-use Rattle.markdown_engine.specs.Lists.{rest_of}
 use Rattle.markdown_engine.specs.Ops.{Op, ahead, done, scratched}
 use Rattle.markdown_engine.specs.Tree.{Forest, empty, leaf_then, group_then, leaf_codes, event_count}
 use Rattle.markdown_engine.specs.TreeOps.{ops_of, IsSolid}
-use Rattle.markdown_engine.specs.declared.event.Name.{Name}
 use Rattle.markdown_engine.specs.declared.resolve.ResolveName.TheVariants as R
 use Rattle.markdown_engine.specs.declared.tokenizer.LabelKind.{LabelKind}
 use Rattle.markdown_engine.specs.declared.tokenizer.LabelStart as Kept
 use Rattle.markdown_engine.specs.declared.tokenizer.Tokenizer.{Tokenizer}
-use Rattle.markdown_engine.proofs.OpsLemmas.{and-left, and-right}
 use Rattle.markdown_engine.proofs.TreeLemmas.{ops-past, ahead-past}
 use Rattle.markdown_attention.specs.Reading.{is_run}
 use Rattle.markdown_emphasis.proofs.Quiet.{is_mark, marks, IsQuiet, quiet_after_label}
 use Rattle.markdown_label.specs.Fields.{bars}
 use Rattle.markdown_label.specs.LabelEnd.{outcome, outcome_by, end_reading, is_on}
-use Rattle.markdown_label.specs.LabelStarts.{kept_start, link_ops, link_test, link_ends, footnote_front, footnote_back, footnote_test, footnote_ends, image_front, image_back, image_test, image_ends}
+use Rattle.markdown_label.specs.LabelStarts.{kept_start, link_ops, link_ends, footnote_front, footnote_back, footnote_ends, image_front, image_back, image_ends}
 use Rattle.markdown_label.specs.Settings.{setting_in}
 use Rattle.markdown_label.proofs.LabelEndLemmas.{cursor-before}
 use Rattle.markdown_label.proofs.TailsSound.{tails-are-sound}
-use Rattle.markdown_model.specs.CodeTests.{is_value, next_is}
-use Rattle.markdown_model.specs.Grammar.{Reading, ◌>>=◌, ◌>>◌, gives, either, provided, one}
-use Rattle.markdown_model.specs.LabelEnd.{is_footnote, link_kind, after_label}
+use Rattle.markdown_model.specs.CodeTests.{is_value}
+use Rattle.markdown_model.specs.Grammar.{Reading, ◌>>=◌, ◌>>◌, gives, provided, one}
+use Rattle.markdown_model.specs.LabelEnd.{is_footnote, link_kind}
 use Rattle.markdown_model.specs.Passes.{start_tree}
 use Rattle.markdown_model.specs.Setting.{Setting, is_defined}
-use Rattle.markdown_model.proofs.LinkFree.{Passes, Yields, yields_bind, yields_gives, yields_passed, yields_either, then_any}
+use Rattle.markdown_model.proofs.LinkFree.{Passes, Yields, yields_bind, yields_gives, yields_passed, yields_either}
 use Rattle.markdown_model.proofs.ReadingSteps.{switched-off}
-use Rattle.markdown_resource.specs.Tails.{IsSound}
-use Rattle.markdown_row.specs.Row.{Mark, begins, past_mark, kinds_of, IsFront, IsStart, IsMade}
+use Rattle.markdown_row.specs.Row.{begins, past_mark, kinds_of, IsStart, IsMade}
 use Rattle.markdown_row.specs.Trees.{IsRunless}
 
 -- Starts.

@@ -1,11 +1,10 @@
 -- What a row leaves of the fields of a tokenizer: its place is behind the row's codes, and of the scratch fields only the lists of labels change.
-use Rattle.std.proofs.Common.{◌≡◌, ℕ, Bool, false, if◌then◌else◌, List, [], ◌∷◌, ◌++◌, refl, sym, ap, subst, ◌∙◌, append-nil}
+use Rattle.std.proofs.Common.{◌≡◌, ℕ, List, [], ◌∷◌, ◌++◌, refl, sym, ap, subst, ◌∙◌, append-nil}
 use Rattle.markdown_engine.specs.Codes.{Code}
 use Rattle.markdown_engine.specs.Ops.{scratched}
 use Rattle.markdown_engine.specs.Past.{past, moved_by}
 use Rattle.markdown_engine.specs.Place.{Place, moved}
 use Rattle.markdown_engine.specs.Tree.{Forest, leaf_codes}
-use Rattle.markdown_engine.specs.declared.event.Event.{Event}
 use Rattle.markdown_engine.specs.declared.resolve.ResolveName.TheVariants as R
 use Rattle.markdown_engine.specs.declared.tokenizer.LabelKind.{LabelKind}
 use Rattle.markdown_engine.specs.declared.tokenizer.LabelStart as Kept
@@ -15,10 +14,10 @@ use Rattle.markdown_engine.proofs.PlaceLemmas.{moved_by-append}
 use Rattle.markdown_construct.specs.Characters.{bytes_of, IsText, ReadsText}
 use Rattle.markdown_construct.proofs.TextPasses.{text-moved}
 use Rattle.markdown_label.specs.Fields.{with_kind, labelled}
-use Rattle.markdown_label.specs.LabelEnd.{AreWithin, Ends, end_made, made, ended, lost_by}
-use Rattle.markdown_label.proofs.LabelEndLemmas.{cursor-before, scratch-before, input-before}
-use Rattle.markdown_label.proofs.StartPlaces.{within-grown, within-rest, within-barred, within-tried}
-use Rattle.markdown_row.specs.Row.{EndsRest, Mark, begins, makes, loses, Row, row_end, row_then, past_tree, past_mark, past_row, mark_codes, row_codes, kinds_of, kinds_past, IsMade, IsMarkAt, IsRowAt}
+use Rattle.markdown_label.specs.LabelEnd.{AreWithin, end_made, made, lost_by}
+use Rattle.markdown_label.proofs.LabelEndLemmas.{scratch-before, input-before}
+use Rattle.markdown_label.proofs.StartPlaces.{within-grown, within-rest, within-barred}
+use Rattle.markdown_row.specs.Row.{EndsRest, Mark, begins, makes, loses, Row, row_end, row_then, past_tree, past_mark, past_row, mark_codes, row_codes, kinds_of, kinds_past, IsMarkAt, IsRowAt}
 use Rattle.markdown_row.proofs.KindLemmas.{kinds_in, kinds-tree, kinds-mark}
 use Rattle.markdown_row.proofs.LabelElements.{start-moves, end-moves, end-events, end-starts, lost-starts}
 

@@ -16,20 +16,18 @@ use Rattle.markdown_label.specs.LabelStarts.{link_test, link_ends, footnote_test
 use Rattle.markdown_label.specs.Settings.{setting_in}
 use Rattle.markdown_label.proofs.LabelEndStartLaw.{reading-at}
 use Rattle.markdown_label.proofs.StartStack.{end-made, end-fails, made_by}
-use Rattle.markdown_model.proofs.DataLaws.{code_leaf}
-use Rattle.markdown_model.proofs.ReadingSteps.{and-left, and-right, bind-some, bind-none, one-here, one-not, before-some, before-other, before-none, either-some, either-second, switched-on, switched-off, left-true, right-true}
+use Rattle.markdown_model.proofs.ReadingSteps.{and-left, and-right, bind-some, bind-none, one-here, one-not, before-some, before-other, before-none, either-some, either-second, switched-on, switched-off}
 use Rattle.markdown_model.specs.CodeTests.{is_value, next_is}
 use Rattle.markdown_model.specs.Element.{image_start, footnote_start, link_start, switched}
-use Rattle.markdown_model.specs.Grammar.{Reading, ◌>>=◌, ◌>>◌, gives, either, unless, if_next, provided, one, word, word_of, with_first, before}
-use Rattle.markdown_model.specs.LabelEnd as L
-use Rattle.markdown_model.specs.LabelEnd.{Element, plain, starts, ends, label_end, outcome_of, footnote_call, link_or_image, label_identifier, after_label, reference_after_label, shortcut_before_bracket, full_reference, reference_identifier}
+use Rattle.markdown_model.specs.Grammar.{Reading, ◌>>=◌, gives, one, word, word_of, with_first, before}
+use Rattle.markdown_model.specs.LabelEnd.{Element, starts, ends, label_end, outcome_of, footnote_call, link_or_image, label_identifier, after_label, reference_after_label, shortcut_before_bracket, full_reference, reference_identifier}
 use Rattle.markdown_model.specs.Lines.{data_up_to}
 use Rattle.markdown_row.specs.Elements.{Advances, StandsAfter}
 use Rattle.markdown_row.specs.Row.{loses, past_mark}
 use Rattle.markdown_row.proofs.LabelElements.{start-advances, end-advances, lost-advances}
 use Rattle.markdown_row.proofs.LabelReads.{PastStart, link-past, footnote-past, image-past, end-made-of}
 use Rattle.markdown_inline.specs.TextSteps.{text_markers, text_setting, text_choice_of, StandsAlone}
-use Rattle.markdown_inline.specs.Laws.TextElements.{bang_row, bracket_row, image-element, no-image-element, bracket-element, no-bracket-element, end-element, no-end-element}
+use Rattle.markdown_inline.specs.Laws.TextElements.{image-element, no-image-element, bracket-element, no-bracket-element, end-element, no-end-element}
 use Rattle.markdown_inline.specs.Laws.TextTries.{end_in, first-none, other-data, value-here}
 
 -- Codes that come next.

@@ -1,6 +1,5 @@
 use Rattle.std.proofs.Common.{subst}
 use Rattle.markdown_engine.specs.declared.state.StateName.{StateName}
-use Rattle.markdown_engine.specs.declared.state.StateName.TheVariants.{GfmAutolinkLiteralDomainInside, GfmAutolinkLiteralPathAtPunctuation, GfmAutolinkLiteralPathInside, GfmAutolinkLiteralTrail}
 use Rattle.markdown_gfm.specs.GfmAutolinkLiteral.{LiteralReady, CodeReady, LookReady}
 use Rattle.markdown_gfm.proofs.LiteralLooks.{may-class, may-count, trail-ready}
 use Rattle.markdown_inline.specs.Layer.{ready_of}
