@@ -5,5 +5,6 @@ pub mod ScanLemmas
 pub mod DomainLemmas
 pub mod PlainRows
 pub mod FoundLemmas
+pub mod SignLemmas
 pub mod MailMarks
 pub mod MailLaws

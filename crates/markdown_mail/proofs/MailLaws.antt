@@ -1,5 +1,5 @@
 -- the events of a tree, with its email literals
-use Rattle.std.proofs.Common.{◌≡◌, ℕ, zero, suc, ◌+◌, ◌==◌, ◌&&◌, not, Bool, true, false, List, [], ◌∷◌, ◌++◌, length, drop, Option, Some, None, if◌then◌else◌, cond, refl, sym, ap, subst, ◌∙◌, arith, append_assoc, append-nil}
+use Rattle.std.proofs.Common.{◌≡◌, ◌≢◌, ℕ, zero, suc, ◌+◌, ◌==◌, ◌&&◌, not, Bool, true, false, List, [], ◌∷◌, ◌++◌, length, drop, Option, Some, None, if◌then◌else◌, cond, refl, sym, ap, subst, ◌∙◌, arith, append_assoc, append-nil}
 use Rattle.std.specs.Option.{option_map}
 use Rattle.std.proofs.lemmas.Bool.Decides.{nat_tests}
 use Rattle.std.proofs.lemmas.List.{drop_all}
@@ -8,7 +8,7 @@ use Rattle.markdown_engine.specs.Edits.{is_removed, added_at, moved_number, move
 use Rattle.markdown_engine.specs.Lists.{rest_of}
 use Rattle.markdown_engine.specs.Ops.{link_back}
 use Rattle.markdown_engine.specs.Past.{appended_from, last_link}
-use Rattle.markdown_engine.specs.Tree.{Forest, empty, leaf_then, group_then, ◌⊕◌, event, event_count, start_of}
+use Rattle.markdown_engine.specs.Tree.{Forest, empty, leaf_then, group_then, leaf, ◌⊕◌, event, event_count, start_of}
 use Rattle.markdown_engine.specs.declared.event.Content.{Content}
 use Rattle.markdown_engine.specs.declared.event.Event.{Event}
 use Rattle.markdown_engine.specs.declared.event.Kind.TheVariants.{Enter, Exit}
@@ -23,13 +23,13 @@ use Rattle.markdown_model.specs.Email.{with_emails}
 use Rattle.markdown_model.specs.Passes.{mailed}
 use Rattle.markdown_partial.specs.Merge.{is_data, opens_data}
 use Rattle.markdown_partial.specs.Trim.{between}
-use Rattle.markdown_partial.specs.TrimEvents.{HasParts}
+use Rattle.markdown_partial.specs.TrimEvents.{IsPart, HasParts}
 use Rattle.markdown_partial.proofs.MergeLaws.{drop-part}
 use Rattle.markdown_partial.proofs.TrimLaws.{Part, part-of, count-row}
 use Rattle.markdown_mail.specs.Mail.{links_behind, links_after, may_mail}
-use Rattle.markdown_mail.specs.Scan.{mail_events}
+use Rattle.markdown_mail.specs.Scan.{has_sign, mail_events}
 use Rattle.markdown_mail.proofs.MailMarks.{begins_mail, comes, links_at, mails_at, log_of, added-here, stays-here, goes-first, goes-second}
-use Rattle.markdown_mail.proofs.PlainRows.{plain-events, plain-last, plain-emails}
+use Rattle.markdown_mail.proofs.PlainRows.{plain-events, plain-last, plain-emails, unsigned-emails}
 
 -- Emails, step by step, where they are asked for.
 
@@ -107,18 +107,34 @@ events-are : (bytes : List ℕ) (p q : Point) → mail_events bytes p q ≡ appe
 unfolding mail_events
 events-are bytes p q = refl
 
+-- data without an `@` stays as it is
+
+no-emails : (bytes : List ℕ) (p q : Point) → has_sign bytes p q ≡ false → with_emails (between bytes p q) ≡ leaf N.Data (between bytes p q)
+unfolding has_sign
+no-emails bytes p q h = unsigned-emails (between bytes p q) h
+
+leaf-some : (name : Name) (cs : List Code) → cs ≢ [] → leaf name cs ≡ leaf_then name None cs empty
+leaf-some name [] h = absurd (h refl)
+leaf-some name (c ∷ cs) h = refl
+
 -- One event.
 
-first-not : (links : ℕ) (xs : List Event) (e : Event) (rest : List Event) → xs ≡ e ∷ rest → may_mail links e ≡ false → begins_mail links xs ≡ false
-first-not links [] e rest h o = cc
-first-not links (x ∷ []) e rest h o = refl
-first-not links (x ∷ y ∷ xs) e rest h o = ap first_opens h ∙ o
+-- an event that is no Enter of data, and two that are not such data
+
+opens-not : (bytes : List ℕ) (links : ℕ) (xs : List Event) (e : Event) (rest : List Event) → xs ≡ e ∷ rest → opens_data e ≡ false → begins_mail bytes links xs ≡ false
+opens-not bytes links [] e rest h o = cc
+opens-not bytes links (x ∷ []) e rest h o = refl
+opens-not bytes links (x ∷ y ∷ xs) e rest h o = by (links == 0) (opens_data x) (has_sign bytes x.point y.point) (ap first_opens h ∙ o)
   where
     first_opens : List Event → Bool
     first_opens [] = false
-    first_opens (z ∷ zs) = may_mail links z
+    first_opens (z ∷ zs) = opens_data z
 
-comes-none : (bytes : List ℕ) (links : ℕ) (xs : List Event) → begins_mail links xs ≡ false → comes bytes links xs ≡ []
+    by : (a b c : Bool) → b ≡ false → (a && b) && c ≡ false
+    by true b c k = ap (λ d. d && c) k
+    by false b c k = refl
+
+comes-none : (bytes : List ℕ) (links : ℕ) (xs : List Event) → begins_mail bytes links xs ≡ false → comes bytes links xs ≡ []
 comes-none bytes links [] h = refl
 comes-none bytes links (e ∷ []) h = refl
 comes-none bytes links (e ∷ x ∷ xs) h = ap (λ b. if b then mail_events bytes e.point x.point else []) h
@@ -133,22 +149,15 @@ links-next zero links (x ∷ es) e rest h = ap first_after h
 links-next (suc n) links [] e rest h = cc
 links-next (suc n) links (x ∷ es) e rest h = links-next n (links_after links x) es e rest h
 
-may-not : (links : ℕ) (e : Event) → opens_data e ≡ false → may_mail links e ≡ false
-may-not links e h = by (links == 0)
-  where
-    by : (b : Bool) → b && opens_data e ≡ false
-    by true = h
-    by false = refl
-
 module _ (bytes : List ℕ) (es : List Event) where
   abbrev log : List Edit
   log = log_of bytes es
 
   abbrev Fresh : ℕ → Type 0
-  Fresh n = (p : ℕ) → suc p ≡ n → mails_at p es ≡ false
+  Fresh n = (p : ℕ) → suc p ≡ n → mails_at bytes p es ≡ false
 
-  fresh-after : (n : ℕ) → mails_at n es ≡ false → Fresh (n + 1)
-  fresh-after n o p k = let same : p ≡ n = omega (arith, k) in ap (λ i. mails_at i es) same ∙ o
+  fresh-after : (n : ℕ) → mails_at bytes n es ≡ false → Fresh (n + 1)
+  fresh-after n o p k = let same : p ≡ n = omega (arith, k) in ap (λ i. mails_at bytes i es) same ∙ o
 
   -- past an event that stays
   record Step (n : ℕ) (e : Event) (rest : List Event) : Type 0 where
@@ -165,10 +174,9 @@ module _ (bytes : List ℕ) (es : List Event) where
   links-after : (n : ℕ) (e : Event) (rest : List Event) → drop n es ≡ e ∷ rest → links_at (n + 1) 0 es ≡ links_after (links_at n 0 es) e
   links-after n e rest h = let one : n + 1 ≡ suc n = omega arith in ap (λ i. links_at i 0 es) one ∙ links-next n 0 es e rest h
 
-  step : (n : ℕ) (e : Event) (rest : List Event) → drop n es ≡ e ∷ rest → may_mail (links_at n 0 es) e ≡ false → Fresh n → Step n e rest
-  step n e rest h o f =
+  step : (n : ℕ) (e : Event) (rest : List Event) → drop n es ≡ e ∷ rest → mails_at bytes n es ≡ false → Fresh n → Step n e rest
+  step n e rest h begins f =
       let one : suc n ≡ n + 1 = omega arith in
-      let begins : mails_at n es ≡ false = first-not (links_at n 0 es) (drop n es) e rest h o in
       let stay : is_removed log n ≡ false = stays-here bytes n es begins f in
       let added : added_at n log ≡ [] = added-here bytes n es ∙ comes-none bytes (links_at n 0 es) (drop n es) begins in
       let size : length (added_at n log) ≡ 0 = ap length added in
@@ -193,10 +201,10 @@ module _ (bytes : List ℕ) (es : List Event) where
     open_links : links_at (n + 2) 0 es ≡ links_after (links_after (links_at n 0 es) e) x
     fresh : Fresh (n + 2)
 
-  pair : (n : ℕ) (e x : Event) (rest : List Event) → drop n es ≡ e ∷ x ∷ rest → may_mail (links_at n 0 es) e ≡ false → opens_data x ≡ false → Fresh n → Pair n e x rest
+  pair : (n : ℕ) (e x : Event) (rest : List Event) → drop n es ≡ e ∷ x ∷ rest → mails_at bytes n es ≡ false → opens_data x ≡ false → Fresh n → Pair n e x rest
   pair n e x rest h o k f =
       let a : Step n e (x ∷ rest) = step n e (x ∷ rest) h o f in
-      let b : Step (n + 1) x rest = step (n + 1) x rest a.there (may-not (links_at (n + 1) 0 es) x k) a.fresh in
+      let b : Step (n + 1) x rest = step (n + 1) x rest a.there (opens-not bytes (links_at (n + 1) 0 es) (drop (n + 1) es) x rest a.there k) a.fresh in
       let same : n + 1 + 1 ≡ n + 2 = omega arith in
       record {
         events = a.events ∙ ap (λ xs. moved log e ∷ xs) (b.events ∙ ap (λ i. moved log x ∷ edited_from log i rest) same);
@@ -215,16 +223,16 @@ module _ (bytes : List ℕ) (es : List Event) where
     open_links : links_at (n + 2) 0 es ≡ links_after (links_after (links_at n 0 es) e) x
     fresh : Fresh (n + 2)
 
-  data-cut : (n : ℕ) (e x : Event) (rest : List Event) → drop n es ≡ e ∷ x ∷ rest → may_mail (links_at n 0 es) e ≡ true → opens_data x ≡ false → Cut n e x rest
+  data-cut : (n : ℕ) (e x : Event) (rest : List Event) → drop n es ≡ e ∷ x ∷ rest → may_mail bytes (links_at n 0 es) e x ≡ true → opens_data x ≡ false → Cut n e x rest
   data-cut n e x rest h o k =
       let T : List Event = mail_events bytes e.point x.point in
       let same : suc (suc n) ≡ n + 2 = omega arith in
       let again : n + 1 + 1 ≡ n + 2 = omega arith in
       let one : n + 1 ≡ suc n = omega arith in
-      let begins : mails_at n es ≡ true = ap (begins_mail (links_at n 0 es)) h ∙ o in
+      let begins : mails_at bytes n es ≡ true = ap (begins_mail bytes (links_at n 0 es)) h ∙ o in
       let next : drop (n + 1) es ≡ x ∷ rest = drop-next n e (x ∷ rest) h in
       let behind : drop (suc n) es ≡ x ∷ rest = ap (λ i. drop i es) (sym one) ∙ next in
-      let second : mails_at (suc n) es ≡ false = first-not (links_at (suc n) 0 es) (drop (suc n) es) x rest behind (may-not (links_at (suc n) 0 es) x k) in
+      let second : mails_at bytes (suc n) es ≡ false = opens-not bytes (links_at (suc n) 0 es) (drop (suc n) es) x rest behind k in
       let gone : is_removed log n ≡ true = goes-first bytes n es begins in
       let gone2 : is_removed log (suc n) ≡ true = goes-second bytes n es begins in
       let added : added_at n log ≡ T = added-here bytes n es ∙ ap (comes bytes (links_at n 0 es)) h ∙ ap (λ b. if b then T else []) o in
@@ -243,7 +251,7 @@ module _ (bytes : List ℕ) (es : List Event) where
         placed = ap (start log) (sym same) ∙ p2 ∙ omega (arith, p1, size, size2);
         there = ap (λ i. drop i es) (sym again) ∙ drop-next (n + 1) x rest next;
         open_links = ap (λ i. links_at i 0 es) (sym again) ∙ links-after (n + 1) x rest next ∙ ap (λ l. links_after l x) (links-after n e (x ∷ rest) h);
-        fresh = subst (λ (i : ℕ). Fresh i) again (fresh-after (n + 1) (ap (λ i. mails_at i es) one ∙ second));
+        fresh = subst (λ (i : ℕ). Fresh i) again (fresh-after (n + 1) (ap (λ i. mails_at bytes i es) one ∙ second));
       }
 
   -- Rows.
@@ -285,13 +293,13 @@ module _ (bytes : List ℕ) (es : List Event) where
   data-linked false = refl
 
   -- a leaf that stays
-  leaf-stays : (name : Name) (cs : List Code) (rest : Forest) (n m links : ℕ) (previous : Option ℕ) (tail : List Event) → Here n m links previous (leaf_then name None cs rest) tail → may_mail links (event Enter name (start_of cs)) ≡ false → mail_row (links == 0) (leaf_then name None cs rest) ≡ leaf_then name None cs (mail_row (links == 0) rest) → Law rest → Mails n m links previous (leaf_then name None cs rest) tail
+  leaf-stays : (name : Name) (cs : List Code) (rest : Forest) (n m links : ℕ) (previous : Option ℕ) (tail : List Event) → Here n m links previous (leaf_then name None cs rest) tail → may_mail bytes links (event Enter name (start_of cs)) (event Exit name (stop_of document_start cs)) ≡ false → mail_row (links == 0) (leaf_then name None cs rest) ≡ leaf_then name None cs (mail_row (links == 0) rest) → Law rest → Mails n m links previous (leaf_then name None cs rest) tail
   leaf-stays name cs rest n m links previous tail h o is law =
       let e : Event = event Enter name (start_of cs) in
       let x : Event = event Exit name (stop_of document_start cs) in
       let q : Option ℕ = option_map (moved_number log) previous in
       let R : Forest = mail_row (links == 0) rest in
-      let p : Pair n e x (appended_from (n + 2) previous rest ++ tail) = pair n e x (appended_from (n + 2) previous rest ++ tail) h.there (ap (λ l. may_mail l e) h.open_links ∙ o) refl h.fresh in
+      let p : Pair n e x (appended_from (n + 2) previous rest ++ tail) = pair n e x (appended_from (n + 2) previous rest ++ tail) h.there (ap (begins_mail bytes (links_at n 0 es)) h.there ∙ ap (λ l. may_mail bytes l e x) h.open_links ∙ o) refl h.fresh in
       let kept : links_at (n + 2) 0 es ≡ links = p.open_links ∙ links-closed name (links_at n 0 es) ∙ h.open_links in
       let r : Mails (n + 2) (m + 2) links previous rest tail =
       law (n + 2) (m + 2) links previous tail (record { there = p.there; open_links = kept; placed = omega (arith, p.placed, h.placed); fresh = p.fresh; has_parts = h.has_parts.1 }) in
@@ -312,7 +320,7 @@ module _ (bytes : List ℕ) (es : List Event) where
       let q : Option ℕ = option_map (moved_number log) previous in
       let e2 : Event = record { kind = Enter; name = name; point = start_of cs; link = Some (link_back q c) } in
       let R : Forest = mail_row (links == 0) rest in
-      let p : Pair n e x (appended_from (n + 2) (Some n) rest ++ tail) = pair n e x (appended_from (n + 2) (Some n) rest ++ tail) h.there (may-not (links_at n 0 es) e (data-linked (is_data name))) refl h.fresh in
+      let p : Pair n e x (appended_from (n + 2) (Some n) rest ++ tail) = pair n e x (appended_from (n + 2) (Some n) rest ++ tail) h.there (opens-not bytes (links_at n 0 es) (drop n es) e (x ∷ appended_from (n + 2) (Some n) rest ++ tail) h.there (data-linked (is_data name))) refl h.fresh in
       let kept : links_at (n + 2) 0 es ≡ links = p.open_links ∙ links-closed name (links_at n 0 es) ∙ h.open_links in
       let r : Mails (n + 2) (m + 2) links (Some n) rest tail =
       law (n + 2) (m + 2) links (Some n) tail (record { there = p.there; open_links = kept; placed = omega (arith, p.placed, h.placed); fresh = p.fresh; has_parts = h.has_parts.1 }) in
@@ -328,8 +336,8 @@ module _ (bytes : List ℕ) (es : List Event) where
       }
 
   -- data outside links
-  leaf-mailed : (cs : List Code) (rest : Forest) (n m links : ℕ) (previous : Option ℕ) (tail : List Event) → Here n m links previous (leaf_then N.Data None cs rest) tail → (links == 0) ≡ true → Law rest → Mails n m links previous (leaf_then N.Data None cs rest) tail
-  leaf-mailed cs rest n m links previous tail h outside law =
+  leaf-mailed : (cs : List Code) (rest : Forest) (n m links : ℕ) (previous : Option ℕ) (tail : List Event) → Here n m links previous (leaf_then N.Data None cs rest) tail → (links == 0) ≡ true → has_sign bytes (start_of cs) (stop_of document_start cs) ≡ true → Law rest → Mails n m links previous (leaf_then N.Data None cs rest) tail
+  leaf-mailed cs rest n m links previous tail h outside sign law =
       let e : Event = event Enter N.Data (start_of cs) in
       let x : Event = event Exit N.Data (stop_of document_start cs) in
       let q : Option ℕ = option_map (moved_number log) previous in
@@ -338,7 +346,7 @@ module _ (bytes : List ℕ) (es : List Event) where
       let D : Forest = with_emails cs in
       let R : Forest = mail_row (links == 0) rest in
       let T : List Event = mail_events bytes e.point x.point in
-      let may : may_mail (links_at n 0 es) e ≡ true = ap (λ l. may_mail l e) h.open_links ∙ ap (λ b. b && true) outside in
+      let may : may_mail bytes (links_at n 0 es) e x ≡ true = ap (λ l. may_mail bytes l e x) h.open_links ∙ ap (λ b. (b && true) && has_sign bytes e.point x.point) outside ∙ sign in
       let k : Cut n e x more = data-cut n e x more h.there may refl in
       let T-is : T ≡ appended_from 0 None D = events-are bytes e.point x.point ∙ ap (λ ds. appended_from 0 None (with_emails ds)) part.codes in
       let size : length T ≡ event_count D = ap length T-is ∙ length-appended_from 0 None D in
@@ -362,17 +370,22 @@ module _ (bytes : List ℕ) (es : List Event) where
       }
 
   leaf-data : (cs : List Code) (rest : Forest) → Law rest → Law (leaf_then N.Data None cs rest)
-  leaf-data cs rest law n m links previous tail h = by (links == 0) refl
+  leaf-data cs rest law n m links previous tail h = by (links == 0) (has_sign bytes (start_of cs) (stop_of document_start cs)) refl refl
     where
-      by : (b : Bool) → (links == 0) ≡ b → Mails n m links previous (leaf_then N.Data None cs rest) tail
-      by true e = leaf-mailed cs rest n m links previous tail h e law
-      by false e =
-          leaf-stays N.Data cs rest n m links previous tail h (ap (λ b. b && true) e)
+      by : (b c : Bool) → (links == 0) ≡ b → has_sign bytes (start_of cs) (stop_of document_start cs) ≡ c → Mails n m links previous (leaf_then N.Data None cs rest) tail
+      by true true e s = leaf-mailed cs rest n m links previous tail h e s law
+      by true false e s =
+          let part : IsPart bytes cs = h.has_parts.0 refl refl in
+          let stays : with_emails cs ≡ leaf_then N.Data None cs empty = ap with_emails (sym (part-of bytes cs part).codes) ∙ no-emails bytes (start_of cs) (stop_of document_start cs) s ∙ ap (leaf N.Data) (part-of bytes cs part).codes ∙ leaf-some N.Data cs part.some in
+          leaf-stays N.Data cs rest n m links previous tail h (ap (λ b. (b && true) && has_sign bytes (start_of cs) (stop_of document_start cs)) e ∙ s)
+          (ap (λ b. mail_row b (leaf_then N.Data None cs rest)) e ∙ row-data cs rest ∙ ap (λ t. t ⊕ mail_row true rest) stays ∙ ap (λ b. leaf_then N.Data None cs (mail_row b rest)) (sym e)) law
+      by false c e s =
+          leaf-stays N.Data cs rest n m links previous tail h (ap (λ b. (b && true) && has_sign bytes (start_of cs) (stop_of document_start cs)) e)
           (ap (λ b. mail_row b (leaf_then N.Data None cs rest)) e ∙ ap (λ b. leaf_then N.Data None cs (mail_row b rest)) (sym e)) law
 
   leaf-other : (name : Name) (cs : List Code) (rest : Forest) → is_data name ≡ false → Law rest → Law (leaf_then name None cs rest)
   leaf-other name cs rest e law n m links previous tail h =
-      leaf-stays name cs rest n m links previous tail h (may-not links (event Enter name (start_of cs)) (opens-no (is_data name) true e)) (row-other (links == 0) name cs rest e) law
+      leaf-stays name cs rest n m links previous tail h (opens-not bytes links (event Enter name (start_of cs) ∷ event Exit name (stop_of document_start cs) ∷ []) (event Enter name (start_of cs)) (event Exit name (stop_of document_start cs) ∷ []) refl (opens-no (is_data name) true e)) (row-other (links == 0) name cs rest e) law
 
   leaf-plain : (name : Name) (cs : List Code) (rest : Forest) (b : Bool) → is_data name ≡ b → Law rest → Law (leaf_then name None cs rest)
   leaf-plain name cs rest true e law = subst (λ (x : Name). Law (leaf_then x None cs rest)) (sym (data-name name e)) (leaf-data cs rest law)
@@ -392,12 +405,12 @@ module _ (bytes : List ℕ) (es : List Event) where
       let inner : List Event = appended_from (n + 1) None inside in
       let more : List Event = appended_from (n + 2 + ci) previous rest ++ tail in
       let apart : (inner ++ x ∷ appended_from (n + 2 + ci) previous rest) ++ tail ≡ inner ++ x ∷ more = append_assoc inner (x ∷ appended_from (n + 2 + ci) previous rest) tail in
-      let s1 : Step n e (inner ++ x ∷ more) = step n e (inner ++ x ∷ more) (h.there ∙ ap (λ xs. e ∷ xs) apart) (may-not (links_at n 0 es) e (opens-no (is_data name) true h.has_parts.0.0)) h.fresh in
+      let s1 : Step n e (inner ++ x ∷ more) = step n e (inner ++ x ∷ more) (h.there ∙ ap (λ xs. e ∷ xs) apart) (opens-not bytes (links_at n 0 es) (drop n es) e (inner ++ x ∷ more) (h.there ∙ ap (λ xs. e ∷ xs) apart) (opens-no (is_data name) true h.has_parts.0.0)) h.fresh in
       let r1 : Mails (n + 1) (m + 1) deeper None inside (x ∷ more) =
       law_inside (n + 1) (m + 1) deeper None (x ∷ more) (record { there = s1.there; open_links = s1.open_links ∙ ap (λ l. links_behind l Enter name) h.open_links; placed = omega (arith, s1.placed, h.placed); fresh = s1.fresh; has_parts = h.has_parts.1.0 }) in
       let k : ℕ = n + 1 + ci in
       let there2 : drop k es ≡ x ∷ more = drop-part (n + 1) ci es inner (x ∷ more) s1.there (length-appended_from (n + 1) None inside) in
-      let s2 : Step k x more = step k x more there2 (may-not (links_at k 0 es) x refl) r1.fresh in
+      let s2 : Step k x more = step k x more there2 (opens-not bytes (links_at k 0 es) (drop k es) x more there2 refl) r1.fresh in
       let next : k + 1 ≡ n + 2 + ci = omega arith in
       let next2 : m + 1 + mi + 1 ≡ m + 2 + mi = omega arith in
       let r2 : Mails (n + 2 + ci) (m + 2 + mi) links previous rest tail =

@@ -16,7 +16,7 @@ use Rattle.markdown_partial.specs.TrimEvents.{HasPlaces}
 use Rattle.markdown_partial.proofs.TrimMarks.{head-drop}
 use Rattle.markdown_partial.proofs.TrimWalks.{bool-clash}
 use Rattle.markdown_mail.specs.Mail.{links_after, may_mail, mail, mail_first, mails}
-use Rattle.markdown_mail.specs.Scan.{mail_events}
+use Rattle.markdown_mail.specs.Scan.{has_sign, mail_events}
 use Rattle.markdown_mail.proofs.PlainRows.{plain-emails, plain-unlinked}
 
 -- One after the other.
@@ -41,15 +41,15 @@ mail-unlinked bytes p q es e = subst (All IsUnlinked) (sym e) (plain-unlinked 0 
 -- What the edits collect at a place.
 
 -- data that the pass edits begins these events, before which so many links are open
-abbrev pub begins_mail : ℕ → List Event → Bool
-begins_mail links [] = false
-begins_mail links (e ∷ []) = false
-begins_mail links (e ∷ x ∷ es) = may_mail links e
+abbrev pub begins_mail : List ℕ → ℕ → List Event → Bool
+begins_mail bytes links [] = false
+begins_mail bytes links (e ∷ []) = false
+begins_mail bytes links (e ∷ x ∷ es) = may_mail bytes links e x
 
 abbrev pub comes : List ℕ → ℕ → List Event → List Event
 comes bytes links [] = []
 comes bytes links (e ∷ []) = []
-comes bytes links (e ∷ x ∷ es) = if may_mail links e then mail_events bytes e.point x.point else []
+comes bytes links (e ∷ x ∷ es) = if may_mail bytes links e x then mail_events bytes e.point x.point else []
 
 -- how many links are open before event k
 abbrev pub links_at : ℕ → ℕ → List Event → ℕ
@@ -57,8 +57,8 @@ links_at zero links es = links
 links_at (suc k) links [] = links
 links_at (suc k) links (e ∷ es) = links_at k (links_after links e) es
 
-abbrev pub mails_at : ℕ → List Event → Bool
-mails_at k es = begins_mail (links_at k 0 es) (drop k es)
+abbrev pub mails_at : List ℕ → ℕ → List Event → Bool
+mails_at bytes k es = begins_mail bytes (links_at k 0 es) (drop k es)
 
 abbrev two : Bool → ℕ
 two true = 2
@@ -101,9 +101,10 @@ opens-unlinked true true false h = refl
 opens-unlinked true false l h = cc
 opens-unlinked false b l h = cc
 
-opens-where : (a b : Bool) → a && b ≡ true → b ≡ true
-opens-where true b h = h
-opens-where false b h = cc
+opens-where : (a b c : Bool) → (a && b) && c ≡ true → b ≡ true
+opens-where true true c h = refl
+opens-where true false c h = cc
+opens-where false b c h = cc
 
 differs : (n i : ℕ) → (n ≡ i → ⊥) → (n == i) ≡ false
 differs n i h = grind (arith, nat_tests)
@@ -119,7 +120,7 @@ module _ (bytes : List ℕ) where
   front-first : (i n links : ℕ) (es : List Event) (log : List Edit) → front_at i log ≡ [] → front_at i (mail_first bytes n links es ++ log) ≡ []
   front-first i n links [] log h = h
   front-first i n links (e ∷ []) log h = h
-  front-first i n links (e ∷ x ∷ es) log h = front-by i n e x log (may_mail links e) h
+  front-first i n links (e ∷ x ∷ es) log h = front-by i n e x log (may_mail bytes links e x) h
 
   front-mails : (i n links : ℕ) (es : List Event) → front_at i (mails bytes n links es) ≡ []
   front-mails i n links [] = refl
@@ -132,16 +133,16 @@ module _ (bytes : List ℕ) where
   back-first : (i n links : ℕ) (es : List Event) (log : List Edit) → back_at i (mail_first bytes n links es ++ log) ≡ (if n == i then comes bytes links es else []) ++ back_at i log
   back-first i n links [] log = ap (λ xs. xs ++ back_at i log) (sym (never (n == i)))
   back-first i n links (e ∷ []) log = ap (λ xs. xs ++ back_at i log) (sym (never (n == i)))
-  back-first i n links (e ∷ x ∷ es) log = back-by i n e x log (may_mail links e)
+  back-first i n links (e ∷ x ∷ es) log = back-by i n e x log (may_mail bytes links e x)
 
   removed-by : (i n : ℕ) (e x : Event) (log : List Edit) (b : Bool) → removed_at i ((if b then mail bytes n e x ∷ [] else []) ++ log) ≡ (if n == i then two b else 0) + removed_at i log
   removed-by i n e x log true = refl
   removed-by i n e x log false = zero-plus (removed_at i log) ∙ ap (λ k. k + removed_at i log) (sym (zero-if (n == i)))
 
-  removed-first : (i n links : ℕ) (es : List Event) (log : List Edit) → removed_at i (mail_first bytes n links es ++ log) ≡ (if n == i then two (begins_mail links es) else 0) + removed_at i log
+  removed-first : (i n links : ℕ) (es : List Event) (log : List Edit) → removed_at i (mail_first bytes n links es ++ log) ≡ (if n == i then two (begins_mail bytes links es) else 0) + removed_at i log
   removed-first i n links [] log = zero-plus (removed_at i log) ∙ ap (λ k. k + removed_at i log) (sym (zero-if (n == i)))
   removed-first i n links (e ∷ []) log = zero-plus (removed_at i log) ∙ ap (λ k. k + removed_at i log) (sym (zero-if (n == i)))
-  removed-first i n links (e ∷ x ∷ es) log = removed-by i n e x log (may_mail links e)
+  removed-first i n links (e ∷ x ∷ es) log = removed-by i n e x log (may_mail bytes links e x)
 
   back-earlier : (i n links : ℕ) (es : List Event) → i < n → back_at i (mails bytes n links es) ≡ []
   back-earlier i n links [] l = refl
@@ -154,7 +155,7 @@ module _ (bytes : List ℕ) where
   removed-earlier i n links [] l = refl
   removed-earlier i n links (e ∷ es) l =
       removed-first i n links (e ∷ es) (mails bytes (suc n) (links_after links e) es)
-      ∙ ap (λ b. (if b then two (begins_mail links (e ∷ es)) else 0) + removed_at i (mails bytes (suc n) (links_after links e) es)) (differs n i (λ h. omega (arith, h)))
+      ∙ ap (λ b. (if b then two (begins_mail bytes links (e ∷ es)) else 0) + removed_at i (mails bytes (suc n) (links_after links e) es)) (differs n i (λ h. omega (arith, h)))
       ∙ sym (zero-plus (removed_at i (mails bytes (suc n) (links_after links e) es)))
       ∙ removed-earlier i (suc n) (links_after links e) es (omega arith)
 
@@ -171,17 +172,17 @@ module _ (bytes : List ℕ) where
       ∙ ap (λ b. (if b then comes bytes links (x ∷ es) else []) ++ back_at i (mails bytes (suc n) (links_after links x) es)) (differs n i (λ h. omega (arith, e, h)))
       ∙ back-place i (suc n) k (links_after links x) es (omega (arith, e))
 
-  removed-place : (i n k links : ℕ) (es : List Event) → i ≡ n + k → removed_at i (mails bytes n links es) ≡ two (begins_mail (links_at k links es) (drop k es))
+  removed-place : (i n k links : ℕ) (es : List Event) → i ≡ n + k → removed_at i (mails bytes n links es) ≡ two (begins_mail bytes (links_at k links es) (drop k es))
   removed-place i n zero links [] e = refl
   removed-place i n (suc k) links [] e = refl
   removed-place i n zero links (x ∷ es) e =
       removed-first i n links (x ∷ es) (mails bytes (suc n) (links_after links x) es)
-      ∙ ap (λ b. (if b then two (begins_mail links (x ∷ es)) else 0) + removed_at i (mails bytes (suc n) (links_after links x) es)) (agrees n i (omega (arith, e)))
-      ∙ ap (λ j. two (begins_mail links (x ∷ es)) + j) (removed-earlier i (suc n) (links_after links x) es (omega (arith, e)))
+      ∙ ap (λ b. (if b then two (begins_mail bytes links (x ∷ es)) else 0) + removed_at i (mails bytes (suc n) (links_after links x) es)) (agrees n i (omega (arith, e)))
+      ∙ ap (λ j. two (begins_mail bytes links (x ∷ es)) + j) (removed-earlier i (suc n) (links_after links x) es (omega (arith, e)))
       ∙ omega arith
   removed-place i n (suc k) links (x ∷ es) e =
       removed-first i n links (x ∷ es) (mails bytes (suc n) (links_after links x) es)
-      ∙ ap (λ b. (if b then two (begins_mail links (x ∷ es)) else 0) + removed_at i (mails bytes (suc n) (links_after links x) es)) (differs n i (λ h. omega (arith, e, h)))
+      ∙ ap (λ b. (if b then two (begins_mail bytes links (x ∷ es)) else 0) + removed_at i (mails bytes (suc n) (links_after links x) es)) (differs n i (λ h. omega (arith, e, h)))
       ∙ sym (zero-plus (removed_at i (mails bytes (suc n) (links_after links x) es)))
       ∙ removed-place i (suc n) k (links_after links x) es (omega (arith, e))
 
@@ -191,7 +192,7 @@ module _ (bytes : List ℕ) where
   pub added-here : (k : ℕ) (es : List Event) → added_at k (log_of es) ≡ comes bytes (links_at k 0 es) (drop k es)
   added-here k es = ap (λ xs. xs ++ back_at k (log_of es)) (front-mails k 0 0 es) ∙ back-place k 0 k 0 es (omega arith)
 
-  removed-here : (k : ℕ) (es : List Event) → removed_at k (log_of es) ≡ two (mails_at k es)
+  removed-here : (k : ℕ) (es : List Event) → removed_at k (log_of es) ≡ two (mails_at bytes k es)
   removed-here k es = removed-place k 0 k 0 es (omega arith)
 
   two-most : (b : Bool) → two b ≤ 2
@@ -199,24 +200,24 @@ module _ (bytes : List ℕ) where
   two-most false = omega arith
 
   -- what no data stands at, or just before, stays
-  pub stays-here : (j : ℕ) (es : List Event) → mails_at j es ≡ false → ((p : ℕ) → suc p ≡ j → mails_at p es ≡ false) → is_removed (log_of es) j ≡ false
+  pub stays-here : (j : ℕ) (es : List Event) → mails_at bytes j es ≡ false → ((p : ℕ) → suc p ≡ j → mails_at bytes p es ≡ false) → is_removed (log_of es) j ≡ false
   stays-here j es h k = stays-where (log_of es) j (λ p l. reach p l)
     where
       reach : (p : ℕ) → p ≤ j → p + removed_at p (log_of es) ≤ j
       reach p l =
           elim (cases_lt (p + 1) j) [
-            | inl far ↦ let most = two-most (mails_at p es) in let r = removed-here p es in omega (arith, far, most, r)
+            | inl far ↦ let most = two-most (mails_at bytes p es) in let r = removed-here p es in omega (arith, far, most, r)
             | inr near ↦
                 elim (cases_lt p j) [
                   | inl below ↦ let next : suc p ≡ j = omega (arith, near, below) in let r = removed-here p es ∙ ap two (k p next) in omega (arith, r, next)
-                  | inr at ↦ let same : p ≡ j = omega (arith, at, l) in let r = removed-here p es ∙ ap (λ i. two (mails_at i es)) same ∙ ap two h in omega (arith, r, same)
+                  | inr at ↦ let same : p ≡ j = omega (arith, at, l) in let r = removed-here p es ∙ ap (λ i. two (mails_at bytes i es)) same ∙ ap two h in omega (arith, r, same)
                 ]
           ]
 
-  pub goes-first : (j : ℕ) (es : List Event) → mails_at j es ≡ true → is_removed (log_of es) j ≡ true
+  pub goes-first : (j : ℕ) (es : List Event) → mails_at bytes j es ≡ true → is_removed (log_of es) j ≡ true
   goes-first j es h = let r = removed-here j es ∙ ap two h in goes-where (log_of es) j j (omega arith) (omega (arith, r))
 
-  pub goes-second : (j : ℕ) (es : List Event) → mails_at j es ≡ true → is_removed (log_of es) (suc j) ≡ true
+  pub goes-second : (j : ℕ) (es : List Event) → mails_at bytes j es ≡ true → is_removed (log_of es) (suc j) ≡ true
   goes-second j es h = let r = removed-here j es ∙ ap two h in goes-where (log_of es) (suc j) j (omega arith) (omega (arith, r))
 
   -- The edits may be made.
@@ -228,7 +229,7 @@ module _ (bytes : List ℕ) where
   within-first : (n m links : ℕ) (es : List Event) (log : List Edit) → n ≤ m → All (λ d. d.at ≤ m) log → All (λ d. d.at ≤ m) (mail_first bytes n links es ++ log)
   within-first n m links [] log h a = a
   within-first n m links (e ∷ []) log h a = a
-  within-first n m links (e ∷ x ∷ es) log h a = within-by n m e x log (may_mail links e) h a
+  within-first n m links (e ∷ x ∷ es) log h a = within-by n m e x log (may_mail bytes links e x) h a
 
   within : (n m links : ℕ) (es : List Event) → n + length es ≤ m → All (λ d. d.at ≤ m) (mails bytes n links es)
   within n m links [] h = All-nil (λ d. d.at ≤ m)
@@ -239,29 +240,29 @@ module _ (bytes : List ℕ) where
   places-drop (suc j) [] h = h
   places-drop (suc j) (e ∷ es) h = places-drop j es h.1
 
-  first-linked-none : (links : ℕ) (xs : List Event) → begins_mail links xs ≡ true → linked_at xs 0 ≡ false
+  first-linked-none : (links : ℕ) (xs : List Event) → begins_mail bytes links xs ≡ true → linked_at xs 0 ≡ false
   first-linked-none links [] h = refl
   first-linked-none links (e ∷ []) h = cc
-  first-linked-none links (e ∷ x ∷ xs) h = opens-unlinked (is_enter e.kind) (is_data e.name) (has_link e.link) (opens-where (links == 0) (opens_data e) h)
+  first-linked-none links (e ∷ x ∷ xs) h = opens-unlinked (is_enter e.kind) (is_data e.name) (has_link e.link) (opens-where (links == 0) (opens_data e) (has_sign bytes e.point x.point) h)
 
-  second-linked-none : (links : ℕ) (xs : List Event) → begins_mail links xs ≡ true → HasPlaces bytes xs → linked_at xs 1 ≡ false
+  second-linked-none : (links : ℕ) (xs : List Event) → begins_mail bytes links xs ≡ true → HasPlaces bytes xs → linked_at xs 1 ≡ false
   second-linked-none links [] h p = refl
   second-linked-none links (e ∷ []) h p = refl
-  second-linked-none links (e ∷ x ∷ xs) h p = ap has_link (p.0 (opens-where (links == 0) (opens_data e) h)).1
+  second-linked-none links (e ∷ x ∷ xs) h p = ap has_link (p.0 (opens-where (links == 0) (opens_data e) (has_sign bytes e.point x.point) h)).1
 
   goes-unlinked : (j : ℕ) (es : List Event) → HasPlaces bytes es → is_removed (log_of es) j ≡ true → linked_at es j ≡ false
   goes-unlinked j es p h =
-      elim (cases_Bool (mails_at j es)) [
+      elim (cases_Bool (mails_at bytes j es)) [
         | inl b ↦ linked-drop 0 j es j (omega arith) ∙ first-linked-none (links_at j 0 es) (drop j es) b
         | inr b ↦ unlinked-before j es p h b
       ]
     where
-      unlinked-before : (j : ℕ) (es : List Event) → HasPlaces bytes es → is_removed (log_of es) j ≡ true → mails_at j es ≡ false → linked_at es j ≡ false
+      unlinked-before : (j : ℕ) (es : List Event) → HasPlaces bytes es → is_removed (log_of es) j ≡ true → mails_at bytes j es ≡ false → linked_at es j ≡ false
       unlinked-before zero es p h b = bool-clash (is_removed (log_of es) zero) h (stays-here zero es b (λ q e. absurd (omega (arith, e))))
       unlinked-before (suc j) es p h b =
-          elim (cases_Bool (mails_at j es)) [
+          elim (cases_Bool (mails_at bytes j es)) [
             | inl d ↦ linked-drop 1 j es (suc j) (omega arith) ∙ second-linked-none (links_at j 0 es) (drop j es) d (places-drop j es p)
-            | inr d ↦ bool-clash (is_removed (log_of es) (suc j)) h (stays-here (suc j) es b (λ q e. let same : q ≡ j = omega (arith, e) in ap (λ i. mails_at i es) same ∙ d))
+            | inr d ↦ bool-clash (is_removed (log_of es) (suc j)) h (stays-here (suc j) es b (λ q e. let same : q ≡ j = omega (arith, e) in ap (λ i. mails_at bytes i es) same ∙ d))
           ]
 
   pub can-mail : (es : List Event) → HasPlaces bytes es → CanEdit (log_of es) es

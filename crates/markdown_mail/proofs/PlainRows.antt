@@ -1,7 +1,8 @@
 -- rows of leaves without links, and the leaves of a data with its literals
-use Rattle.std.proofs.Common.{◌≡◌, ℕ, zero, suc, ◌+◌, Bool, true, false, ◌&&◌, not, Option, Some, None, List, [], ◌∷◌, ◌++◌, length, reverse, refl, ap, ◌∙◌}
+use Rattle.std.proofs.Common.{◌≡◌, ℕ, zero, suc, ◌+◌, Bool, true, false, ◌&&◌, ◌||◌, not, Option, Some, None, List, [], ◌∷◌, ◌++◌, length, reverse, refl, ap, ◌∙◌, sym, append_assoc, append-nil}
 use Rattle.std.specs.Str.{byte}
-use Rattle.std.specs.List.{All}
+use Rattle.std.specs.List.{All, list_any}
+use Rattle.std.proofs.lemmas.List.{reverse-append}
 use Rattle.std.proofs.lemmas.List.Elements.{All-nil, All-cons}
 use Rattle.markdown_engine.specs.Chain.{IsUnlinked}
 use Rattle.markdown_engine.specs.Codes.{Code, stop_of, document_start}
@@ -90,3 +91,37 @@ plain-leaves (suc n) before (c ∷ cs) = by-found n before c cs (email_at before
 pub plain-emails : (cs : List Code) → IsPlain (with_emails cs)
 unfolding with_emails
 plain-emails cs = plain-leaves (length cs) [] cs
+
+-- Codes without an `@` hold no literal.
+
+unsigned-at : (before : List Code) (c : Code) (cs : List Code) → is_value (byte "@") c ≡ false → email_at before c cs ≡ None
+unfolding email_at
+unsigned-at before c cs h =
+    let local : List Code × List Code = span is_local before in
+    let protocol : Name × List Code × List Code = email_protocol local.1 in
+    let domain : List Code × List Code = email_domain (is_xmpp protocol.0) cs in
+    ap (λ b. elim (b && (not (is_empty local.0) && not (next_is (is_value (byte "/")) local.1)) && is_email_domain domain.0) as (λ _. Option (List Code × Forest × List Code)) [
+      | true ↦ Some (reverse protocol.2, leaf protocol.0 (reverse (local.0 ++ protocol.1) ++ c ∷ domain.0), domain.1)
+      | false ↦ None
+    ]) h
+
+unsigned-leaves : (n : ℕ) (before cs : List Code) → list_any (is_value (byte "@")) cs ≡ false → email_leaves n before cs ≡ leaf Name.Data (reverse before ++ cs)
+unfolding email_leaves
+unsigned-leaves n before [] h = ap (leaf Name.Data) (sym (append-nil (reverse before)))
+unsigned-leaves zero before (c ∷ cs) h = refl
+unsigned-leaves (suc n) before (c ∷ cs) h =
+    ap (λ (o : Option (List Code × Forest × List Code)). elim o as (λ _. Forest) [ None ↦ email_leaves n (c ∷ before) cs | Some r ↦ leaf Name.Data r.0 ⊕ r.1 ⊕ email_leaves n [] r.2 ]) (unsigned-at before c cs (first-false (is_value (byte "@") c) (list_any (is_value (byte "@")) cs) h))
+    ∙ unsigned-leaves n (c ∷ before) cs (rest-false (is_value (byte "@") c) (list_any (is_value (byte "@")) cs) h)
+    ∙ ap (leaf Name.Data) (ap (λ xs. xs ++ cs) (reverse-append (c ∷ []) before) ∙ append_assoc (reverse before) (c ∷ []) cs)
+  where
+    first-false : (a b : Bool) → a || b ≡ false → a ≡ false
+    first-false true b k = cc
+    first-false false b k = refl
+
+    rest-false : (a b : Bool) → a || b ≡ false → b ≡ false
+    rest-false true b k = cc
+    rest-false false b k = k
+
+pub unsigned-emails : (cs : List Code) → list_any (is_value (byte "@")) cs ≡ false → with_emails cs ≡ leaf Name.Data cs
+unfolding with_emails
+unsigned-emails cs h = unsigned-leaves (length cs) [] cs h

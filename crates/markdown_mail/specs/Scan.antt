@@ -1,6 +1,7 @@
 -- Email literals in a stretch: what an `@` needs to know of the codes before it, and what it makes of those behind it.
 use Rattle.std.specs.Prelude.{ℕ, ◌+◌, ◌==◌, Bool, true, false, ◌&&◌, ◌||◌, not, List, [], ◌∷◌, ◌++◌, reverse, Option, Some, None, if◌then◌else◌, codes}
 use Rattle.std.specs.Str.{byte}
+use Rattle.std.specs.List.{list_any}
 use Rattle.std.specs.Option.{option_map}
 use Rattle.markdown_construct.specs.Values.{letter_value, alphanumeric_value, among_values}
 use Rattle.markdown_engine.specs.Codes.{Code, stop_of}
@@ -16,6 +17,10 @@ use Rattle.markdown_model.specs.Literal.{letters}
 use Rattle.markdown_partial.specs.Trim.{between, leaf_events}
 use Rattle.markdown_mail.specs.declared.literal.Scan.{Scan}
 use Rattle.markdown_mail.specs.declared.literal.Literal.{Literal}
+
+-- an `@` stands between the two places
+unfoldable pub has_sign : List ℕ → Point → Point → Bool
+has_sign bytes from to = list_any (is_value (byte "@")) (between bytes from to)
 
 -- Tests on the value of a code, as those of codes.
 

@@ -11,7 +11,7 @@ ghost use Rattle.markdown_model.specs.Passes.{mailed};
 ghost use Rattle.markdown_partial.specs.TrimEvents.{FirstHasPlaces, HasPlaces, HasParts};
 ghost use Rattle.markdown_mail.specs.Mail.{links_after, mail_first, mails};
 
-use crate::literal::mailed_data;
+use crate::literal::{has_sign, mailed_data};
 use markdown_engine::event::{Event, Kind, Name};
 use markdown_engine::events::Events;
 use markdown_engine::tokenizer::Tokenizer;
@@ -32,7 +32,7 @@ fn links_after(links: usize, event: &Event) -> usize
     }
 }
 
-// Where data begins at this event, outside links: puts its events with their literals in place of its own.
+// Where data with an `@` begins at this event, outside links: puts its events with their literals in place of its own.
 fn mail_first(
     alloc: Global,
     bytes: &[u8],
@@ -50,8 +50,10 @@ fn mail_first(
     let enter = events.bare_at(index);
     if links == 0 && opens_data(&enter) {
         let exit = events.bare_at(index + 1);
-        let mailed = mailed_data(alloc, bytes, enter.point, exit.point)?;
-        map.add(index, 2, mailed)?;
+        if has_sign(bytes, enter.point, exit.point) {
+            let mailed = mailed_data(alloc, bytes, enter.point, exit.point)?;
+            map.add(index, 2, mailed)?;
+        }
     }
     Ok(())
 }

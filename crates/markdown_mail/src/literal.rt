@@ -11,7 +11,7 @@ ghost use Rattle.markdown_engine.specs.declared.event.Name.TheVariants as N;
 ghost use Rattle.markdown_model.specs.CodeTests.{is_alphanumeric, next_is};
 ghost use Rattle.markdown_model.specs.Email.{is_xmpp};
 ghost use Rattle.markdown_partial.specs.Trim.{between, is_same_place, IsStretch};
-ghost use Rattle.markdown_mail.specs.Scan.{local_value, is_letter_of, is_word_of, is_email, word_name, scan_at, domain_value, passes, domain_end, is_sign, literal_here, literal_events, mail_events};
+ghost use Rattle.markdown_mail.specs.Scan.{has_sign, local_value, is_letter_of, is_word_of, is_email, word_name, scan_at, domain_value, passes, domain_end, is_sign, literal_here, literal_events, mail_events};
 
 use markdown_construct::bytes::{is_alphanumeric, is_letter};
 use markdown_engine::event::{Event, Name, Point};
@@ -44,6 +44,22 @@ struct Literal {
     name: Name,
     start: Point,
     end: Point,
+}
+
+// Whether an `@` stands among the codes of a stretch.
+pub(crate) fn has_sign(bytes: &[u8], from: Point, to: Point) -> bool
+    requires fits { length bytes.now ≤ document_limit }
+    requires stretch { IsStretch bytes.now from to }
+    ensures { result ≡ has_sign bytes.now from to }
+{
+    let mut point = from;
+    while !is_same_place(point, to) {
+        if code_from(bytes, point) == b'@' {
+            return true;
+        }
+        point = past_code(bytes, point);
+    }
+    false
 }
 
 // Nothing stands before the start of data.
