@@ -7,8 +7,8 @@ use Rattle.markdown_engine.specs.declared.tokenizer.Tokenizer.{Tokenizer}
 use Rattle.markdown_model.specs.Passes.{mailed, trimmed}
 use Rattle.markdown_partial.specs.TrimEvents.{HasParts, HasPlaces}
 use Rattle.markdown_partial.proofs.TrimLaws.{places-of}
+use Rattle.markdown_partial.proofs.TrimParts.{parts-kept}
 use Rattle.markdown_inline.specs.Resolve.{FinishesText, mailed_where}
-use Rattle.markdown_inline.proofs.TrimmedParts.{HasParts-trimmed}
 
 abbrev bytes_in : Tokenizer → List ℕ
 bytes_in T = T.parse_state.now.bytes.now
@@ -20,7 +20,7 @@ on_in T = T.parse_state.now.options.now.constructs
 module _ (T W : Tokenizer) (same : W ≡ record T { events = W.events })
     (trims : (t : Forest) → HasParts (bytes_in T) t → T.events ≡ appended_from 0 None t → W.events ≡ appended_from 0 None (trimmed (on_in T).hard_break_trailing true true t)) where
   parts-there : (t : Forest) → HasParts (bytes_in T) t → HasParts (bytes_in W) (trimmed (on_in T).hard_break_trailing true true t)
-  parts-there t h = subst (λ bs. HasParts bs (trimmed (on_in T).hard_break_trailing true true t)) (sym (ap bytes_in same)) (HasParts-trimmed (bytes_in T) (on_in T).hard_break_trailing true true t h)
+  parts-there t h = subst (λ bs. HasParts bs (trimmed (on_in T).hard_break_trailing true true t)) (sym (ap bytes_in same)) (parts-kept (bytes_in T) (on_in T).hard_break_trailing t true true h)
 
   -- its data stands at places of the document
   pub places-there : (t : Forest) → HasParts (bytes_in T) t → T.events ≡ appended_from 0 None t → HasPlaces (bytes_in W) W.events

@@ -16,5 +16,4 @@ pub mod TextRun
 pub mod LabelConstructs
 pub mod RowPasses
 pub mod StillRows
-pub mod TrimmedParts
 pub mod FinishTexts

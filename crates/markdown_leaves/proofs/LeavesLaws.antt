@@ -1,15 +1,22 @@
 -- the innermost events of a tree's events are its leaves, and they cover its codes
-use Rattle.std.proofs.Common.{◌≡◌, ℕ, ◌+◌, Option, Some, None, List, [], ◌∷◌, ◌++◌, map, if◌then◌else◌, refl, sym, ap, ◌∙◌, append_assoc}
+use Rattle.std.proofs.Common.{◌≡◌, ℕ, ◌+◌, Option, Some, None, List, [], ◌∷◌, ◌++◌, map, if◌then◌else◌, refl, sym, ap, subst, ◌∙◌, append_assoc}
 use Rattle.std.proofs.lemmas.List.{append-nil}
-use Rattle.markdown_engine.specs.Codes.{Code, stop_of, document_start}
-use Rattle.markdown_engine.specs.Slices.{codes_between}
+use Rattle.std.specs.List.{All}
+use Rattle.std.proofs.lemmas.List.Elements.{All-nil, All-cons, All-append}
+use Rattle.markdown_engine.specs.Codes.{Code, stop_of, document_start, place_of}
+use Rattle.markdown_engine.specs.Walk.{IsPoint}
+use Rattle.markdown_engine.proofs.Order.{before-self}
+use Rattle.markdown_partial.specs.Trim.{between, IsStretch}
+use Rattle.markdown_partial.specs.TrimEvents.{IsPart}
+use Rattle.markdown_partial.proofs.TrimLaws.{Part, part-of}
+use Rattle.markdown_partial.proofs.TrimWalks.{forward-as, ended-of}
 use Rattle.markdown_engine.specs.Tree.{Forest, empty, leaf_then, group_then, leaf_codes, event, event_count, events_from, events_of, next_linked, start_of}
 use Rattle.markdown_engine.specs.declared.event.Content.{Content}
 use Rattle.markdown_engine.specs.declared.event.Event.{Event}
 use Rattle.markdown_engine.specs.declared.event.Kind.{Kind}
 use Rattle.markdown_engine.specs.declared.event.Name.{Name}
 use Rattle.markdown_engine.specs.declared.event.Point.{Point}
-use Rattle.markdown_leaves.specs.Leaves.{Lent, lent, Span, has_nothing_inside, span_of, innermost, leaves_of, covered, HasSpans}
+use Rattle.markdown_leaves.specs.Leaves.{IsInOrder, Lent, lent, Span, has_nothing_inside, span_of, innermost, leaves_of, covered, HasLeaves}
 
 abbrev span : Name → Point → Point → Span
 span name a b = record { name = name; start = a; end = b }
@@ -94,9 +101,24 @@ law (group_then name a b inside rest) n p es = group-law name a b inside rest (l
 innermost-leaves : (t : Forest) → innermost (events_of t) ≡ leaves_of t
 innermost-leaves t = ap innermost (sym (append-nil (events_of t))) ∙ law t 0 None [] ∙ append-nil (leaves_of t)
 
+-- Leaves that are part of the document.
+
+-- a span with its codes, of which the pass over the others is known
+record IsCovered (bytes : List ℕ) (s : Span) (cs : List Code) : Type 0 where
+  stretch : IsInOrder bytes s
+  codes : between bytes s.start s.end ≡ cs
+
+leaf-covered : (bytes : List ℕ) (name : Name) (cs : List Code) → IsPart bytes cs → IsCovered bytes (leaf_span name cs) cs
+leaf-covered bytes name cs h = let p : Part bytes cs = part-of bytes cs h in record { stretch = p.stretch; codes = p.codes }
+
+nothing-covered : (bytes : List ℕ) (name : Name) (a b : Point) → IsPoint bytes a → a ≡ b → IsCovered bytes (span name a b) []
+nothing-covered bytes name a b h e =
+    let self : IsStretch bytes a a = record { from_place = h; to_place = h; forward = forward-as a a (before-self (place_of a)) } in
+    subst (λ (x : Point). IsCovered bytes (span name a x) []) e (record { stretch = self; codes = (ended-of bytes a a self (before-self (place_of a))).none })
+
 -- What they cover.
 
-lent-codes : (bytes : List ℕ) (s : Span) (ls : List Lent) → covered bytes (lent bytes s ∷ ls) ≡ codes_between bytes s.start s.end ++ covered bytes ls
+lent-codes : (bytes : List ℕ) (s : Span) (ls : List Lent) → covered bytes (lent bytes s ∷ ls) ≡ between bytes s.start s.end ++ covered bytes ls
 unfolding lent
 lent-codes bytes s ls = refl
 
@@ -107,29 +129,44 @@ codes-append : (bytes : List ℕ) (a b : List Span) → codes bytes (a ++ b) ≡
 codes-append bytes [] b = refl
 codes-append bytes (s ∷ a) b =
     lent-codes bytes s (map (lent bytes) (a ++ b))
-    ∙ ap (λ x. codes_between bytes s.start s.end ++ x) (codes-append bytes a b)
-    ∙ sym (append_assoc (codes_between bytes s.start s.end) (codes bytes a) (codes bytes b))
+    ∙ ap (λ x. between bytes s.start s.end ++ x) (codes-append bytes a b)
+    ∙ sym (append_assoc (between bytes s.start s.end) (codes bytes a) (codes bytes b))
     ∙ ap (λ x. x ++ codes bytes b) (sym (lent-codes bytes s (map (lent bytes) a)))
 
-two-covered : (bytes : List ℕ) (inside rest : Forest) → codes bytes (leaves_of inside) ≡ leaf_codes inside → codes bytes (leaves_of rest) ≡ leaf_codes rest → codes bytes (leaves_of inside ++ leaves_of rest) ≡ leaf_codes inside ++ leaf_codes rest
-two-covered bytes inside rest h k = codes-append bytes (leaves_of inside) (leaves_of rest) ∙ ap (λ x. x ++ codes bytes (leaves_of rest)) h ∙ ap (λ x. leaf_codes inside ++ x) k
+-- some spans with the codes that they cover, in order
+record AreCovered (bytes : List ℕ) (ss : List Span) (cs : List Code) : Type 0 where
+  stretches : All (IsInOrder bytes) ss
+  all : codes bytes ss ≡ cs
 
-one-covered : (bytes : List ℕ) (s : Span) (rest : Forest) (cs : List Code) → codes_between bytes s.start s.end ≡ cs → codes bytes (leaves_of rest) ≡ leaf_codes rest → codes bytes (s ∷ leaves_of rest) ≡ cs ++ leaf_codes rest
-one-covered bytes s rest cs h k = lent-codes bytes s (map (lent bytes) (leaves_of rest)) ∙ ap (λ x. x ++ codes bytes (leaves_of rest)) h ∙ ap (λ x. cs ++ x) k
+one-more : (bytes : List ℕ) (s : Span) (cs : List Code) (ss : List Span) (ds : List Code) → IsCovered bytes s cs → AreCovered bytes ss ds → AreCovered bytes (s ∷ ss) (cs ++ ds)
+one-more bytes s cs ss ds h k = record {
+  stretches = All-cons (IsInOrder bytes) s ss h.stretch k.stretches;
+  all = lent-codes bytes s (map (lent bytes) ss) ∙ ap (λ x. x ++ codes bytes ss) h.codes ∙ ap (λ x. cs ++ x) k.all;
+}
+
+two-rows : (bytes : List ℕ) (ss ts : List Span) (cs ds : List Code) → AreCovered bytes ss cs → AreCovered bytes ts ds → AreCovered bytes (ss ++ ts) (cs ++ ds)
+two-rows bytes ss ts cs ds h k = record {
+  stretches = All-append (IsInOrder bytes) ss ts h.stretches k.stretches;
+  all = codes-append bytes ss ts ∙ ap (λ x. x ++ codes bytes ts) h.all ∙ ap (λ x. cs ++ x) k.all;
+}
 
 -- each code is covered once, in order
-leaves-cover : (bytes : List ℕ) (t : Forest) → HasSpans bytes t → codes bytes (leaves_of t) ≡ leaf_codes t
-leaves-cover bytes empty h = refl
-leaves-cover bytes (leaf_then name link cs rest) h = one-covered bytes (leaf_span name cs) rest cs h.0 (leaves-cover bytes rest h.1)
-leaves-cover bytes (group_then name a b empty rest) h = one-covered bytes (span name a b) rest [] h.0 (leaves-cover bytes rest h.1)
-leaves-cover bytes (group_then name a b (leaf_then m l cs more) rest) h =
-    two-covered bytes (leaf_then m l cs more) rest (leaves-cover bytes (leaf_then m l cs more) h.0) (leaves-cover bytes rest h.1)
-leaves-cover bytes (group_then name a b (group_then m c d inner more) rest) h =
-    two-covered bytes (group_then m c d inner more) rest (leaves-cover bytes (group_then m c d inner more) h.0) (leaves-cover bytes rest h.1)
+leaves-covered : (bytes : List ℕ) (t : Forest) → HasLeaves bytes t → AreCovered bytes (leaves_of t) (leaf_codes t)
+leaves-covered bytes empty h = record { stretches = All-nil (IsInOrder bytes); all = refl }
+leaves-covered bytes (leaf_then name link cs rest) h = one-more bytes (leaf_span name cs) cs (leaves_of rest) (leaf_codes rest) (leaf-covered bytes name cs h.0) (leaves-covered bytes rest h.1)
+leaves-covered bytes (group_then name a b empty rest) h = one-more bytes (span name a b) [] (leaves_of rest) (leaf_codes rest) (nothing-covered bytes name a b h.0.0 h.0.1) (leaves-covered bytes rest h.1)
+leaves-covered bytes (group_then name a b (leaf_then m l cs more) rest) h =
+    two-rows bytes (leaves_of (leaf_then m l cs more)) (leaves_of rest) (leaf_codes (leaf_then m l cs more)) (leaf_codes rest) (leaves-covered bytes (leaf_then m l cs more) h.0) (leaves-covered bytes rest h.1)
+leaves-covered bytes (group_then name a b (group_then m c d inner more) rest) h =
+    two-rows bytes (leaves_of (group_then m c d inner more)) (leaves_of rest) (leaf_codes (group_then m c d inner more)) (leaf_codes rest) (leaves-covered bytes (group_then m c d inner more) h.0) (leaves-covered bytes rest h.1)
+
+-- the innermost events of such a tree stand at places of the document
+pub leaves-in-order : (bytes : List ℕ) (t : Forest) (es : List Event) → HasLeaves bytes t → es ≡ events_of t → All (IsInOrder bytes) (innermost es)
+leaves-in-order bytes t es h e = subst (All (IsInOrder bytes)) (sym (ap innermost e ∙ innermost-leaves t)) (leaves-covered bytes t h).stretches
 
 -- what is lent for the events of a tree, and the codes of that
 pub lent-leaves : (bytes : List ℕ) (t : Forest) (es : List Event) → es ≡ events_of t → map (lent bytes) (innermost es) ≡ map (lent bytes) (leaves_of t)
 lent-leaves bytes t es e = ap (λ xs. map (lent bytes) (innermost xs)) e ∙ ap (map (lent bytes)) (innermost-leaves t)
 
-pub lent-covers : (bytes : List ℕ) (t : Forest) (es : List Event) → HasSpans bytes t → es ≡ events_of t → covered bytes (map (lent bytes) (innermost es)) ≡ leaf_codes t
-lent-covers bytes t es h e = ap (covered bytes) (lent-leaves bytes t es e) ∙ leaves-cover bytes t h
+pub lent-covers : (bytes : List ℕ) (t : Forest) (es : List Event) → HasLeaves bytes t → es ≡ events_of t → covered bytes (map (lent bytes) (innermost es)) ≡ leaf_codes t
+lent-covers bytes t es h e = ap (covered bytes) (lent-leaves bytes t es e) ∙ (leaves-covered bytes t h).all

@@ -1,7 +1,7 @@
 -- The innermost events of a list, in order, what is lent for each, and the leaves of a tree.
-use Rattle.std.specs.Prelude.{◌≡◌, ℕ, Bool, true, false, if◌then◌else◌, ◌<◌, ◌-◌, List, [], ◌∷◌, ◌++◌, length, drop, slice_index_or, IsTrue}
-use Rattle.markdown_engine.specs.Codes.{Code, stop_of, document_start, is_at_or_after, place_of}
-use Rattle.markdown_engine.specs.Slices.{codes_between, position_bytes, spaces_before, spaces_after}
+use Rattle.std.specs.Prelude.{◌≡◌, ℕ, Bool, true, false, if◌then◌else◌, ◌<◌, ◌-◌, List, [], ◌∷◌, ◌++◌, length, drop, slice_index_or}
+use Rattle.markdown_engine.specs.Codes.{Code, stop_of, document_start}
+use Rattle.markdown_engine.specs.Slices.{position_bytes, spaces_before, spaces_after}
 use Rattle.markdown_engine.specs.Tree.{Forest, empty, leaf_then, group_then, start_of}
 use Rattle.markdown_engine.specs.Walk.{IsPoint}
 use Rattle.markdown_engine.specs.declared.event.Event.{Event}
@@ -9,6 +9,8 @@ use Rattle.markdown_engine.specs.declared.event.Kind.{Kind}
 use Rattle.markdown_engine.specs.declared.event.Kind.TheVariants.{Enter, Exit}
 use Rattle.markdown_engine.specs.declared.event.Name.{Name}
 use Rattle.markdown_engine.specs.declared.event.Point.{Point}
+use Rattle.markdown_partial.specs.Trim.{between, IsStretch}
+use Rattle.markdown_partial.specs.TrimEvents.{IsPart}
 
 -- a name, where it begins and where it ends
 pub record Span : Type 0 where
@@ -49,11 +51,9 @@ lent bytes s = record {
   after = spaces_after bytes s.start s.end;
 }
 
--- two places of the document, the end not before the start
-pub record IsInOrder (bytes : List ℕ) (s : Span) : Type 0 where
-  pub start_place : IsPoint bytes s.start
-  pub end_place : IsPoint bytes s.end
-  pub forward : IsTrue (is_at_or_after (place_of s.start) (place_of s.end))
+-- it begins and ends at places of the document, its end not before its start
+abbrev pub IsInOrder : List ℕ → Span → Type 0
+IsInOrder bytes s = IsStretch bytes s.start s.end
 
 -- the first innermost event ends at the event of this number, and the others follow from there on
 pub record BeginsInnermost (es : List Event) (n : ℕ) : Type 0 where
@@ -68,14 +68,14 @@ leaves_of (leaf_then name link cs rest) = record { name = name; start = start_of
 leaves_of (group_then name a b empty rest) = record { name = name; start = a; end = b } ∷ leaves_of rest
 leaves_of (group_then name a b inside rest) = leaves_of inside ++ leaves_of rest
 
--- the codes that they cover
+-- the codes from the start to the end of each
 abbrev pub covered : List ℕ → List Lent → List Code
 covered bytes [] = []
-covered bytes (l ∷ ls) = codes_between bytes l.start l.end ++ covered bytes ls
+covered bytes (l ∷ ls) = between bytes l.start l.end ++ covered bytes ls
 
--- each leaf covers its codes, and a group around nothing covers none
-abbrev pub HasSpans : List ℕ → Forest → Type 0
-HasSpans bytes empty = Unit {0}
-HasSpans bytes (leaf_then name link cs rest) = (codes_between bytes (start_of cs) (stop_of document_start cs) ≡ cs) × HasSpans bytes rest
-HasSpans bytes (group_then name a b empty rest) = (codes_between bytes a b ≡ []) × HasSpans bytes rest
-HasSpans bytes (group_then name a b inside rest) = HasSpans bytes inside × HasSpans bytes rest
+-- each leaf covers codes that follow one another in the document, and a group around nothing stands at one place
+abbrev pub HasLeaves : List ℕ → Forest → Type 0
+HasLeaves bytes empty = Unit {0}
+HasLeaves bytes (leaf_then name link cs rest) = IsPart bytes cs × HasLeaves bytes rest
+HasLeaves bytes (group_then name a b empty rest) = (IsPoint bytes a × (a ≡ b)) × HasLeaves bytes rest
+HasLeaves bytes (group_then name a b inside rest) = HasLeaves bytes inside × HasLeaves bytes rest

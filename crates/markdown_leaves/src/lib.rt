@@ -5,7 +5,7 @@ ghost use Rattle.std.specs.Prelude.{◌≡◌, ◌≤◌, length, map};
 ghost use Rattle.std.specs.List.{All};
 ghost use Rattle.markdown_engine.specs.Content.{document_limit};
 ghost use Rattle.markdown_engine.specs.Tree.{Forest, events_of, leaf_codes};
-ghost use Rattle.markdown_leaves.specs.Leaves.{innermost, lent, leaves_of, covered, HasSpans, IsInOrder};
+ghost use Rattle.markdown_leaves.specs.Leaves.{innermost, lent, leaves_of, covered, HasLeaves, IsInOrder};
 
 pub mod leaf;
 
@@ -20,7 +20,7 @@ pub fn leaves<'a>(bytes: &'a [u8], events: &'a [Event]) -> Leaves<'a>
     requires places { All (IsInOrder bytes.now) (innermost events.now) }
     ensures lends { result ≡ map (lent bytes.entry.now) (innermost events.entry.now) }
     ensures leaves { (t : Forest) → events.entry.now ≡ events_of t → result ≡ map (lent bytes.entry.now) (leaves_of t) }
-    ensures covers { (t : Forest) → HasSpans bytes.entry.now t → events.entry.now ≡ events_of t → covered bytes.entry.now result ≡ leaf_codes t }
+    ensures covers { (t : Forest) → HasLeaves bytes.entry.now t → events.entry.now ≡ events_of t → covered bytes.entry.now result ≡ leaf_codes t }
 {
     Leaves::new(bytes, events)
 }

@@ -25,7 +25,7 @@ use Rattle.markdown_partial.specs.Merge.{is_data, opens_data}
 use Rattle.markdown_partial.specs.Trim.{between}
 use Rattle.markdown_partial.specs.TrimEvents.{IsPart, HasParts}
 use Rattle.markdown_partial.proofs.MergeLaws.{drop-part}
-use Rattle.markdown_partial.proofs.TrimLaws.{Part, part-of, count-row}
+use Rattle.markdown_partial.proofs.TrimLaws.{Part, part-of, count-row, data-name}
 use Rattle.markdown_mail.specs.Mail.{links_behind, links_after, may_mail}
 use Rattle.markdown_mail.specs.Scan.{has_sign, mail_events}
 use Rattle.markdown_mail.proofs.MailMarks.{begins_mail, comes, links_at, mails_at, log_of, added-here, stays-here, goes-first, goes-second}
@@ -67,10 +67,6 @@ unfolding mailed
 row-group false n p q inside rest = refl
 row-group true N.Link p q inside rest = refl
 row-group true _ p q inside rest = refl
-
-data-name : (n : Name) → is_data n ≡ true → n ≡ N.Data
-data-name N.Data e = refl
-data-name _ e = cc
 
 -- Links that are open.
 

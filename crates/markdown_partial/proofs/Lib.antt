@@ -14,3 +14,4 @@ pub mod TrimRows
 pub mod TrimMarks
 pub mod TrimLaws
 pub mod DataRows
+pub mod TrimParts

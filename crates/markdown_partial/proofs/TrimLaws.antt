@@ -36,27 +36,27 @@ use Rattle.markdown_engine.proofs.OpRules.{drop-more}
 
 -- Trimming, step by step.
 
-trimmed-data : (hard front whole : Bool) (cs : List Code) (rest : Forest) → trimmed hard front whole (leaf_then N.Data None cs rest) ≡ trimmed_data front (begins_line_ending rest || (whole && is_nothing rest)) (hard && begins_line_ending rest) cs ⊕ trimmed hard false whole rest
+pub trimmed-data : (hard front whole : Bool) (cs : List Code) (rest : Forest) → trimmed hard front whole (leaf_then N.Data None cs rest) ≡ trimmed_data front (begins_line_ending rest || (whole && is_nothing rest)) (hard && begins_line_ending rest) cs ⊕ trimmed hard false whole rest
 unfolding trimmed
 trimmed-data hard front whole cs rest = refl
 
-trimmed-other : (hard front whole : Bool) (n : Name) (cs : List Code) (rest : Forest) → is_data n ≡ false → trimmed hard front whole (leaf_then n None cs rest) ≡ leaf_then n None cs (trimmed hard (is_ending n) whole rest)
+pub trimmed-other : (hard front whole : Bool) (n : Name) (cs : List Code) (rest : Forest) → is_data n ≡ false → trimmed hard front whole (leaf_then n None cs rest) ≡ leaf_then n None cs (trimmed hard (is_ending n) whole rest)
 unfolding trimmed
 trimmed-other hard front whole N.Data cs rest e = cc
 trimmed-other hard front whole N.LineEnding cs rest e = refl
 trimmed-other hard front whole _ cs rest e = refl
 
-trimmed-linked : (hard front whole : Bool) (n : Name) (c : Content) (cs : List Code) (rest : Forest) → trimmed hard front whole (leaf_then n (Some c) cs rest) ≡ leaf_then n (Some c) cs (trimmed hard (is_ending n) whole rest)
+pub trimmed-linked : (hard front whole : Bool) (n : Name) (c : Content) (cs : List Code) (rest : Forest) → trimmed hard front whole (leaf_then n (Some c) cs rest) ≡ leaf_then n (Some c) cs (trimmed hard (is_ending n) whole rest)
 unfolding trimmed
 trimmed-linked hard front whole N.Data c cs rest = refl
 trimmed-linked hard front whole N.LineEnding c cs rest = refl
 trimmed-linked hard front whole _ c cs rest = refl
 
-trimmed-group : (hard front whole : Bool) (n : Name) (p q : Point) (inside rest : Forest) → trimmed hard front whole (group_then n p q inside rest) ≡ group_then n p q (trimmed hard false false inside) (trimmed hard false whole rest)
+pub trimmed-group : (hard front whole : Bool) (n : Name) (p q : Point) (inside rest : Forest) → trimmed hard front whole (group_then n p q inside rest) ≡ group_then n p q (trimmed hard false false inside) (trimmed hard false whole rest)
 unfolding trimmed
 trimmed-group hard front whole n p q inside rest = refl
 
-data-name : (n : Name) → is_data n ≡ true → n ≡ N.Data
+pub data-name : (n : Name) → is_data n ≡ true → n ≡ N.Data
 data-name N.Data e = refl
 data-name _ e = cc
 

@@ -180,10 +180,10 @@ cut-parts : (back : Bool) (cs : List Code) → (cut back cs).0 ++ (cut back cs).
 cut-parts true cs = span-append is_blank (reverse cs)
 cut-parts false cs = refl
 
-kept-parts : (back : Bool) (cs : List Code) → cs ≡ kept_of back cs ++ tail_of back cs
+pub kept-parts : (back : Bool) (cs : List Code) → cs ≡ kept_of back cs ++ tail_of back cs
 kept-parts back cs = sym (reverse-reverse cs) ∙ ap reverse (sym (cut-parts back cs)) ∙ reverse-append (cut back cs).0 (cut back cs).1
 
-lead-parts : (front : Bool) (kept : List Code) → kept ≡ (lead_of front kept).0 ++ (lead_of front kept).1
+pub lead-parts : (front : Bool) (kept : List Code) → kept ≡ (lead_of front kept).0 ++ (lead_of front kept).1
 lead-parts true kept = sym (span-append is_blank kept)
 lead-parts false kept = refl
 
