@@ -2,7 +2,7 @@
 use markdown_engine::configuration::{Constructs, ParseOptions};
 use markdown_engine::event::{Event, Kind, Name, Point};
 use markdown_engine::parser::{ParseState, Piece};
-use markdown_inline::run::{is_text, text};
+use markdown_inline::run::{Run, is_text, text};
 use std::alloc::{AllocError, Global};
 use std::process::Abort;
 
@@ -75,6 +75,25 @@ pub(crate) fn piece(start: usize, end: usize) -> Piece {
     }
 }
 
+// A run over a text; none where that is no text.
+pub(crate) fn run(
+    alloc: Global,
+    given: &Given,
+    bytes: &[u8],
+    pieces: &[Piece],
+) -> Result<Option<Run>, AllocError> {
+    let parse_state = ParseState {
+        bytes,
+        options: &given.options,
+        definitions: owned(alloc, given.definitions)?,
+        gfm_footnote_definitions: owned(alloc, given.footnotes)?,
+    };
+    if !is_text(parse_state.bytes, pieces) {
+        return Ok(None);
+    }
+    Ok(Some(text(alloc, &parse_state, pieces, false)?))
+}
+
 // What a run over a text finds, and its probes.
 pub(crate) fn counted(
     alloc: Global,
@@ -83,17 +102,10 @@ pub(crate) fn counted(
     pieces: &[Piece],
     whole: bool,
 ) -> Result<(String, u128), AllocError> {
-    let parse_state = ParseState {
-        bytes,
-        options: &given.options,
-        definitions: owned(alloc, given.definitions)?,
-        gfm_footnote_definitions: owned(alloc, given.footnotes)?,
-    };
-    if !is_text(parse_state.bytes, pieces) {
-        return Ok((String::from_str(alloc, "no text")?, 0));
+    match run(alloc, given, bytes, pieces)? {
+        None => Ok((String::from_str(alloc, "no text")?, 0)),
+        Some(run) => Ok((printed(alloc, run.events.as_slice(), whole)?, run.probes)),
     }
-    let run = text(alloc, &parse_state, pieces, false)?;
-    Ok((printed(alloc, run.events.as_slice(), whole)?, run.probes))
 }
 
 // What is found in a whole document.
@@ -117,8 +129,20 @@ pub(crate) fn expect(
     Ok(())
 }
 
+// Reads whole documents, each with one definition, and compares what is found.
+pub(crate) fn expect_defined(
+    rt: &impl Abort,
+    alloc: Global,
+    rows: &[(&str, &str, &str)],
+) -> Result<(), AllocError> {
+    for (definition, document, want) in rows {
+        expect(rt, alloc, &defined(&[definition]), &[(document, want)])?;
+    }
+    Ok(())
+}
+
 // The place where what the first event enters ends.
-fn end_of(events: &[Event]) -> Option<Point> {
+pub(crate) fn end_of(events: &[Event]) -> Option<Point> {
     let (_, rest) = events.split_first()?;
     let mut depth = 0usize;
     for event in rest {
@@ -158,10 +182,9 @@ fn is_chain(events: &[Event], names: &[Name]) -> bool {
         return false;
     };
     let (start, end) = (first.point, last.point);
-    enters
-        .iter()
-        .zip(names)
-        .all(|(event, name)| event.kind == Kind::Enter && event.name == *name && event.point == start)
+    enters.iter().zip(names).all(|(event, name)| event.kind == Kind::Enter
+        && event.name == *name
+        && event.point == start)
         && exits
             .iter()
             .all(|event| event.kind == Kind::Exit && event.point == end)

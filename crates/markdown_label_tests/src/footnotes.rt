@@ -1,9 +1,9 @@
 // Footnote calls, and starts of undefined footnotes as starts of links.
-use crate::fixtures::{defined, expect, noted, plain};
+use crate::fixtures::{Given, expect, noted, plain};
 use std::test::Fail;
 
 // Where nothing is defined, the start is a link's, and the caret stands first in its text.
-const UNDEFINED: [(&str, &str); 7] = [
+const UNDEFINED: [(&str, &str); 8] = [
     (
         "[^](c)",
         "Link 0-6 [Label 0-3 [LabelLink 0-1, LabelText 1-2 [Data 1-2], LabelEnd 2-3], Resource 3-6 [ResourceMarker 3-4, Raw 4-5, ResourceMarker 5-6]]",
@@ -26,33 +26,35 @@ const UNDEFINED: [(&str, &str); 7] = [
     ),
     ("[^]", "Data 0-3"),
     ("[^a", "Data 0-3"),
+    ("[a]", "Data 0-3"),
+];
+
+// The same, where `^a` is defined.
+const UNDEFINED_LINKS: [(&str, &str); 3] = [
+    (
+        "[^a]",
+        "Link 0-4 [Label 0-4 [LabelLink 0-1, LabelText 1-3 [Data 1-3], LabelEnd 3-4]]",
+    ),
+    (
+        "[^a][]",
+        "Link 0-6 [Label 0-4 [LabelLink 0-1, LabelText 1-3 [Data 1-3], LabelEnd 3-4], Reference 4-6 [ReferenceMarker 4-5, ReferenceMarker 5-6]]",
+    ),
+    (
+        "[x][^a]",
+        "Link 0-7 [Label 0-3 [LabelLink 0-1, LabelText 1-2 [Data 1-2], LabelEnd 2-3], Reference 3-7 [ReferenceMarker 3-4, ReferenceString 4-6 [Data 4-6], ReferenceMarker 6-7]]",
+    ),
 ];
 
 #[test]
 fn reads_undefined_footnotes_as_links(rt: HostRuntime) -> Result<(), Fail> {
     let alloc = rt.alloc();
     expect(&rt, alloc, &noted(&[], &[]), &UNDEFINED)?;
-    let links = [
-        (
-            "[^a]",
-            "Link 0-4 [Label 0-4 [LabelLink 0-1, LabelText 1-3 [Data 1-3], LabelEnd 3-4]]",
-        ),
-        (
-            "[^a][]",
-            "Link 0-6 [Label 0-4 [LabelLink 0-1, LabelText 1-3 [Data 1-3], LabelEnd 3-4], Reference 4-6 [ReferenceMarker 4-5, ReferenceMarker 5-6]]",
-        ),
-        (
-            "[x][^a]",
-            "Link 0-7 [Label 0-3 [LabelLink 0-1, LabelText 1-2 [Data 1-2], LabelEnd 2-3], Reference 3-7 [ReferenceMarker 3-4, ReferenceString 4-6 [Data 4-6], ReferenceMarker 6-7]]",
-        ),
-    ];
-    expect(&rt, alloc, &noted(&["^a"], &[]), &links)?;
-    expect(&rt, alloc, &noted(&["a"], &[]), &[("[^a]", "Data 0-4")])?;
+    expect(&rt, alloc, &noted(&["^a"], &[]), &UNDEFINED_LINKS)?;
     Ok(())
 }
 
-// Calls of the footnote `a`.
-const CALLS: [(&str, &str); 7] = [
+// Calls of the footnotes `a` and `a@b.c`. What else is defined makes no difference.
+const CALLS: [(&str, &str); 8] = [
     (
         "[^a]",
         "GfmFootnoteCall 0-4 [Label 0-4 [GfmFootnoteCallLabel 0-2 [LabelMarker 0-1, GfmFootnoteCallMarker 1-2], LabelText 2-3 [Data 2-3], LabelEnd 3-4]]",
@@ -81,41 +83,46 @@ const CALLS: [(&str, &str); 7] = [
         "![b [^a] c](d)",
         "Image 0-14 [Label 0-11 [LabelImage 0-2 [LabelImageMarker 0-1, LabelMarker 1-2], LabelText 2-10 [Data 2-4, GfmFootnoteCall 4-8 [Label 4-8 [GfmFootnoteCallLabel 4-6 [LabelMarker 4-5, GfmFootnoteCallMarker 5-6], LabelText 6-7 [Data 6-7], LabelEnd 7-8]], Data 8-10], LabelEnd 10-11], Resource 11-14 [ResourceMarker 11-12, Raw 12-13, ResourceMarker 13-14]]",
     ),
+    (
+        "[^a@b.c]",
+        "GfmFootnoteCall 0-8 [Label 0-8 [GfmFootnoteCallLabel 0-2 [LabelMarker 0-1, GfmFootnoteCallMarker 1-2], LabelText 2-7 [Data 2-7], LabelEnd 7-8]]",
+    ),
 ];
 
 #[test]
 fn reads_footnote_calls(rt: HostRuntime) -> Result<(), Fail> {
-    let alloc = rt.alloc();
-    expect(&rt, alloc, &noted(&[], &["a"]), &CALLS)?;
-    expect(&rt, alloc, &noted(&["^a"], &["a"]), &CALLS[..1])?;
-    let address = [(
-        "[^a@b.c]",
-        "GfmFootnoteCall 0-8 [Label 0-8 [GfmFootnoteCallLabel 0-2 [LabelMarker 0-1, GfmFootnoteCallMarker 1-2], LabelText 2-7 [Data 2-7], LabelEnd 7-8]]",
-    )];
-    expect(&rt, alloc, &noted(&[], &["a@b.c"]), &address)?;
+    expect(
+        &rt,
+        rt.alloc(),
+        &noted(&["^a"], &["b", "a", "a@b.c"]),
+        &CALLS,
+    )?;
     Ok(())
 }
 
 // Where footnote calls are not looked for, a caret is a byte as others.
-#[test]
-fn reads_carets_as_others_without_footnotes(rt: HostRuntime) -> Result<(), Fail> {
-    let alloc = rt.alloc();
-    let rows = [
-        ("[^a]", "Data 0-4"),
-        (
-            "[^a](b)",
-            "Link 0-7 [Label 0-4 [LabelLink 0-1, LabelText 1-3 [Data 1-3], LabelEnd 3-4], Resource 4-7 [ResourceMarker 4-5, Raw 5-6, ResourceMarker 6-7]]",
-        ),
-        (
-            "![^a](b)",
-            "Image 0-8 [Label 0-5 [LabelImage 0-2 [LabelImageMarker 0-1, LabelMarker 1-2], LabelText 2-4 [Data 2-4], LabelEnd 4-5], Resource 5-8 [ResourceMarker 5-6, Raw 6-7, ResourceMarker 7-8]]",
-        ),
-    ];
-    expect(&rt, alloc, &plain(), &rows)?;
-    let shortcut = [(
+const CARETS: [(&str, &str); 3] = [
+    (
         "[^a]",
         "Link 0-4 [Label 0-4 [LabelLink 0-1, LabelText 1-3 [Data 1-3], LabelEnd 3-4]]",
-    )];
-    expect(&rt, alloc, &defined(&["^a"]), &shortcut)?;
+    ),
+    (
+        "[^b](c)",
+        "Link 0-7 [Label 0-4 [LabelLink 0-1, LabelText 1-3 [Data 1-3], LabelEnd 3-4], Resource 4-7 [ResourceMarker 4-5, Raw 5-6, ResourceMarker 6-7]]",
+    ),
+    (
+        "![^b](c)",
+        "Image 0-8 [Label 0-5 [LabelImage 0-2 [LabelImageMarker 0-1, LabelMarker 1-2], LabelText 2-4 [Data 2-4], LabelEnd 4-5], Resource 5-8 [ResourceMarker 5-6, Raw 6-7, ResourceMarker 7-8]]",
+    ),
+];
+
+#[test]
+fn reads_carets_as_others_without_footnotes(rt: HostRuntime) -> Result<(), Fail> {
+    let given = Given {
+        definitions: &["^a"],
+        footnotes: &["a", "b"],
+        ..plain()
+    };
+    expect(&rt, rt.alloc(), &given, &CARETS)?;
     Ok(())
 }

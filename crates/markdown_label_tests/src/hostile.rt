@@ -1,6 +1,7 @@
 // Labels at the limits, and very many of them.
-use crate::fixtures::{defined, found, plain, with_shortcuts};
+use crate::fixtures::{Given, defined, expect, plain, with_shortcuts};
 use std::alloc::{AllocError, Global};
+use std::process::Abort;
 use std::test::Fail;
 
 // Appends a text so many times.
@@ -20,20 +21,40 @@ fn repeated(alloc: Global, parts: &[(&str, usize)]) -> Result<String, AllocError
     Ok(text)
 }
 
+// What a document is made of, and what is found in it.
+type Row = (&'static [(&'static str, usize)], &'static str);
+
+// Reads documents that are made of texts again and again, and compares what is found.
+fn expect_repeated(
+    rt: &impl Abort,
+    alloc: Global,
+    given: &Given,
+    rows: &[Row],
+) -> Result<(), AllocError> {
+    for (parts, want) in rows {
+        let document = repeated(alloc, parts)?;
+        expect(rt, alloc, given, &[(document.as_str(), want)])?;
+    }
+    Ok(())
+}
+
+// Many brackets, where `a` is defined. Of links in one another only the innermost is one.
+const BRACKETS: [Row; 4] = [
+    (
+        &[("[", 1_000), ("a", 1), ("]", 1_000)],
+        "Data 0-999, Link 999-1002 [Label 999-1002 [LabelLink 999-1000, LabelText 1000-1001 [Data 1000-1001], LabelEnd 1001-1002]], Data 1002-2001",
+    ),
+    (&[("[", 1_000), ("x", 1), ("]", 1_000)], "Data 0-2001"),
+    (&[("![", 1_000), ("]", 1_000)], "Data 0-3000"),
+    (
+        &[("[", 1_000), ("a", 1), ("](b)", 1_000)],
+        "Data 0-999, Link 999-1005 [Label 999-1002 [LabelLink 999-1000, LabelText 1000-1001 [Data 1000-1001], LabelEnd 1001-1002], Resource 1002-1005 [ResourceMarker 1002-1003, Raw 1003-1004, ResourceMarker 1004-1005]], Data 1005-5001",
+    ),
+];
+
 #[test]
 fn reads_many_brackets(rt: HostRuntime) -> Result<(), Fail> {
-    let alloc = rt.alloc();
-    let document = repeated(alloc, &[("[", 1_000), ("a", 1), ("]", 1_000)])?;
-    let got = found(alloc, &defined(&["a"]), document.as_str())?;
-    assert_eq!(rt;
-        got.as_str(),
-        "Data 0-999, Link 999-1002 [Label 999-1002 [LabelLink 999-1000, LabelText 1000-1001 [Data 1000-1001], LabelEnd 1001-1002]], Data 1002-2001"
-    );
-    let got = found(alloc, &plain(), document.as_str())?;
-    assert_eq!(rt; got.as_str(), "Data 0-2001");
-    let document = repeated(alloc, &[("![", 1_000), ("]", 1_000)])?;
-    let got = found(alloc, &defined(&["a"]), document.as_str())?;
-    assert_eq!(rt; got.as_str(), "Data 0-3000");
+    expect_repeated(&rt, rt.alloc(), &defined(&["a"]), &BRACKETS)?;
     Ok(())
 }
 
@@ -85,66 +106,57 @@ fn nests_many_images(rt: HostRuntime) -> Result<(), Fail> {
     print_starts(&mut want)?;
     want.push_str("Data 200-201")?;
     print_ends(&mut want)?;
-    let got = found(alloc, &plain(), document.as_str())?;
-    assert_eq!(rt; got.as_str(), want.as_str());
+    let rows = [(document.as_str(), want.as_str())];
+    expect(&rt, alloc, &plain(), &rows)?;
     Ok(())
 }
 
-// Many links in one another: only the innermost is one.
-#[test]
-fn bars_many_starts(rt: HostRuntime) -> Result<(), Fail> {
-    let alloc = rt.alloc();
-    let document = repeated(alloc, &[("[", 1_000), ("a", 1), ("](b)", 1_000)])?;
-    let got = found(alloc, &plain(), document.as_str())?;
-    assert_eq!(rt;
-        got.as_str(),
-        "Data 0-999, Link 999-1005 [Label 999-1002 [LabelLink 999-1000, LabelText 1000-1001 [Data 1000-1001], LabelEnd 1001-1002], Resource 1002-1005 [ResourceMarker 1002-1003, Raw 1003-1004, ResourceMarker 1004-1005]], Data 1005-5001"
-    );
-    Ok(())
-}
+// A label of a reference has at most 999 codes, where `x` 999 times is defined.
+const LONGEST: [Row; 2] = [
+    (
+        &[("[a][", 1), ("x", 999), ("]", 1)],
+        "Link 0-1004 [Label 0-3 [LabelLink 0-1, LabelText 1-2 [Data 1-2], LabelEnd 2-3], Reference 3-1004 [ReferenceMarker 3-4, ReferenceString 4-1003 [Data 4-1003], ReferenceMarker 1003-1004]]",
+    ),
+    (&[("[a][", 1), ("x", 1_000), ("]", 1)], "Data 0-1005"),
+];
 
-// A label of a reference has at most 999 codes; what stands in brackets by itself may have more.
+// A label by itself may have more codes, where `x` 1,000 times is defined.
+const LONGER: [Row; 1] = [(
+    &[("[a][", 1), ("x", 1_000), ("]", 1)],
+    "Data 0-3, Link 3-1005 [Label 3-1005 [LabelLink 3-4, LabelText 4-1004 [Data 4-1004], LabelEnd 1004-1005]]",
+)];
+
+// Line endings, and the whitespace after them, do not count, where `a` 998 times, a space and `a` is defined.
+const LINES: [Row; 1] = [(
+    &[("[x][", 1), ("a", 998), ("\n  a]", 1)],
+    "Link 0-1007 [Label 0-3 [LabelLink 0-1, LabelText 1-2 [Data 1-2], LabelEnd 2-3], Reference 3-1007 [ReferenceMarker 3-4, ReferenceString 4-1006 [Data 4-1002, LineEnding 1002-1003, SpaceOrTab 1003-1005, Data 1005-1006], ReferenceMarker 1006-1007]]",
+)];
+
 #[test]
 fn reads_long_references(rt: HostRuntime) -> Result<(), Fail> {
     let alloc = rt.alloc();
     let longest = repeated(alloc, &[("x", 999)])?;
     let longer = repeated(alloc, &[("x", 1_000)])?;
-    let document = repeated(alloc, &[("[a][", 1), ("x", 999), ("]", 1)])?;
-    let got = found(alloc, &defined(&[longest.as_str()]), document.as_str())?;
-    assert_eq!(rt;
-        got.as_str(),
-        "Link 0-1004 [Label 0-3 [LabelLink 0-1, LabelText 1-2 [Data 1-2], LabelEnd 2-3], Reference 3-1004 [ReferenceMarker 3-4, ReferenceString 4-1003 [Data 4-1003], ReferenceMarker 1003-1004]]"
-    );
-    let document = repeated(alloc, &[("[a][", 1), ("x", 1_000), ("]", 1)])?;
-    let got = found(alloc, &defined(&[longest.as_str()]), document.as_str())?;
-    assert_eq!(rt; got.as_str(), "Data 0-1005");
-    let got = found(alloc, &defined(&[longer.as_str()]), document.as_str())?;
-    assert_eq!(rt;
-        got.as_str(),
-        "Data 0-3, Link 3-1005 [Label 3-1005 [LabelLink 3-4, LabelText 4-1004 [Data 4-1004], LabelEnd 1004-1005]]"
-    );
-    let got = found(alloc, &defined(&["a"]), document.as_str())?;
-    assert_eq!(rt; got.as_str(), "Data 0-1005");
-    let shortcuts = with_shortcuts(defined(&["a"]));
-    let got = found(alloc, &shortcuts, document.as_str())?;
-    assert_eq!(rt;
-        got.as_str(),
-        "Link 0-3 [Label 0-3 [LabelLink 0-1, LabelText 1-2 [Data 1-2], LabelEnd 2-3]], Data 3-1005"
-    );
+    let lines = repeated(alloc, &[("a", 998), (" a", 1)])?;
+    expect_repeated(&rt, alloc, &defined(&[longest.as_str()]), &LONGEST)?;
+    expect_repeated(&rt, alloc, &defined(&[longer.as_str()]), &LONGER)?;
+    expect_repeated(&rt, alloc, &defined(&[lines.as_str()]), &LINES)?;
     Ok(())
 }
 
-// Line endings, and the whitespace after them, do not count.
+// What is too long is no label, where `a` is defined.
+const TOO_LONG: [Row; 1] = [(&[("[a][", 1), ("x", 1_000), ("]", 1)], "Data 0-1005")];
+
+// The same, where a shortcut may stand before it.
+const SHORTCUT: [Row; 1] = [(
+    &[("[a][", 1), ("x", 1_000), ("]", 1)],
+    "Link 0-3 [Label 0-3 [LabelLink 0-1, LabelText 1-2 [Data 1-2], LabelEnd 2-3]], Data 3-1005",
+)];
+
 #[test]
-fn counts_codes_of_references(rt: HostRuntime) -> Result<(), Fail> {
-    let alloc = rt.alloc();
-    let identifier = repeated(alloc, &[("a", 998), (" a", 1)])?;
-    let identifiers = [identifier.as_str()];
-    let document = repeated(alloc, &[("[x][", 1), ("a", 998), ("\n  a]", 1)])?;
-    let got = found(alloc, &defined(&identifiers), document.as_str())?;
-    assert_eq!(rt;
-        got.as_str(),
-        "Link 0-1007 [Label 0-3 [LabelLink 0-1, LabelText 1-2 [Data 1-2], LabelEnd 2-3], Reference 3-1007 [ReferenceMarker 3-4, ReferenceString 4-1006 [Data 4-1002, LineEnding 1002-1003, SpaceOrTab 1003-1005, Data 1005-1006], ReferenceMarker 1006-1007]]"
-    );
+fn takes_shortcuts_before_what_is_too_long(rt: HostRuntime) -> Result<(), Fail> {
+    let given = defined(&["a"]);
+    expect_repeated(&rt, rt.alloc(), &given, &TOO_LONG)?;
+    expect_repeated(&rt, rt.alloc(), &with_shortcuts(given), &SHORTCUT)?;
     Ok(())
 }

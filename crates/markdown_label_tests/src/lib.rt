@@ -1,4 +1,4 @@
-//! Tests of links, images and footnote calls in texts, in a crate of their own, so that `markdown_inline` is proved once.
+//! Tests of links, images and footnote calls in texts, and of the pairs of runs in and around them, in a crate of their own, so that `markdown_inline` is proved once.
 #![tactic(auto)]
 
 #[cfg(test)]
@@ -9,6 +9,8 @@ mod footnotes;
 mod hostile;
 #[cfg(test)]
 mod nested;
+#[cfg(test)]
+mod pairing;
 #[cfg(test)]
 mod pieces;
 #[cfg(test)]

@@ -43,36 +43,38 @@ fn nests_labels(rt: HostRuntime) -> Result<(), Fail> {
 }
 
 // An end takes the nearest start that no end has used, whether in vain or not.
+const USED: [(&str, &str); 6] = [
+    ("[]](c)", "Data 0-6"),
+    ("](c)", "Data 0-4"),
+    ("[[a", "Data 0-3"),
+    ("![", "Data 0-2"),
+    ("[a]](b)", "Data 0-7"),
+    (
+        "![a [b] c](d)",
+        "Image 0-13 [Label 0-10 [LabelImage 0-2 [LabelImageMarker 0-1, LabelMarker 1-2], LabelText 2-9 [Data 2-9], LabelEnd 9-10], Resource 10-13 [ResourceMarker 10-11, Raw 11-12, ResourceMarker 12-13]]",
+    ),
+];
+
+// The same, where `a` is defined.
+const USED_BY_SHORTCUTS: [(&str, &str); 3] = [
+    (
+        "[[a]]",
+        "Data 0-1, Link 1-4 [Label 1-4 [LabelLink 1-2, LabelText 2-3 [Data 2-3], LabelEnd 3-4]], Data 4-5",
+    ),
+    (
+        "[a [x] y][a]",
+        "Link 0-12 [Label 0-9 [LabelLink 0-1, LabelText 1-8 [Data 1-8], LabelEnd 8-9], Reference 9-12 [ReferenceMarker 9-10, ReferenceString 10-11 [Data 10-11], ReferenceMarker 11-12]]",
+    ),
+    (
+        "[x [a]][a]",
+        "Data 0-3, Link 3-6 [Label 3-6 [LabelLink 3-4, LabelText 4-5 [Data 4-5], LabelEnd 5-6]], Data 6-7, Link 7-10 [Label 7-10 [LabelLink 7-8, LabelText 8-9 [Data 8-9], LabelEnd 9-10]]",
+    ),
+];
+
 #[test]
 fn uses_starts_up(rt: HostRuntime) -> Result<(), Fail> {
-    let alloc = rt.alloc();
-    let loose = [
-        ("[]](c)", "Data 0-6"),
-        ("](c)", "Data 0-4"),
-        ("[[a", "Data 0-3"),
-        ("![", "Data 0-2"),
-        ("[a]](b)", "Data 0-7"),
-        (
-            "![a [b] c](d)",
-            "Image 0-13 [Label 0-10 [LabelImage 0-2 [LabelImageMarker 0-1, LabelMarker 1-2], LabelText 2-9 [Data 2-9], LabelEnd 9-10], Resource 10-13 [ResourceMarker 10-11, Raw 11-12, ResourceMarker 12-13]]",
-        ),
-    ];
-    expect(&rt, alloc, &plain(), &loose)?;
-    let within = [
-        (
-            "[[a]]",
-            "Data 0-1, Link 1-4 [Label 1-4 [LabelLink 1-2, LabelText 2-3 [Data 2-3], LabelEnd 3-4]], Data 4-5",
-        ),
-        (
-            "[a [x] y][a]",
-            "Link 0-12 [Label 0-9 [LabelLink 0-1, LabelText 1-8 [Data 1-8], LabelEnd 8-9], Reference 9-12 [ReferenceMarker 9-10, ReferenceString 10-11 [Data 10-11], ReferenceMarker 11-12]]",
-        ),
-        (
-            "[x [a]][a]",
-            "Data 0-3, Link 3-6 [Label 3-6 [LabelLink 3-4, LabelText 4-5 [Data 4-5], LabelEnd 5-6]], Data 6-7, Link 7-10 [Label 7-10 [LabelLink 7-8, LabelText 8-9 [Data 8-9], LabelEnd 9-10]]",
-        ),
-    ];
-    expect(&rt, alloc, &defined(&["a"]), &within)?;
+    expect(&rt, rt.alloc(), &plain(), &USED)?;
+    expect(&rt, rt.alloc(), &defined(&["a"]), &USED_BY_SHORTCUTS)?;
     Ok(())
 }
 
@@ -90,7 +92,10 @@ fn expect_pairs(
         let pieces = [piece(0, document.len())];
         let (got, probes) = counted(alloc, given, document.as_bytes(), &pieces, false)?;
         assert_eq!(rt; got.as_str(), *want, "{document}");
-        assert!(rt; *pairs <= probes && probes <= *bound, "{document}: {probes}");
+        assert!(rt;
+            *pairs <= probes && probes <= *bound,
+            "{document}: {probes}"
+        );
     }
     Ok(())
 }

@@ -42,9 +42,10 @@ fn expect(
         &mut err,
     );
     let want = joined(alloc, lines)?;
-    assert_eq!(rt; status, 0);
-    assert_eq!(rt; out.as_slice(), want.as_bytes());
-    assert_eq!(rt; err.as_slice(), b"".as_slice());
+    assert!(rt;
+        status == 0 && err.is_empty() && out.as_slice() == want.as_bytes(),
+        "{input}"
+    );
     Ok(())
 }
 
@@ -173,7 +174,13 @@ const TREE: [&str; 118] = [
 #[test]
 fn prints_the_tree_of_a_text(rt: HostRuntime) -> Result<(), Fail> {
     let words = ["text", "label=l"];
-    expect(&rt, rt.alloc(), &words, "*a [*b*](c) d* ![i](<j> \"k\") [l]", &TREE)?;
+    expect(
+        &rt,
+        rt.alloc(),
+        &words,
+        "*a [*b*](c) d* ![i](<j> \"k\") [l]",
+        &TREE,
+    )?;
     Ok(())
 }
 

@@ -1,9 +1,9 @@
 // Links and images by references, and their identifiers.
-use crate::fixtures::{defined, expect};
+use crate::fixtures::{defined, expect, expect_defined};
 use std::test::Fail;
 
 // Full, collapsed and shortcut references to `a`.
-const KINDS: [(&str, &str); 9] = [
+const KINDS: [(&str, &str); 12] = [
     (
         "[x][a]",
         "Link 0-6 [Label 0-3 [LabelLink 0-1, LabelText 1-2 [Data 1-2], LabelEnd 2-3], Reference 3-6 [ReferenceMarker 3-4, ReferenceString 4-5 [Data 4-5], ReferenceMarker 5-6]]",
@@ -40,78 +40,83 @@ const KINDS: [(&str, &str); 9] = [
         "[x][ a\n ]",
         "Link 0-9 [Label 0-3 [LabelLink 0-1, LabelText 1-2 [Data 1-2], LabelEnd 2-3], Reference 3-9 [ReferenceMarker 3-4, ReferenceString 4-8 [Data 4-6, LineEnding 6-7, SpaceOrTab 7-8], ReferenceMarker 8-9]]",
     ),
+    ("[x]", "Data 0-3"),
+    ("[x][]", "Data 0-5"),
+    ("[]", "Data 0-2"),
 ];
 
 #[test]
 fn reads_references(rt: HostRuntime) -> Result<(), Fail> {
-    let rows = [("[x]", "Data 0-3"), ("[x][]", "Data 0-5"), ("[]", "Data 0-2")];
     expect(&rt, rt.alloc(), &defined(&["a"]), &KINDS)?;
-    expect(&rt, rt.alloc(), &defined(&["a"]), &rows)?;
     Ok(())
 }
 
-// An identifier is what stands in the document, not what it means.
-#[test]
-fn reads_identifiers_as_they_stand(rt: HostRuntime) -> Result<(), Fail> {
-    let alloc = rt.alloc();
-    let marks = [(
+// Definitions, documents with references to them, and what is found. An identifier is what stands in the document, not what it means.
+const IDENTIFIERS: [(&str, &str, &str); 5] = [
+    (
+        "a&b",
         "[x][a&amp;b], [a\\&b][]",
         "Data 0-5, CharacterReference 5-10 [CharacterReferenceMarker 5-6, CharacterReferenceValue 6-9, CharacterReferenceMarkerSemi 9-10], Data 10-16, CharacterEscape 16-18 [CharacterEscapeMarker 16-17, CharacterEscapeValue 17-18], Data 18-22",
-    )];
-    expect(&rt, alloc, &defined(&["a&b"]), &marks)?;
-    let backslashes = [(
+    ),
+    (
+        "\\\\",
         "[x][\\\\]",
         "Link 0-7 [Label 0-3 [LabelLink 0-1, LabelText 1-2 [Data 1-2], LabelEnd 2-3], Reference 3-7 [ReferenceMarker 3-4, ReferenceString 4-6 [Data 4-6], ReferenceMarker 6-7]]",
-    )];
-    expect(&rt, alloc, &defined(&["\\\\"]), &backslashes)?;
-    let brackets = [(
+    ),
+    (
+        "\\[",
         "[x][\\[]",
         "Link 0-7 [Label 0-3 [LabelLink 0-1, LabelText 1-2 [Data 1-2], LabelEnd 2-3], Reference 3-7 [ReferenceMarker 3-4, ReferenceString 4-6 [Data 4-6], ReferenceMarker 6-7]]",
-    )];
-    expect(&rt, alloc, &defined(&["\\["]), &brackets)?;
-    let folded = [(
+    ),
+    (
+        "ss",
         "[\u{1E9E}]",
         "Link 0-5 [Label 0-5 [LabelLink 0-1, LabelText 1-4 [Data 1-4], LabelEnd 4-5]]",
-    )];
-    expect(&rt, alloc, &defined(&["ss"]), &folded)?;
-    let words = [(
+    ),
+    (
+        "a b",
         "[ A \t\n b]",
         "Link 0-9 [Label 0-9 [LabelLink 0-1, LabelText 1-8 [Data 1-3, SpaceOrTab 3-5, LineEnding 5-6, SpaceOrTab 6-7, Data 7-8], LabelEnd 8-9]]",
-    )];
-    expect(&rt, alloc, &defined(&["a b"]), &words)?;
+    ),
+];
+
+#[test]
+fn reads_identifiers_as_they_stand(rt: HostRuntime) -> Result<(), Fail> {
+    expect_defined(&rt, rt.alloc(), &IDENTIFIERS)?;
     Ok(())
 }
 
 // Constructs bind more tightly than brackets, and take those in them.
+const OTHERS: [(&str, &str); 7] = [
+    (
+        "[a`]`",
+        "Data 0-2, CodeText 2-5 [CodeTextSequence 2-3, CodeTextData 3-4, CodeTextSequence 4-5]",
+    ),
+    (
+        "[a\\]",
+        "Data 0-2, CharacterEscape 2-4 [CharacterEscapeMarker 2-3, CharacterEscapeValue 3-4]",
+    ),
+    (
+        "\\[a]",
+        "CharacterEscape 0-2 [CharacterEscapeMarker 0-1, CharacterEscapeValue 1-2], Data 2-4",
+    ),
+    (
+        "!\\[a]",
+        "Data 0-1, CharacterEscape 1-3 [CharacterEscapeMarker 1-2, CharacterEscapeValue 2-3], Data 3-5",
+    ),
+    (
+        "\\![a]",
+        "CharacterEscape 0-2 [CharacterEscapeMarker 0-1, CharacterEscapeValue 1-2], Link 2-5 [Label 2-5 [LabelLink 2-3, LabelText 3-4 [Data 3-4], LabelEnd 4-5]]",
+    ),
+    ("[a <b ]>", "Data 0-8"),
+    (
+        "[a <b c=\"]\">",
+        "Data 0-3, HtmlText 3-12 [HtmlTextData 3-12]",
+    ),
+];
+
 #[test]
 fn leaves_brackets_to_other_constructs(rt: HostRuntime) -> Result<(), Fail> {
-    let rows = [
-        (
-            "[a`]`",
-            "Data 0-2, CodeText 2-5 [CodeTextSequence 2-3, CodeTextData 3-4, CodeTextSequence 4-5]",
-        ),
-        (
-            "[a\\]",
-            "Data 0-2, CharacterEscape 2-4 [CharacterEscapeMarker 2-3, CharacterEscapeValue 3-4]",
-        ),
-        (
-            "\\[a]",
-            "CharacterEscape 0-2 [CharacterEscapeMarker 0-1, CharacterEscapeValue 1-2], Data 2-4",
-        ),
-        (
-            "!\\[a]",
-            "Data 0-1, CharacterEscape 1-3 [CharacterEscapeMarker 1-2, CharacterEscapeValue 2-3], Data 3-5",
-        ),
-        (
-            "\\![a]",
-            "CharacterEscape 0-2 [CharacterEscapeMarker 0-1, CharacterEscapeValue 1-2], Link 2-5 [Label 2-5 [LabelLink 2-3, LabelText 3-4 [Data 3-4], LabelEnd 4-5]]",
-        ),
-        ("[a <b ]>", "Data 0-8"),
-        (
-            "[a <b c=\"]\">",
-            "Data 0-3, HtmlText 3-12 [HtmlTextData 3-12]",
-        ),
-    ];
-    expect(&rt, rt.alloc(), &defined(&["a"]), &rows)?;
+    expect(&rt, rt.alloc(), &defined(&["a"]), &OTHERS)?;
     Ok(())
 }

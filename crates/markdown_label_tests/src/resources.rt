@@ -198,11 +198,14 @@ fn without<'a>(constructs: Constructs) -> Given<'a> {
     }
 }
 
-const LINK: &str = "Link 0-6 [Label 0-3 [LabelLink 0-1, LabelText 1-2 [Data 1-2], LabelEnd 2-3], Resource 3-6 [ResourceMarker 3-4, Raw 4-5, ResourceMarker 5-6]]";
+const LINK: &str =
+    "Link 0-6 [Label 0-3 [LabelLink 0-1, LabelText 1-2 [Data 1-2], LabelEnd 2-3], Resource 3-6 [ResourceMarker 3-4, Raw 4-5, ResourceMarker 5-6]]";
 
-const IMAGE: &str = "Image 0-7 [Label 0-4 [LabelImage 0-2 [LabelImageMarker 0-1, LabelMarker 1-2], LabelText 2-3 [Data 2-3], LabelEnd 3-4], Resource 4-7 [ResourceMarker 4-5, Raw 5-6, ResourceMarker 6-7]]";
+const IMAGE: &str =
+    "Image 0-7 [Label 0-4 [LabelImage 0-2 [LabelImageMarker 0-1, LabelMarker 1-2], LabelText 2-3 [Data 2-3], LabelEnd 3-4], Resource 4-7 [ResourceMarker 4-5, Raw 5-6, ResourceMarker 6-7]]";
 
-const MARKED_LINK: &str = "Data 0-1, Link 1-7 [Label 1-4 [LabelLink 1-2, LabelText 2-3 [Data 2-3], LabelEnd 3-4], Resource 4-7 [ResourceMarker 4-5, Raw 5-6, ResourceMarker 6-7]]";
+const MARKED_LINK: &str =
+    "Data 0-1, Link 1-7 [Label 1-4 [LabelLink 1-2, LabelText 2-3 [Data 2-3], LabelEnd 3-4], Resource 4-7 [ResourceMarker 4-5, Raw 5-6, ResourceMarker 6-7]]";
 
 #[test]
 fn heeds_the_switches(rt: HostRuntime) -> Result<(), Fail> {
@@ -219,7 +222,12 @@ fn heeds_the_switches(rt: HostRuntime) -> Result<(), Fail> {
         label_start_image: false,
         ..Constructs::default()
     });
-    expect(&rt, alloc, &plain(), &[("[a](b)", LINK), ("![a](b)", IMAGE)])?;
+    expect(
+        &rt,
+        alloc,
+        &plain(),
+        &[("[a](b)", LINK), ("![a](b)", IMAGE)],
+    )?;
     let data = [("[a](b)", "Data 0-6"), ("![a](b)", "Data 0-7")];
     expect(&rt, alloc, &no_ends, &data)?;
     let images = [("[a](b)", "Data 0-6"), ("![a](b)", IMAGE)];
