@@ -21,3 +21,5 @@ mod references;
 mod resources;
 #[cfg(test)]
 mod shortcuts;
+#[cfg(test)]
+mod starts;
