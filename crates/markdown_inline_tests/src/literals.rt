@@ -1,7 +1,7 @@
 // Literals with a protocol, from `www.` on, and of emails, in runs over texts.
 use crate::fixtures::{piece, printed, state_of};
-use markdown_inline::run::{is_text, text};
 use markdown_engine::configuration::{Constructs, ParseOptions};
+use markdown_inline::run::{is_text, text};
 use std::alloc::{AllocError, Global};
 use std::process::Abort;
 use std::test::Fail;
