@@ -1,5 +1,5 @@
 //! The program: it reads a content, and prints the events of its inline tree.
-ghost use Rattle.std.specs.Prelude.{◌≡◌, ◌≢◌, ◌↔◌, ◌≤◌, ◌⊎◌, false, true, length, IfOk, IfErr, IfSome, IsErrOf, IsUtf8, map, string_bytes, Some, None};
+ghost use Rattle.std.specs.Prelude.{◌≡◌, ◌≢◌, ◌↔◌, ◌≤◌, ◌⊎◌, false, true, length, IfOk, IfErr, IfSome, OnOk, IsErrOf, IsUtf8, map, string_bytes, Some, None};
 ghost use Rattle.std.specs.IoError.{error_kind};
 ghost use Rattle.std.specs.List.{list_all};
 ghost use Rattle.std.specs.Option.{option_map};
@@ -7,14 +7,18 @@ ghost use Rattle.markdown_engine.specs.Content.{document_limit};
 ghost use Rattle.markdown_inline.specs.declared.program.Fault.TheVariants.{OutOfMemory, Read, Write, Usage, NotText, BlankLine};
 ghost use Rattle.markdown_inline.specs.Statuses.{status_of, fault_of};
 ghost use Rattle.markdown_inline.specs.Words.{is_option, is_mode, are_known, reads_text, MayRead, IsTextDocument, without_line_ending, has_word, options_of, defined_word, defined_by};
+ghost use Rattle.markdown_inline.specs.Output.{found_events, printed};
+ghost use Rattle.std.specs.Io.KnownBytes.{Appends};
 
+use crate::program::lines::lines_of;
 use crate::run::{self, Run};
 use markdown_engine::configuration::{Constructs, ParseOptions};
-use markdown_engine::event::{Event, Point};
 use markdown_engine::parser::ParseState;
 use markdown_util::util::normalize_identifier::normalize_identifier;
 use std::alloc::{AllocError, Global};
 use std::io::{self, ErrorKind, Read, Write};
+
+mod lines;
 
 // The longest document, in bytes.
 const DOCUMENT_LIMIT: usize = usize::MAX / 8;
@@ -225,49 +229,11 @@ fn read_document<R: Read>(alloc: Global, reader: &mut R) -> Result<Vec<u8>, Faul
     Ok(bytes)
 }
 
-// Prints a number of an event, or `-` where there is none.
-fn print_number(text: &mut String, number: Option<usize>) -> Result<(), AllocError> {
-    match number {
-        Some(number) => write!(text, "{number}"),
-        None => text.push('-'),
-    }
-}
-
-// Prints an event, in a line of its own.
-fn print_event(text: &mut String, event: &Event) -> Result<(), AllocError> {
-    let Point {
-        line,
-        column,
-        index,
-        vs,
-    } = event.point;
-    write!(
-        text,
-        "{:?} {:?} {line} {column} {index} {vs}",
-        event.kind, event.name
-    )?;
-    if let Some(link) = event.link {
-        write!(text, " link {:?} ", link.content)?;
-        print_number(text, link.previous)?;
-        text.push(' ')?;
-        print_number(text, link.next)?;
-    }
-    text.push('\n')
-}
-
-// The lines of all events.
-fn print_events(alloc: Global, events: &[Event]) -> Result<String, AllocError> {
-    let mut text = String::new(alloc);
-    for event in events {
-        print_event(&mut text, event)?;
-    }
-    Ok(text)
-}
-
 // What is found in this document, which is UTF-8.
 fn found_in(alloc: Global, words: &[String], bytes: &[u8]) -> Result<Run, Fault>
     requires text { IsUtf8 bytes.now }
     requires fits { length bytes.now ≤ document_limit }
+    ensures events { IfOk result (λ run. run.events.items ≡ found_events words.now bytes.now) }
     ensures text { IfOk result (λ _. reads_text words.now ≡ true → IsTextDocument bytes.now) }
     ensures faults { IfErr result (λ fault. (fault ≡ OutOfMemory) ⊎ (fault ≡ BlankLine)) }
     ensures blank_line { IfErr result (λ fault. fault ≡ BlankLine → (reads_text words.now ≡ true) × (IsTextDocument bytes.now → ⊥)) }
@@ -292,6 +258,7 @@ fn found_in(alloc: Global, words: &[String], bytes: &[u8]) -> Result<Run, Fault>
 // Reads, runs, and makes the whole output.
 fn make_output<R: Read>(alloc: Global, words: &[String], reader: &mut R) -> Result<String, Fault>
     ensures usage { IsErrOf result Usage ↔ are_known words.now ≡ false }
+    ensures lines { IfOk result (λ text. IfSome (R.remaining reader.old) (λ xs. string_bytes text ≡ printed words.now xs)) }
     ensures reads { IfOk result (λ _. IfSome (R.remaining reader.old) (λ xs. MayRead words.now (without_line_ending xs))) }
     ensures not_text { IfErr result (λ fault. fault ≡ NotText → IfSome (R.remaining reader.old) (λ xs. IsUtf8 (without_line_ending xs) → ⊥)) }
     ensures blank_line { IfErr result (λ fault. fault ≡ BlankLine → (reads_text words.now ≡ true) × IfSome (R.remaining reader.old) (λ xs. IsTextDocument (without_line_ending xs) → ⊥)) }
@@ -304,12 +271,13 @@ fn make_output<R: Read>(alloc: Global, words: &[String], reader: &mut R) -> Resu
         return Err(Fault::NotText);
     }
     let found = found_in(alloc, words, bytes.as_slice())?;
-    Ok(print_events(alloc, found.events.as_slice())?)
+    Ok(lines_of(alloc, found.events.as_slice())?)
 }
 
-// Writes all of a text.
+// Writes all of a text, and hands it on.
 fn write_text<W: Write>(out: &mut W, text: &str) -> Result<(), Fault>
-    ensures { IfErr result (λ fault. (fault ≡ OutOfMemory) ⊎ (fault ≡ Write)) }
+    ensures written { OnOk result (Appends (W.contents out.old) (W.contents out.new) text.now) }
+    ensures faults { IfErr result (λ fault. (fault ≡ OutOfMemory) ⊎ (fault ≡ Write)) }
 {
     let mut written = out.write_all(text.as_bytes());
     if written.is_ok() {
@@ -329,6 +297,7 @@ fn print_output<R: Read, W: Write>(
     out: &mut W,
 ) -> Result<(), Fault>
     ensures usage { IsErrOf result Usage ↔ are_known words.now ≡ false }
+    ensures lines { OnOk result (IfSome (R.remaining reader.old) (λ xs. Appends (W.contents out.old) (W.contents out.new) (printed words.now xs))) }
     ensures reads { IfOk result (λ _. IfSome (R.remaining reader.old) (λ xs. MayRead words.now (without_line_ending xs))) }
     ensures not_text { IfErr result (λ fault. fault ≡ NotText → IfSome (R.remaining reader.old) (λ xs. IsUtf8 (without_line_ending xs) → ⊥)) }
     ensures blank_line { IfErr result (λ fault. fault ≡ BlankLine → (reads_text words.now ≡ true) × IfSome (R.remaining reader.old) (λ xs. IsTextDocument (without_line_ending xs) → ⊥)) }
@@ -352,6 +321,7 @@ pub fn run<R: Read, W: Write, E: Write>(
     err: &mut E,
 ) -> u8
     ensures usage { result ≡ 2 ↔ are_known words.now ≡ false }
+    ensures lines { result ≡ 0 → IfSome (R.remaining reader.old) (λ bytes. Appends (W.contents out.old) (W.contents out.new) (printed words.now bytes)) }
     ensures reads { result ≡ 0 → IfSome (R.remaining reader.old) (λ bytes. MayRead words.now (without_line_ending bytes)) }
     ensures not_text { result ≡ 3 → IfSome (R.remaining reader.old) (λ bytes. IsUtf8 (without_line_ending bytes) → ⊥) }
     ensures blank_line { result ≡ 4 → (reads_text words.now ≡ true) × IfSome (R.remaining reader.old) (λ bytes. IsTextDocument (without_line_ending bytes) → ⊥) }
@@ -360,9 +330,22 @@ pub fn run<R: Read, W: Write, E: Write>(
 {
     match print_output(alloc, words, reader, out) {
         Ok(()) => 0,
-        Err(fault) => {
-            let _ = writeln!(err, "mdinline: {}", fault.message());
-            fault.status()
-        }
+        Err(fault) => end_with(fault, err),
     }
+}
+
+/// Ends the program where its words cannot be read, by the error that came. Answers the status: 5 where memory was refused, or else 2; a line
+/// on `err` says which.
+pub fn run_without_words<E: Write>(error: &io::Error, err: &mut E) -> u8
+    ensures { result ≡ status_of (fault_of (error_kind error.now) Usage) }
+{
+    end_with(fault_of(error, Fault::Usage), err)
+}
+
+// Tells what went wrong, and answers the status that the program ends with.
+fn end_with<E: Write>(fault: Fault, err: &mut E) -> u8
+    ensures { result ≡ status_of fault }
+{
+    let _ = writeln!(err, "mdinline: {}", fault.message());
+    fault.status()
 }

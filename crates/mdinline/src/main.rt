@@ -3,26 +3,25 @@
 
 use markdown_inline::program;
 use std::alloc::Global;
-use std::env;
 use std::process::ExitCode;
+use std::{env, io};
 
-// The words after the program's name, or none if they cannot be read.
-fn words(rt: &HostRuntime, alloc: Global) -> Vec<String> {
-    match env::args(rt) {
-        Ok(args) => args.skip(1).collect(alloc).unwrap_or(Vec::new(alloc)),
-        Err(_) => Vec::new(alloc),
-    }
+// The words after the program's name.
+fn words(rt: &HostRuntime, alloc: Global) -> io::Result<Vec<String>> {
+    Ok(env::args(rt)?.skip(1).collect(alloc)?)
 }
 
 fn main(rt: HostRuntime) -> ExitCode {
     let alloc = rt.alloc();
-    let words = words(&rt, alloc);
-    let status = program::run(
-        alloc,
-        words.as_slice(),
-        &mut rt.stdin(),
-        &mut rt.stdout(),
-        &mut rt.stderr(),
-    );
+    let status = match words(&rt, alloc) {
+        Ok(words) => program::run(
+            alloc,
+            words.as_slice(),
+            &mut rt.stdin(),
+            &mut rt.stdout(),
+            &mut rt.stderr(),
+        ),
+        Err(error) => program::run_without_words(&error, &mut rt.stderr()),
+    };
     ExitCode::from(status)
 }
