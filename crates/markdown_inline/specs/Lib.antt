@@ -1,11 +1,4 @@
-pub mod Settings
-pub mod StringSteps
-pub mod TextSteps
-pub mod Layer
-pub mod Laws
 pub mod Lines
 pub mod Words
 pub mod Output
-pub mod Resolve
 pub mod Statuses
-pub mod Construct

@@ -1,16 +1,8 @@
 //! Markdown's inline layer whole: its states and passes by name, its runs, and the program. The modules of the constructs stand here under their paths.
 #![tactic(auto)]
 
-pub mod attention;
-pub mod gfm_autolink_literal;
-pub mod label_end;
 pub mod laws;
 pub mod program;
-pub mod resolve;
-pub mod run;
-pub mod state;
-pub mod string;
-pub mod text;
 
 pub use markdown_gfm::gfm_task_list_item_check;
 pub use markdown_html::html_text;
@@ -21,5 +13,7 @@ pub use markdown_leaf::{
 pub use markdown_partial::{
     partial_data, partial_space_or_tab, partial_space_or_tab_eol, partial_whitespace,
 };
+pub use markdown_run::{attention, gfm_autolink_literal, label_end, resolve, run, state};
 pub use markdown_string::{partial_destination, partial_label, partial_title};
+pub use markdown_text::{string, text};
 pub use markdown_util::util;

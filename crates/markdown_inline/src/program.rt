@@ -1,19 +1,19 @@
 //! The program: it reads a content, and prints the events of its inline tree.
-ghost use Rattle.std.specs.Prelude.{◌≡◌, ◌≢◌, ◌↔◌, ◌≤◌, ◌⊎◌, false, true, length, IfOk, IfErr, IfSome, OnOk, IsErrOf, IsUtf8, map, string_bytes, Some, None};
+ghost use Rattle.std.specs.Prelude.{◌≡◌, ◌≢◌, ◌↔◌, ◌≤◌, ◌⊎◌, ◌∷◌, [], false, true, length, IfOk, IfErr, IfSome, OnOk, IsErrOf, IsUtf8, map, string_bytes, Some, None};
 ghost use Rattle.std.specs.IoError.{error_kind};
 ghost use Rattle.std.specs.List.{list_all};
 ghost use Rattle.std.specs.Option.{option_map};
-ghost use Rattle.markdown_engine.specs.Content.{document_limit};
+ghost use Rattle.markdown_engine.specs.Content.{IsContent, document_limit};
 ghost use Rattle.markdown_inline.specs.declared.program.Fault.TheVariants.{OutOfMemory, Read, Write, Usage, NotText, BlankLine};
 ghost use Rattle.markdown_inline.specs.Statuses.{status_of, fault_of};
-ghost use Rattle.markdown_inline.specs.Words.{is_option, is_mode, are_known, reads_text, MayRead, IsTextDocument, without_line_ending, has_word, options_of, defined_word, defined_by};
+ghost use Rattle.markdown_inline.specs.Words.{is_option, is_mode, are_known, reads_text, MayRead, IsTextDocument, whole_piece, without_line_ending, has_word, options_of, defined_word, defined_by};
 ghost use Rattle.markdown_inline.specs.Output.{found_events, printed};
 ghost use Rattle.std.specs.Io.KnownBytes.{Appends};
 
 use crate::program::lines::lines_of;
-use crate::run::{self, Run};
 use markdown_engine::configuration::{Constructs, ParseOptions};
-use markdown_engine::parser::ParseState;
+use markdown_engine::parser::{ParseState, Piece};
+use markdown_run::run::{self, Run};
 use markdown_util::util::normalize_identifier::normalize_identifier;
 use std::alloc::{AllocError, Global};
 use std::io::{self, ErrorKind, Read, Write};
@@ -229,6 +229,19 @@ fn read_document<R: Read>(alloc: Global, reader: &mut R) -> Result<Vec<u8>, Faul
     Ok(bytes)
 }
 
+// The piece of a whole document, which is a content.
+fn whole_document(bytes: &[u8]) -> Piece
+    requires text { IsUtf8 bytes.now }
+    requires fits { length bytes.now ≤ document_limit }
+    ensures whole { result ≡ whole_piece bytes.now }
+    ensures content { IsContent bytes.now (result ∷ []) }
+{
+    Piece {
+        start: (0, 0),
+        end: (bytes.len(), 0),
+    }
+}
+
 // What is found in this document, which is UTF-8.
 fn found_in(alloc: Global, words: &[String], bytes: &[u8]) -> Result<Run, Fault>
     requires text { IsUtf8 bytes.now }
@@ -245,7 +258,7 @@ fn found_in(alloc: Global, words: &[String], bytes: &[u8]) -> Result<Run, Fault>
         definitions: defined_by(alloc, "label=", words)?,
         gfm_footnote_definitions: defined_by(alloc, "note=", words)?,
     };
-    let pieces = [run::whole_document(bytes)];
+    let pieces = [whole_document(bytes)];
     if !reads_text(words) {
         return Ok(run::string(alloc, &parse_state, &pieces)?);
     }

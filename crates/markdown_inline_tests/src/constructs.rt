@@ -4,7 +4,7 @@ ghost use Rattle.markdown_engine.specs.Content.{IsContent};
 ghost use Rattle.markdown_engine.specs.Rest.{at_rest};
 ghost use Rattle.markdown_engine.specs.Weights.{codes_left};
 ghost use Rattle.markdown_engine.specs.declared.state.StateName.TheVariants.{AutolinkStart, CharacterReferenceStart, RawTextStart, SpaceOrTabStart, SpaceOrTabEolStart};
-ghost use Rattle.markdown_inline.specs.Construct.{IsConstruct};
+ghost use Rattle.markdown_run.specs.Construct.{IsConstruct};
 ghost use Rattle.markdown_partial.specs.SpaceSteps.{most};
 
 use crate::fixtures::{piece, state_of};

@@ -2,7 +2,7 @@
 ghost use Rattle.std.specs.Prelude.{◌≡◌, []};
 ghost use Rattle.markdown_engine.specs.Content.{IsContent};
 ghost use Rattle.markdown_engine.specs.declared.state.StateName.TheVariants.{DestinationStart, HtmlTextStart, LabelStart, TitleStart};
-ghost use Rattle.markdown_inline.specs.Construct.{IsConstruct};
+ghost use Rattle.markdown_run.specs.Construct.{IsConstruct};
 
 use crate::fixtures::{piece, printed, state_of};
 use markdown_engine::configuration::ParseOptions;

@@ -1,7 +1,7 @@
 use Rattle.std.proofs.Common.{ap, subst, sym, ◌∙◌}
 use Rattle.markdown_engine.specs.declared.tokenizer.Tokenizer.{Tokenizer}
 use Rattle.markdown_engine.proofs.OpRules.{attempts-scratched}
-use Rattle.markdown_inline.proofs.StartLemmas.{start-spacing}
+use Rattle.markdown_run.proofs.StartLemmas.{start-spacing}
 use Rattle.markdown_partial.specs.EolSteps.{StartReady}
 use Rattle.markdown_inline_tests.proofs.constructs.ask_for_spacing.Goals as goal
 

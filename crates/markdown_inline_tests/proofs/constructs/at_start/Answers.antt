@@ -1,6 +1,6 @@
 use Rattle.std.proofs.Common.{ap}
 use Rattle.markdown_engine.specs.declared.tokenizer.Tokenizer.{Tokenizer}
-use Rattle.markdown_inline.proofs.StartLemmas.{start-fits, start-spans}
+use Rattle.markdown_run.proofs.StartLemmas.{start-fits, start-spans}
 use Rattle.markdown_inline_tests.proofs.constructs.at_start.Goals as goal
 
 pub returns-clause-fits : goal.returns-clause-fits

@@ -3,7 +3,7 @@ use Rattle.markdown_engine.specs.Ops.{Consume}
 use Rattle.markdown_engine.specs.Weights.{codes_left}
 use Rattle.markdown_engine.specs.declared.tokenizer.Tokenizer.{Tokenizer}
 use Rattle.markdown_engine.proofs.OpRules.{attempts-applied, scratch-applied}
-use Rattle.markdown_inline.proofs.StartLemmas.{past-fits}
+use Rattle.markdown_run.proofs.StartLemmas.{past-fits}
 use Rattle.markdown_partial.specs.SpaceSteps.{most}
 use Rattle.markdown_inline_tests.proofs.constructs.pass_first.Goals as goal
 

@@ -4,7 +4,7 @@ use Rattle.markdown_engine.specs.Rest.{at_rest}
 use Rattle.markdown_engine.specs.Weights.{codes_left}
 use Rattle.markdown_engine.specs.declared.tokenizer.Tokenizer.{Tokenizer}
 use Rattle.markdown_html.specs.HtmlText as H
-use Rattle.markdown_inline.proofs.StartLemmas.{start-fits}
+use Rattle.markdown_run.proofs.StartLemmas.{start-fits}
 use Rattle.markdown_partial.specs.EolSteps as L
 use Rattle.markdown_partial.specs.SpaceSteps as W
 use Rattle.markdown_partial.specs.SpaceSteps.{most}

@@ -1,0 +1,16 @@
+pub mod StringTree
+pub mod StringRun
+pub mod ConstructLemmas
+pub mod StartLemmas
+pub mod ContentParts
+pub mod PairedLines
+pub mod Runless
+pub mod GoodCut
+pub mod ProbesAlike
+pub mod PassesRun
+pub mod TextTree
+pub mod RunEnds
+pub mod TextRun
+pub mod LabelConstructs
+pub mod RowPasses
+pub mod StillRows

@@ -1,0 +1,124 @@
+-- A whole run over a string.
+use Rattle.std.proofs.Common.{◌≡◌, Bool, true, false, List, [], None, refl, sym, ap, subst, ◌∙◌}
+use Rattle.markdown_engine.specs.Chain.{chained}
+use Rattle.markdown_engine.specs.Content.{IsContent, content_of}
+use Rattle.markdown_engine.specs.Ops.{scratched}
+use Rattle.markdown_engine.specs.Rest.{at_rest}
+use Rattle.markdown_engine.specs.Resolves.{MayResolve, Resolves, unregistered}
+use Rattle.markdown_engine.specs.Tree.{events_of}
+use Rattle.markdown_engine.specs.declared.parser.ParseState.{ParseState}
+use Rattle.markdown_engine.specs.declared.parser.Piece.{Piece}
+use Rattle.markdown_engine.specs.declared.resolve.ResolveName.TheVariants as R
+use Rattle.markdown_engine.specs.declared.tokenizer.TokenizeState.{TokenizeState}
+use Rattle.markdown_engine.specs.declared.tokenizer.Tokenizer.{Tokenizer}
+use Rattle.markdown_model.specs.Element.{AreElementsFrom, AreStringElements, string_choice}
+use Rattle.markdown_model.specs.Inline.{string_events}
+use Rattle.markdown_model.specs.Passes.{trimmed}
+use Rattle.markdown_row.specs.Elements.{Finishes}
+use Rattle.markdown_text.specs.Resolve.{may_resolve_of, resolves_of}
+use Rattle.markdown_text.specs.Settings.{setting_of}
+use Rattle.markdown_text.specs.StringSteps.{string_markers, string_marked, string_passed, string_here, StartReady, start_ends}
+use Rattle.markdown_run.proofs.PassesRun.{string_finish, string-trims}
+use Rattle.std.proofs.lemmas.Bool.{both_ways}
+use Rattle.markdown_engine.proofs.ChainTree.{chained-whole}
+use Rattle.markdown_engine.specs.Tree.{Forest}
+use Rattle.markdown_label_pass.specs.Brackets.{grouped}
+use Rattle.markdown_emphasis.proofs.Good.{IsGood}
+use Rattle.markdown_model.specs.Groups.{paired}
+use Rattle.markdown_model.specs.Pairs.{pair_list}
+use Rattle.markdown_model.specs.Passes.{labels_of, merged}
+use Rattle.markdown_row.specs.Opened.{brackets_of}
+use Rattle.markdown_row.specs.Row.{row_has_run}
+use Rattle.markdown_row.specs.Trees.{IsRunless}
+use Rattle.markdown_row.proofs.RowKeeps.{grouped-lines, grouped-runless}
+use Rattle.markdown_run.proofs.PassesRun.{IsGiven, IsResolved}
+use Rattle.markdown_run.proofs.Runless.{paired-runless, probes-none}
+use Rattle.markdown_run.proofs.RunEnds.{Starts, start-with, AreFresh, IsFound, finished-may, finished-left, finished-elements}
+use Rattle.markdown_run.proofs.StringTree.{string-finished, string-labels, string-still}
+use Rattle.markdown_run.proofs.StillRows.{row-still}
+use Rattle.markdown_run.proofs.ContentParts.{HasLines-HasCodes}
+use Rattle.markdown_cut.proofs.Splitting.{merged-same}
+use Rattle.markdown_model.proofs.DataLaws.{row_of}
+
+-- where data stops at the markers of a string
+marked-start : (p : ParseState) (pieces : List Piece) (T : Tokenizer) → Starts p pieces at_rest T → Starts p pieces (record at_rest { markers = string_markers }) (string_marked T)
+unfolding scratched
+marked-start p pieces T k =
+    let m : Starts p pieces (record T.tokenize_state { markers = string_markers }) (string_marked T) = start-with p pieces at_rest (record T.tokenize_state { markers = string_markers }) T k in
+    subst (λ (s : TokenizeState). Starts p pieces (record s { markers = string_markers }) (string_marked T)) k.fields m
+
+-- its fields are at rest
+pub string-ready : (p : ParseState) (pieces : List Piece) (T : Tokenizer) → Starts p pieces at_rest T → StartReady T
+string-ready p pieces T k =
+    record {
+      rest = record { marker = ap (λ (s : TokenizeState). s.marker) k.fields; size = ap (λ (s : TokenizeState). s.size) k.fields };
+      ends = record { end = ap (λ (s : TokenizeState). s.end) k.fields; seen = ap (λ (s : TokenizeState). s.seen) k.fields };
+    }
+
+module _ (p : ParseState) (pieces : List Piece) (content : IsContent p.bytes.now pieces) (T U : Tokenizer) (start : Starts p pieces at_rest T) where
+  abbrev M : Tokenizer
+  M = string_marked T
+
+  ended : (ok : Bool) → start_ends T ok U → Finishes (string_here M) string_passed M U
+  ended true k = k
+  ended false k = absurd k
+
+  choice-is : string_here M ≡ string_choice (setting_of p)
+  unfolding scratched
+  choice-is = ap (λ (x : ParseState). string_choice (setting_of x)) start.input
+
+  module _ (ok : Bool) (k : start_ends T ok U) where
+    abbrev E : Finishes (string_here M) string_passed M U
+    E = ended ok k
+
+    abbrev S : Starts p pieces (record at_rest { markers = string_markers }) M
+    S = marked-start p pieces T start
+
+    abbrev F : AreFresh (record at_rest { markers = string_markers })
+    F = record { labels = refl; starts = refl; loose = refl; end = refl; seen = refl; probes = refl }
+
+    abbrev G : IsGiven (setting_of p) p
+    G = record { bytes = refl; options = refl }
+
+    -- the row with its labels grouped, of which it has none
+    abbrev Tree : Forest
+    Tree = grouped (brackets_of E.row)
+
+    found : IsFound (string_here M) (content_of p.bytes.now pieces) E.row
+    found = finished-elements R.String string_finish string-trims (string_here M) p pieces content (setting_of p) G _ F M U S E
+
+    are : AreStringElements (setting_of p) (content_of p.bytes.now pieces) found.elements
+    are = subst (λ c. AreElementsFrom c [] None (content_of p.bytes.now pieces) found.elements) choice-is found.are
+
+    labels : labels_of found.elements ≡ row_of found.elements
+    labels = string-labels (setting_of p) (content_of p.bytes.now pieces) found.elements are
+
+    -- no run stands in it
+    none : row_has_run E.row ≡ false
+    none = row-still E.row found.elements found.alike (string-still (setting_of p) found.elements [] None (content_of p.bytes.now pieces) are)
+
+    good : row_has_run E.row ≡ true → IsGood p.bytes.now Tree
+    good e = absurd (both_ways (row_has_run E.row) none e)
+
+    pub string-may : MayResolve may_resolve_of resolves_of U.resolvers (unregistered U)
+    string-may = finished-may R.String string_finish string-trims (string_here M) p pieces content (setting_of p) G _ F M U S E good
+
+    module _ (V : Tokenizer) (r : Resolves resolves_of U.resolvers (unregistered U) V) where
+      runless : IsRunless Tree
+      runless = grouped-runless E.row found.is_row none
+
+      left : IsResolved (setting_of p) (string_finish p) Tree V
+      left = finished-left R.String string_finish string-trims (string_here M) p pieces content (setting_of p) G _ F M U S E good V r
+
+      pub string-probes : V.tokenize_state.probes ≡ 0
+      string-probes = probes-none (setting_of p) Tree V.tokenize_state.probes runless left.probed
+
+      -- the events after a run over a string and its passes
+      pub string-run : chained V.events ≡ string_events (setting_of p) pieces
+      string-run =
+          ap chained left.events
+          ∙ chained-whole (trimmed false false false (merged (paired (setting_of p) (pair_list (setting_of p)) Tree)))
+          ∙ ap (λ t. events_of (trimmed false false false (merged t))) (paired-runless (setting_of p) (pair_list (setting_of p)) Tree runless)
+          ∙ ap (λ t. events_of (trimmed false false false t)) (merged-same Tree (labels_of found.elements) (HasLines-HasCodes Tree (grouped-lines E.row found.is_row)) found.have_codes found.trees)
+          ∙ ap (λ t. events_of (trimmed false false false (merged t))) labels
+          ∙ ap events_of (sym (string-finished (setting_of p) (content_of p.bytes.now pieces) found.elements are))

@@ -1,0 +1,169 @@
+-- A whole run over a text.
+use Rattle.markdown_partial.specs.SpaceSteps.{most}
+use Rattle.markdown_engine.specs.Weights.{codes_left}
+use Rattle.std.proofs.Common.{◌≡◌, Bool, true, false, List, [], None, refl, sym, ap, subst, ◌∙◌, arith, ◌≤◌}
+use Rattle.markdown_engine.specs.Chain.{chained}
+use Rattle.markdown_engine.specs.Content.{IsContent, IsTextContent, content_of}
+use Rattle.markdown_engine.specs.Ops.{scratched}
+use Rattle.markdown_engine.specs.Place.{Place, start_of_content}
+use Rattle.markdown_engine.specs.Rest.{at_rest}
+use Rattle.markdown_engine.specs.Resolves.{MayResolve, Resolves, unregistered}
+use Rattle.markdown_engine.specs.Tree.{events_of}
+use Rattle.markdown_engine.specs.declared.parser.ParseState.{ParseState}
+use Rattle.markdown_engine.specs.declared.parser.Piece.{Piece}
+use Rattle.markdown_engine.specs.declared.resolve.ResolveName.TheVariants as R
+use Rattle.markdown_engine.specs.declared.tokenizer.TokenizeState.{TokenizeState}
+use Rattle.markdown_engine.specs.declared.tokenizer.Tokenizer.{Tokenizer}
+use Rattle.markdown_gfm.specs.GfmAutolinkLiteral as G
+use Rattle.markdown_leaf.specs.RawText as X
+use Rattle.markdown_partial.specs.SpaceSteps as W
+use Rattle.markdown_model.specs.Element.{AreElements, AreElementsFrom, text_choice}
+use Rattle.markdown_model.specs.Inline.{text_events}
+use Rattle.markdown_model.specs.Setting.{Setting}
+use Rattle.markdown_row.specs.Elements.{Finishes}
+use Rattle.markdown_text.specs.Resolve.{may_resolve_of, resolves_of}
+use Rattle.markdown_text.specs.Settings.{text_setting_of}
+use Rattle.markdown_text.specs.TextSteps.{StartReady, marked_fields, text_marked, text_passed, text_choice_of, start_ends}
+use Rattle.markdown_run.proofs.PassesRun.{text_finish, text-trims}
+use Rattle.markdown_engine.specs.Codes.{Code}
+use Rattle.markdown_label.specs.LabelEnd.{AreWithin}
+use Rattle.markdown_label_pass.specs.Brackets.{grouped}
+use Rattle.markdown_partial.specs.EolSteps as L
+use Rattle.markdown_resource.specs.Parts as Parts
+use Rattle.markdown_engine.specs.Tree.{Forest}
+use Rattle.markdown_emphasis.specs.Pass.{IsProbed}
+use Rattle.markdown_emphasis.proofs.Good.{IsGood}
+use Rattle.markdown_emphasis.proofs.Singles.{singles-content}
+use Rattle.markdown_emphasis.proofs.Striped.{good-tree}
+use Rattle.markdown_model.specs.Inline.{label_tree}
+use Rattle.markdown_model.specs.Passes.{labels_of}
+use Rattle.markdown_row.specs.Opened.{brackets_of}
+use Rattle.markdown_row.specs.Row.{row_has_run}
+use Rattle.markdown_row.proofs.RowKeeps.{grouped-runless}
+use Rattle.markdown_run.proofs.GoodCut.{good-alike}
+use Rattle.markdown_run.proofs.PassesRun.{IsGiven}
+use Rattle.markdown_run.proofs.Runless.{probes-none}
+use Rattle.markdown_run.proofs.RunEnds.{Starts, start-with, AreFresh, IsFound, finished-may, finished-left, finished-events, finished-probes, finished-elements}
+use Rattle.markdown_run.proofs.StartLemmas.{start-fits, start-last, start-literals, start-reads, unknown-runs}
+use Rattle.markdown_run.proofs.TextTree.{text-labels, text-still, text-finished}
+use Rattle.markdown_run.proofs.StillRows.{row-still}
+
+-- Runs.
+
+-- the scratch fields at the start of a text, which may be the first of a list item
+abbrev pub text_fields : Bool → TokenizeState
+text_fields first = record at_rest { document_at_first_paragraph_of_list_item = first }
+
+abbrev pub text_start : ParseState → List Piece → Bool → Tokenizer → Type 0
+text_start p pieces first T = Starts p pieces (text_fields first) T
+
+-- a new tokenizer that is told so
+pub started : (p : ParseState) (pieces : List Piece) (first : Bool) (B : Tokenizer) → Starts p pieces at_rest B → text_start p pieces first (record B { tokenize_state = record B.tokenize_state { document_at_first_paragraph_of_list_item = first } })
+started p pieces first B k =
+    let m : Starts p pieces (record B.tokenize_state { document_at_first_paragraph_of_list_item = first }) (record B { tokenize_state = record B.tokenize_state { document_at_first_paragraph_of_list_item = first } }) = start-with p pieces at_rest (record B.tokenize_state { document_at_first_paragraph_of_list_item = first }) B k in
+    subst (λ (s : TokenizeState). Starts p pieces (record s { document_at_first_paragraph_of_list_item = first }) (record B { tokenize_state = record B.tokenize_state { document_at_first_paragraph_of_list_item = first } })) k.fields m
+
+pub text-ready : (p : ParseState) (pieces : List Piece) (first : Bool) (T : Tokenizer) → IsTextContent p.bytes.now pieces → text_start p pieces first T → StartReady T
+text-ready p pieces first T text k =
+    let content : IsContent p.bytes.now pieces = text.is_content in
+    let fits : codes_left T ≤ most = start-fits p.bytes.now pieces T content k.place in
+    let input : T.parse_state.now.bytes.now ≡ p.bytes.now = ap (λ (x : ParseState). x.bytes.now) k.input in
+    record {
+      spans = record { rest = k.fields ∙ sym (ap X.rested k.fields); fits = omega (arith, fits); indexed = unknown-runs T.tokenize_state T.cursor.codes (ap (λ (s : TokenizeState). s.runs) k.fields) };
+      look = record { resting = ap W.rested k.fields ∙ sym k.fields; short = fits };
+      literals = start-literals p.bytes.now pieces T content input k.place (ap G.rested k.fields ∙ sym k.fields);
+      last = start-last p.bytes.now pieces T.cursor text k.place;
+      ends = record {
+        part = record { short = fits; spaces = record { space = ap W.rested k.fields ∙ sym k.fields; eol = ap L.eol_rested k.fields ∙ sym k.fields }; rest = ap Parts.rested k.fields ∙ sym k.fields };
+        text = start-reads p.bytes.now pieces T content input k.place;
+        within = subst (λ (s : TokenizeState). AreWithin T s.label_starts) (sym k.fields) tt;
+        resting = ap (λ (s : TokenizeState). s.end) k.fields;
+      };
+    }
+
+-- where data stops at the markers of a text, and where the runs of its spans stand
+marked-start : (p : ParseState) (pieces : List Piece) (first : Bool) (T : Tokenizer) → text_start p pieces first T → Starts p pieces (marked_fields T.cursor.codes (text_fields first)) (text_marked T)
+unfolding scratched
+marked-start p pieces first T k =
+    let m : Starts p pieces (marked_fields T.cursor.codes T.tokenize_state) (text_marked T) = start-with p pieces (text_fields first) (marked_fields T.cursor.codes T.tokenize_state) T k in
+    subst (λ (s : TokenizeState). Starts p pieces (marked_fields T.cursor.codes s) (text_marked T)) k.fields m
+
+fresh-fields : (first : Bool) (cs : List Code) → AreFresh (marked_fields cs (text_fields first))
+fresh-fields first cs = record { labels = refl; starts = refl; loose = refl; end = refl; seen = refl; probes = refl }
+
+module _ (p : ParseState) (pieces : List Piece) (first : Bool) (content : IsContent p.bytes.now pieces) (T U : Tokenizer) (start : text_start p pieces first T) where
+  abbrev M : Tokenizer
+  M = text_marked T
+
+  ended : (ok : Bool) → start_ends T ok U → Finishes (text_choice_of M) text_passed M U
+  ended true k = k
+  ended false k = absurd k
+
+  -- what is read
+  choice-is : text_choice_of M ≡ text_choice (text_setting_of p first) (content_of p.bytes.now pieces)
+  unfolding scratched start_of_content
+  choice-is =
+      ap (λ (s : Setting). text_choice s T.cursor.codes) (ap (λ (x : ParseState). text_setting_of x T.tokenize_state.document_at_first_paragraph_of_list_item) start.input ∙ ap (λ (s : TokenizeState). text_setting_of p s.document_at_first_paragraph_of_list_item) start.fields)
+      ∙ ap (λ (x : Place). text_choice (text_setting_of p first) x.codes) start.place
+
+  abbrev Given : Setting
+  Given = text_setting_of p first
+
+  abbrev all_codes : List Code
+  all_codes = content_of p.bytes.now pieces
+
+  abbrev Is : IsGiven Given p
+  Is = record { bytes = refl; options = refl }
+
+  module _ (ok : Bool) (k : start_ends T ok U) where
+    abbrev E : Finishes (text_choice_of M) text_passed M U
+    E = ended ok k
+
+    abbrev S : Starts p pieces (marked_fields T.cursor.codes (text_fields first)) M
+    S = marked-start p pieces first T start
+
+    abbrev F : AreFresh (marked_fields T.cursor.codes (text_fields first))
+    F = fresh-fields first T.cursor.codes
+
+    -- the row with its labels grouped
+    abbrev Tree : Forest
+    Tree = grouped (brackets_of E.row)
+
+    abbrev Found : Type 0
+    Found = IsFound (text_choice_of M) all_codes E.row
+
+    found : Found
+    found = finished-elements R.Text text_finish text-trims (text_choice_of M) p pieces content Given Is _ F M U S E
+
+    are : AreElements Given all_codes found.elements
+    are = subst (λ c. AreElementsFrom c [] None all_codes found.elements) choice-is found.are
+
+    labels : label_tree Given all_codes ≡ labels_of found.elements
+    labels = text-labels Given all_codes found.elements are
+
+    good : row_has_run E.row ≡ true → IsGood p.bytes.now Tree
+    good e =
+        good-alike p.bytes.now Tree (labels_of found.elements) found.trees
+        (subst (λ t. IsGood p.bytes.now t) labels (good-tree p.bytes.now Given all_codes (singles-content p.bytes.now pieces content.in_order)))
+
+    pub text-may : MayResolve may_resolve_of resolves_of U.resolvers (unregistered U)
+    text-may = finished-may R.Text text_finish text-trims (text_choice_of M) p pieces content Given Is _ F M U S E good
+
+    module _ (V : Tokenizer) (r : Resolves resolves_of U.resolvers (unregistered U) V) where
+      -- the looks that pairing took are within the bounds of the content's tree of labels
+      pub text-probes : IsProbed Given (label_tree Given all_codes) V.tokenize_state.probes
+      text-probes =
+          subst (λ t. IsProbed Given t V.tokenize_state.probes) (sym labels)
+          (finished-probes R.Text text_finish text-trims (text_choice_of M) p pieces content Given Is _ F M U S E good V (labels_of found.elements) found.trees r)
+
+      -- where runs are not looked for none is taken
+      pub text-no-probes : Given.options.constructs.attention ≡ false → Given.options.constructs.gfm_strikethrough ≡ false → V.tokenize_state.probes ≡ 0
+      text-no-probes off none =
+          let still : row_has_run E.row ≡ false = row-still E.row found.elements found.alike (text-still Given all_codes found.elements are off none) in
+          probes-none Given Tree V.tokenize_state.probes (grouped-runless E.row found.is_row still) (finished-left R.Text text_finish text-trims (text_choice_of M) p pieces content Given Is _ F M U S E good V r).probed
+
+      -- the events after a run over a text and its passes
+      pub text-run : chained V.events ≡ text_events Given pieces
+      text-run =
+          finished-events R.Text text_finish text-trims (text_choice_of M) p pieces content Given Is _ F M U S E good V (labels_of found.elements) found.have_codes found.trees r
+          ∙ ap events_of (sym (text-finished Given all_codes found.elements are))

@@ -1,0 +1,221 @@
+-- The inline tree of a text: the labels of its elements grouped, paired, merged and trimmed, and its emails set apart.
+use Rattle.std.proofs.Common.{◌≡◌, ℕ, Bool, true, false, ◌==◌, List, [], ◌∷◌, Option, None, Some, refl, sym, ap, subst, ◌∙◌}
+use Rattle.std.specs.List.{list_any}
+use Rattle.markdown_engine.specs.Codes.{Code, stop_of, document_start}
+use Rattle.markdown_engine.specs.Tree.{Forest, leaf}
+use Rattle.markdown_engine.specs.declared.event.Name.{Name}
+use Rattle.markdown_engine.specs.declared.event.Name.TheVariants as N
+use Rattle.markdown_engine.specs.declared.configuration.Constructs.{Constructs}
+use Rattle.markdown_engine.specs.declared.tokenizer.LabelKind.{LabelKind}
+use Rattle.markdown_model.specs.Element.{attention_run, as_plain, switched, line_ending, data_code, code_span, math_span, Tries, tries, tried, first_check, text_element, image_start, footnote_start, link_start, AreElementsFrom, text_choice, code_before, AreElements, elements_of}
+use Rattle.markdown_model.specs.Grammar.{Reading}
+use Rattle.markdown_model.specs.Groups.{paired}
+use Rattle.markdown_model.specs.Inline.{label_tree, raw_tree, finished_text, text_tree}
+use Rattle.markdown_model.specs.LabelEnd.{Element, plain, starts, ends, label_end}
+use Rattle.markdown_model.specs.Leaf.{code_names, math_names}
+use Rattle.markdown_model.specs.Pairs.{Pair, pair_list}
+use Rattle.markdown_model.specs.Passes.{labels_of, merged, trimmed, mailed}
+use Rattle.markdown_model.specs.Runs.{Run}
+use Rattle.markdown_model.specs.Setting.{Setting}
+use Rattle.markdown_model.proofs.ElementLaws.{text_elements, same_text_elements}
+use Rattle.markdown_model.proofs.LinkFree.{Passes, Yields, yields_bind, yields_gives, yields_passed, yields_either, then_any}
+use Rattle.markdown_text.specs.Resolve.{mailed_where}
+use Rattle.markdown_attention.specs.Reading.{is_run}
+use Rattle.markdown_row.specs.Trees.{IsNode}
+use Rattle.markdown_row.specs.Row.{row_has_run, row_of_elements}
+use Rattle.markdown_run.proofs.StillRows.{IsStill, still-first}
+use Rattle.markdown_row.proofs.TreePasts.{quiet-runless, leaf-runless}
+use Rattle.markdown_row.proofs.NodeLemmas.{check_yields, html_yields, escape_yields, reference_yields, break_yields, autolink_yields, protocol_yields, www_yields, span_here_yields, code_quiet, math_quiet}
+use Rattle.markdown_model.proofs.ReadingSteps.{switched-off}
+
+-- What is said of the elements of a text.
+
+off_yields : (P : Element → Type 0) (on : Bool) (a : Reading Element) → on ≡ false → Yields P (switched on a)
+unfolding switched
+off_yields P on a e = record { at = λ cs. subst (λ o. Passes P o) (sym (switched-off a on cs e)) tt }
+
+on_yields : (P : Element → Type 0) (on : Bool) (a : Reading Element) → Yields P a → Yields P (switched on a)
+unfolding switched
+on_yields P on a h = yields_passed _ _ _ h
+
+abbrev EachYields : (Element → Type 0) → Tries → Type 0
+EachYields P [] = Unit {0}
+EachYields P (row ∷ rows) = Yields P row.1 × EachYields P rows
+
+-- it holds of the trees of constructs, of codes by themselves, of runs where they are looked for, and of starts and ends of labels
+pub record HoldsOfParts (P : Element → Type 0) (on : Constructs) : Type 0 where
+  pub nodes : (t : Forest) → IsNode t → P (plain t)
+  pub leaves : (name : Name) (cs : List Code) → is_run name ≡ false → P (plain (leaf name cs))
+  pub stars : Yields P (switched on.attention (attention_run 42))
+  pub underscores : Yields P (switched on.attention (attention_run 95))
+  pub tildes : Yields P (switched on.gfm_strikethrough (attention_run 126))
+  pub opens : (kind : LabelKind) (marker : List Code) → P (starts kind marker)
+  pub closes : (marker : List Code) (outcome : Option (LabelKind × Forest)) → P (ends marker outcome)
+
+module _ (P : Element → Type 0) (s : Setting) (h : HoldsOfParts P s.options.constructs) where
+  plain_yields : (a : Reading Forest) → Yields IsNode a → Yields P (as_plain a)
+  unfolding as_plain
+  plain_yields a k = yields_bind IsNode _ _ _ k λ tree node. yields_gives _ (plain tree) (h.nodes tree node)
+
+  ending_yields : Yields P line_ending
+  unfolding line_ending
+  ending_yields = then_any _ _ _ λ c. yields_gives _ (plain (leaf N.LineEnding c)) (h.leaves N.LineEnding c refl)
+
+  data_yields : Yields P data_code
+  unfolding data_code
+  data_yields = then_any _ _ _ λ c. yields_gives _ (plain (leaf N.Data c)) (h.leaves N.Data c refl)
+
+  code_yields : (earlier : List Element) (previous : Option Code) → Yields P (code_span earlier previous)
+  unfolding code_span
+  code_yields earlier previous = plain_yields _ (span_here_yields _ code_names _ _ _ code_quiet)
+
+  math_yields : (single : Bool) (earlier : List Element) (previous : Option Code) → Yields P (math_span single earlier previous)
+  unfolding math_span
+  math_yields single earlier previous = plain_yields _ (span_here_yields _ math_names _ _ _ math_quiet)
+
+  image_yields : (footnotes : Bool) → Yields P (image_start footnotes)
+  unfolding image_start
+  image_yields footnotes = then_any _ _ _ λ marker. yields_gives _ _ (h.opens LabelKind.Image marker)
+
+  footnote_yields : Yields P footnote_start
+  unfolding footnote_start
+  footnote_yields = then_any _ _ _ λ marker. yields_gives _ _ (h.opens LabelKind.GfmFootnote marker)
+
+  link_yields : Yields P link_start
+  unfolding link_start
+  link_yields = then_any _ _ _ λ marker. yields_gives _ _ (h.opens LabelKind.Link marker)
+
+  end_yields : (earlier : List Element) → Yields P (label_end s earlier)
+  unfolding label_end
+  end_yields earlier = then_any _ _ _ λ back. yields_either _ _ _ (then_any _ _ _ λ outcome. yields_gives _ _ (h.closes back (Some outcome))) (yields_gives _ _ (h.closes back None))
+
+  tried_yields : (rows : Tries) (v : ℕ) → EachYields P rows → Yields P (tried rows v)
+  unfolding tried
+  tried_yields [] v k = record { at = data_yields.at }
+  tried_yields (row ∷ rows) v k = record { at = λ cs. by_test cs (list_any (λ n. v == n) row.0) (tried_yields rows v k.1) }
+    where
+      by_test : (cs : List Code) (b : Bool) → Yields P (tried rows v) → Passes P ((elim b as (λ _. Reading Element) [ true ↦ row.1 | false ↦ tried rows v ]) cs)
+      by_test cs true more = k.0.at cs
+      by_test cs false more = more.at cs
+
+  module _ (end : ℕ) (earlier : List Element) (previous : Option Code) where
+    each_yields : EachYields P (tries s end earlier previous)
+    unfolding tries
+    each_yields = (
+      ending_yields,
+      (
+        on_yields _ _ _ (image_yields _),
+        (
+          on_yields _ _ _ (math_yields _ _ _),
+          (
+            on_yields _ _ _ (code_yields _ _),
+            (
+              on_yields _ _ _ (plain_yields _ (reference_yields _)),
+              (
+                h.stars,
+                (
+                  h.underscores,
+                  (
+                    h.tildes,
+                    (
+                      yields_either _ _ _ (on_yields _ _ _ (plain_yields _ autolink_yields)) (on_yields _ _ _ (plain_yields _ html_yields)),
+                      (
+                        on_yields _ _ _ (plain_yields _ (protocol_yields _ _ _)),
+                        (
+                          on_yields _ _ _ (plain_yields _ (www_yields _ _ _)),
+                          (
+                            yields_either _ _ _ (on_yields _ _ _ footnote_yields) (on_yields _ _ _ link_yields),
+                            (
+                              yields_either _ _ _ (on_yields _ _ _ (plain_yields _ escape_yields)) (on_yields _ _ _ (plain_yields _ break_yields)),
+                              (
+                                on_yields _ _ _ (end_yields _),
+                                tt,
+                              ),
+                            ),
+                          ),
+                        ),
+                      ),
+                    ),
+                  ),
+                ),
+              ),
+            ),
+          ),
+        ),
+      ),
+    )
+
+    first_yields : Yields P (first_check s end earlier previous)
+    unfolding first_check
+    first_yields = on_yields _ _ _ (plain_yields _ check_yields)
+
+    text_yields : Yields P (text_element s end earlier previous)
+    unfolding text_element
+    text_yields = record { at = at }
+      where
+        at : (cs : List Code) → Passes P (text_element s end earlier previous cs)
+        at [] = tt
+        at (c ∷ cs) = (yields_either _ _ _ first_yields (yields_either _ _ _ (tried_yields (tries s end earlier previous) c.value each_yields) data_yields)).at (c ∷ cs)
+
+abbrev AllAre : (Element → Type 0) → List Element → Type 0
+AllAre P [] = Unit {0}
+AllAre P (e ∷ es) = P e × AllAre P es
+
+text-are : (P : Element → Type 0) (s : Setting) (all : List Code) (es earlier : List Element) (previous : Option Code) (cs : List Code) → HoldsOfParts P s.options.constructs
+    → AreElementsFrom (text_choice s all) earlier previous cs es → AllAre P es
+text-are P s all [] earlier previous cs h are = tt
+text-are P s all (e ∷ es) earlier previous cs h are = (
+  subst (λ o. Passes P o) are.1 ((text_yields P s h (stop_of document_start all).index earlier previous).at cs),
+  text-are P s all es (e ∷ earlier) (code_before cs are.0) are.0 h are.2,
+)
+
+-- Where no runs are looked for, none stands in them.
+
+parts-still : (on : Constructs) → on.attention ≡ false → on.gfm_strikethrough ≡ false → HoldsOfParts IsStill on
+parts-still on off none = record {
+  nodes = λ t h. quiet-runless t h.quiet;
+  leaves = leaf-runless;
+  stars = off_yields _ _ _ off;
+  underscores = off_yields _ _ _ off;
+  tildes = off_yields _ _ _ none;
+  opens = λ kind marker. tt;
+  closes = λ marker outcome. tt;
+}
+
+still-row : (es : List Element) → AllAre IsStill es → row_has_run (row_of_elements es) ≡ false
+still-row [] h = refl
+still-row (e ∷ es) h = still-first e (row_of_elements es) h.0 (still-row es h.1)
+
+-- where runs are not looked for none stands in the row of the elements
+pub text-still : (s : Setting) (cs : List Code) (es : List Element) → AreElements s cs es → s.options.constructs.attention ≡ false → s.options.constructs.gfm_strikethrough ≡ false → row_has_run (row_of_elements es) ≡ false
+text-still s cs es are off none = still-row es (text-are IsStill s cs es [] None cs (parts-still s.options.constructs off none) are)
+
+-- The tree of labels.
+
+pub text-labels : (s : Setting) (cs : List Code) (es : List Element) → AreElements s cs es → label_tree s cs ≡ labels_of es
+unfolding label_tree
+text-labels s cs es are = ap labels_of (same_text_elements s cs (elements_of s cs) es (text_elements s cs) are)
+
+-- The inline tree.
+
+-- a raw tree merged, trimmed and searched for emails, by the two switches
+finish : Bool → Bool → Forest → Forest
+finish hard literals t = let u = trimmed hard true true (merged t) in elim literals [ true ↦ mailed u | false ↦ u ]
+
+finished-is : (s : Setting) (pairs_of : List Run → List Pair) (es : List Element)
+    → finished_text s pairs_of es ≡ finish s.options.constructs.hard_break_trailing s.options.constructs.gfm_autolink_literal (paired s pairs_of (labels_of es))
+unfolding finished_text raw_tree finish
+finished-is s pairs_of es = refl
+
+finish-where : (hard literals : Bool) (t : Forest) → finish hard literals t ≡ mailed_where literals (trimmed hard true true (merged t))
+unfolding finish
+finish-where hard true t = refl
+finish-where hard false t = refl
+
+pub text-finished : (s : Setting) (cs : List Code) (es : List Element) → AreElements s cs es
+    → text_tree s cs ≡ mailed_where s.options.constructs.gfm_autolink_literal (trimmed s.options.constructs.hard_break_trailing true true (merged (paired s (pair_list s) (labels_of es))))
+unfolding text_tree
+text-finished s cs es are =
+    ap (finished_text s (pair_list s)) (same_text_elements s cs (elements_of s cs) es (text_elements s cs) are)
+    ∙ finished-is s (pair_list s) es
+    ∙ finish-where s.options.constructs.hard_break_trailing s.options.constructs.gfm_autolink_literal (paired s (pair_list s) (labels_of es))

@@ -1,0 +1,110 @@
+-- Which element of a string stands where.
+use Rattle.std.proofs.Common.{◌≡◌, Bool, true, false, ◌&&◌, ◌||◌, List, [], ◌∷◌, Option, None, Some, refl, sym, ap, ◌∙◌}
+use Rattle.markdown_engine.specs.Codes.{Code, is_line_ending}
+use Rattle.markdown_engine.specs.Tree.{Forest, leaf}
+use Rattle.markdown_engine.specs.declared.event.Name.TheVariants as N
+use Rattle.markdown_engine.specs.declared.parser.ParseState.{ParseState}
+use Rattle.markdown_model.specs.CodeTests.{is_value, is_among}
+use Rattle.markdown_model.specs.Element.{as_plain, switched, line_ending, data_code, string_element}
+use Rattle.markdown_model.specs.Grammar.{Reading, either, provided, ◌>>◌, ◌>>=◌, gives, one}
+use Rattle.markdown_model.specs.LabelEnd.{Element, plain}
+use Rattle.markdown_model.specs.Leaf.{escape, reference}
+use Rattle.markdown_model.specs.Setting.{Setting}
+use Rattle.markdown_model.proofs.DataLaws.{code_leaf}
+use Rattle.markdown_util.specs.Reference.{html_5_rows}
+use Rattle.markdown_construct.specs.Plan.{tree_ops}
+use Rattle.markdown_leaf.proofs.CharacterReferenceReading.{no-reference}
+use Rattle.markdown_model.proofs.ReadingSteps.{and-false, bind-none, bind-some, one-here, one-other, switched-off, switched-on}
+use Rattle.markdown_text.specs.Settings.{setting_of}
+use Rattle.markdown_text.specs.StringSteps.{string_markers}
+
+plain-of : Option (Forest × List Code) → Option (Element × List Code)
+plain-of o = elim o [ None ↦ None | Some r ↦ Some (plain r.0, r.1) ]
+
+switched-plain : (a : Reading Forest) (on : Bool) (cs : List Code) → switched on (as_plain a) cs ≡ plain-of ((provided on >> a) cs)
+unfolding switched as_plain ◌>>◌ ◌>>=◌ provided gives plain-of
+switched-plain a true cs = refl
+switched-plain a false cs = refl
+
+first-choice : (a b : Reading Element) (cs : List Code) (r : Option (Element × List Code)) → a cs ≡ r → either a b cs ≡ elim r [ None ↦ b cs | Some x ↦ Some x ]
+unfolding either
+first-choice a b cs r e = ap (λ (o : Option (Element × List Code)). elim o [ None ↦ b cs | Some x ↦ Some x ]) e
+
+abbrev escapes : Setting → Reading Element
+escapes s = switched s.options.constructs.character_escape (as_plain escape)
+
+abbrev references : Setting → Reading Element
+references s = switched s.options.constructs.character_reference (as_plain (reference s.references))
+
+-- an escape
+pub escaped-element : (s : Setting) (cs : List Code) (t : Forest) (rest : List Code) → (provided s.options.constructs.character_escape >> escape) cs ≡ Some (t, rest) → string_element s cs ≡ Some (plain t, rest)
+unfolding string_element plain-of
+escaped-element s cs t rest e =
+    first-choice (escapes s) (either (references s) (either line_ending data_code)) cs (Some (plain t, rest)) (switched-plain escape s.options.constructs.character_escape cs ∙ ap plain-of e)
+
+-- where no escape is
+unescaped : (s : Setting) (cs : List Code) → (provided s.options.constructs.character_escape >> escape) cs ≡ None → string_element s cs ≡ either (references s) (either line_ending data_code) cs
+unfolding string_element plain-of
+unescaped s cs e =
+    first-choice (escapes s) (either (references s) (either line_ending data_code)) cs None (switched-plain escape s.options.constructs.character_escape cs ∙ ap plain-of e)
+
+-- a reference
+pub referenced-element : (s : Setting) (cs : List Code) (t : Forest) (rest : List Code) → (provided s.options.constructs.character_escape >> escape) cs ≡ None → (provided s.options.constructs.character_reference >> reference s.references) cs ≡ Some (t, rest) → string_element s cs ≡ Some (plain t, rest)
+unfolding plain-of
+referenced-element s cs t rest none e =
+    unescaped s cs none
+    ∙ first-choice (references s) (either line_ending data_code) cs (Some (plain t, rest)) (switched-plain (reference s.references) s.options.constructs.character_reference cs ∙ ap plain-of e)
+
+code-at : (b : Bool) (c : Code) → is_line_ending c ≡ b → code_leaf c ≡ elim b as (λ _. Forest) [ true ↦ leaf N.LineEnding (c ∷ []) | false ↦ leaf N.Data (c ∷ []) ]
+code-at b c e = ap (λ x. elim x as (λ _. Forest) [ true ↦ leaf N.LineEnding (c ∷ []) | false ↦ leaf N.Data (c ∷ []) ]) e
+
+data-here : (c : Code) (cs : List Code) → data_code (c ∷ cs) ≡ Some (plain (leaf N.Data (c ∷ [])), cs)
+unfolding data_code ◌>>=◌ one gives
+data-here c cs = refl
+
+by-itself : (b : Bool) (c : Code) (cs : List Code) → is_line_ending c ≡ b → either line_ending data_code (c ∷ cs) ≡ Some (plain (code_leaf c), cs)
+unfolding line_ending gives
+by-itself true c cs e =
+    first-choice line_ending data_code (c ∷ cs) (Some (plain (leaf N.LineEnding (c ∷ [])), cs)) (bind-some (one is_line_ending) _ (c ∷ cs) (c ∷ []) cs (Some (plain (leaf N.LineEnding (c ∷ [])), cs)) (one-here is_line_ending c cs e) refl)
+    ∙ ap (λ x. Some (plain x, cs)) (sym (code-at true c e))
+by-itself false c cs e =
+    first-choice line_ending data_code (c ∷ cs) None (bind-none (one is_line_ending) _ (c ∷ cs) (one-other is_line_ending c cs e))
+    ∙ data-here c cs
+    ∙ ap (λ x. Some (plain x, cs)) (sym (code-at false c e))
+
+-- a code by itself: a line ending, or data
+pub code-element : (c : Code) (cs : List Code) → either line_ending data_code (c ∷ cs) ≡ Some (plain (code_leaf c), cs)
+code-element c cs = by-itself (is_line_ending c) c cs refl
+
+-- where neither an escape nor a reference is
+pub single-element : (s : Setting) (c : Code) (cs : List Code) → (provided s.options.constructs.character_escape >> escape) (c ∷ cs) ≡ None → (provided s.options.constructs.character_reference >> reference s.references) (c ∷ cs) ≡ None → string_element s (c ∷ cs) ≡ Some (plain (code_leaf c), cs)
+unfolding plain-of
+single-element s c cs none e =
+    unescaped s (c ∷ cs) none
+    ∙ first-choice (references s) (either line_ending data_code) (c ∷ cs) None (switched-plain (reference s.references) s.options.constructs.character_reference (c ∷ cs) ∙ ap plain-of e)
+    ∙ code-element c cs
+
+-- no escape begins at another code than the backslash
+pub no-backslash : (on : Bool) (c : Code) (cs : List Code) → is_value 92 c ≡ false → (provided on >> escape) (c ∷ cs) ≡ None
+unfolding escape
+no-backslash false c cs e = switched-off escape false (c ∷ cs) refl
+no-backslash true c cs e = switched-on escape true (c ∷ cs) refl ∙ bind-none (one (is_value 92)) _ (c ∷ cs) (one-other (is_value 92) c cs e)
+
+unread : (o : Option (Forest × List Code)) → tree_ops o ≡ None → o ≡ None
+unread None e = refl
+unread (Some r) e = cc
+
+-- no reference begins at another code than `&`
+pub no-ampersand : (on : Bool) (c : Code) (cs : List Code) → is_value 38 c ≡ false → (provided on >> reference html_5_rows) (c ∷ cs) ≡ None
+no-ampersand on c cs e = unread ((provided on >> reference html_5_rows) (c ∷ cs)) (no-reference on (c ∷ cs) (ap (λ b. on && b) e ∙ and-false on))
+
+neither : (a b : Bool) → (a || (b || false)) ≡ false → (a ≡ false) × (b ≡ false)
+neither true b e = cc
+neither false true e = cc
+neither false false e = (refl, refl)
+
+-- a code at which data does not stop
+pub unmarked-element : (p : ParseState) (c : Code) (cs : List Code) → is_among string_markers c ≡ false → string_element (setting_of p) (c ∷ cs) ≡ Some (plain (code_leaf c), cs)
+unmarked-element p c cs e =
+    let k = neither (is_value 38 c) (is_value 92 c) e in
+    single-element (setting_of p) c cs (no-backslash p.options.now.constructs.character_escape c cs k.1) (no-ampersand p.options.now.constructs.character_reference c cs k.0)

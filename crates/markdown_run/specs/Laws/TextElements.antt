@@ -1,0 +1,423 @@
+-- Which element of a text stands at the codes at hand.
+use Rattle.std.proofs.Common.{◌≡◌, ℕ, Bool, true, false, not, ◌&&◌, ◌||◌, ◌==◌, List, [], ◌∷◌, Option, None, Some, refl, sym, ap, subst, ◌∙◌, inl, inr}
+use Rattle.std.specs.Prelude.{is_none, nat_lt}
+use Rattle.std.specs.List.{list_any}
+use Rattle.std.proofs.lemmas.Bool.{or_parts, or_from, or_cases, eqb-true}
+use Rattle.markdown_engine.specs.Codes.{Code, is_line_ending}
+use Rattle.markdown_engine.specs.Tree.{Forest, leaf}
+use Rattle.markdown_engine.specs.declared.event.Name.TheVariants as N
+use Rattle.markdown_engine.specs.declared.configuration.ParseOptions.{ParseOptions}
+use Rattle.markdown_engine.specs.declared.tokenizer.Tokenizer.{Tokenizer}
+use Rattle.markdown_leaf.specs.RawText.{span_at}
+use Rattle.markdown_leaf.proofs.RawTextReadings.{here-off}
+use Rattle.markdown_model.specs.CodeTests.{is_among, is_value, is_some_code}
+use Rattle.markdown_attention.specs.Attention.{begins_run}
+use Rattle.markdown_model.specs.Element.{attention_run, as_plain, switched, line_ending, data_code, code_span, math_span, Tries, tries, tried, first_check, text_element, ends_escaped, image_start, footnote_start, link_start}
+use Rattle.markdown_model.specs.Grammar.{Reading, ◌>>◌, ◌>>=◌, provided, either, gives, one}
+use Rattle.markdown_model.specs.Html.{html}
+use Rattle.markdown_model.specs.LabelEnd.{Element, plain, label_end}
+use Rattle.markdown_model.specs.Literal.{protocol_literal, www_literal}
+use Rattle.markdown_model.specs.Leaf.{escape, reference, hard_break_escape, autolink, task_check, span_here, code_names, math_names}
+use Rattle.markdown_model.specs.Setting.{Setting}
+use Rattle.markdown_model.proofs.DataLaws.{code_leaf}
+use Rattle.markdown_row.specs.Elements.{StandsAfter}
+use Rattle.markdown_text.specs.TextSteps.{text_markers}
+use Rattle.markdown_model.proofs.ReadingSteps.{bind-some, bind-none, one-here, one-other, either-first, either-second, either-some, switched-on, switched-off}
+
+-- the element of what a construct reads here, or of the code by itself
+abbrev pub element_here : Code → List Code → Option (Forest × List Code) → Option (Element × List Code)
+element_here c cs None = Some (plain (code_leaf c), cs)
+element_here c cs (Some r) = Some (plain r.0, r.1)
+
+-- Readings that give plain elements.
+
+unfoldable pub plain_of : Option (Forest × List Code) → Option (Element × List Code)
+plain_of o = elim o [ None ↦ None | Some r ↦ Some (plain r.0, r.1) ]
+
+pub plain-switched : (on : Bool) (a : Reading Forest) (cs : List Code) → switched on (as_plain a) cs ≡ plain_of ((provided on >> a) cs)
+unfolding switched as_plain ◌>>◌ ◌>>=◌ provided gives plain_of
+plain-switched true a cs = refl
+plain-switched false a cs = refl
+
+pub off-or-none : (on : Bool) (a : Reading Forest) (cs : List Code) → a cs ≡ None → (provided on >> a) cs ≡ None
+off-or-none true a cs e = switched-on a true cs refl ∙ e
+off-or-none false a cs e = switched-off a false cs refl
+
+-- a code by itself
+
+leaf-by : (b : Bool) (c : Code) → is_line_ending c ≡ b → code_leaf c ≡ elim b as (λ _. Forest) [ true ↦ leaf N.LineEnding (c ∷ []) | false ↦ leaf N.Data (c ∷ []) ]
+leaf-by b c e = ap (λ x. elim x as (λ _. Forest) [ true ↦ leaf N.LineEnding (c ∷ []) | false ↦ leaf N.Data (c ∷ []) ]) e
+
+data-alone : (c : Code) (cs : List Code) → is_line_ending c ≡ false → data_code (c ∷ cs) ≡ Some (plain (code_leaf c), cs)
+unfolding data_code ◌>>=◌ one gives
+data-alone c cs e = ap (λ t. Some (plain t, cs)) (sym (leaf-by false c e))
+
+ending-alone : (c : Code) (cs : List Code) → is_line_ending c ≡ true → line_ending (c ∷ cs) ≡ Some (plain (code_leaf c), cs)
+unfolding line_ending gives
+ending-alone c cs e =
+    bind-some (one is_line_ending) _ (c ∷ cs) (c ∷ []) cs (Some (plain (leaf N.LineEnding (c ∷ [])), cs)) (one-here is_line_ending c cs e) refl
+    ∙ ap (λ t. Some (plain t, cs)) (sym (leaf-by true c e))
+
+-- a row and data behind it
+plain-or-data : (row : Reading Element) (c : Code) (cs : List Code) (o : Option (Forest × List Code)) → is_line_ending c ≡ false → row (c ∷ cs) ≡ plain_of o → either row data_code (c ∷ cs) ≡ element_here c cs o
+unfolding plain_of
+plain-or-data row c cs None e k = either-second row data_code (c ∷ cs) k ∙ data-alone c cs e
+plain-or-data row c cs (Some r) e k = either-some row data_code (c ∷ cs) (plain r.0, r.1) k
+
+-- Rows that have no code.
+
+abbrev IsPassedOver : Tries → ℕ → Type 0
+IsPassedOver [] v = Unit {0}
+IsPassedOver (row ∷ rows) v = (list_any (λ n. v == n) row.0 ≡ false) × IsPassedOver rows v
+
+tried-data : (rows : Tries) (v : ℕ) → IsPassedOver rows v → tried rows v ≡ data_code
+unfolding tried
+tried-data [] v h = refl
+tried-data (row ∷ rows) v h = rw (h.0, tried) (tried-data rows v h.1)
+
+-- each of these is another
+abbrev AreOther : List ℕ → ℕ → Type 0
+AreOther [] v = Unit {0}
+AreOther (n ∷ ns) v = ((v == n) ≡ false) × AreOther ns v
+
+are-other : (ns : List ℕ) (v : ℕ) → list_any (λ n. v == n) ns ≡ false → AreOther ns v
+are-other [] v e = tt
+are-other (n ∷ ns) v e = let k = or_parts (v == n) (list_any (λ m. v == m) ns) e in (k.0, are-other ns v k.1)
+
+from-other : (ns : List ℕ) (v : ℕ) → AreOther ns v → list_any (λ n. v == n) ns ≡ false
+from-other [] v h = refl
+from-other (n ∷ ns) v h = or_from (v == n) (list_any (λ m. v == m) ns) h.0 (from-other ns v h.1)
+
+skip-one : (v n : ℕ) → (v == n) ≡ false → ((v == n) || false) ≡ false
+skip-one v n e = ap (λ b. b || false) e
+
+skip-two : (v n m : ℕ) → (v == n) ≡ false → (v == m) ≡ false → ((v == n) || ((v == m) || false)) ≡ false
+skip-two v n m e f = λ i. e i || (f i || false)
+
+-- The markers of runs.
+
+abbrev pub run_markers : List ℕ
+run_markers = 42 ∷ 95 ∷ 126 ∷ []
+
+abbrev pub is_marker : ℕ → Bool
+is_marker v = list_any (λ n. v == n) run_markers
+
+abbrev pub EachOf : (ℕ → Type 0) → List ℕ → Type 0
+EachOf P [] = Unit {0}
+EachOf P (n ∷ ns) = P n × EachOf P ns
+
+-- what holds of each of these holds of one that is among them
+pub one-of : (P : ℕ → Type 0) (ns : List ℕ) (v : ℕ) → EachOf P ns → list_any (λ n. v == n) ns ≡ true → P v
+one-of P [] v h e = cc
+one-of P (n ∷ ns) v h e = by_test (v == n) refl e (one-of P ns v h.1)
+  where
+    by_test : (b : Bool) → (v == n) ≡ b → (b || list_any (λ m. v == m) ns) ≡ true → (list_any (λ m. v == m) ns ≡ true → P v) → P v
+    by_test true k f more = subst P (sym (eqb-true v n k)) h.0
+    by_test false k f more = more f
+
+-- Spans of both kinds.
+
+abbrev spans_by : ParseOptions → Bool → Option Code → Reading Forest
+spans_by p escaped previous =
+    either (provided p.constructs.code_text >> span_here 96 code_names (λ n. true) escaped previous)
+    (provided p.constructs.math_text >> span_here 36 math_names (λ n. p.math_text_single_dollar || nat_lt 1 n) escaped previous)
+
+-- one of them begins at its marker only
+only-code : (p : ParseOptions) (escaped : Bool) (previous : Option Code) (c : Code) (cs : List Code) → c.value ≡ 96
+    → spans_by p escaped previous (c ∷ cs) ≡ (provided p.constructs.code_text >> span_here 96 code_names (λ n. true) escaped previous) (c ∷ cs)
+only-code p escaped previous c cs e =
+    either-first _ (provided p.constructs.math_text >> span_here 36 math_names (λ n. p.math_text_single_dollar || nat_lt 1 n) escaped previous) (c ∷ cs)
+    (here-off p.math_text_single_dollar 36 math_names (λ n. p.math_text_single_dollar || nat_lt 1 n) p.constructs.math_text escaped previous (c ∷ cs)
+    (ap (λ v. (v == 36) && (p.constructs.math_text && (escaped || not (is_some_code (is_value 36) previous)))) e))
+
+only-math : (p : ParseOptions) (escaped : Bool) (previous : Option Code) (c : Code) (cs : List Code) → c.value ≡ 36
+    → spans_by p escaped previous (c ∷ cs) ≡ (provided p.constructs.math_text >> span_here 36 math_names (λ n. p.math_text_single_dollar || nat_lt 1 n) escaped previous) (c ∷ cs)
+only-math p escaped previous c cs e =
+    either-second (provided p.constructs.code_text >> span_here 96 code_names (λ n. true) escaped previous) _ (c ∷ cs)
+    (here-off p.math_text_single_dollar 96 code_names (λ n. true) p.constructs.code_text escaped previous (c ∷ cs)
+    (ap (λ v. (v == 96) && (p.constructs.code_text && (escaped || not (is_some_code (is_value 96) previous)))) e))
+
+module _ (s : Setting) (end : ℕ) (earlier : List Element) (previous : Option Code) where
+  -- a check begins with a bracket
+  no-check : (c : Code) (cs : List Code) → (c.value == 91) ≡ false → first_check s end earlier previous (c ∷ cs) ≡ None
+  unfolding first_check plain_of task_check
+  no-check c cs e =
+      let begins : Bool = (is_none previous && s.first_of_item) && s.options.constructs.gfm_task_list_item in
+      plain-switched begins task_check (c ∷ cs) ∙ ap plain_of (off-or-none begins task_check (c ∷ cs) (bind-none (one (is_value 91)) _ (c ∷ cs) (one-other (is_value 91) c cs e)))
+
+  -- where a check begins
+  pub check-element : (c : Code) (cs : List Code) (t : Forest) (rest : List Code)
+      → (provided ((is_none previous && s.first_of_item) && s.options.constructs.gfm_task_list_item) >> task_check) (c ∷ cs) ≡ Some (t, rest) → text_element s end earlier previous (c ∷ cs) ≡ Some (plain t, rest)
+  unfolding text_element first_check plain_of
+  check-element c cs t rest h =
+      either-some (first_check s end earlier previous) (either (tried (tries s end earlier previous) c.value) data_code) (c ∷ cs) (plain t, rest)
+      (plain-switched ((is_none previous && s.first_of_item) && s.options.constructs.gfm_task_list_item) task_check (c ∷ cs) ∙ ap plain_of h)
+
+  -- the row of the code, and data behind it
+  pub text-at : (row : Reading Element) (c : Code) (cs : List Code) → first_check s end earlier previous (c ∷ cs) ≡ None → tried (tries s end earlier previous) c.value ≡ row → text_element s end earlier previous (c ∷ cs) ≡ either row data_code (c ∷ cs)
+  unfolding text_element
+  text-at row c cs none e =
+      either-second (first_check s end earlier previous) (either (tried (tries s end earlier previous) c.value) data_code) (c ∷ cs) none
+      ∙ ap (λ r. either r data_code (c ∷ cs)) e
+
+  -- the same, of a code with this value, which is no bracket
+  text-row : (v : ℕ) (row : Reading Element) (c : Code) (cs : List Code) → c.value ≡ v → (v == 91) ≡ false → tried (tries s end earlier previous) v ≡ row → text_element s end earlier previous (c ∷ cs) ≡ either row data_code (c ∷ cs)
+  text-row v row c cs e n k = text-at row c cs (no-check c cs (ap (λ x. x == 91) e ∙ n)) (ap (tried (tries s end earlier previous)) e ∙ k)
+
+  value-other : (v : ℕ) (c : Code) → c.value ≡ v → (v == 10) ≡ false → is_line_ending c ≡ false
+  value-other v c e k = ap (λ n. n == 10) e ∙ k
+
+  -- a row of one construct
+  one-row : (v : ℕ) (on : Bool) (a : Reading Forest) (c : Code) (cs : List Code) (o : Option (Forest × List Code)) → c.value ≡ v → (v == 10) ≡ false → (v == 91) ≡ false
+      → tried (tries s end earlier previous) v ≡ switched on (as_plain a) → (provided on >> a) (c ∷ cs) ≡ o → text_element s end earlier previous (c ∷ cs) ≡ element_here c cs o
+  one-row v on a c cs o e k n row h =
+      text-row v (switched on (as_plain a)) c cs e n row
+      ∙ plain-or-data (switched on (as_plain a)) c cs o (value-other v c e k) (plain-switched on a (c ∷ cs) ∙ ap plain_of h)
+
+  -- Spans.
+
+  pub code-element : (c : Code) (cs : List Code) (o : Option (Forest × List Code)) → c.value ≡ 96
+      → (provided s.options.constructs.code_text >> span_here 96 code_names (λ n. true) (ends_escaped earlier) previous) (c ∷ cs) ≡ o → text_element s end earlier previous (c ∷ cs) ≡ element_here c cs o
+  unfolding tries tried code_span
+  code-element c cs o e h = one-row 96 s.options.constructs.code_text (span_here 96 code_names (λ n. true) (ends_escaped earlier) previous) c cs o e refl refl refl h
+
+  pub math-element : (c : Code) (cs : List Code) (o : Option (Forest × List Code)) → c.value ≡ 36
+      → (provided s.options.constructs.math_text >> span_here 36 math_names (λ n. s.options.math_text_single_dollar || nat_lt 1 n) (ends_escaped earlier) previous) (c ∷ cs) ≡ o
+      → text_element s end earlier previous (c ∷ cs) ≡ element_here c cs o
+  unfolding tries tried math_span
+  math-element c cs o e h =
+      one-row 36 s.options.constructs.math_text (span_here 36 math_names (λ n. s.options.math_text_single_dollar || nat_lt 1 n) (ends_escaped earlier) previous) c cs o e refl refl refl h
+
+  -- what `span_at` reads, of a tokenizer with these switches of spans and this before it
+  pub span-element : (T : Tokenizer) (c : Code) (cs : List Code) (o : Option (Forest × List Code)) → spans_by s.options ≡ spans_by T.parse_state.now.options.now → StandsAfter earlier previous T
+      → (c.value == 36 || c.value == 96) ≡ true → span_at T (c ∷ cs) ≡ o → text_element s end earlier previous (c ∷ cs) ≡ element_here c cs o
+  span-element T c cs o same stands e h = by_test (c.value == 36) refl e
+    where
+      given : spans_by s.options (ends_escaped earlier) previous (c ∷ cs) ≡ o
+      given = (λ i. same i (sym stands.escaped i) (sym stands.before i) (c ∷ cs)) ∙ h
+
+      by_test : (b : Bool) → (c.value == 36) ≡ b → (b || c.value == 96) ≡ true → text_element s end earlier previous (c ∷ cs) ≡ element_here c cs o
+      by_test true k f = let v = eqb-true c.value 36 k in math-element c cs o v (sym (only-math s.options (ends_escaped earlier) previous c cs v) ∙ given)
+      by_test false k f = let v = eqb-true c.value 96 f in code-element c cs o v (sym (only-code s.options (ends_escaped earlier) previous c cs v) ∙ given)
+
+  -- References.
+
+  pub reference-element : (c : Code) (cs : List Code) (o : Option (Forest × List Code)) → c.value ≡ 38
+      → (provided s.options.constructs.character_reference >> reference s.references) (c ∷ cs) ≡ o → text_element s end earlier previous (c ∷ cs) ≡ element_here c cs o
+  unfolding tries tried
+  reference-element c cs o e h = one-row 38 s.options.constructs.character_reference (reference s.references) c cs o e refl refl refl h
+
+  -- A `<`.
+
+  angle_row : Reading Element
+  angle_row = either (switched s.options.constructs.autolink (as_plain autolink)) (switched s.options.constructs.html_text (as_plain html))
+
+  angle-at : (c : Code) (cs : List Code) → c.value ≡ 60 → text_element s end earlier previous (c ∷ cs) ≡ either angle_row data_code (c ∷ cs)
+  unfolding tries tried angle_row
+  angle-at c cs e = text-row 60 _ c cs e refl refl
+
+  pub autolink-element : (c : Code) (cs : List Code) (t : Forest) (rest : List Code) → c.value ≡ 60
+      → (provided s.options.constructs.autolink >> autolink) (c ∷ cs) ≡ Some (t, rest) → text_element s end earlier previous (c ∷ cs) ≡ Some (plain t, rest)
+  unfolding angle_row plain_of
+  autolink-element c cs t rest e h =
+      angle-at c cs e
+      ∙ plain-or-data angle_row c cs (Some (t, rest)) (value-other 60 c e refl)
+      (either-some (switched s.options.constructs.autolink (as_plain autolink)) _ (c ∷ cs) (plain t, rest) (plain-switched s.options.constructs.autolink autolink (c ∷ cs) ∙ ap plain_of h))
+
+  pub html-element : (c : Code) (cs : List Code) (o : Option (Forest × List Code)) → c.value ≡ 60
+      → (provided s.options.constructs.autolink >> autolink) (c ∷ cs) ≡ None → (provided s.options.constructs.html_text >> html) (c ∷ cs) ≡ o
+      → text_element s end earlier previous (c ∷ cs) ≡ element_here c cs o
+  unfolding angle_row plain_of
+  html-element c cs o e none h =
+      angle-at c cs e
+      ∙ plain-or-data angle_row c cs o (value-other 60 c e refl)
+      (either-second (switched s.options.constructs.autolink (as_plain autolink)) _ (c ∷ cs) (plain-switched s.options.constructs.autolink autolink (c ∷ cs) ∙ ap plain_of none)
+      ∙ plain-switched s.options.constructs.html_text html (c ∷ cs) ∙ ap plain_of h)
+
+  -- A backslash.
+
+  slash_row : Reading Element
+  slash_row = either (switched s.options.constructs.character_escape (as_plain escape)) (switched s.options.constructs.hard_break_escape (as_plain hard_break_escape))
+
+  slash-at : (c : Code) (cs : List Code) → c.value ≡ 92 → text_element s end earlier previous (c ∷ cs) ≡ either slash_row data_code (c ∷ cs)
+  unfolding tries tried slash_row
+  slash-at c cs e = text-row 92 _ c cs e refl refl
+
+  pub escape-element : (c : Code) (cs : List Code) (t : Forest) (rest : List Code) → c.value ≡ 92
+      → (provided s.options.constructs.character_escape >> escape) (c ∷ cs) ≡ Some (t, rest) → text_element s end earlier previous (c ∷ cs) ≡ Some (plain t, rest)
+  unfolding slash_row plain_of
+  escape-element c cs t rest e h =
+      slash-at c cs e
+      ∙ plain-or-data slash_row c cs (Some (t, rest)) (value-other 92 c e refl)
+      (either-some (switched s.options.constructs.character_escape (as_plain escape)) _ (c ∷ cs) (plain t, rest) (plain-switched s.options.constructs.character_escape escape (c ∷ cs) ∙ ap plain_of h))
+
+  pub break-element : (c : Code) (cs : List Code) (o : Option (Forest × List Code)) → c.value ≡ 92
+      → (provided s.options.constructs.character_escape >> escape) (c ∷ cs) ≡ None → (provided s.options.constructs.hard_break_escape >> hard_break_escape) (c ∷ cs) ≡ o
+      → text_element s end earlier previous (c ∷ cs) ≡ element_here c cs o
+  unfolding slash_row plain_of
+  break-element c cs o e none h =
+      slash-at c cs e
+      ∙ plain-or-data slash_row c cs o (value-other 92 c e refl)
+      (either-second (switched s.options.constructs.character_escape (as_plain escape)) _ (c ∷ cs) (plain-switched s.options.constructs.character_escape escape (c ∷ cs) ∙ ap plain_of none)
+      ∙ plain-switched s.options.constructs.hard_break_escape hard_break_escape (c ∷ cs) ∙ ap plain_of h)
+
+  -- Runs of markers.
+
+  -- the row of a marker: its run, where that is read
+  abbrev IsRunRow : ℕ → Type 0
+  IsRunRow v = ((v == 10) ≡ false) × (((v == 91) ≡ false) × (tried (tries s end earlier previous) v ≡ switched (begins_run s.options.constructs v) (attention_run v)))
+
+  run-row : (v : ℕ) → is_marker v ≡ true → IsRunRow v
+  unfolding tries tried
+  run-row v h = one-of IsRunRow run_markers v ((refl, (refl, refl)), ((refl, (refl, refl)), ((refl, (refl, refl)), tt))) h
+
+  pub run-element : (v : ℕ) (c : Code) (cs : List Code) (t : Forest) (rest : List Code) → is_marker v ≡ true → c.value ≡ v → switched (begins_run s.options.constructs v) (attention_run v) (c ∷ cs) ≡ Some (plain t, rest)
+      → text_element s end earlier previous (c ∷ cs) ≡ Some (plain t, rest)
+  run-element v c cs t rest m e h =
+      let r = run-row v m in
+      text-row v (switched (begins_run s.options.constructs v) (attention_run v)) c cs e r.1.0 r.1.1 ∙ either-some (switched (begins_run s.options.constructs v) (attention_run v)) data_code (c ∷ cs) (plain t, rest) h
+
+  -- a row that does not hold
+  row-none : (v : ℕ) (row : Reading Element) (c : Code) (cs : List Code) → c.value ≡ v → (v == 10) ≡ false → (v == 91) ≡ false → tried (tries s end earlier previous) v ≡ row → row (c ∷ cs) ≡ None
+      → text_element s end earlier previous (c ∷ cs) ≡ Some (plain (code_leaf c), cs)
+  row-none v row c cs e k n r h = text-row v row c cs e n r ∙ either-second row data_code (c ∷ cs) h ∙ data-alone c cs (value-other v c e k)
+
+  -- a marker that begins no run
+  pub run-off : (v : ℕ) (c : Code) (cs : List Code) → is_marker v ≡ true → c.value ≡ v → switched (begins_run s.options.constructs v) (attention_run v) (c ∷ cs) ≡ None
+      → text_element s end earlier previous (c ∷ cs) ≡ Some (plain (code_leaf c), cs)
+  run-off v c cs m e h =
+      let r = run-row v m in
+      row-none v (switched (begins_run s.options.constructs v) (attention_run v)) c cs e r.0 r.1.0 r.1.1 h
+
+  -- Literals, in either case of the letter that they begin with.
+
+  -- a code of one of two values, whose rows are the same
+  two-rows : (v a b : ℕ) (on : Bool) (k : Reading Forest) (c : Code) (cs : List Code) (o : Option (Forest × List Code)) → c.value ≡ v → (v == a || v == b) ≡ true
+      → (a == 10 || b == 10) ≡ false → (a == 91 || b == 91) ≡ false → tried (tries s end earlier previous) a ≡ switched on (as_plain k) → tried (tries s end earlier previous) b ≡ switched on (as_plain k)
+      → (provided on >> k) (c ∷ cs) ≡ o → text_element s end earlier previous (c ∷ cs) ≡ element_here c cs o
+  two-rows v a b on k c cs o e h lines brackets first second read =
+      let line = or_parts (a == 10) (b == 10) lines in
+      let bracket = or_parts (a == 91) (b == 91) brackets in
+      elim (or_cases (v == a) (v == b) h) [
+        | inl x ↦ one-row a on k c cs o (e ∙ eqb-true v a x) line.0 bracket.0 first read
+        | inr x ↦ one-row b on k c cs o (e ∙ eqb-true v b x) line.1 bracket.1 second read
+      ]
+
+  pub protocol-element : (v : ℕ) (c : Code) (cs : List Code) (o : Option (Forest × List Code)) → c.value ≡ v → (v == 72 || v == 104) ≡ true
+      → (provided s.options.constructs.gfm_autolink_literal >> protocol_literal s.bytes end previous) (c ∷ cs) ≡ o → text_element s end earlier previous (c ∷ cs) ≡ element_here c cs o
+  unfolding tries tried
+  protocol-element v c cs o e h read = two-rows v 72 104 s.options.constructs.gfm_autolink_literal (protocol_literal s.bytes end previous) c cs o e h refl refl refl refl read
+
+  pub www-element : (v : ℕ) (c : Code) (cs : List Code) (o : Option (Forest × List Code)) → c.value ≡ v → (v == 87 || v == 119) ≡ true
+      → (provided s.options.constructs.gfm_autolink_literal >> www_literal s.bytes end previous) (c ∷ cs) ≡ o → text_element s end earlier previous (c ∷ cs) ≡ element_here c cs o
+  unfolding tries tried
+  www-element v c cs o e h read = two-rows v 87 119 s.options.constructs.gfm_autolink_literal (www_literal s.bytes end previous) c cs o e h refl refl refl refl read
+
+  -- Starts and ends of labels.
+
+  -- what the row of a code gives
+  row-some : (v : ℕ) (row : Reading Element) (c : Code) (cs : List Code) (r : Element × List Code) → c.value ≡ v → first_check s end earlier previous (c ∷ cs) ≡ None → tried (tries s end earlier previous) v ≡ row → row (c ∷ cs) ≡ Some r
+      → text_element s end earlier previous (c ∷ cs) ≡ Some r
+  row-some v row c cs r e none is h = text-at row c cs none (ap (tried (tries s end earlier previous)) e ∙ is) ∙ either-some row data_code (c ∷ cs) r h
+
+  row-data : (v : ℕ) (row : Reading Element) (c : Code) (cs : List Code) → c.value ≡ v → (v == 10) ≡ false → first_check s end earlier previous (c ∷ cs) ≡ None → tried (tries s end earlier previous) v ≡ row → row (c ∷ cs) ≡ None
+      → text_element s end earlier previous (c ∷ cs) ≡ Some (plain (code_leaf c), cs)
+  row-data v row c cs e k none is h = text-at row c cs none (ap (tried (tries s end earlier previous)) e ∙ is) ∙ either-second row data_code (c ∷ cs) h ∙ data-alone c cs (value-other v c e k)
+
+  -- a `!`
+  abbrev pub bang_row : Reading Element
+  bang_row = switched s.options.constructs.label_start_image (image_start s.options.constructs.gfm_label_start_footnote)
+
+  pub image-element : (c : Code) (cs : List Code) (r : Element × List Code) → c.value ≡ 33 → bang_row (c ∷ cs) ≡ Some r → text_element s end earlier previous (c ∷ cs) ≡ Some r
+  unfolding tries tried
+  image-element c cs r e h = row-some 33 bang_row c cs r e (no-check c cs (ap (λ x. x == 91) e)) refl h
+
+  pub no-image-element : (c : Code) (cs : List Code) → c.value ≡ 33 → bang_row (c ∷ cs) ≡ None → text_element s end earlier previous (c ∷ cs) ≡ Some (plain (code_leaf c), cs)
+  unfolding tries tried
+  no-image-element c cs e h = row-data 33 bang_row c cs e refl (no-check c cs (ap (λ x. x == 91) e)) refl h
+
+  -- a `[`
+  abbrev pub bracket_row : Reading Element
+  bracket_row = either (switched s.options.constructs.gfm_label_start_footnote footnote_start) (switched s.options.constructs.label_start_link link_start)
+
+  pub bracket-element : (c : Code) (cs : List Code) (r : Element × List Code) → first_check s end earlier previous (c ∷ cs) ≡ None → c.value ≡ 91 → bracket_row (c ∷ cs) ≡ Some r → text_element s end earlier previous (c ∷ cs) ≡ Some r
+  unfolding tries tried
+  bracket-element c cs r none e h = row-some 91 bracket_row c cs r e none refl h
+
+  pub no-bracket-element : (c : Code) (cs : List Code) → first_check s end earlier previous (c ∷ cs) ≡ None → c.value ≡ 91 → bracket_row (c ∷ cs) ≡ None → text_element s end earlier previous (c ∷ cs) ≡ Some (plain (code_leaf c), cs)
+  unfolding tries tried
+  no-bracket-element c cs none e h = row-data 91 bracket_row c cs e refl none refl h
+
+  -- a `]`
+  pub end-element : (c : Code) (cs : List Code) (r : Element × List Code) → c.value ≡ 93 → s.options.constructs.label_end ≡ true → label_end s earlier (c ∷ cs) ≡ Some r → text_element s end earlier previous (c ∷ cs) ≡ Some r
+  unfolding tries tried switched
+  end-element c cs r e on h =
+      row-some 93 (provided s.options.constructs.label_end >> label_end s earlier) c cs r e (no-check c cs (ap (λ x. x == 91) e)) refl (switched-on (label_end s earlier) s.options.constructs.label_end (c ∷ cs) on ∙ h)
+
+  pub no-end-element : (c : Code) (cs : List Code) → c.value ≡ 93 → s.options.constructs.label_end ≡ false → text_element s end earlier previous (c ∷ cs) ≡ Some (plain (code_leaf c), cs)
+  unfolding tries tried switched
+  no-end-element c cs e off =
+      row-data 93 (provided s.options.constructs.label_end >> label_end s earlier) c cs e refl (no-check c cs (ap (λ x. x == 91) e)) refl (switched-off (label_end s earlier) s.options.constructs.label_end (c ∷ cs) off)
+
+  -- Codes that begin no construct.
+
+  plain-tried : (v : ℕ) → (v == 10) ≡ false → AreOther text_markers v → tried (tries s end earlier previous) v ≡ data_code
+  unfolding tries
+  plain-tried v e h = tried-data (tries s end earlier previous) v (
+    skip-one v 10 e,
+    (
+      skip-one v 33 h.0,
+      (
+        skip-one v 36 h.1.0,
+        (
+          skip-one v 96 h.1.1.0,
+          (
+            skip-one v 38 h.1.1.1.0,
+            (
+              skip-one v 42 h.1.1.1.1.0,
+              (
+                skip-one v 95 h.1.1.1.1.1.0,
+                (
+                  skip-one v 126 h.1.1.1.1.1.1.0,
+                  (
+                    skip-one v 60 h.1.1.1.1.1.1.1.0,
+                    (
+                      skip-two v 72 104 h.1.1.1.1.1.1.1.1.0 h.1.1.1.1.1.1.1.1.1.0,
+                      (
+                        skip-two v 87 119 h.1.1.1.1.1.1.1.1.1.1.0 h.1.1.1.1.1.1.1.1.1.1.1.0,
+                        (
+                          skip-one v 91 h.1.1.1.1.1.1.1.1.1.1.1.1.0,
+                          (
+                            skip-one v 92 h.1.1.1.1.1.1.1.1.1.1.1.1.1.0,
+                            (
+                              skip-one v 93 h.1.1.1.1.1.1.1.1.1.1.1.1.1.1.0,
+                              tt,
+                            ),
+                          ),
+                        ),
+                      ),
+                    ),
+                  ),
+                ),
+              ),
+            ),
+          ),
+        ),
+      ),
+    ),
+  )
+
+  ending-at : (c : Code) (cs : List Code) → is_line_ending c ≡ true → text_element s end earlier previous (c ∷ cs) ≡ Some (plain (code_leaf c), cs)
+  unfolding tries tried
+  ending-at c cs e = text-row 10 line_ending c cs (eqb-true c.value 10 e) refl refl ∙ either-some line_ending data_code (c ∷ cs) (plain (code_leaf c), cs) (ending-alone c cs e)
+
+  data-at : (c : Code) (cs : List Code) → is_line_ending c ≡ false → is_among text_markers c ≡ false → text_element s end earlier previous (c ∷ cs) ≡ Some (plain (code_leaf c), cs)
+  data-at c cs e h =
+      text-at data_code c cs (no-check c cs (are-other text_markers c.value h).1.1.1.1.1.1.1.1.1.1.1.1.0) (plain-tried c.value e (are-other text_markers c.value h)) ∙ either-some data_code data_code (c ∷ cs) (plain (code_leaf c), cs) (data-alone c cs e)
+
+  pub other-element : (c : Code) (cs : List Code) → is_among text_markers c ≡ false → text_element s end earlier previous (c ∷ cs) ≡ Some (plain (code_leaf c), cs)
+  other-element c cs h = by_ending (is_line_ending c) refl
+    where
+      by_ending : (b : Bool) → is_line_ending c ≡ b → text_element s end earlier previous (c ∷ cs) ≡ Some (plain (code_leaf c), cs)
+      by_ending true e = ending-at c cs e
+      by_ending false e = data-at c cs e h

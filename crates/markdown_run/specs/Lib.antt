@@ -1,0 +1,3 @@
+pub mod Layer
+pub mod Laws
+pub mod Construct

@@ -1,0 +1,140 @@
+//! Runs over a content.
+ghost use Rattle.std.specs.Prelude.{◌≡◌, ◌-◌, true, false, [], take, drop, length, IfOk, IsErr, OnErr, IsTrue};
+ghost use Rattle.markdown_run.specs.Construct.{IsConstruct, ConstructEnds};
+ghost use Rattle.markdown_engine.specs.Chain.{chained};
+ghost use Rattle.markdown_engine.specs.Content.{IsContent, IsTextContent, content_of};
+ghost use Rattle.markdown_text.specs.Settings.{setting_of, text_setting_of};
+ghost use Rattle.markdown_emphasis.specs.Pass.{IsProbed};
+ghost use Rattle.markdown_model.specs.Inline.{label_tree, string_events, text_events};
+
+use crate::state::Inline;
+pub use markdown_engine::content::{is_content, is_text};
+use markdown_engine::cursor::Cursor;
+use markdown_engine::event::Event;
+use markdown_engine::parser::ParseState;
+pub use markdown_engine::parser::Piece;
+use markdown_engine::state::StateName;
+use markdown_engine::tokenizer::Tokenizer;
+pub use markdown_leaves::leaf::{Leaf, Leaves};
+pub use markdown_leaves::leaves;
+use std::alloc::{AllocError, Global};
+
+/// What a run finds.
+#[derive(Debug, Drop)]
+pub struct Run {
+    /// The events of the content's inline tree, in order.
+    pub events: Vec<Event>,
+    /// The number of looks at a run of markers as a possible opener of one closer.
+    pub probes: u128,
+}
+
+// What a tokenizer has found: its events, with the numbers that links go on to, and its probes.
+fn found(tokenizer: Tokenizer) -> Run
+    ensures events { result.events.items ≡ chained tokenizer.entry.events }
+    ensures probes { result.probes ≡ tokenizer.entry.tokenize_state.probes }
+{
+    let probes = tokenizer.tokenize_state.probes;
+    Run {
+        events: tokenizer.events.into_vec(),
+        probes,
+    }
+}
+
+/// The events of the inline tree of a content that is read as a string: of its escapes, character references and data.
+///
+/// The error comes only where memory is refused.
+pub fn string(alloc: Global, parse_state: &ParseState, pieces: &[Piece]) -> Result<Run, AllocError>
+    requires { IsContent parse_state.now.bytes.now pieces.now }
+    ensures events { IfOk result (λ run. run.events.items ≡ string_events (setting_of parse_state.now) pieces.now) }
+    ensures probes { IfOk result (λ run. run.probes ≡ 0) }
+{
+    let mut tokenizer = Tokenizer::new(alloc, parse_state, pieces);
+    let _ = tokenizer.run_state::<Inline>(StateName::StringStart)?;
+    tokenizer.resolve_all::<Inline>()?;
+    Ok(found(tokenizer))
+}
+
+/// The events of the inline tree of a content that is read as text: of the inside of a paragraph, a heading or a table's cell. `first_of_item`
+/// says that it is the first paragraph of a list item, where the check of a task may stand.
+///
+/// The number of looks that pairing took at earlier runs of markers (CommonMark 6.2) is at least the number of pairs, and at most each of two
+/// bounds by the runs and pairs of the content; it is 0 where no run stands.
+///
+/// The error comes only where memory is refused.
+pub fn text(
+    alloc: Global,
+    parse_state: &ParseState,
+    pieces: &[Piece],
+    first_of_item: bool,
+) -> Result<Run, AllocError>
+    requires { IsTextContent parse_state.now.bytes.now pieces.now }
+    ensures events { IfOk result (λ run. run.events.items ≡ text_events (text_setting_of parse_state.now first_of_item) pieces.now) }
+    ensures probes { let s = text_setting_of parse_state.now first_of_item in IfOk result (λ run. IsProbed s (label_tree s (content_of s.bytes pieces.now)) run.probes) }
+    ensures no_probes { let on = parse_state.now.options.now.constructs in on.attention ≡ false → on.gfm_strikethrough ≡ false → IfOk result (λ run. run.probes ≡ 0) }
+{
+    let mut tokenizer = Tokenizer::new(alloc, parse_state, pieces);
+    tokenizer
+        .tokenize_state
+        .document_at_first_paragraph_of_list_item = first_of_item;
+    let _ = tokenizer.run_state::<Inline>(StateName::TextStart)?;
+    tokenizer.resolve_all::<Inline>()?;
+    Ok(found(tokenizer))
+}
+
+// Puts back events, edits, open names and place.
+fn put_back<'a>(
+    tokenizer: &mut Tokenizer<'a>,
+    events_len: usize,
+    map_len: usize,
+    stack_len: usize,
+    cursor: Cursor<'a>,
+)
+    ensures { tokenizer.new ≡ record tokenizer.old { events = take events_len tokenizer.old.events; map = take map_len tokenizer.old.map; stack = drop (length tokenizer.old.stack - stack_len) tokenizer.old.stack; cursor = cursor.entry } }
+{
+    tokenizer.events.truncate(events_len);
+    tokenizer.map.truncate(map_len);
+    tokenizer.stack.truncate(stack_len);
+    tokenizer.cursor = cursor;
+}
+
+/// Reads one construct at the tokenizer's place, by the name of the state that starts it: `CharacterEscapeStart`, `CharacterReferenceStart`,
+/// `HardBreakEscapeStart`, `AutolinkStart`, `HtmlTextStart`, `RawTextStart` (a code span, or a math span), `GfmTaskListItemCheckStart`,
+/// `GfmAutolinkLiteralProtocolStart`, `GfmAutolinkLiteralWwwStart`;
+/// `LabelStartLinkStart`, `LabelStartImageStart` and `GfmLabelStartFootnoteStart`, which are kept; `LabelEndStart`, which makes a label of the last
+/// start kept, with the resource or reference behind it (CommonMark 6.3 and 6.4, and footnote calls);
+/// `AttentionStart` (a run of markers, past which the pass that pairs runs is registered);
+/// `DestinationStart`, `TitleStart` and `LabelStart`, which take their names from the scratch fields `token_1` to `token_5`, and a destination
+/// the depth of its parentheses from `size_b`; `DataStart`, which takes the bytes at which it stops from the scratch field `markers`, and holds
+/// everywhere; `SpaceOrTabStart` or `SpaceOrTabEolStart`, after the setter that asks for it.
+///
+/// Where the construct holds, its events are appended, and the tokenizer stands at its end; otherwise it is as before. The scratch fields are
+/// as before in either case, but that whitespace puts its own fields to rest, that starts and labels are kept, and that an end that makes no
+/// label uses up the last start. The error comes where a growth is refused; then `failed` is true. It comes at once where `failed` is true already.
+///
+/// The scratch fields that a construct counts in are at rest before, as they are in a new tokenizer. Where a construct counts codes, or reads
+/// whitespace, it asks that fewer are left than a `usize` counts, which holds over every content: it has at most four codes for each byte.
+/// `RawTextStart` also asks that the scratch field `runs` is right for the content; in a new tokenizer nothing is known there. A literal asks that
+/// the codes of the content are those of its characters, which holds over every content. Whitespace that
+/// is to be connected asks for a linked event just before, and with a line ending for a content too; and where whitespace with
+/// a line ending has a content, no blank code is at hand. An end of a label asks that the starts kept end between characters, as each does that
+/// was read.
+pub fn construct(name: StateName, tokenizer: &mut Tokenizer) -> Result<bool, AllocError>
+    requires construct { IsConstruct name tokenizer.old }
+    requires alone { tokenizer.old.attempts ≡ [] }
+    ensures reads { IfOk result (λ ok. ConstructEnds name tokenizer.old ok tokenizer.new) }
+    ensures failed { IsTrue tokenizer.old.failed → IsErr result }
+    ensures err { OnErr result (IsTrue tokenizer.new.failed) }
+{
+    if tokenizer.failed() {
+        return Err(AllocError);
+    }
+    let events_len = tokenizer.events.len();
+    let map_len = tokenizer.map.len();
+    let stack_len = tokenizer.stack.len();
+    let cursor = tokenizer.cursor.save();
+    let held = tokenizer.run_state::<Inline>(name)?;
+    if !held {
+        put_back(tokenizer, events_len, map_len, stack_len, cursor);
+    }
+    Ok(held)
+}

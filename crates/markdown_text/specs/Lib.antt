@@ -1,0 +1,4 @@
+pub mod Settings
+pub mod StringSteps
+pub mod TextSteps
+pub mod Resolve

@@ -1,0 +1,173 @@
+-- What the states of a text do, and how runs from them end.
+use Rattle.std.specs.Prelude.{◌≡◌, ◌≢◌, ℕ, Bool, true, false, ◌==◌, ◌||◌, if◌then◌else◌, List, [], ◌∷◌, Option, Some, None}
+use Rattle.markdown_engine.specs.Codes.{Code, stop_of, document_start}
+use Rattle.markdown_engine.specs.Ops.{attempted, scratched, registered, current_of, ahead}
+use Rattle.markdown_engine.specs.Place.{Place}
+use Rattle.markdown_engine.specs.RunIndex.{last_runs}
+use Rattle.markdown_engine.specs.Runs.{Stepped, stepped}
+use Rattle.markdown_engine.specs.declared.resolve.ResolveName.TheVariants as R
+use Rattle.markdown_engine.specs.declared.state.State.TheVariants.{Next, Retry, Ok, Nok}
+use Rattle.markdown_engine.specs.declared.state.StateName.{StateName}
+use Rattle.markdown_engine.specs.declared.state.StateName.TheVariants.{AttentionStart, AutolinkStart, CharacterEscapeStart, CharacterReferenceStart, DataStart, GfmAutolinkLiteralProtocolStart, GfmAutolinkLiteralWwwStart, GfmLabelStartFootnoteStart, GfmTaskListItemCheckStart, HardBreakEscapeStart, HtmlTextStart, LabelEndStart, LabelStartImageStart, LabelStartLinkStart, RawTextStart, TextBefore, TextBeforeData, TextBeforeHardBreakEscape, TextBeforeHtml, TextBeforeLabelStartLink}
+use Rattle.markdown_engine.specs.declared.tokenizer.TokenizeState.{TokenizeState}
+use Rattle.markdown_engine.specs.declared.tokenizer.Tokenizer.{Tokenizer}
+use Rattle.markdown_gfm.specs.GfmAutolinkLiteral as G
+use Rattle.markdown_gfm.specs.GfmTaskListItemCheck as C
+use Rattle.markdown_label.specs.LabelEnd as E
+use Rattle.markdown_label.specs.LabelStarts.{footnote_test}
+use Rattle.markdown_leaf.specs.Autolink.{link_here}
+use Rattle.markdown_leaf.specs.CharacterEscape.{escape_here}
+use Rattle.markdown_leaf.specs.RawText as X
+use Rattle.markdown_model.proofs.DataLaws.{code_leaf}
+use Rattle.markdown_model.specs.Element.{Choice, text_choice}
+use Rattle.markdown_model.specs.LabelEnd.{Element, plain}
+use Rattle.markdown_model.specs.Lines.{data_up_to}
+use Rattle.markdown_model.specs.Setting.{Setting}
+use Rattle.markdown_row.specs.Elements.{DataFinishes, Finishes, StandsAfter}
+use Rattle.markdown_text.specs.Settings.{text_setting_of}
+
+-- the codes at which data stops: those at which a construct may begin
+abbrev pub text_markers : List ℕ
+text_markers = 33 ∷ 36 ∷ 96 ∷ 38 ∷ 42 ∷ 95 ∷ 126 ∷ 60 ∷ 72 ∷ 104 ∷ 87 ∷ 119 ∷ 91 ∷ 92 ∷ 93 ∷ []
+
+-- the codes whose runs close spans
+abbrev pub span_markers : List ℕ
+span_markers = 96 ∷ 36 ∷ []
+
+-- the scratch fields of a text of these codes: where data stops, and where the last runs begin at which spans may close
+abbrev pub marked_fields : List Code → TokenizeState → TokenizeState
+marked_fields cs s = record s { markers = text_markers; runs = last_runs span_markers cs }
+
+abbrev pub text_marked : Tokenizer → Tokenizer
+text_marked T = scratched (marked_fields T.cursor.codes T.tokenize_state) T
+
+-- a construct is tried, from this state, and where it does not hold the run goes on with another
+abbrev pub trying : StateName → StateName → Tokenizer → Stepped
+trying construct otherwise T = stepped (Retry construct) (attempted false (Next TextBefore) (Next otherwise) T)
+
+abbrev pub start_step : Tokenizer → Stepped
+start_step T = trying GfmTaskListItemCheckStart TextBefore (text_marked T)
+
+-- with the passes of a text registered
+abbrev pub text_passed : Tokenizer → Tokenizer
+text_passed T = registered R.Text (registered R.Data T)
+
+-- what is tried first at a code, and the state to go on with where that does not hold
+abbrev pub first_try : ℕ → Option (StateName × StateName)
+first_try v =
+    if v == 33 then Some (LabelStartImageStart, TextBeforeData)
+    else (if v == 36 || v == 96 then Some (RawTextStart, TextBeforeData)
+    else (if v == 38 then Some (CharacterReferenceStart, TextBeforeData)
+    else (if v == 42 || (v == 95 || v == 126) then Some (AttentionStart, TextBeforeData)
+    else (if v == 60 then Some (AutolinkStart, TextBeforeHtml)
+    else (if v == 72 || v == 104 then Some (GfmAutolinkLiteralProtocolStart, TextBeforeData)
+    else (if v == 87 || v == 119 then Some (GfmAutolinkLiteralWwwStart, TextBeforeData)
+    else (if v == 91 then Some (GfmLabelStartFootnoteStart, TextBeforeLabelStartLink)
+    else (if v == 92 then Some (CharacterEscapeStart, TextBeforeHardBreakEscape)
+    else (if v == 93 then Some (LabelEndStart, TextBeforeData) else None)))))))))
+
+abbrev pub tries_at : Option (StateName × StateName) → Tokenizer → Stepped
+tries_at None T = stepped (Retry TextBeforeData) T
+tries_at (Some r) T = trying r.0 r.1 T
+
+-- by the current code
+abbrev pub before_at : Option ℕ → Tokenizer → Stepped
+before_at None T = stepped Ok (text_passed T)
+before_at (Some v) T = tries_at (first_try v) T
+
+abbrev pub before_step : Tokenizer → Stepped
+before_step T = before_at (current_of T) T
+
+abbrev pub before_html_step : Tokenizer → Stepped
+before_html_step T = trying HtmlTextStart TextBeforeData T
+
+abbrev pub before_hard_break_escape_step : Tokenizer → Stepped
+before_hard_break_escape_step T = trying HardBreakEscapeStart TextBeforeData T
+
+abbrev pub before_label_start_link_step : Tokenizer → Stepped
+before_label_start_link_step T = trying LabelStartLinkStart TextBeforeData T
+
+abbrev pub before_data_step : Tokenizer → Stepped
+before_data_step T = stepped (Retry DataStart) (attempted false (Next TextBefore) Nok T)
+
+-- What is read.
+
+abbrev pub text_setting : Tokenizer → Setting
+text_setting T = text_setting_of T.parse_state.now T.tokenize_state.document_at_first_paragraph_of_list_item
+
+abbrev pub text_choice_of : Tokenizer → Choice
+text_choice_of T = text_choice (text_setting T) T.cursor.codes
+
+-- When they may be called.
+
+-- a content that has codes ends with the last of them
+abbrev pub EndsWithCodes : Place → Type 0
+EndsWithCodes p = p.codes ≢ [] → p.end.index ≡ (stop_of document_start p.codes).index
+
+-- at the start: the fields in which spans, references and autolinks count are at rest, those in which whitespace behind a check does, those
+-- of literals, and those of ends of labels; the starts that are kept end between characters; and the content ends with its last code
+pub record StartReady (T : Tokenizer) : Type 0 where
+  pub spans : X.StartReady T
+  pub look : C.MayLook T
+  pub literals : G.StartReady T
+  pub ends : E.StartReady T
+  pub last : EndsWithCodes T.cursor
+
+-- besides, data stops at the markers of a text
+pub record IsMarked (T : Tokenizer) : Type 0 where
+  pub markers : T.tokenize_state.markers ≡ text_markers
+  pub spans : X.StartReady T
+  pub look : C.MayLook T
+  pub literals : G.StartReady T
+  pub ends : E.StartReady T
+  pub last : EndsWithCodes T.cursor
+
+-- and no check of a list item stands here
+pub record BeforeReady (T : Tokenizer) : Type 0 where
+  pub marked : IsMarked T
+  pub unchecked : C.check_here T (ahead T) ≡ None
+
+-- the code at hand is an element by itself
+abbrev pub StandsAlone : Tokenizer → Type 0
+StandsAlone T =
+    (earlier : List Element) (previous : Option Code) (c : Code) (cs : List Code) → StandsAfter earlier previous T → ahead T ≡ c ∷ cs
+    → text_choice_of T earlier previous (c ∷ cs) ≡ Some (plain (code_leaf c), cs)
+
+-- there is a code at hand
+pub record BeforeDataReady (T : Tokenizer) : Type 0 where
+  pub marked : IsMarked T
+  pub some_code : current_of T ≢ None
+
+-- a `<` is at hand that begins no autolink
+pub record BeforeHtmlReady (T : Tokenizer) : Type 0 where
+  pub before : BeforeReady T
+  pub angle : current_of T ≡ Some 60
+  pub no_autolink : link_here T (ahead T) ≡ None
+
+-- a backslash is at hand that escapes nothing
+pub record BeforeBreakReady (T : Tokenizer) : Type 0 where
+  pub before : BeforeReady T
+  pub slash : current_of T ≡ Some 92
+  pub no_escape : escape_here T (ahead T) ≡ None
+
+-- a `[` is at hand that begins no footnote call
+pub record BeforeLinkReady (T : Tokenizer) : Type 0 where
+  pub before : BeforeReady T
+  pub bracket : current_of T ≡ Some 91
+  pub no_footnote : footnote_test T (ahead T) ≡ false
+
+-- How runs end.
+
+-- the codes from T on are those of a row, which is that of their elements but for how data is cut, and U is T past it, with the passes of a
+-- text registered
+abbrev pub before_ends : Tokenizer → Bool → Tokenizer → Type 0
+before_ends T true U = Finishes (text_choice_of T) text_passed T U
+before_ends T false U = ⊥
+
+-- where it is not known what element the code at hand begins: data is read, and behind it so
+abbrev pub data_ends : Tokenizer → Bool → Tokenizer → Type 0
+data_ends T true U = DataFinishes (text_choice_of T) (data_up_to text_markers) text_passed T U
+data_ends T false U = ⊥
+
+abbrev pub start_ends : Tokenizer → Bool → Tokenizer → Type 0
+start_ends T ok U = before_ends (text_marked T) ok U

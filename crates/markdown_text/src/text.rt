@@ -1,0 +1,211 @@
+//! Text content: what stands in paragraphs and headings.
+#![tactic(auto, using(markdown_engine::proofs::OpRules::op_rules))]
+
+ghost use Rattle.std.specs.Prelude.{◌≡◌, IfOk, OnOk, OnErr, IsTrue, None, true};
+ghost use Rattle.markdown_engine.specs.Ops.{scratched};
+ghost use Rattle.markdown_engine.specs.RunIndex.{last_runs};
+ghost use Rattle.markdown_text.specs.Resolve.{MayFinish, FinishesText};
+ghost use Rattle.markdown_text.specs.TextSteps.{span_markers, text_markers, first_try, trying, start_step, before_step, before_html_step, before_hard_break_escape_step, before_label_start_link_step, before_data_step};
+
+use markdown_engine::byte_set;
+use markdown_engine::bytes::ByteSet;
+use markdown_engine::resolve::ResolveName;
+use markdown_engine::run_index::RunIndex;
+use markdown_engine::state::{State, StateName};
+use markdown_engine::subtokenize::Subresult;
+use markdown_engine::tokenizer::Tokenizer;
+use markdown_mail::gfm_autolink_literal;
+use markdown_partial::partial_whitespace;
+use std::alloc::AllocError;
+
+// The bytes whose runs close spans.
+const SPAN_MARKERS: [u8; 2] = [b'`', b'$'];
+
+// The bytes at which data of a text stops: those at which a construct may begin.
+fn markers() -> ByteSet
+    ensures { result ≡ text_markers }
+{
+    byte_set!(
+        b'!', b'$', b'`', b'&', b'*', b'_', b'~', b'<', b'H', b'h', b'W', b'w', b'[', b'\\', b']'
+    )
+}
+
+// Answers the start of what is tried first at this byte, and the state to go on with where that does not hold.
+fn first_try(byte: u8) -> Option<(StateName, StateName)>
+    ensures { result ≡ first_try byte }
+{
+    match byte {
+        b'!' => Some((StateName::LabelStartImageStart, StateName::TextBeforeData)),
+        b'$' | b'`' => Some((StateName::RawTextStart, StateName::TextBeforeData)),
+        b'&' => Some((
+            StateName::CharacterReferenceStart,
+            StateName::TextBeforeData,
+        )),
+        b'*' | b'_' | b'~' => Some((StateName::AttentionStart, StateName::TextBeforeData)),
+        b'<' => Some((StateName::AutolinkStart, StateName::TextBeforeHtml)),
+        b'H' | b'h' => Some((
+            StateName::GfmAutolinkLiteralProtocolStart,
+            StateName::TextBeforeData,
+        )),
+        b'W' | b'w' => Some((
+            StateName::GfmAutolinkLiteralWwwStart,
+            StateName::TextBeforeData,
+        )),
+        b'[' => Some((
+            StateName::GfmLabelStartFootnoteStart,
+            StateName::TextBeforeLabelStartLink,
+        )),
+        b'\\' => Some((
+            StateName::CharacterEscapeStart,
+            StateName::TextBeforeHardBreakEscape,
+        )),
+        b']' => Some((StateName::LabelEndStart, StateName::TextBeforeData)),
+        _ => None,
+    }
+}
+
+// Tries a construct from this state, and goes on with another where it does not hold.
+fn attempt(
+    tokenizer: &mut Tokenizer,
+    construct: StateName,
+    otherwise: StateName,
+) -> Result<State, AllocError>
+    ensures ok { IfOk result (λ s. trying construct otherwise tokenizer.old ≡ record { state = s; left = tokenizer.new }) }
+    ensures err { OnErr result (IsTrue tokenizer.new.failed) }
+{
+    tokenizer.attempt(State::Next(StateName::TextBefore), State::Next(otherwise))?;
+    Ok(State::Retry(construct))
+}
+
+// Makes known where the last runs begin at which spans may close.
+#[tactic(auto, unfolding(markdown_engine::specs::Ops::scratched))]
+fn index_runs(tokenizer: &mut Tokenizer) -> Result<(), AllocError>
+    ensures ok { OnOk result (tokenizer.new ≡ scratched (record tokenizer.old.tokenize_state { runs = last_runs span_markers tokenizer.old.cursor.codes }) tokenizer.old) }
+    ensures err { OnErr result (IsTrue tokenizer.new.failed) }
+{
+    match RunIndex::over(tokenizer.alloc, &tokenizer.cursor, &SPAN_MARKERS) {
+        Ok(runs) => {
+            tokenizer.tokenize_state.runs = runs;
+            Ok(())
+        }
+        Err(refused) => {
+            tokenizer.fail();
+            Err(refused)
+        }
+    }
+}
+
+/// At the start of a text, where the check of a task may stand.
+///
+/// One walk over the content finds the runs at which spans may close, so that none is looked for in vain.
+///
+/// The error comes where a growth is refused; then `failed` is true.
+#[tactic(auto, using(markdown_engine::proofs::OpRules::op_rules), unfolding(markdown_engine::specs::Ops::scratched))]
+pub fn start(tokenizer: &mut Tokenizer) -> Result<State, AllocError>
+    ensures ok { IfOk result (λ s. start_step tokenizer.old ≡ record { state = s; left = tokenizer.new }) }
+    ensures err { OnErr result (IsTrue tokenizer.new.failed) }
+{
+    tokenizer.tokenize_state.markers = markers();
+    index_runs(tokenizer)?;
+    attempt(
+        tokenizer,
+        StateName::GfmTaskListItemCheckStart,
+        StateName::TextBefore,
+    )
+}
+
+/// Before an element of the text, or at its end.
+///
+/// The error comes where a growth is refused; then `failed` is true.
+pub fn before(tokenizer: &mut Tokenizer) -> Result<State, AllocError>
+    ensures ok { IfOk result (λ s. before_step tokenizer.old ≡ record { state = s; left = tokenizer.new }) }
+    ensures err { OnErr result (IsTrue tokenizer.new.failed) }
+{
+    match tokenizer.current() {
+        None => {
+            tokenizer.register_resolver(ResolveName::Data)?;
+            tokenizer.register_resolver(ResolveName::Text)?;
+            Ok(State::Ok)
+        }
+        Some(byte) => match first_try(byte) {
+            Some((construct, otherwise)) => attempt(tokenizer, construct, otherwise),
+            None => Ok(State::Retry(StateName::TextBeforeData)),
+        },
+    }
+}
+
+/// At a `<` that begins no autolink: before HTML.
+///
+/// The error comes where a growth is refused; then `failed` is true.
+pub fn before_html(tokenizer: &mut Tokenizer) -> Result<State, AllocError>
+    ensures ok { IfOk result (λ s. before_html_step tokenizer.old ≡ record { state = s; left = tokenizer.new }) }
+    ensures err { OnErr result (IsTrue tokenizer.new.failed) }
+{
+    attempt(
+        tokenizer,
+        StateName::HtmlTextStart,
+        StateName::TextBeforeData,
+    )
+}
+
+/// At a backslash that escapes nothing: before a hard break.
+///
+/// The error comes where a growth is refused; then `failed` is true.
+pub fn before_hard_break_escape(tokenizer: &mut Tokenizer) -> Result<State, AllocError>
+    ensures ok { IfOk result (λ s. before_hard_break_escape_step tokenizer.old ≡ record { state = s; left = tokenizer.new }) }
+    ensures err { OnErr result (IsTrue tokenizer.new.failed) }
+{
+    attempt(
+        tokenizer,
+        StateName::HardBreakEscapeStart,
+        StateName::TextBeforeData,
+    )
+}
+
+/// At a `[` that begins no footnote call: before the start of a link.
+///
+/// The error comes where a growth is refused; then `failed` is true.
+pub fn before_label_start_link(tokenizer: &mut Tokenizer) -> Result<State, AllocError>
+    ensures ok { IfOk result (λ s. before_label_start_link_step tokenizer.old ≡ record { state = s; left = tokenizer.new }) }
+    ensures err { OnErr result (IsTrue tokenizer.new.failed) }
+{
+    attempt(
+        tokenizer,
+        StateName::LabelStartLinkStart,
+        StateName::TextBeforeData,
+    )
+}
+
+/// Before data, which holds everywhere.
+///
+/// The error comes where a growth is refused; then `failed` is true.
+pub fn before_data(tokenizer: &mut Tokenizer) -> Result<State, AllocError>
+    ensures ok { IfOk result (λ s. before_data_step tokenizer.old ≡ record { state = s; left = tokenizer.new }) }
+    ensures err { OnErr result (IsTrue tokenizer.new.failed) }
+{
+    tokenizer.attempt(State::Next(StateName::TextBefore), State::Nok)?;
+    Ok(State::Retry(StateName::DataStart))
+}
+
+/// After the run over a text: sets whitespace beside line endings, and at the start and the end of the whole, apart; where they are on, finds
+/// hard breaks by spaces (CommonMark 6.7) and sets email literals apart (GFM 6.9).
+///
+/// The error comes where memory is refused; then `failed` is true.
+pub fn resolve(tokenizer: &mut Tokenizer) -> Result<Option<Subresult>, AllocError>
+    requires { MayFinish tokenizer.old }
+    ensures none { IfOk result (λ r. r ≡ None) }
+    ensures ok { IfOk result (λ _. FinishesText tokenizer.old tokenizer.new) }
+    ensures err { OnErr result (IsTrue tokenizer.new.failed) }
+{
+    let hard_break = tokenizer.parse_state.options.constructs.hard_break_trailing;
+    partial_whitespace::resolve_whitespace(tokenizer, hard_break, true)?;
+    if tokenizer
+        .parse_state
+        .options
+        .constructs
+        .gfm_autolink_literal
+    {
+        gfm_autolink_literal::resolve(tokenizer)?;
+    }
+    Ok(None)
+}
