@@ -1,5 +1,6 @@
 -- The proofs of the starts and ends of labels.
 pub mod TextBetween
+pub mod Fronts
 pub mod AfterSteps
 pub mod StartStack
 pub mod StartPlaces

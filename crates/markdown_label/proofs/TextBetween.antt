@@ -1,13 +1,12 @@
 -- The bytes of a text between two places at which it may be cut.
-use Rattle.std.proofs.Common.{◌≡◌, ℕ, zero, suc, ◌-◌, ◌<◌, ◌≤◌, List, [], ◌∷◌, length, get_or, take, drop, ◌||◌, refl, sym, ap, subst, ◌∙◌, arith}
-use Rattle.std.specs.Prelude.{IsUtf8, Bool, map, max}
+use Rattle.std.proofs.Common.{◌≡◌, ℕ, zero, suc, ◌-◌, ◌<◌, List, [], ◌∷◌, length, get_or, take, drop, ◌||◌, refl, sym, ap, subst, ◌∙◌, arith}
+use Rattle.std.specs.Prelude.{Bool, map, max}
 use Rattle.std.specs.List.{list_any}
 use Rattle.markdown_engine.specs.declared.event.Point.{Point}
 use Rattle.markdown_util.specs.Identifier.{identifier_of}
 use Rattle.std.specs.List.{slice_range, slice_index_or}
 use Rattle.std.specs.Str.{IsCharBoundary}
 use Rattle.std.proofs.Math.Nat.{le-max_right, sub-add-eq-max}
-use Rattle.std.proofs.lemmas.Str.{IsUtf8-between}
 use Rattle.markdown_engine.specs.Chain.{chained}
 use Rattle.markdown_engine.specs.declared.event.Event.{Event}
 use Rattle.markdown_engine.specs.declared.tokenizer.Tokenizer.{Tokenizer}
@@ -15,6 +14,7 @@ use Rattle.markdown_engine.proofs.ChainLemmas.{chained-point}
 use Rattle.markdown_construct.specs.Characters.{bytes_of}
 use Rattle.markdown_label.specs.LabelEnd.{AreAround}
 use Rattle.markdown_label.specs.LabelEnd.{place_at, identifier_between}
+use Rattle.markdown_label.specs.Lookup.{AreCuts}
 
 -- what is lent for an event stands where the event does
 place-get : (es : List Event) (i : ℕ) (d : Event) → i < length es → (get_or es i d).point ≡ place_at es i
@@ -41,10 +41,7 @@ max-between bs i j from to =
 max-size : (i j : ℕ) → max j i - i ≡ j - i
 max-size i j = omega (arith, sub-add-eq-max j i)
 
-pub text-from : (bs : List ℕ) (i j : ℕ) → IsUtf8 bs → IsCharBoundary bs i → IsCharBoundary bs j → IsUtf8 (slice_range bs i (max j i))
-text-from bs i j u from to = IsUtf8-between bs i (max j i) u (le-max_right j i) from (max-between bs i j from to)
-
-pub bytes-from : (bs : List ℕ) (i j : ℕ) → slice_range bs i (max j i) ≡ take (j - i) (drop i bs)
+bytes-from : (bs : List ℕ) (i j : ℕ) → slice_range bs i (max j i) ≡ take (j - i) (drop i bs)
 bytes-from bs i j = ap (λ n. take n (drop i bs)) (max-size i j)
 
 -- what is lent for two such events
@@ -62,18 +59,18 @@ module _ (T : Tokenizer) (m n : ℕ) (a b : Event) (k : AreAround T m n) (front 
   to-between : IsCharBoundary (bytes_of T) b.point.index
   to-between = subst (λ (p : Point). IsCharBoundary (bytes_of T) p.index) (sym last) k.to
 
-  pub lent-order : a.point.index ≤ max b.point.index a.point.index
-  lent-order = le-max_right b.point.index a.point.index
+  pub lent-cuts : (end : ℕ) → end ≡ max b.point.index a.point.index → AreCuts (bytes_of T) a.point.index end
+  lent-cuts end e = subst (AreCuts (bytes_of T) a.point.index) (sym e) (record {
+    text = k.text;
+    in_order = le-max_right b.point.index a.point.index;
+    first = from-between;
+    last = max-between (bytes_of T) a.point.index b.point.index from-between to-between;
+  })
 
-  pub lent-within : max b.point.index a.point.index ≤ length (bytes_of T)
-  lent-within = (max-between (bytes_of T) a.point.index b.point.index from-between to-between).0
-
-  pub lent-text : (bs : List ℕ) → bs ≡ slice_range (bytes_of T) a.point.index (max b.point.index a.point.index) → IsUtf8 bs
-  lent-text bs e = subst IsUtf8 (sym e) (text-from (bytes_of T) a.point.index b.point.index k.text from-between to-between)
-
-  pub lent-name : (bs : List ℕ) → bs ≡ slice_range (bytes_of T) a.point.index (max b.point.index a.point.index) → identifier_of bs ≡ identifier_between T m n
-  lent-name bs e =
-      ap identifier_of (e ∙ bytes-from (bytes_of T) a.point.index b.point.index)
+  pub lent-name : (end : ℕ) → end ≡ max b.point.index a.point.index → identifier_of (slice_range (bytes_of T) a.point.index end) ≡ identifier_between T m n
+  lent-name end e =
+      ap (λ j. identifier_of (slice_range (bytes_of T) a.point.index j)) e
+      ∙ ap identifier_of (bytes-from (bytes_of T) a.point.index b.point.index)
       ∙ (λ i. identifier_of (take ((last i).index - (first i).index) (drop (first i).index (bytes_of T))))
 
 -- a test of what is made of the items

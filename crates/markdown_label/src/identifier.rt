@@ -1,30 +1,56 @@
 // Identifiers of labels.
 #![tactic(auto)]
 
-ghost use Rattle.std.specs.Prelude.{◌≡◌, ◌∷◌, [], map, ◌&&◌, string_bytes, IfOk, OnOk, OnErr, IsTrue};
+ghost use Rattle.std.specs.Prelude.{◌≡◌, map, slice_range, ◌&&◌, string_bytes, IfOk, OnOk, OnErr, IsTrue};
 ghost use Rattle.std.specs.List.{list_any};
 ghost use Rattle.std.specs.Str.{bytes_eq};
+ghost use Rattle.markdown_construct.specs.Characters.{bytes_of};
+ghost use Rattle.markdown_util.specs.Identifier.{identifier_of};
 ghost use Rattle.markdown_label.specs.LabelEnd.{AreAround};
+ghost use Rattle.markdown_label.specs.Lookup.{AreCuts, IsKnownName};
 ghost use Rattle.markdown_label.specs.LabelEnd.{identifier_between};
 ghost use Rattle.markdown_label.specs.Settings.{setting_in};
 ghost use Rattle.markdown_model.specs.LabelEnd.{is_footnote, link_identifier};
 ghost use Rattle.markdown_model.specs.Setting.{is_defined};
 
+use crate::lookup::is_ruled_out;
 use markdown_engine::tokenizer::{LabelKind, Tokenizer};
 use markdown_engine::util::slice::Slice;
 use markdown_util::util::normalize_identifier::normalize_identifier;
 use std::alloc::{AllocError, Global};
 
-// The identifier of the document's bytes between two events, given by their numbers.
-fn identifier_between(tokenizer: &Tokenizer, from: usize, to: usize) -> Result<String, AllocError>
+// The identifier of the document's bytes from an index to another.
+pub(crate) fn identifier_of(
+    tokenizer: &Tokenizer,
+    start: usize,
+    end: usize,
+) -> Result<String, AllocError>
+    requires { AreCuts (bytes_of tokenizer.now) start end }
+    ensures { IfOk result (λ name. string_bytes name ≡ identifier_of (slice_range (bytes_of tokenizer.now) start end)) }
+{
+    let between = Slice::from_indices(tokenizer.parse_state.bytes, start, end);
+    normalize_identifier(tokenizer.alloc, between.as_str())
+}
+
+// The identifier of the document's bytes between two events, given by their numbers, if anything may be defined that a label of this kind
+// with this identifier may stand for.
+fn identifier_between(
+    tokenizer: &Tokenizer,
+    kind: LabelKind,
+    from: usize,
+    to: usize,
+) -> Result<Option<String>, AllocError>
     requires { AreAround tokenizer.now from to }
-    ensures { IfOk result (λ name. string_bytes name ≡ identifier_between tokenizer.now from to) }
+    ensures { IfOk result (λ name. IsKnownName (setting_in tokenizer.now) kind (identifier_between tokenizer.now from to) name) }
 {
     let start = tokenizer.events.at(from).point.index;
-    let end = tokenizer.events.at(to).point.index;
     // events are in order, so the second one is not before the first; with `max` no caller has to show it
-    let between = Slice::from_indices(tokenizer.parse_state.bytes, start, end.max(start));
-    normalize_identifier(tokenizer.alloc, between.as_str())
+    let end = tokenizer.events.at(to).point.index.max(start);
+    if is_ruled_out(tokenizer, kind, start, end)? {
+        return Ok(None);
+    }
+    let name = identifier_of(tokenizer, start, end)?;
+    Ok(Some(name))
 }
 
 // Whether the identifier is one of these.
@@ -44,14 +70,18 @@ fn is_defined(definitions: &[String], name: &str) -> bool
 }
 
 // Whether a label of this kind is a footnote call's.
-fn is_footnote(kind: LabelKind) -> bool
+pub(crate) fn is_footnote(kind: LabelKind) -> bool
     ensures { result ≡ is_footnote kind }
 {
     matches!(kind, LabelKind::GfmFootnote)
 }
 
 // The identifier of a label of this kind as a link's: with the caret of a footnote's start before it.
-fn link_identifier(alloc: Global, kind: LabelKind, name: &str) -> Result<String, AllocError>
+pub(crate) fn link_identifier(
+    alloc: Global,
+    kind: LabelKind,
+    name: &str,
+) -> Result<String, AllocError>
     ensures { IfOk result (λ text. string_bytes text ≡ link_identifier kind name.now) }
 {
     let mut text = String::new(alloc);
@@ -60,15 +90,6 @@ fn link_identifier(alloc: Global, kind: LabelKind, name: &str) -> Result<String,
     }
     text.push_str(name)?;
     Ok(text)
-}
-
-// Whether nothing is defined, so that no identifier has to be read.
-pub(crate) fn defines_nothing(tokenizer: &Tokenizer) -> bool
-    ensures definitions { IsTrue result → (setting_in tokenizer.now).definitions ≡ [] }
-    ensures footnotes { IsTrue result → (setting_in tokenizer.now).footnotes ≡ [] }
-{
-    tokenizer.parse_state.definitions.is_empty()
-        && tokenizer.parse_state.gfm_footnote_definitions.is_empty()
 }
 
 // Whether a label of this kind with this identifier is a footnote call.
@@ -80,7 +101,7 @@ pub(crate) fn is_call(tokenizer: &Tokenizer, kind: LabelKind, name: &str) -> boo
 }
 
 // Whether the identifier is that of a definition.
-pub(crate) fn names_definition(tokenizer: &Tokenizer, name: &str) -> bool
+fn names_definition(tokenizer: &Tokenizer, name: &str) -> bool
     ensures { result ≡ is_defined (setting_in tokenizer.now).definitions name.now }
 {
     is_defined(tokenizer.parse_state.definitions.as_slice(), name)
@@ -97,19 +118,37 @@ fn is_link_defined(tokenizer: &Tokenizer, kind: LabelKind, name: &str) -> Result
 // As `identifier_between`; refused memory is kept in mind.
 pub(crate) fn name_between(
     tokenizer: &mut Tokenizer,
+    kind: LabelKind,
     from: usize,
     to: usize,
-) -> Result<String, AllocError>
+) -> Result<Option<String>, AllocError>
     requires { AreAround tokenizer.old from to }
-    ensures name { IfOk result (λ name. string_bytes name ≡ identifier_between tokenizer.old from to) }
+    ensures name { IfOk result (λ name. IsKnownName (setting_in tokenizer.old) kind (identifier_between tokenizer.old from to) name) }
     ensures same { OnOk result (tokenizer.new ≡ tokenizer.old) }
     ensures err { OnErr result (IsTrue tokenizer.new.failed) }
 {
-    let name = identifier_between(tokenizer, from, to);
+    let name = identifier_between(tokenizer, kind, from, to);
     if name.is_err() {
         tokenizer.fail();
     }
     name
+}
+
+// Whether the identifier between two events is that of a definition.
+pub(crate) fn is_defined_between(
+    tokenizer: &mut Tokenizer,
+    from: usize,
+    to: usize,
+) -> Result<bool, AllocError>
+    requires { AreAround tokenizer.old from to }
+    ensures defined { IfOk result (λ defined. defined ≡ is_defined (setting_in tokenizer.old).definitions (identifier_between tokenizer.old from to)) }
+    ensures same { OnOk result (tokenizer.new ≡ tokenizer.old) }
+    ensures err { OnErr result (IsTrue tokenizer.new.failed) }
+{
+    match name_between(tokenizer, LabelKind::Link, from, to)? {
+        Some(name) => Ok(names_definition(tokenizer, name.as_str())),
+        None => Ok(false),
+    }
 }
 
 // As `is_link_defined`; refused memory is kept in mind.

@@ -13,7 +13,7 @@ ghost use Rattle.markdown_resource.specs.Parts.{names_rested};
 ghost use Rattle.markdown_label.specs.Fields.{bars, tried, marked};
 ghost use Rattle.markdown_label.specs.LabelEnd.{LabelIsAround, ReferenceIsAround, start_step, tail_at, after_step, ok_step, nok_step, names_set, reference_full_step, reference_full_after_step, reference_full_missing_step, reference_not_full_step, reference_collapsed_step, reference_collapsed_open_step};
 
-use crate::identifier::{defines_nothing, is_call, is_link, name_between, names_definition};
+use crate::identifier::{is_call, is_defined_between, is_link, name_between};
 use markdown_engine::event::Name;
 use markdown_engine::resolve::ResolveName;
 use markdown_engine::seq::Stack;
@@ -154,7 +154,7 @@ fn tail(tokenizer: &mut Tokenizer, defined: bool) -> Result<State, AllocError>
 
 /// Behind a `]`: a call is made, or what follows is tried.
 ///
-/// The label is read only where something is defined. The error comes where memory is refused; then `failed` is true.
+/// The label is read at most about twice as far as it begins like something that is defined. The error comes where memory is refused; then `failed` is true.
 pub fn after(tokenizer: &mut Tokenizer) -> Result<State, AllocError>
     requires { LabelIsAround tokenizer.old }
     ensures ok { IfOk result (λ s. after_step tokenizer.old ≡ record { state = s; left = tokenizer.new }) }
@@ -164,12 +164,11 @@ pub fn after(tokenizer: &mut Tokenizer) -> Result<State, AllocError>
         return Ok(State::Nok);
     };
     let start = *top;
-    if defines_nothing(tokenizer) {
+    let end = tokenizer.tokenize_state.end;
+    let Some(name) = name_between(tokenizer, start.kind, start.start.1, end)? else {
         try_last(&mut tokenizer.tokenize_state.label_starts);
         return tail(tokenizer, false);
-    }
-    let end = tokenizer.tokenize_state.end;
-    let name = name_between(tokenizer, start.start.1, end)?;
+    };
     if is_call(tokenizer, start.kind, name.as_str()) {
         return Ok(State::Retry(StateName::LabelEndOk));
     }
@@ -218,8 +217,7 @@ pub fn reference_full_after(tokenizer: &mut Tokenizer) -> Result<State, AllocErr
 {
     let to = tokenizer.events.len() - 4;
     let from = tokenizer.tokenize_state.end + 7;
-    let name = name_between(tokenizer, from, to)?;
-    let defined = names_definition(tokenizer, name.as_str());
+    let defined = is_defined_between(tokenizer, from, to)?;
     let state = &mut tokenizer.tokenize_state;
     rest_names(state);
     if defined {

@@ -6,4 +6,5 @@ pub(crate) mod identifier;
 pub mod label_end;
 pub mod label_start_image;
 pub mod label_start_link;
+mod lookup;
 mod starts;

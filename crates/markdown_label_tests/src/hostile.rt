@@ -13,7 +13,7 @@ fn repeat(text: &mut String, part: &str, count: usize) -> Result<(), AllocError>
 }
 
 // Texts in a row, each so many times.
-fn repeated(alloc: Global, parts: &[(&str, usize)]) -> Result<String, AllocError> {
+pub(crate) fn repeated(alloc: Global, parts: &[(&str, usize)]) -> Result<String, AllocError> {
     let mut text = String::new(alloc);
     for (part, count) in parts {
         repeat(&mut text, part, *count)?;
@@ -22,10 +22,10 @@ fn repeated(alloc: Global, parts: &[(&str, usize)]) -> Result<String, AllocError
 }
 
 // What a document is made of, and what is found in it.
-type Row = (&'static [(&'static str, usize)], &'static str);
+pub(crate) type Row = (&'static [(&'static str, usize)], &'static str);
 
 // Reads documents that are made of texts again and again, and compares what is found.
-fn expect_repeated(
+pub(crate) fn expect_repeated(
     rt: &impl Abort,
     alloc: Global,
     given: &Given,

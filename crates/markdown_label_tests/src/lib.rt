@@ -6,6 +6,8 @@ mod fixtures;
 #[cfg(test)]
 mod footnotes;
 #[cfg(test)]
+mod fronts;
+#[cfg(test)]
 mod hostile;
 #[cfg(test)]
 mod nested;

@@ -1,0 +1,97 @@
+// Labels that nothing is defined for, by the fronts of their identifiers.
+#![tactic(auto)]
+
+ghost use Rattle.std.specs.Prelude.{◌≡◌, ◌≤◌, ◌==◌, IfOk, IsTrue, [], map, slice_range, string_bytes};
+ghost use Rattle.std.specs.List.{list_any, starts_with};
+ghost use Rattle.std.specs.Str.{IsCharBoundary};
+ghost use Rattle.markdown_construct.specs.Characters.{bytes_of};
+ghost use Rattle.markdown_util.specs.Identifier.{identifier_of};
+ghost use Rattle.markdown_label.specs.Lookup.{AreCuts, begins_one, begins_defined, IsUnknown};
+ghost use Rattle.markdown_label.specs.Settings.{setting_in};
+
+use crate::identifier::{identifier_of, is_footnote, link_identifier};
+use markdown_engine::tokenizer::{LabelKind, Tokenizer};
+use std::alloc::AllocError;
+
+// The first front of a label that is looked at has two to this power bytes.
+const FIRST_BITS: u32 = 6;
+
+// Where a text may be cut that may be cut at `end`: where the next character begins at or after an index, or at `end`.
+fn boundary(bytes: &[u8], index: usize, end: usize) -> usize
+    requires in_order { index ≤ end }
+    requires end { IsCharBoundary bytes.now end }
+    ensures after { index ≤ result }
+    ensures before { result ≤ end }
+    ensures boundary { IsCharBoundary bytes.now result }
+{
+    for at in index..end {
+        if !(128..192).contains(&bytes[at]) {
+            return at;
+        }
+    }
+    end
+}
+
+// Whether one of these begins so.
+fn one_begins(definitions: &[String], front: &str) -> bool
+    ensures { result ≡ list_any (λ definition. starts_with (◌==◌) (string_bytes definition) front.now) definitions.now }
+{
+    definitions.iter().any(|definition| definition.as_bytes().starts_with(front.as_bytes()))
+}
+
+// Whether one of these identifiers begins so.
+fn begins_one(definitions: &[String], front: &str) -> bool
+    ensures { result ≡ begins_one (map string_bytes definitions.now) front.now }
+{
+    one_begins(definitions, front)
+}
+
+// Whether anything that a label of this kind may stand for begins so.
+fn begins_defined(tokenizer: &Tokenizer, kind: LabelKind, front: &str) -> Result<bool, AllocError>
+    ensures { IfOk result (λ begins. begins ≡ begins_defined (setting_in tokenizer.now) kind front.now) }
+{
+    let calls = tokenizer.parse_state.gfm_footnote_definitions.as_slice();
+    if is_footnote(kind) && begins_one(calls, front) {
+        return Ok(true);
+    }
+    let text = link_identifier(tokenizer.alloc, kind, front)?;
+    Ok(begins_one(tokenizer.parse_state.definitions.as_slice(), text.as_str()))
+}
+
+// Whether nothing is defined, so that no identifier has to be read.
+fn defines_nothing(tokenizer: &Tokenizer) -> bool
+    ensures definitions { IsTrue result → (setting_in tokenizer.now).definitions ≡ [] }
+    ensures footnotes { IsTrue result → (setting_in tokenizer.now).footnotes ≡ [] }
+{
+    tokenizer.parse_state.definitions.is_empty()
+        && tokenizer.parse_state.gfm_footnote_definitions.is_empty()
+}
+
+// Whether the front of a label, from an index of the document to another, shows that nothing is defined that it may stand for.
+//
+// Each front is twice as long as the one before, so a long label is read at most about twice as far as it begins like a definition.
+pub(crate) fn is_ruled_out(
+    tokenizer: &Tokenizer,
+    kind: LabelKind,
+    start: usize,
+    end: usize,
+) -> Result<bool, AllocError>
+    requires { AreCuts (bytes_of tokenizer.now) start end }
+    ensures { IfOk result (λ out. IsTrue out → IsUnknown (setting_in tokenizer.now) kind (identifier_of (slice_range (bytes_of tokenizer.now) start end))) }
+{
+    if defines_nothing(tokenizer) {
+        return Ok(true);
+    }
+    for bits in FIRST_BITS..usize::BITS {
+        let size = 1usize << bits;
+        if size >= end - start {
+            return Ok(false);
+        }
+        let middle = boundary(tokenizer.parse_state.bytes, start + size, end);
+        let front = identifier_of(tokenizer, start, middle)?;
+        if !begins_defined(tokenizer, kind, front.as_str())? {
+            return Ok(true);
+        }
+    }
+    Ok(false)
+}
