@@ -1,0 +1,4 @@
+-- The proofs of the laws.
+pub mod SliceLaws
+pub mod EscapedItems
+pub mod EscapeLaws

@@ -1,0 +1,14 @@
+//! Laws on the definitions of the inline layer: facts in the subject's own words that follow from them.
+//!
+//! Nothing here is run. A function of this crate has no parameters and an empty body: its contract is a law, and
+//! the check proves it. The laws of `markdown_model` say that the definitions define something, and what a container, a
+//! label and a pass do; these say more of what a reader of events may rely on.
+#![tactic(auto)]
+
+ghost use Rattle.markdown_laws.specs.Escapes.{Escapes};
+
+/// A one-line text with a backslash before each ASCII punctuation character, read as a string with escapes on, is given
+/// back by what is lent for its data and for what its escapes stand for.
+pub fn escapes()
+    ensures { Escapes }
+{}
