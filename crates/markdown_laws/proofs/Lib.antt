@@ -2,3 +2,5 @@
 pub mod SliceLaws
 pub mod EscapedItems
 pub mod EscapeLaws
+pub mod PairGroupLaws
+pub mod ProbeLaws

@@ -1,2 +1,4 @@
 -- The laws.
 pub mod Escapes
+pub mod PairGroups
+pub mod ProbeBounds

@@ -6,9 +6,22 @@
 #![tactic(auto)]
 
 ghost use Rattle.markdown_laws.specs.Escapes.{Escapes};
+ghost use Rattle.markdown_laws.specs.PairGroups.{EachPairIsAGroup};
+ghost use Rattle.markdown_laws.specs.ProbeBounds.{ProbesAreFew};
 
 /// A one-line text with a backslash before each ASCII punctuation character, read as a string with escapes on, is given
 /// back by what is lent for its data and for what its escapes stand for.
 pub fn escapes()
     ensures { Escapes }
+{}
+
+/// Grouping the pairs of all containers makes one group for each pair, so no marker that a pair takes is left alone.
+pub fn each_pair_is_a_group()
+    ensures { EachPairIsAGroup }
+{}
+
+/// There is a probe for each pair within the bound on probes by runs, and the bound by openers, closers and pairs is at most
+/// eleven for each code of the content.
+pub fn probes_are_few()
+    ensures { ProbesAreFew }
 {}

@@ -1,0 +1,26 @@
+-- Each pair of a container's list is a group of the tree.
+use Rattle.std.specs.Prelude.{◌≡◌, ℕ, ◌+◌, Bool, true, false, if◌then◌else◌}
+use Rattle.markdown_engine.specs.declared.event.Name.{Name}
+use Rattle.markdown_engine.specs.Tree.{Forest, empty, leaf_then, group_then}
+use Rattle.markdown_model.specs.Setting.{Setting}
+use Rattle.markdown_model.specs.Pairs.{pair_list}
+use Rattle.markdown_model.specs.Groups.{paired}
+use Rattle.markdown_model.specs.Inline.{pair_count}
+
+-- emphasis, strong emphasis and strikethrough
+abbrev pub is_pair : Name → Bool
+is_pair Name.Emphasis = true
+is_pair Name.Strong = true
+is_pair Name.GfmStrikethrough = true
+is_pair _ = false
+
+-- the groups of pairs in a row and inside it
+abbrev pub pair_groups : Forest → ℕ
+pair_groups empty = 0
+pair_groups (leaf_then name link cs rest) = pair_groups rest
+pair_groups (group_then name enter exit inside rest) = (if is_pair name then 1 else 0) + pair_groups inside + pair_groups rest
+
+-- Grouping the pairs of all containers makes as many groups as there are pairs. So no marker that a pair takes is left
+-- without its partner.
+abbrev pub EachPairIsAGroup : Type 0
+EachPairIsAGroup = (s : Setting) (tree : Forest) → pair_groups (paired s (pair_list s) tree) ≡ pair_groups tree + pair_count s tree
