@@ -4,3 +4,6 @@ pub mod EscapedItems
 pub mod EscapeLaws
 pub mod PairGroupLaws
 pub mod ProbeLaws
+pub mod EmailLeaves
+pub mod EmailLaws
+pub mod TrimmingLaws

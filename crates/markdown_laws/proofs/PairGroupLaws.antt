@@ -8,9 +8,8 @@ use Rattle.markdown_engine.specs.Codes.{Code, stop_of, document_start}
 use Rattle.markdown_engine.specs.Tree.{Forest, empty, leaf_then, group_then, leaf, ◌⊕◌, start_of}
 use Rattle.markdown_model.specs.Setting.{Setting}
 use Rattle.markdown_model.specs.Runs.{Run, runs_of, run_of, marker_of, rows_inside, containers_of}
-use Rattle.markdown_model.specs.Pairs.{Pair, pair_list, IsPairList, ArePairsFrom}
+use Rattle.markdown_model.specs.Pairs.{Pair, pair_list, ArePairsFrom}
 use Rattle.markdown_model.specs.Groups.{Token, item, opens, closes, nest, nested, onto, after_loose, joined, loose, pair_names, pair_group, closing_sizes, opening_sizes, cut_front, run_tokens, assembled, tokens_of, paired}
-use Rattle.markdown_model.specs.Inline.{pair_count}
 use Rattle.markdown_model.proofs.PairLaws.{some_pair_list}
 use Rattle.markdown_laws.specs.PairGroups.{is_pair, pair_groups, EachPairIsAGroup}
 

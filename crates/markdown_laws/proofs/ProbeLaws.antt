@@ -1,5 +1,5 @@
 -- The bounds on probes, by the codes of a content.
-use Rattle.std.proofs.Common.{◌≡◌, ℕ, zero, suc, ◌+◌, ◌*◌, ◌≤◌, Bool, true, false, List, [], ◌∷◌, ◌++◌, length, sum_by, if◌then◌else◌, refl, sym, ap, ◌∙◌, arith, None}
+use Rattle.std.proofs.Common.{◌≡◌, ℕ, zero, suc, ◌+◌, ◌*◌, ◌≤◌, Bool, true, false, List, [], ◌∷◌, ◌++◌, length, sum_by, if◌then◌else◌, refl, ap, ◌∙◌, arith, None}
 use Rattle.std.specs.List.{count_by}
 use Rattle.std.proofs.lemmas.List.{length-append}
 use Rattle.std.proofs.lemmas.List.Sums.{sum_by-append, sum_by-cons}
@@ -11,13 +11,13 @@ use Rattle.markdown_model.specs.Setting.{Setting}
 use Rattle.markdown_model.specs.Element.{elements_of, text_choice}
 use Rattle.markdown_model.specs.Runs.{Run, run_of, runs_of, rows_inside, containers_of}
 use Rattle.markdown_model.specs.Pairs.{pair_list}
-use Rattle.markdown_model.specs.Inline.{label_tree, run_count, pair_count, opener_count, closer_count, probe_bound, list_probe_bound}
+use Rattle.markdown_model.specs.Inline.{label_tree, run_count, pair_count, probe_bound, list_probe_bound}
 use Rattle.markdown_model.proofs.ElementCodes.{codes-elements, covers_text_element}
 use Rattle.markdown_model.proofs.ElementLaws.{text_elements}
 use Rattle.markdown_model.proofs.LabelCodes.{codes-labels_of}
 use Rattle.markdown_model.proofs.PairFacts.{pairs_are_sound}
 use Rattle.markdown_model.proofs.PairLaws.{some_pair_list}
-use Rattle.markdown_laws.specs.ProbeBounds.{HasFewProbes, ProbesAreFew}
+use Rattle.markdown_laws.specs.ProbeBounds.{ProbesAreFew}
 
 abbrev markers : List Run → ℕ
 markers runs = sum_by (λ r. length r.codes) runs

@@ -2,3 +2,5 @@
 pub mod Escapes
 pub mod PairGroups
 pub mod ProbeBounds
+pub mod Trimming
+pub mod Emails

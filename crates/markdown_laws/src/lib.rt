@@ -8,6 +8,8 @@
 ghost use Rattle.markdown_laws.specs.Escapes.{Escapes};
 ghost use Rattle.markdown_laws.specs.PairGroups.{EachPairIsAGroup};
 ghost use Rattle.markdown_laws.specs.ProbeBounds.{ProbesAreFew};
+ghost use Rattle.markdown_laws.specs.Emails.{EmailsStandInData};
+ghost use Rattle.markdown_laws.specs.Trimming.{DataIsTight};
 
 /// A one-line text with a backslash before each ASCII punctuation character, read as a string with escapes on, is given
 /// back by what is lent for its data and for what its escapes stand for.
@@ -24,4 +26,14 @@ pub fn each_pair_is_a_group()
 /// eleven for each code of the content.
 pub fn probes_are_few()
     ensures { ProbesAreFew }
+{}
+
+/// Finding emails cuts data and does nothing else.
+pub fn emails_stand_in_data()
+    ensures { EmailsStandInData }
+{}
+
+/// No blank code stands in data beside a line ending, nor first or last in a text.
+pub fn data_is_tight()
+    ensures { DataIsTight }
 {}

@@ -1,0 +1,31 @@
+-- Email literals stand in data.
+use Rattle.std.specs.Prelude.{◌≡◌, Bool, true, false, if◌then◌else◌, Some, None}
+use Rattle.markdown_engine.specs.declared.event.Name.{Name}
+use Rattle.markdown_engine.specs.Tree.{Forest, empty, leaf_then, group_then}
+use Rattle.markdown_model.specs.CodeTests.{is_empty}
+use Rattle.markdown_model.specs.Passes.{merged, mailed}
+
+abbrev pub is_email : Name → Bool
+is_email Name.GfmAutolinkLiteralEmail = true
+is_email Name.GfmAutolinkLiteralMailto = true
+is_email Name.GfmAutolinkLiteralXmpp = true
+is_email _ = false
+
+-- the email literals of a tree named data
+abbrev pub as_data : Forest → Forest
+as_data empty = empty
+as_data (leaf_then name None cs rest) = leaf_then (if is_email name then Name.Data else name) None cs (as_data rest)
+as_data (leaf_then name (Some link) cs rest) = leaf_then name (Some link) cs (as_data rest)
+as_data (group_then name enter exit inside rest) = group_then name enter exit (as_data inside) (as_data rest)
+
+-- each data without a link has a code
+abbrev pub HasFullData : Forest → Type 0
+HasFullData empty = Unit {0}
+HasFullData (leaf_then Name.Data None cs rest) = (is_empty cs ≡ false) × HasFullData rest
+HasFullData (leaf_then name link cs rest) = HasFullData rest
+HasFullData (group_then name enter exit inside rest) = HasFullData inside × HasFullData rest
+
+-- Finding emails cuts data and does nothing else: where the literals are named data and merged with the data beside
+-- them, the tree is as it was before.
+abbrev pub EmailsStandInData : Type 0
+EmailsStandInData = (tree : Forest) → HasFullData tree → merged (as_data (mailed tree)) ≡ merged (as_data tree)
