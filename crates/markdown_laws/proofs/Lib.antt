@@ -7,3 +7,4 @@ pub mod ProbeLaws
 pub mod EmailLeaves
 pub mod EmailLaws
 pub mod TrimmingLaws
+pub mod EvenPairs

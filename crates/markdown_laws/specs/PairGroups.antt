@@ -1,5 +1,5 @@
 -- Each pair of a container's list is a group of the tree.
-use Rattle.std.specs.Prelude.{◌≡◌, ℕ, ◌+◌, Bool, true, false, if◌then◌else◌}
+use Rattle.std.specs.Prelude.{◌≡◌, ℕ, ◌+◌, Bool, true, false, length, None, if◌then◌else◌}
 use Rattle.markdown_engine.specs.declared.event.Name.{Name}
 use Rattle.markdown_engine.specs.Tree.{Forest, empty, leaf_then, group_then}
 use Rattle.markdown_model.specs.Setting.{Setting}
@@ -24,3 +24,19 @@ pair_groups (group_then name enter exit inside rest) = (if is_pair name then 1 e
 -- without its partner.
 abbrev pub EachPairIsAGroup : Type 0
 EachPairIsAGroup = (s : Setting) (tree : Forest) → pair_groups (paired s (pair_list s) tree) ≡ pair_groups tree + pair_count s tree
+
+-- a group of a pair holds two sequences of one name and of equally many markers, with a text between them
+abbrev pub HasEvenSides : Forest → Type 0
+HasEvenSides (leaf_then name None front (group_then text enter exit inside (leaf_then other None back empty))) =
+    (name ≡ other) × (length front ≡ length back)
+HasEvenSides _ = ⊥
+
+-- each group of a pair in a row, and inside it, is so
+abbrev pub HasEvenPairs : Forest → Type 0
+HasEvenPairs empty = Unit {0}
+HasEvenPairs (leaf_then name link cs rest) = HasEvenPairs rest
+HasEvenPairs (group_then name enter exit inside rest) = (is_pair name ≡ true → HasEvenSides inside) × HasEvenPairs inside × HasEvenPairs rest
+
+-- in a tree without such groups, grouping the pairs of all containers makes even ones
+abbrev pub PairsAreEven : Type 0
+PairsAreEven = (s : Setting) (tree : Forest) → pair_groups tree ≡ 0 → HasEvenPairs (paired s (pair_list s) tree)

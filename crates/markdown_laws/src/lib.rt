@@ -6,7 +6,7 @@
 #![tactic(auto)]
 
 ghost use Rattle.markdown_laws.specs.Escapes.{Escapes};
-ghost use Rattle.markdown_laws.specs.PairGroups.{EachPairIsAGroup};
+ghost use Rattle.markdown_laws.specs.PairGroups.{EachPairIsAGroup, PairsAreEven};
 ghost use Rattle.markdown_laws.specs.ProbeBounds.{ProbesAreFew};
 ghost use Rattle.markdown_laws.specs.Emails.{EmailsStandInData};
 ghost use Rattle.markdown_laws.specs.Trimming.{DataIsTight};
@@ -36,4 +36,9 @@ pub fn emails_stand_in_data()
 /// No blank code stands in data beside a line ending, nor first or last in a text.
 pub fn data_is_tight()
     ensures { DataIsTight }
+{}
+
+/// The two sequences of a pair's group have equally many markers, so each marker closes the pair that it belongs to.
+pub fn pairs_are_even()
+    ensures { PairsAreEven }
 {}
