@@ -10,12 +10,6 @@ use Rattle.markdown_model.proofs.MergeLaws.{data_onto-twice}
 use Rattle.markdown_laws.specs.Emails.{is_email, as_data, EmailsStandInData}
 use Rattle.markdown_laws.proofs.EmailLeaves.{IsEmailLeaf, AnswerIsEmail, answer-email, reverse-first}
 
-as_data-join : (a b : Forest) → as_data (a ⊕ b) ≡ as_data a ⊕ as_data b
-as_data-join empty b = refl
-as_data-join (leaf_then name None cs rest) b = ap (leaf_then (if is_email name then Name.Data else name) None cs) (as_data-join rest b)
-as_data-join (leaf_then name (Some link) cs rest) b = ap (leaf_then name (Some link) cs) (as_data-join rest b)
-as_data-join (group_then name enter exit inside rest) b = ap (group_then name enter exit (as_data inside)) (as_data-join rest b)
-
 -- codes as data before a merged row, where there are any
 abbrev onto : List Code → Forest → Forest
 onto [] f = f

@@ -18,6 +18,7 @@ use Rattle.markdown_model.proofs.Leaves.{span-append}
 use Rattle.markdown_model.proofs.Literals.{IsFound, found}
 use Rattle.markdown_model.proofs.MergedData.{merged_data_is_apart}
 use Rattle.markdown_model.proofs.ReadingLaws.{span-stops}
+use Rattle.markdown_model.proofs.ReadingSteps.{and-false}
 use Rattle.markdown_laws.specs.Emails.{is_email}
 use Rattle.markdown_laws.specs.Trimming.{IsTight, DataIsTight}
 use Rattle.markdown_laws.proofs.EmailLeaves.{IsEmailLeaf, AnswerIsEmail, answer-email, reverse-first}
@@ -77,10 +78,6 @@ NotBlankFirst front cs = front ≡ true → next_is is_blank cs ≡ false
 
 abbrev NotBlankLast : Bool → List Code → Type 0
 NotBlankLast back cs = back ≡ true → is_some_code is_blank (last_code cs) ≡ false
-
-and-false : (a : Bool) → (a && false) ≡ false
-and-false true = refl
-and-false false = refl
 
 never : {A : Type 0} → (b : Bool) → b ≡ false → b ≡ true → A
 never b h k = absurd (both_ways b h k)
