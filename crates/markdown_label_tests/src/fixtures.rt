@@ -75,6 +75,20 @@ pub(crate) fn piece(start: usize, end: usize) -> Piece {
     }
 }
 
+// What a document is read with.
+pub(crate) fn state_of<'a>(
+    alloc: Global,
+    given: &'a Given,
+    bytes: &'a [u8],
+) -> Result<ParseState<'a>, AllocError> {
+    Ok(ParseState {
+        bytes,
+        options: &given.options,
+        definitions: owned(alloc, given.definitions)?,
+        gfm_footnote_definitions: owned(alloc, given.footnotes)?,
+    })
+}
+
 // A run over a text; none where that is no text.
 pub(crate) fn run(
     alloc: Global,
@@ -82,12 +96,7 @@ pub(crate) fn run(
     bytes: &[u8],
     pieces: &[Piece],
 ) -> Result<Option<Run>, AllocError> {
-    let parse_state = ParseState {
-        bytes,
-        options: &given.options,
-        definitions: owned(alloc, given.definitions)?,
-        gfm_footnote_definitions: owned(alloc, given.footnotes)?,
-    };
+    let parse_state = state_of(alloc, given, bytes)?;
     if !is_text(parse_state.bytes, pieces) {
         return Ok(None);
     }
@@ -142,7 +151,7 @@ pub(crate) fn expect_defined(
 }
 
 // The place where what the first event enters ends.
-pub(crate) fn end_of(events: &[Event]) -> Option<Point> {
+fn end_of(events: &[Event]) -> Option<Point> {
     let (_, rest) = events.split_first()?;
     let mut depth = 0usize;
     for event in rest {

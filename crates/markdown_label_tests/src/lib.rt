@@ -14,6 +14,8 @@ mod nested;
 #[cfg(test)]
 mod pairing;
 #[cfg(test)]
+mod passes;
+#[cfg(test)]
 mod pieces;
 #[cfg(test)]
 mod program;
