@@ -1,8 +1,8 @@
 -- Edits of a list of events: where each event stands afterwards, and that chains stay chains.
-use Rattle.std.proofs.Common.{◌≡◌, ℕ, zero, suc, ◌+◌, ◌-◌, ◌<◌, ◌≤◌, ◌==◌, ◌||◌, ◌&&◌, not, nat_lt, nat_le, max, min, ◌^◌, ◌⊎◌, inl, inr, Bool, true, false, cond, Option, Some, None, List, [], ◌∷◌, ◌++◌, length, take, drop, get_or, set, refl, sym, ap, subst, ◌∙◌, arith, append_assoc}
+use Rattle.std.proofs.Common.{◌≡◌, ℕ, zero, suc, ◌+◌, ◌-◌, ◌<◌, ◌≤◌, ◌==◌, ◌||◌, ◌&&◌, not, nat_lt, nat_le, max, min, ◌^◌, ◌⊎◌, inl, inr, Bool, true, false, cond, Option, Some, None, List, [], ◌∷◌, ◌++◌, length, drop, get_or, refl, sym, ap, subst, ◌∙◌, arith, append_assoc}
 use Rattle.std.specs.List.{All, slice_get}
 use Rattle.std.specs.Option.{option_map}
-use Rattle.std.proofs.lemmas.List.{length-append, append-nil, drop_more, take_more, get_or_read, get_or-set_same, get_or-set_other, get_or_push, get_or_append_left, length_push}
+use Rattle.std.proofs.lemmas.List.{length-append, append-nil, drop_more, length_push}
 use Rattle.std.proofs.lemmas.Option.{get_or_from_slice_get, slice_get_within, slice_get-get_or}
 use Rattle.std.proofs.lemmas.Bool.{false≢true}
 use Rattle.std.proofs.lemmas.Bool.Decides.{nat_tests, eqb_tells, leb_tells}
@@ -10,7 +10,7 @@ use Rattle.markdown_engine.specs.declared.event.Event.{Event}
 use Rattle.markdown_engine.specs.declared.event.Link.{Link}
 use Rattle.markdown_engine.specs.declared.util.edit_map.Edit.{Edit}
 use Rattle.markdown_engine.specs.Chain.{previous_link, with_previous, link_previous, previous_of, has_link, previous_at, linked_at, MayLink, OnlyEnters, IsLinked, IsUnlinked}
-use Rattle.markdown_engine.specs.Edits.{removed_at, front_at, back_at, added_at, removed_by, is_removed, added_up_to, removed_before, moved_number, moved, edited_from, edited, AddsUnlinked, CanEdit}
+use Rattle.markdown_engine.specs.Edits.{removed_at, front_at, back_at, added_at, removed_by, is_removed, added_up_to, removed_before, moved_number, moved, edited_from, edited, number_of, renumbered, noted, AddsUnlinked, CanEdit}
 use Rattle.markdown_engine.proofs.ChainLemmas.{OnlyEnters-append, has-previous, may-previous, within-linked, IsLinked-prefix}
 
 -- How many events stand before place i afterwards.
@@ -413,65 +413,7 @@ pub removed_push : (i : ℕ) (log : List Edit) (e : Edit) → removed_at i (log 
 removed_push i [] e = omega arith
 removed_push i (x ∷ log) e = let r = removed_push i log e in omega arith
 
-abbrev pub ByPlace : List (List Event) → List (List Event) → (ℕ → List Event) → Type 0
-ByPlace xs ys f = (i : ℕ) → get_or ys i [] ≡ get_or xs i [] ++ f i
-
-behind-part : (b c : Bool) (xs : List Event) → c ≡ false → cond (b && not c) xs [] ≡ cond b xs []
-behind-part true c xs h = rw h refl
-behind-part false c xs h = refl
-
-no-part : (b c : Bool) (xs : List Event) → c ≡ true → cond (b && not c) xs [] ≡ []
-no-part true c xs h = rw h refl
-no-part false c xs h = refl
-
-pub back-taken : (xs ys zs : List (List Event)) (log : List Edit) (k : ℕ) (e : Edit) (es : List Event) → k < length log → e ≡ get_or log k e → e.before ≡ false → es ≡ e.events → ByPlace xs ys (λ i. back_at i (take k log)) → ByPlace ys zs (λ i. cond (e.at == i) es []) → ByPlace xs zs (λ i. back_at i (take (k + 1) log))
-back-taken xs ys zs log k e es l r b s h g = λ i.
-    let more : take (k + 1) log ≡ take k log ++ e ∷ [] = take_more log k e l ∙ ap (λ x. take k log ++ x ∷ []) (sym r) in
-    let last : cond (e.at == i) es [] ≡ cond (e.at == i && not e.before) e.events [] = ap (λ x. cond (e.at == i) x []) s ∙ sym (behind-part (e.at == i) e.before e.events b) in
-    g i ∙ ap (λ x. x ++ cond (e.at == i) es []) (h i) ∙ append_assoc (get_or xs i []) (back_at i (take k log)) (cond (e.at == i) es []) ∙ ap (λ x. get_or xs i [] ++ (back_at i (take k log) ++ x)) last ∙ ap (λ x. get_or xs i [] ++ x) (sym (back_push i (take k log) e)) ∙ ap (λ x. get_or xs i [] ++ back_at i x) (sym more)
-
-pub back-left : (xs ys : List (List Event)) (log : List Edit) (k : ℕ) (e : Edit) → k < length log → e ≡ get_or log k e → e.before ≡ true → ByPlace xs ys (λ i. back_at i (take k log)) → ByPlace xs ys (λ i. back_at i (take (k + 1) log))
-back-left xs ys log k e l r b h = λ i.
-    let more : take (k + 1) log ≡ take k log ++ e ∷ [] = take_more log k e l ∙ ap (λ x. take k log ++ x ∷ []) (sym r) in
-    h i ∙ ap (λ x. get_or xs i [] ++ x) (sym (append-nil (back_at i (take k log)))) ∙ ap (λ x. get_or xs i [] ++ (back_at i (take k log) ++ x)) (sym (no-part (e.at == i) e.before e.events b)) ∙ ap (λ x. get_or xs i [] ++ x) (sym (back_push i (take k log) e)) ∙ ap (λ x. get_or xs i [] ++ back_at i x) (sym more)
-
-abbrev pub Counts : List ℕ → (ℕ → ℕ) → Type 0
-Counts xs f = (i : ℕ) → get_or xs i 0 ≡ min (f i) (2 ^ 64 - 1)
-
-pub counts-more : (xs : List ℕ) (log : List Edit) (k : ℕ) (e : Edit) (c r : ℕ) → k < length log → e ≡ get_or log k e → e.at < length xs → c ≡ get_or xs e.at c → r ≡ min (c + e.remove) (2 ^ 64 - 1) → Counts xs (λ i. removed_at i (take k log)) → Counts (set xs e.at r) (λ i. removed_at i (take (k + 1) log))
-counts-more xs log k e c r l s w here is h = λ i.
-    let more : take (k + 1) log ≡ take k log ++ e ∷ [] = take_more log k e l ∙ ap (λ x. take k log ++ x ∷ []) (sym s) in
-    let whole : removed_at i (take (k + 1) log) ≡ removed_at i (take k log) + cond (e.at == i) e.remove 0 = ap (removed_at i) more ∙ removed_push i (take k log) e in
-    elim (eqb_tells e.at i) [
-      | inl t ↦
-          let was : c ≡ get_or xs e.at 0 = get_or_read xs e.at c w here 0 in
-          let old = h e.at in
-          let at : get_or (set xs e.at r) i 0 ≡ r = ap (λ j. get_or (set xs e.at r) j 0) (sym t.1) ∙ get_or-set_same xs e.at r 0 w in
-          let part : cond (e.at == i) e.remove 0 ≡ e.remove = rw t.0 refl in
-          let same : removed_at e.at (take k log) ≡ removed_at i (take k log) = ap (λ j. removed_at j (take k log)) t.1 in
-          counted _ _ _ _ _ at is was old same (whole ∙ ap (λ x. removed_at i (take k log) + x) part)
-      | inr f ↦
-          let at : get_or (set xs e.at r) i 0 ≡ get_or xs i 0 = get_or-set_other xs e.at i r 0 (λ q. f.1 (sym q)) in
-          let part : cond (e.at == i) e.remove 0 ≡ 0 = rw f.0 refl in
-          at ∙ h i ∙ ap (λ x. min x (2 ^ 64 - 1)) (omega arith)
-    ]
-  where
-    counted : (v c r old rem : ℕ) {a b n : ℕ} → v ≡ r → r ≡ min (c + rem) (2 ^ 64 - 1) → c ≡ old → old ≡ min a (2 ^ 64 - 1) → a ≡ b → n ≡ b + rem → v ≡ min n (2 ^ 64 - 1)
-    counted v c r old rem h g k l m o = omega arith
-
 -- a step of the pass over the events
-
-All-each : (P : Event → Type 0) (xs : List Event) → Each P xs → All P xs
-All-each P xs h = λ k d l. h k (get_or xs k d) (slice_get-get_or xs k d l)
-
-pub place-within : (log : List Edit) (n k : ℕ) (e : Edit) → All (λ x. x.at ≤ n) log → k < length log → e ≡ get_or log k e → e.at ≤ n
-place-within log n k e h l r = subst (λ (x : Edit). x.at ≤ n) (sym r) (h k e l)
-
-pub added-read : (vs : List (List Event)) (log : List Edit) (i : ℕ) (xs ys : List Event) → xs ≡ get_or vs i xs → i < length vs → ((j : ℕ) → get_or vs j [] ≡ added_at j log) → ys ≡ xs → ys ≡ added_at i log
-added-read vs log i xs ys r l h s = s ∙ get_or_read vs i xs l r [] ∙ h i
-
-pub added-plain : (log : List Edit) (i : ℕ) (xs : List Event) → AddsUnlinked log → xs ≡ added_at i log → All IsUnlinked xs
-added-plain log i xs u h = let P : List Event → Type 0 = λ ys. All IsUnlinked ys in subst P (sym h) (All-each IsUnlinked (added_at i log) (added-unlinked log i u))
 
 previous-read : (es : List Event) (i : ℕ) (e : Event) → i < length es → e ≡ get_or es i e → previous_at es i ≡ previous_of e
 previous-read es i e l r = previous-get es i e (slice_get-get_or es i e l ∙ ap (λ x. Some x) (sym r))
@@ -483,10 +425,43 @@ map-same : (f g : ℕ → ℕ) (o : Option ℕ) → ((p : ℕ) → o ≡ Some p 
 map-same f g None h = refl
 map-same f g (Some p) h = ap (λ x. Some x) (h p refl)
 
--- the link looked up in the numbers so far
-pub moved-read : (log : List Edit) (es : List Event) (i : ℕ) (numbers : List ℕ) (e x : Event) → i < length es → e ≡ get_or es i e → IsLinked es → ((j : ℕ) → j < i → get_or numbers j 0 ≡ moved_number log j) → x ≡ with_previous (option_map (λ p. get_or numbers p 0) (previous_of e)) e → x ≡ moved log e
-moved-read log es i numbers e x l r w n h =
-    h ∙ ap (λ o. with_previous o e) (map-same (λ p. get_or numbers p 0) (moved_number log) (previous_of e) (λ p k. n p (previous-below es i p e l r w k)))
+-- the notes so far name the numbers of the events before that carry a link
+abbrev pub Notes : List Edit → List Event → ℕ → List (ℕ × ℕ) → Type 0
+Notes log es i notes = (j : ℕ) → j < i → linked_at es j ≡ true → number_of notes j ≡ moved_number log j
+
+-- the link looked up in them
+pub renumbered-moved : (log : List Edit) (es : List Event) (i : ℕ) (notes : List (ℕ × ℕ)) (e : Event) → i < length es → e ≡ get_or es i e → IsLinked es → Notes log es i notes → renumbered notes e ≡ moved log e
+renumbered-moved log es i notes e l r w n =
+    ap (λ o. with_previous o e) (map-same (number_of notes) (moved_number log) (previous_of e) (λ p k. n p (previous-below es i p e l r w k) (w.linked i p (previous-read es i e l r ∙ k))))
+
+same-number : (i j : ℕ) → i ≡ j → (i == j) ≡ true
+same-number i j h = grind (arith, nat_tests)
+
+note-found : (e : Event) (i n j : ℕ) (notes : List (ℕ × ℕ)) → i ≡ j → has_link e.link ≡ true → number_of (noted e i n notes) j ≡ n
+note-found e i n j notes h g = ap (λ b. number_of (cond b ((i, n) ∷ notes) notes) j) g ∙ ap (λ b. cond b n (number_of notes j)) (same-number i j h)
+
+note-other : (e : Event) (i n j : ℕ) (notes : List (ℕ × ℕ)) → (i == j) ≡ false → number_of (noted e i n notes) j ≡ number_of notes j
+note-other e i n j notes h = over (has_link e.link) i n j notes h
+  where
+    over : (b : Bool) (i n j : ℕ) (notes : List (ℕ × ℕ)) → (i == j) ≡ false → number_of (cond b ((i, n) ∷ notes) notes) j ≡ number_of notes j
+    over true i n j notes h = ap (λ c. cond c n (number_of notes j)) h
+    over false i n j notes h = refl
+
+pub notes-kept : (log : List Edit) (es : List Event) (i n : ℕ) (e : Event) (notes : List (ℕ × ℕ)) → i < length es → e ≡ get_or es i e → n ≡ moved_number log i → Notes log es i notes → Notes log es (i + 1) (noted e i n notes)
+notes-kept log es i n e notes l r m h = λ j k g.
+    elim (eqb_tells i j) [
+      | inl t ↦
+          let at : linked_at es i ≡ has_link e.link = linked-get es i e (slice_get-get_or es i e l ∙ ap (λ x. Some x) (sym r)) in
+          note-found e i n j notes t.1 (sym at ∙ ap (linked_at es) t.1 ∙ g) ∙ m ∙ ap (moved_number log) t.1
+      | inr f ↦ note-other e i n j notes f.0 ∙ h j (omega arith) g
+    ]
+
+pub notes-gone : (log : List Edit) (es : List Event) (i : ℕ) (notes : List (ℕ × ℕ)) → linked_at es i ≡ false → Notes log es i notes → Notes log es (i + 1) notes
+notes-gone log es i notes gone h = λ j k g.
+    elim (eqb_tells i j) [
+      | inl t ↦ absurd (false≢true (sym gone ∙ ap (linked_at es) t.1 ∙ g))
+      | inr f ↦ h j (omega arith) g
+    ]
 
 pub range-more : (log : List Edit) (i a b c d : ℕ) → a ≡ min (range_end log i) (2 ^ 64 - 1) → b ≡ min (removed_at i log) (2 ^ 64 - 1) → c ≡ min (i + b) (2 ^ 64 - 1) → d ≡ max a c → d ≡ min (range_end log (i + 1)) (2 ^ 64 - 1)
 range-more log i a b c d h g k l =
@@ -555,23 +530,5 @@ start-gone log i h = let m = moved-start log i in rw h (omega arith)
 pub placed-gone : (log : List Edit) (i : ℕ) (put : List Event) → length put ≡ moved_number log i → is_removed log i ≡ true → length put ≡ start log (i + 1)
 placed-gone log i put h s = let e : suc i ≡ i + 1 = omega arith in h ∙ sym (start-gone log i s) ∙ ap (start log) e
 
-pub numbers-more : (log : List Edit) (i n : ℕ) (xs ys : List ℕ) → ys ≡ xs ++ n ∷ [] → length xs ≡ i → n ≡ moved_number log i → ((j : ℕ) → j < i → get_or xs j 0 ≡ moved_number log j) → (j : ℕ) → j < i + 1 → get_or ys j 0 ≡ moved_number log j
-numbers-more log i n xs ys e s m h = λ j l.
-    elim (leb_tells i j) [
-      | inl a ↦ let same : j ≡ i = omega arith in ap (λ (v : List ℕ). get_or v j 0) e ∙ get_or_push xs n 0 j (s ∙ sym same) ∙ m ∙ ap (moved_number log) (sym same)
-      | inr b ↦ ap (λ (v : List ℕ). get_or v j 0) e ∙ get_or_append_left xs (n ∷ []) 0 j (omega arith) ∙ h j b.1
-    ]
-
--- what is collected, of the edits as contracts see them
-pub added-seen : (vs : List (List Event)) (a b log : List Edit) → a ≡ b → b ≡ log → ((j : ℕ) → get_or vs j [] ≡ added_at j a) → (j : ℕ) → get_or vs j [] ≡ added_at j log
-added-seen vs a b log h g k = λ j. k j ∙ ap (added_at j) (h ∙ g)
-
-pub counts-seen : (vs : List ℕ) (a b log : List Edit) (i n : ℕ) → a ≡ b → b ≡ log → ((j : ℕ) → get_or vs j 0 ≡ min (removed_at j a) (2 ^ 64 - 1)) → n ≡ get_or vs i n → i < length vs → n ≡ min (removed_at i log) (2 ^ 64 - 1)
-counts-seen vs a b log i n h g k r l = get_or_read vs i n l r 0 ∙ k i ∙ ap (λ x. min (removed_at i x) (2 ^ 64 - 1)) (h ∙ g)
-
 pub unlinked-seen : (a log : List Edit) → a ≡ log → AddsUnlinked a → AddsUnlinked log
 unlinked-seen a log h u = let P : List Edit → Type 0 = λ x. AddsUnlinked x in subst P h u
-
-pub numbers-seen : (log : List Edit) (i n : ℕ) (xs ys zs : List ℕ) → zs ≡ ys → ys ≡ xs ++ n ∷ [] → length xs ≡ i → ((j : ℕ) → j < i → get_or xs j 0 ≡ moved_number log j) → (j : ℕ) → j < i → get_or zs j 0 ≡ moved_number log j
-numbers-seen log i n xs ys zs v e s h = λ j l.
-    ap (λ (w : List ℕ). get_or w j 0) (v ∙ e) ∙ get_or_append_left xs (n ∷ []) 0 j (omega arith) ∙ h j l

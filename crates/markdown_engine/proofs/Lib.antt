@@ -19,6 +19,7 @@ pub mod CursorSteps
 pub mod ChainLemmas
 pub mod FilledLemmas
 pub mod EditLemmas
+pub mod EditOrder
 pub mod NestingLemmas
 pub mod ConnectLemmas
 pub mod RunLemmas

@@ -1,10 +1,12 @@
 -- Edits of a list of events, applied at once: each place is counted in the list before any edit.
-use Rattle.std.specs.Prelude.{◌≡◌, ℕ, zero, suc, ◌+◌, ◌-◌, ◌≤◌, ◌==◌, ◌||◌, ◌&&◌, not, nat_lt, nat_le, Bool, true, false, List, [], ◌∷◌, ◌++◌, length, if◌then◌else◌}
+use Rattle.std.specs.Prelude.{◌≡◌, ℕ, zero, suc, ◌+◌, ◌-◌, ◌≤◌, ◌==◌, ◌||◌, ◌&&◌, not, nat_lt, nat_le, Bool, true, false, List, [], ◌∷◌, ◌++◌, length, map, if◌then◌else◌}
+use denote.Ref.{Bor}
 use Rattle.std.specs.List.{All}
+use Rattle.std.specs.List.Sorted.{IsNonDecreasingBy}
 use Rattle.std.specs.Option.{option_map}
 use Rattle.markdown_engine.specs.declared.event.Event.{Event}
 use Rattle.markdown_engine.specs.declared.util.edit_map.Edit.{Edit}
-use Rattle.markdown_engine.specs.Chain.{with_previous, previous_of, linked_at, IsUnlinked}
+use Rattle.markdown_engine.specs.Chain.{with_previous, previous_of, has_link, linked_at, IsUnlinked}
 
 -- What the edits collect at a place.
 
@@ -77,3 +79,30 @@ AddsUnlinked log = All (λ e. All IsUnlinked e.events) log
 pub record CanEdit (log : List Edit) (es : List Event) : Type 0 where
   pub places : All (λ e. e.at ≤ length es) log
   pub unlinked : (j : ℕ) → is_removed log j ≡ true → linked_at es j ≡ false
+
+-- How one walk applies them.
+
+-- the edits that these references lend
+abbrev pub lent : List (Bor Edit) → List Edit
+lent edits = map (λ e. e.now) edits
+
+-- edits in the order of their places, none below n, which collect at each place from n on what the log collects there
+pub record IsRest (n : ℕ) (log rest : List Edit) : Type 0 where
+  pub ahead : All (λ e. n ≤ e.at) rest
+  pub rises : IsNonDecreasingBy (λ e. e.at) rest
+  pub plain : AddsUnlinked rest
+  pub added : (i : ℕ) → n ≤ i → added_at i rest ≡ added_at i log
+  pub removed : (i : ℕ) → n ≤ i → removed_at i rest ≡ removed_at i log
+
+-- the number noted for event p, the newest note first; p itself if there is none
+abbrev pub number_of : List (ℕ × ℕ) → ℕ → ℕ
+number_of [] p = p
+number_of (note ∷ notes) p = if note.0 == p then note.1 else number_of notes p
+
+-- an event with the number of the event before on its chain looked up
+abbrev pub renumbered : List (ℕ × ℕ) → Event → Event
+renumbered notes e = with_previous (option_map (number_of notes) (previous_of e)) e
+
+-- notes, with that of event i, which becomes number n, if it carries a link
+abbrev pub noted : Event → ℕ → ℕ → List (ℕ × ℕ) → List (ℕ × ℕ)
+noted e i n notes = if has_link e.link then (i, n) ∷ notes else notes

@@ -1,13 +1,12 @@
 // Edits of a list of events, collected first and applied at once.
-ghost use Rattle.std.specs.Prelude.{◌≡◌, ℕ, ◌<◌, ◌≤◌, ◌+◌, ◌-◌, ◌^◌, ◌++◌, ◌∷◌, ◌==◌, [], length, take, replicate, slice_index, slice_index_or, min, OnOk, OnErr, IfOk, true, false, if◌then◌else◌};
+ghost use Rattle.std.specs.Prelude.{◌≡◌, ◌≢◌, ℕ, ◌<◌, ◌≤◌, ◌+◌, ◌-◌, ◌^◌, ◌++◌, ◌∷◌, ◌==◌, [], length, take, drop, slice_index_or, min, max, OnOk, OnErr, IfOk, true, false};
 ghost use Rattle.std.specs.List.{All};
-ghost use Rattle.std.specs.Option.{ForSome, option_map};
-ghost use Rattle.markdown_engine.specs.Chain.{with_previous, previous_of, IsUnlinked};
-ghost use Rattle.markdown_engine.specs.Edits.{removed_at, front_at, back_at, added_at, edited, CanEdit};
+ghost use Rattle.markdown_engine.specs.Chain.{bare, IsLinked, IsUnlinked};
+ghost use Rattle.markdown_engine.specs.Edits.{removed_at, front_at, back_at, added_at, lent, number_of, renumbered, noted, edited, AddsUnlinked, IsRest, CanEdit};
 
 use crate::event::{Event, Link};
 use crate::events::Events;
-use crate::seq::Seq;
+use crate::seq::{Seq, Stack};
 use std::alloc::{AllocError, Global};
 use std::marker::Model;
 
@@ -45,84 +44,30 @@ impl Model for EditMap {
     ghost invariant = { λ s. AddsUnlinked s.log };
 }
 
-// An empty list of events for each place up to the last.
-fn no_events(alloc: Global, last: usize) -> Result<Vec<Seq<Event>>, AllocError>
-    ensures { IfOk result (λ v. v.items ≡ replicate (last + 1) []) }
+// The edits in the order of their places; those at one place in the order in which they were added.
+fn by_place<'a>(alloc: Global, log: &'a [Edit]) -> Result<Vec<&'a Edit>, AllocError>
+    requires { AddsUnlinked log.now }
+    ensures { IfOk result (λ v. IsRest 0 log.now (lent v.items)) }
 {
-    let mut added = Vec::new(alloc);
-    added.push(Seq::new(alloc))?;
-    for _place in 0..last {
-        added.push(Seq::new(alloc))?;
-    }
-    Ok(added)
-}
-
-// Puts events behind those at a place.
-fn append_at(added: &mut Vec<Seq<Event>>, at: usize, events: &[Event]) -> Result<(), AllocError>
-    requires { at < length added.old.items }
-    ensures ok { OnOk result ((i : ℕ) → slice_index_or added.new.items i []
-        ≡ slice_index_or added.old.items i [] ++ (if at == i then events.now else [])) }
-    ensures len { length added.new.items ≡ length added.old.items }
-{
-    added[at].extend_from_slice(events)
-}
-
-// Puts the events at each place that edits put before others: the last edit's first.
-fn add_fronts(added: &mut Vec<Seq<Event>>, log: &[Edit]) -> Result<(), AllocError>
-    requires { All (λ e. e.at < length added.old.items) log.now }
-    ensures ok { OnOk result ((i : ℕ) → slice_index_or added.new.items i []
-        ≡ slice_index_or added.old.items i [] ++ front_at i log.now) }
-    ensures len { length added.new.items ≡ length added.old.items }
-{
-    for index in (0..log.len()).rev() {
-        let edit = &log[index];
-        if edit.before {
-            append_at(added, edit.at, edit.events.as_slice())?;
-        }
-    }
-    Ok(())
-}
-
-// Puts the events at each place that edits put behind others: the last edit's last.
-fn add_backs(added: &mut Vec<Seq<Event>>, log: &[Edit]) -> Result<(), AllocError>
-    requires { All (λ e. e.at < length added.old.items) log.now }
-    ensures ok { OnOk result ((i : ℕ) → slice_index_or added.new.items i []
-        ≡ slice_index_or added.old.items i [] ++ back_at i log.now) }
-    ensures len { length added.new.items ≡ length added.old.items }
-{
+    let mut edits = Vec::with_capacity(alloc, log.len())?;
     for edit in log {
-        if !edit.before {
-            append_at(added, edit.at, edit.events.as_slice())?;
-        }
+        edits.push(edit)?;
     }
-    Ok(())
+    edits.sort_by_key(|edit| edit.at)?;
+    Ok(edits)
 }
 
-// The events that come at each place up to the last.
-fn added_by_place(alloc: Global, log: &[Edit], last: usize) -> Result<Vec<Seq<Event>>, AllocError>
-    requires { All (λ e. e.at ≤ last) log.now }
-    ensures events { IfOk result (λ v. (i : ℕ) → slice_index_or v.items i [] ≡ added_at i log.now) }
-    ensures len { IfOk result (λ v. length v.items ≡ last + 1) }
+// How many edits at the front stand at a place.
+fn count_at(edits: &[&Edit], at: usize) -> usize
+    ensures here { All (λ e. e.at ≡ at) (take result (lent edits.now)) }
+    ensures within { result ≤ length edits.now }
+    ensures next { (e : Edit) → result < length edits.now → (slice_index_or (lent edits.now) result e).at ≢ at }
 {
-    let mut added = no_events(alloc, last)?;
-    add_fronts(&mut added, log)?;
-    add_backs(&mut added, log)?;
-    Ok(added)
-}
-
-// How many events go, from each place up to the last; a count past usize::MAX stands as usize::MAX.
-fn removed_by_place(alloc: Global, log: &[Edit], last: usize) -> Result<Vec<usize>, AllocError>
-    requires { All (λ e. e.at ≤ last) log.now }
-    ensures counts { IfOk result (λ v. (i : ℕ)
-        → slice_index_or v.items i 0 ≡ min (removed_at i log.now) (2 ^ 64 - 1)) }
-    ensures len { IfOk result (λ v. length v.items ≡ last + 1) }
-{
-    let mut removed = vec![in alloc; 0usize; last]?;
-    removed.push(0)?;
-    for edit in log {
-        removed[edit.at] = removed[edit.at].saturating_add(edit.remove);
+    let mut count = 0usize;
+    while count < edits.len() && edits[count].at == at {
+        count += 1;
     }
-    Ok(removed)
+    count
 }
 
 // Adds events that carry no link.
@@ -136,11 +81,105 @@ fn push_all(events: &mut Events, items: &[Event]) -> Result<(), AllocError>
     Ok(())
 }
 
+// Adds the events that edits put at a place before others: the last edit's first.
+fn push_fronts(done: &mut Events, edits: &[&Edit], at: usize) -> Result<(), AllocError>
+    requires { AddsUnlinked (lent edits.now) }
+    ensures { OnOk result (done.new ≡ done.old ++ front_at at (lent edits.now)) }
+{
+    for index in (0..edits.len()).rev() {
+        let edit = edits[index];
+        if edit.at == at && edit.before {
+            push_all(done, edit.events.as_slice())?;
+        }
+    }
+    Ok(())
+}
+
+// Adds the events that edits put at a place behind others: the last edit's last.
+fn push_backs(done: &mut Events, edits: &[&Edit], at: usize) -> Result<(), AllocError>
+    requires { AddsUnlinked (lent edits.now) }
+    ensures { OnOk result (done.new ≡ done.old ++ back_at at (lent edits.now)) }
+{
+    for edit in edits {
+        if edit.at == at && !edit.before {
+            push_all(done, edit.events.as_slice())?;
+        }
+    }
+    Ok(())
+}
+
+// How many events go, from a place on; a count past usize::MAX stands as usize::MAX.
+fn removed_from(edits: &[&Edit], at: usize) -> usize
+    ensures { result ≡ min (removed_at at (lent edits.now)) (2 ^ 64 - 1) }
+{
+    let mut removed = 0usize;
+    for edit in edits {
+        if edit.at == at {
+            removed = removed.saturating_add(edit.remove);
+        }
+    }
+    removed
+}
+
+// How far a walk over the places of a list has come.
+#[derive(Clone, Copy)]
+struct Passed {
+    // How many edits are passed, in the order of their places.
+    edits: usize,
+    // Where the events end that go.
+    removed_to: usize,
+}
+
+// Adds the events that come at a place, and passes its edits.
+fn pass_place(
+    done: &mut Events,
+    edits: &[&Edit],
+    passed: Passed,
+    at: usize,
+) -> Result<Passed, AllocError>
+    requires within { passed.edits ≤ length edits.now }
+    requires rest { let rest = drop passed.edits (lent edits.now) in IsRest at rest rest }
+    ensures done { OnOk result (done.new ≡ done.old ++ added_at at (drop passed.edits (lent edits.now))) }
+    ensures within { IfOk result (λ p. p.edits ≤ length edits.now) }
+    ensures rest { IfOk result (λ p. IsRest (at + 1) (drop passed.edits (lent edits.now)) (drop p.edits (lent edits.now))) }
+    ensures removed { IfOk result (λ p. p.removed_to
+        ≡ max passed.removed_to (min (at + min (removed_at at (drop passed.edits (lent edits.now))) (2 ^ 64 - 1)) (2 ^ 64 - 1))) }
+{
+    let rest = &edits[passed.edits..];
+    let count = count_at(rest, at);
+    if count == 0 {
+        return Ok(Passed {
+            edits: passed.edits,
+            removed_to: passed.removed_to.max(at),
+        });
+    }
+    let here = &rest[..count];
+    push_fronts(done, here, at)?;
+    push_backs(done, here, at)?;
+    Ok(Passed {
+        edits: passed.edits + count,
+        removed_to: passed
+            .removed_to
+            .max(at.saturating_add(removed_from(here, at))),
+    })
+}
+
+// The number noted for an event, the newest note first; its own if there is none.
+fn number_of(notes: &Stack<(usize, usize)>, event: usize) -> usize
+    ensures { result ≡ number_of notes.now event }
+{
+    for depth in 0..notes.len() {
+        let (noted, number) = *notes.at(depth);
+        if noted == event {
+            return number;
+        }
+    }
+    event
+}
+
 // The event, with the number of the event before on its chain looked up.
-fn renumbered(event: Event, numbers: &[usize]) -> Event
-    requires { ForSome (previous_of event) (λ p. p < length numbers.now) }
-    ensures { result
-        ≡ with_previous (option_map (λ p. slice_index numbers.now p) (previous_of event)) event }
+fn renumbered(event: Event, notes: &Stack<(usize, usize)>) -> Event
+    ensures { result ≡ renumbered notes.now event }
 {
     let Some(link) = event.link else {
         return event;
@@ -153,11 +192,31 @@ fn renumbered(event: Event, numbers: &[usize]) -> Event
         name: event.name,
         point: event.point,
         link: Some(Link {
-            previous: Some(numbers[previous]),
+            previous: Some(number_of(notes, previous)),
             next: link.next,
             content: link.content,
         }),
     }
+}
+
+// Adds an event that stays, and notes its number if it carries a link.
+fn keep(
+    done: &mut Events,
+    notes: &mut Stack<(usize, usize)>,
+    event: Event,
+    index: usize,
+) -> Result<(), AllocError>
+    requires bare { bare event ≡ event }
+    requires chains { IsLinked (done.old ++ renumbered notes.old event ∷ []) }
+    ensures ok { OnOk result (done.new ≡ done.old ++ renumbered notes.old event ∷ []) }
+    ensures notes { OnOk result (notes.new ≡ noted event index (length done.old) notes.old) }
+{
+    if event.link.is_none() {
+        return done.push(event);
+    }
+    let number = done.len();
+    done.push_linked(renumbered(event, notes))?;
+    notes.push((index, number))
 }
 
 impl EditMap {
@@ -242,21 +301,20 @@ impl EditMap {
         requires { CanEdit self.now events.now }
         ensures { IfOk result (λ done. done ≡ edited self.now events.now) }
     {
-        let count = events.len();
-        let added = added_by_place(self.alloc, self.log.as_slice(), count)?;
-        let removed = removed_by_place(self.alloc, self.log.as_slice(), count)?;
+        let edits = by_place(self.alloc, self.log.as_slice())?;
         let mut done = Events::new(self.alloc);
-        let mut numbers = Vec::new(self.alloc);
-        let mut removed_to = 0usize;
-        for index in 0..count {
-            push_all(&mut done, added[index].as_slice())?;
-            numbers.push(done.len())?;
-            removed_to = removed_to.max(index.saturating_add(removed[index]));
-            if removed_to <= index {
-                done.push_linked(renumbered(events.bare_at(index), numbers.as_slice()))?;
+        let mut notes = Stack::new(self.alloc);
+        let mut passed = Passed {
+            edits: 0,
+            removed_to: 0,
+        };
+        for index in 0..events.len() {
+            passed = pass_place(&mut done, &edits, passed, index)?;
+            if passed.removed_to <= index {
+                keep(&mut done, &mut notes, events.bare_at(index), index)?;
             }
         }
-        push_all(&mut done, added[count].as_slice())?;
+        pass_place(&mut done, &edits, passed, events.len())?;
         Ok(done)
     }
 
