@@ -1,8 +1,8 @@
 -- What callers of edits reason with.
-use Rattle.std.proofs.Common.{◌≡◌, ◌≢◌, ℕ, zero, suc, ◌+◌, ◌<◌, ◌≤◌, ◌==◌, ◌||◌, ◌&&◌, not, nat_lt, nat_le, inl, inr, Bool, true, false, cond, Option, Some, None, List, [], ◌∷◌, ◌++◌, length, get_or, slice_get, refl, sym, ap, ◌∙◌, arith, append_assoc}
+use Rattle.std.proofs.Common.{◌≡◌, ◌≢◌, ℕ, zero, suc, ◌+◌, ◌<◌, ◌≤◌, ◌==◌, ◌||◌, ◌&&◌, not, nat_lt, nat_le, inl, inr, Bool, true, false, cond, Option, Some, None, List, [], ◌∷◌, ◌++◌, length, drop, get_or, slice_get, refl, sym, ap, ◌∙◌, arith, append_assoc}
 use Rattle.std.specs.List.{All}
 use Rattle.std.specs.Option.{option_map}
-use Rattle.std.proofs.lemmas.List.{length-append, append-nil}
+use Rattle.std.proofs.lemmas.List.{length-append, length-drop, append-nil}
 use Rattle.std.proofs.lemmas.Bool.{ne_eqb, false≢true, or_left, or_right}
 use Rattle.std.proofs.lemmas.Bool.Decides.{nat_tests, eqb_tells, leb_tells}
 use Rattle.markdown_engine.specs.declared.event.Event.{Event}
@@ -98,6 +98,15 @@ length-from log i (e ∷ es) =
 -- as many as the number that an event past the end would have
 pub length-edited : (log : List Edit) (es : List Event) → length (edited log es) ≡ moved_number log (length es)
 length-edited log es = let e : 0 + length es ≡ length es = omega arith in omega (arith, length-from log 0 es, ap (moved_number log) e)
+
+-- what is made so far is as long as what comes before the place
+pub placed-from : (log : List Edit) (es done : List Event) (i : ℕ) → i ≤ length es → done ++ edited_from log i (drop i es) ≡ edited log es → length done ≡ start log i
+placed-from log es done i l h =
+    let whole = length-append done (edited_from log i (drop i es)) in
+    let rest = length-from log i (drop i es) in
+    let all = length-edited log es in
+    let e : i + length (drop i es) ≡ length es = omega (arith, length-drop i es) in
+    omega (arith, ap length h, ap (moved_number log) e)
 
 -- an event that stays has its number afterwards
 pub edited-kept : (log : List Edit) (es : List Event) (j : ℕ) → j < length es → is_removed log j ≡ false → slice_get (edited log es) (moved_number log j) ≡ option_map (moved log) (slice_get es j)

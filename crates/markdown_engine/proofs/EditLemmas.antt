@@ -1,8 +1,8 @@
 -- Edits of a list of events: where each event stands afterwards, and that chains stay chains.
-use Rattle.std.proofs.Common.{◌≡◌, ℕ, zero, suc, ◌+◌, ◌-◌, ◌<◌, ◌≤◌, ◌==◌, ◌||◌, ◌&&◌, not, nat_lt, nat_le, max, min, ◌^◌, ◌⊎◌, inl, inr, Bool, true, false, cond, Option, Some, None, List, [], ◌∷◌, ◌++◌, length, drop, get_or, refl, sym, ap, subst, ◌∙◌, arith, append_assoc}
+use Rattle.std.proofs.Common.{◌≡◌, ℕ, zero, suc, ◌+◌, ◌-◌, ◌<◌, ◌≤◌, ◌==◌, ◌||◌, ◌&&◌, not, nat_lt, nat_le, max, min, ◌^◌, ◌⊎◌, inl, inr, Bool, true, false, cond, Option, Some, None, List, [], ◌∷◌, ◌++◌, length, drop, get_or, refl, sym, ap, subst, ◌∙◌, arith, append_assoc, take}
 use Rattle.std.specs.List.{All, slice_get}
 use Rattle.std.specs.Option.{option_map}
-use Rattle.std.proofs.lemmas.List.{length-append, append-nil, drop_more, length_push}
+use Rattle.std.proofs.lemmas.List.{length-append, append-nil, drop_more, length_push, length-take, length-drop, get_or-take, get_or-drop}
 use Rattle.std.proofs.lemmas.Option.{get_or_from_slice_get, slice_get_within, slice_get-get_or}
 use Rattle.std.proofs.lemmas.Bool.{false≢true}
 use Rattle.std.proofs.lemmas.Bool.Decides.{nat_tests, eqb_tells, leb_tells}
@@ -463,36 +463,57 @@ notes-gone log es i notes gone h = λ j k g.
       | inr f ↦ h j (omega arith) g
     ]
 
-pub range-more : (log : List Edit) (i a b c d : ℕ) → a ≡ min (range_end log i) (2 ^ 64 - 1) → b ≡ min (removed_at i log) (2 ^ 64 - 1) → c ≡ min (i + b) (2 ^ 64 - 1) → d ≡ max a c → d ≡ min (range_end log (i + 1)) (2 ^ 64 - 1)
-range-more log i a b c d h g k l =
-    let e : i + 1 ≡ suc i = omega arith in
-    rw e (omega arith)
-
-below-range : (log : List Edit) (i d : ℕ) → i < 2 ^ 64 - 1 → d ≡ min (range_end log (i + 1)) (2 ^ 64 - 1) → is_removed log i ≡ nat_lt i d
-below-range log i d l h =
-    let e : i + 1 ≡ suc i = omega arith in
-    let same : d ≡ min (range_end log (suc i)) (2 ^ 64 - 1) = h ∙ ap (λ n. min (range_end log n) (2 ^ 64 - 1)) e in
-    removed-test log i ∙ tested i (range_end log (suc i)) d l same
-  where
-    tested : (i r d : ℕ) → i < 2 ^ 64 - 1 → d ≡ min r (2 ^ 64 - 1) → nat_lt i r ≡ nat_lt i d
-    tested i r d l h = grind (arith, nat_tests)
-
-pub stays-from : (log : List Edit) (i d : ℕ) → i < 2 ^ 64 - 1 → d ≡ min (range_end log (i + 1)) (2 ^ 64 - 1) → d ≤ i → is_removed log i ≡ false
-stays-from log i d l h k = below-range log i d l h ∙ not-below i d k
-  where
-    not-below : (i d : ℕ) → d ≤ i → nat_lt i d ≡ false
-    not-below i d h = grind (arith, nat_tests)
-
-pub goes-from : (log : List Edit) (i d : ℕ) → i < 2 ^ 64 - 1 → d ≡ min (range_end log (i + 1)) (2 ^ 64 - 1) → i < d → is_removed log i ≡ true
-goes-from log i d l h k = below-range log i d l h ∙ is-below i d k
-  where
-    is-below : (i d : ℕ) → i < d → nat_lt i d ≡ true
-    is-below i d h = grind (arith, nat_tests)
+-- what the code knows at place i of where the ranges end, once those of the places before j are counted
+abbrev pub EndsAt : List Edit → ℕ → ℕ → ℕ → Type 0
+EndsAt log i j d = max d i ≡ max (min (range_end log j) (2 ^ 64 - 1)) i
 
 found : (es : List Event) (i : ℕ) → i < length es → (e : Event) × (e ≡ get_or es i e)
 found [] i l = absurd (omega arith)
 found (x ∷ es) zero l = (x, refl)
 found (x ∷ es) (suc i) l = found es i (omega arith)
+
+pub notes-plain : (log : List Edit) (es : List Event) (n m : ℕ) (notes : List (ℕ × ℕ)) → m ≤ length es → All IsUnlinked (take (m - n) (drop n es)) → Notes log es n notes → Notes log es m notes
+notes-plain log es n m notes w u h = λ j k g.
+    elim (leb_tells n j) [
+      | inl low ↦
+          let e = found es j (omega arith) in
+          let at : slice_get es j ≡ Some e.0 = slice_get-get_or es j e.0 (omega arith) ∙ ap (λ x. Some x) (sym e.1) in
+          let size : length (take (m - n) (drop n es)) ≡ m - n = omega (arith, length-take (m - n) (drop n es), length-drop n es) in
+          let there : n + (j - n) ≡ j = omega arith in
+          let inside : j - n < m - n = omega arith in
+          let plain = u (j - n) e.0 (omega arith) in
+          let same : get_or (take (m - n) (drop n es)) (j - n) e.0 ≡ e.0 = get_or-take (m - n) (drop n es) (j - n) e.0 inside ∙ get_or-drop n es (j - n) e.0 ∙ ap (λ i. get_or es i e.0) there ∙ sym e.1 in
+          absurd (false≢true (sym (ap has_link plain) ∙ ap (λ (x : Event). has_link x.link) same ∙ sym (linked-get es j e.0 at) ∙ g))
+      | inr high ↦ h j (omega arith) g
+    ]
+
+pub range-more : (log : List Edit) (i a b c d : ℕ) → i < 2 ^ 64 - 1 → EndsAt log i i a → b ≡ min (removed_at i log) (2 ^ 64 - 1) → c ≡ min (i + b) (2 ^ 64 - 1) → d ≡ max a c → EndsAt log i (i + 1) d
+range-more log i a b c d l h g k m =
+    let e : i + 1 ≡ suc i = omega arith in
+    rw e (omega arith)
+
+pub range-next : (log : List Edit) (i d : ℕ) → EndsAt log i (i + 1) d → EndsAt log (i + 1) (i + 1) d
+range-next log i d h = omega arith
+
+below-range : (log : List Edit) (i d : ℕ) → i < 2 ^ 64 - 1 → EndsAt log i (i + 1) d → is_removed log i ≡ nat_lt i d
+below-range log i d l h =
+    let e : i + 1 ≡ suc i = omega arith in
+    removed-test log i ∙ tested i (range_end log (suc i)) d l (h ∙ ap (λ n. max (min (range_end log n) (2 ^ 64 - 1)) i) e)
+  where
+    tested : (i r d : ℕ) → i < 2 ^ 64 - 1 → max d i ≡ max (min r (2 ^ 64 - 1)) i → nat_lt i r ≡ nat_lt i d
+    tested i r d l h = grind (arith, nat_tests)
+
+pub stays-from : (log : List Edit) (i d : ℕ) → i < 2 ^ 64 - 1 → EndsAt log i (i + 1) d → d ≤ i → is_removed log i ≡ false
+stays-from log i d l h k = below-range log i d l h ∙ not-below i d k
+  where
+    not-below : (i d : ℕ) → d ≤ i → nat_lt i d ≡ false
+    not-below i d h = grind (arith, nat_tests)
+
+pub goes-from : (log : List Edit) (i d : ℕ) → i < 2 ^ 64 - 1 → EndsAt log i (i + 1) d → i < d → is_removed log i ≡ true
+goes-from log i d l h k = below-range log i d l h ∙ is-below i d k
+  where
+    is-below : (i d : ℕ) → i < d → nat_lt i d ≡ true
+    is-below i d h = grind (arith, nat_tests)
 
 module _ (log : List Edit) (es : List Event) (i : ℕ) (done put : List Event) (l : i < length es) (h : done ++ edited_from log i (drop i es) ≡ edited log es) (g : put ≡ done ++ added_at i log) where
   step : (e : Event) → e ≡ get_or es i e → edited log es ≡ put ++ (stay log (is_removed log i) e ++ edited_from log (i + 1) (drop (i + 1) es))

@@ -1,19 +1,21 @@
 -- Edits in the order of their places, passed place by place.
-use Rattle.std.proofs.Common.{◌≡◌, ◌≢◌, ℕ, ◌+◌, ◌-◌, ◌^◌, ◌<◌, ◌≤◌, ◌==◌, ◌&&◌, not, ◌⊎◌, inl, inr, Bool, true, false, cond, min, max, List, [], ◌∷◌, ◌++◌, length, take, drop, map, get_or, refl, sym, ap, subst, ◌∙◌, arith, append_assoc, Bor}
+use Rattle.std.proofs.Common.{suc, zero, nat_lt, Option, ◌≡◌, ◌≢◌, ℕ, ◌+◌, ◌-◌, ◌^◌, ◌<◌, ◌≤◌, ◌==◌, ◌&&◌, not, ◌⊎◌, inl, inr, Bool, true, false, cond, min, max, List, [], ◌∷◌, ◌++◌, length, take, drop, map, get_or, refl, sym, ap, subst, ◌∙◌, arith, append_assoc, Bor}
 use Rattle.std.specs.List.{All, filter}
 use Rattle.std.specs.List.Sorted.{IsPermutation, IsNonDecreasingBy, IsStableByKey, ties}
 use Rattle.std.specs.Ordering.{is_lt, nat_cmp}
-use Rattle.std.proofs.lemmas.List.{get_or-map, get_or-drop, map_more, take-append-drop, append-nil, length-map, length-drop, take_more, take_all, drop-map, take-map, drop-drop}
+use Rattle.std.proofs.lemmas.List.{get_or-map, get_or-drop, map_more, take-append-drop, append-nil, length-map, length-take, length-drop, take_more, take_all, drop-map, take-map, drop-drop}
 use Rattle.std.proofs.lemmas.List.Sorted.{All-permutation, IsPermutation-map, IsNonDecreasingBy-drop}
 use Rattle.std.proofs.lemmas.List.Elements.{All-drop, All-push, All-take}
 use Rattle.std.proofs.lemmas.Bool.{ne_eqb}
 use Rattle.std.proofs.lemmas.Bool.Decides.{nat_tests}
 use Rattle.markdown_engine.specs.declared.event.Event.{Event}
 use Rattle.markdown_engine.specs.declared.util.edit_map.Edit.{Edit}
-use Rattle.markdown_engine.specs.Chain.{IsUnlinked}
-use Rattle.markdown_engine.specs.Edits.{removed_at, front_at, back_at, added_at, lent, AddsUnlinked, IsRest}
-use Rattle.markdown_engine.proofs.EditLemmas.{back_push, removed_push, range_end, range-more}
-use Rattle.markdown_engine.proofs.EditFacts.{added-first, added-second, removed-first, removed-second}
+use Rattle.markdown_engine.specs.Chain.{previous_link, previous_of, IsUnlinked}
+use Rattle.std.specs.Option.{option_map}
+use Rattle.markdown_engine.specs.declared.event.Link.{Link}
+use Rattle.markdown_engine.specs.Edits.{removed_at, front_at, back_at, added_at, is_removed, moved_number, moved, edited_from, edited, lent, AddsUnlinked, IsRest}
+use Rattle.markdown_engine.proofs.EditLemmas.{back_push, removed_push, range_end, range-more, removed-test, EndsAt}
+use Rattle.markdown_engine.proofs.EditFacts.{added-none, removed-none, added-first, added-second, removed-first, removed-second, edited_until, edited-split}
 
 -- What edits collect at a place is what those at the place collect.
 
@@ -269,5 +271,104 @@ module _ (log : List Edit) (i p : ℕ) (vs ws : List (Bor Edit)) (is : ws ≡ vs
       let R : List (Bor Edit) → Type 0 = λ v. IsRest (i + 1) log (drop q (lent v)) in
       subst R is (rest-trans i (i + 1) log (drop p (lent ws)) (drop q (lent ws)) (omega arith) left r)
 
-  pub range-place : (a b : ℕ) → a ≡ min (range_end log i) (2 ^ 64 - 1) → b ≡ max a (min (i + min (removed_at i (drop p (lent ws))) (2 ^ 64 - 1)) (2 ^ 64 - 1)) → b ≡ min (range_end log (i + 1)) (2 ^ 64 - 1)
-  range-place a b h g = range-more log i a _ _ b h (ap (λ n. min n (2 ^ 64 - 1)) (left.removed i (omega arith))) refl g
+  pub range-place : (a b : ℕ) → i < 2 ^ 64 - 1 → EndsAt log i i a → b ≡ max a (min (i + min (removed_at i (drop p (lent ws))) (2 ^ 64 - 1)) (2 ^ 64 - 1)) → EndsAt log i (i + 1) b
+  range-place a b l h g = range-more log i a _ _ b l h (ap (λ n. min n (2 ^ 64 - 1)) (left.removed i (omega arith))) refl g
+
+-- Up to the next edit.
+
+pub ahead-seen : (m p : ℕ) (vs ws : List (Bor Edit)) → ws ≡ vs → All (λ e. m ≤ e.at) (drop p (lent ws)) → All (λ e. m ≤ e.at) (drop p (lent vs))
+ahead-seen m p vs ws is h = let P : List (Bor Edit) → Type 0 = λ es. All (λ e. m ≤ e.at) (drop p (lent es)) in subst P is h
+
+first-left : (es : List (Bor Edit)) (p : ℕ) (r : Bor Edit) → p < length es → r ≡ get_or es p r → (d : Edit) → get_or (drop p (lent es)) 0 d ≡ r.now
+first-left es p r l h d =
+    let at : p + 0 ≡ p = omega arith in
+    get_or-drop p (lent es) 0 d ∙ ap (λ n. get_or (lent es) n d) at ∙ lent-read es p r l h d
+
+left-size : (es : List (Bor Edit)) (p : ℕ) → length (drop p (lent es)) ≡ length es - p
+left-size es p = length-drop p (lent es) ∙ ap (λ n. n - p) (length-map es (λ (e : Bor Edit). e.now))
+
+pub next-from : (es : List (Bor Edit)) (p n : ℕ) (r : Bor Edit) → p < length es → r ≡ get_or es p r → All (λ e. n ≤ e.at) (drop p (lent es)) → n ≤ r.now.at
+next-from es p n r l h all =
+    let size = left-size es p in
+    let low = all 0 r.now (omega arith) in
+    omega (arith, ap (λ (e : Edit). e.at) (first-left es p r l h r.now))
+
+pub next-rest : (es : List (Bor Edit)) (p t : ℕ) (r : Bor Edit) → p < length es → r ≡ get_or es p r → t ≤ r.now.at → IsNonDecreasingBy (λ e. e.at) (drop p (lent es)) → All (λ e. t ≤ e.at) (drop p (lent es))
+next-rest es p t r l h le up = λ k d m.
+    let more = up 0 k d (omega arith) m in
+    omega (arith, ap (λ (e : Edit). e.at) (first-left es p r l h d))
+
+pub next-none : (es : List (Bor Edit)) (p t : ℕ) → length es ≤ p → All (λ e. t ≤ e.at) (drop p (lent es))
+next-none es p t h = λ k d m. let size = left-size es p in absurd (omega arith)
+
+-- the edits left lie from a later place on
+pub rest-later : (n m : ℕ) (log a : List Edit) → n ≤ m → IsRest n log a → All (λ e. m ≤ e.at) a → IsRest m log a
+rest-later n m log a l r h = record { ahead = h; rises = r.rises; plain = r.plain; added = λ i k. r.added i (omega arith); removed = λ i k. r.removed i (omega arith) }
+
+unlinked-moved : (log : List Edit) (e : Event) → IsUnlinked e → moved log e ≡ e
+unlinked-moved log e u = ap (λ (l : Option Link). record e { link = previous_link (option_map (moved_number log) (previous_of e)) l }) u ∙ ap (λ (l : Option Link). record e { link = l }) (sym u)
+
+not-below : (i d : ℕ) → d ≤ i → nat_lt i d ≡ false
+not-below i d h = grind (arith, nat_tests)
+
+-- events that stay, where nothing comes, and that carry no link
+until-plain : (log : List Edit) (i : ℕ) (xs : List Event) → ((j : ℕ) → i ≤ j → j < i + length xs → added_at j log ≡ []) → ((j : ℕ) → i ≤ j → j < i + length xs → is_removed log j ≡ false) → All IsUnlinked xs → edited_until log i xs ≡ xs
+until-plain log i [] a r u = refl
+until-plain log i (x ∷ xs) a r u =
+    ap (λ y. y ++ (cond (is_removed log i) [] (moved log x ∷ []) ++ edited_until log (suc i) xs)) (a i (omega arith) (omega arith)) ∙ ap (λ b. cond b [] (moved log x ∷ []) ++ edited_until log (suc i) xs) (r i (omega arith) (omega arith)) ∙ ap (λ y. y ∷ edited_until log (suc i) xs) (unlinked-moved log x (u 0 x (omega arith))) ∙ ap (λ y. x ∷ y) (until-plain log (suc i) xs (λ j l h. a j (omega arith) (omega arith)) (λ j l h. r j (omega arith) (omega arith)) (λ k d l. u (suc k) d (omega arith)))
+
+-- A stretch with no edit, of events that carry no link, from place n up to place m.
+
+module _ (log rest : List Edit) (es : List Event) (n m d : ℕ) (le : n ≤ m) (within : m ≤ length es) (left_over : IsRest n log rest) (ahead : All (λ e. m ≤ e.at) rest) (plain : All IsUnlinked (take (m - n) (drop n es))) where
+  nowhere : (j : ℕ) → j < m → All (λ e. e.at ≢ j) rest
+  nowhere j l = λ k x h e. let a = ahead k x h in omega arith
+
+  quiet-added : (j : ℕ) → n ≤ j → j < m → added_at j log ≡ []
+  quiet-added j l h = sym (left_over.added j l) ∙ added-none j rest (nowhere j h)
+
+  quiet-removed : (j : ℕ) → n ≤ j → j < m → removed_at j log ≡ 0
+  quiet-removed j l h = sym (left_over.removed j l) ∙ removed-none j rest (nowhere j h)
+
+  range-quiet : (k : ℕ) → n + k ≤ m → (range_end log n ≤ range_end log (n + k)) × (range_end log (n + k) ≤ max (range_end log n) (n + k - 1))
+  range-quiet zero h = let e : n + 0 ≡ n = omega arith in rw e (omega arith, omega arith)
+  range-quiet (suc k) h =
+      let e : n + suc k ≡ suc (n + k) = omega arith in
+      let before = range-quiet k (omega arith) in
+      let none = quiet-removed (n + k) (omega arith) (omega arith) in
+      let low = before.0 in
+      let high = before.1 in
+      rw e (omega arith, omega arith)
+
+  pub range-stretch : m < 2 ^ 64 → EndsAt log n n d → EndsAt log m m d
+  range-stretch g h =
+      let e : n + (m - n) ≡ m = omega arith in
+      let bounds = range-quiet (m - n) (omega arith) in
+      let low = bounds.0 in
+      let high = bounds.1 in
+      omega (arith, ap (range_end log) e)
+
+  quiet-stays : m < 2 ^ 64 → EndsAt log n n d → d ≤ n → (j : ℕ) → n ≤ j → j < m → is_removed log j ≡ false
+  quiet-stays g h f j l k =
+      let e : n + (j - n) ≡ j = omega arith in
+      let bounds = range-quiet (j - n) (omega arith) in
+      let high = bounds.1 in
+      let none = quiet-removed j l k in
+      let after : range_end log (suc j) ≤ j = omega (arith, ap (range_end log) e) in
+      removed-test log j ∙ not-below j (range_end log (suc j)) after
+
+  size-stretch : length (take (m - n) (drop n es)) ≡ m - n
+  size-stretch = omega (arith, length-take (m - n) (drop n es), length-drop n es)
+
+  cut-stretch : drop n es ≡ take (m - n) (drop n es) ++ drop m es
+  cut-stretch =
+      let e : n + (m - n) ≡ m = omega arith in
+      sym (take-append-drop (m - n) (drop n es)) ∙ ap (λ x. take (m - n) (drop n es) ++ x) (drop-drop (m - n) n es ∙ ap (λ k. drop k es) e)
+
+  pub events-stretch : m < 2 ^ 64 → EndsAt log n n d → (n < m → d ≤ n) → (done put : List Event) → done ++ edited_from log n (drop n es) ≡ edited log es → put ≡ done ++ take (m - n) (drop n es) → put ++ edited_from log m (drop m es) ≡ edited log es
+  events-stretch g h f done put k s =
+      let xs = take (m - n) (drop n es) in
+      let size = size-stretch in
+      let same : m ≡ n + length xs = omega arith in
+      let quiet = λ (j : ℕ) (low : n ≤ j) (high : j < n + length xs). quiet-added j low (omega arith) in
+      let still = λ (j : ℕ) (low : n ≤ j) (high : j < n + length xs). quiet-stays g h (f (omega arith)) j low (omega arith) in
+      ap (λ x. x ++ edited_from log m (drop m es)) s ∙ append_assoc done xs (edited_from log m (drop m es)) ∙ ap (λ x. done ++ (x ++ edited_from log m (drop m es))) (sym (until-plain log n xs quiet still plain)) ∙ ap (λ x. done ++ x) (sym (edited-split log n m xs (drop m es) same)) ∙ ap (λ x. done ++ edited_from log n x) (sym cut-stretch) ∙ k

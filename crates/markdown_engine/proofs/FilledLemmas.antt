@@ -1,8 +1,10 @@
 -- What a change of the kept events does to the events that contracts see, and that their links stay filled in.
-use Rattle.std.proofs.Common.{◌≡◌, ℕ, ◌+◌, ◌-◌, ◌<◌, Option, Some, None, List, [], ◌∷◌, ◌++◌, length, take, get_or, true, sym, ap, subst, ◌∙◌, arith}
-use Rattle.std.proofs.lemmas.List.{take_at, same_from_push, length_push}
+use Rattle.std.proofs.Common.{◌≡◌, ℕ, zero, suc, ◌+◌, ◌-◌, ◌<◌, ◌≤◌, Option, Some, None, List, [], ◌∷◌, ◌++◌, length, take, drop, get_or, true, refl, append_assoc, sym, ap, subst, ◌∙◌, arith}
+use Rattle.std.proofs.lemmas.List.{take_at, same_from_push, length_push, append-nil, length-take}
+use Rattle.std.specs.List.{All}
+use Rattle.markdown_engine.specs.declared.event.Link.{Link}
 use Rattle.markdown_engine.specs.declared.event.Event.{Event}
-use Rattle.markdown_engine.specs.Chain.{with_next, with_previous, bare, bares, previous_of, chained, changed_at, previous_at, linked_at, EndsChain, IsLinked, IsFresh, IsFilled}
+use Rattle.markdown_engine.specs.Chain.{with_next, with_previous, bare, bares, previous_of, chained, changed_at, previous_at, linked_at, EndsChain, IsLinked, IsFresh, IsFreshLink, IsUnlinked, IsFilled, next_link}
 use Rattle.markdown_engine.proofs.ChainLemmas.{length-changed_at, changed_at-append, length-bares, bares-append, bares-next, bares-previous, get-bares, chained-fresh, chained-push, chained-end, chained-link, IsLinked-prefix, IsLinked-push, bare-fresh, fresh-unnamed, ends-before, last-earlier, IsLinked-connect, previous_of-bare, within-linked, changed_at-twice}
 
 -- the kept events at their view
@@ -128,3 +130,48 @@ linked-within-changed xs vs ys f p i v h g =
 -- an event read, without the event after
 pub bare-read : (xs vs : List Event) (i : ℕ) (d r : Event) → bares xs ≡ vs → d ≡ get_or xs i d → r ≡ bare d → r ≡ get_or vs i r
 bare-read xs vs i d r v h k = k ∙ ap bare h ∙ get-bares xs i d ∙ ap (λ x. get_or (bares xs) i x) (sym k) ∙ ap (λ x. get_or x i r) v
+
+-- events that carry no link
+
+bares-plain : (xs : List Event) → All IsUnlinked xs → bares xs ≡ xs
+bares-plain [] u = refl
+bares-plain (x ∷ xs) u =
+    ap (λ (l : Option Link). record x { link = next_link None l } ∷ bares xs) (u 0 x (omega arith)) ∙ ap (λ (l : Option Link). record x { link = l } ∷ bares xs) (sym (u 0 x (omega arith))) ∙ ap (λ ys. x ∷ ys) (bares-plain xs (λ k d l. u (suc k) d (omega arith)))
+
+bares-part : (n k : ℕ) (xs : List Event) → take k (drop n (bares xs)) ≡ bares (take k (drop n xs))
+bares-part zero zero xs = refl
+bares-part zero (suc k) [] = refl
+bares-part zero (suc k) (x ∷ xs) = ap (λ ys. bare x ∷ ys) (bares-part zero k xs)
+bares-part (suc n) zero [] = refl
+bares-part (suc n) (suc k) [] = refl
+bares-part (suc n) zero (x ∷ xs) = bares-part n zero xs
+bares-part (suc n) (suc k) (x ∷ xs) = bares-part n (suc k) xs
+
+pub part-seen : (xs vs ws : List Event) (n m k : ℕ) → bares xs ≡ vs → ws ≡ xs → k ≤ length (take m (drop n ws)) → All IsUnlinked (take k (take m (drop n ws))) → take k (take m (drop n ws)) ≡ take (length (take k (take m (drop n ws)))) (drop n vs)
+part-seen xs vs ws n m k v w l u =
+    let size : length (take k (take m (drop n ws))) ≡ k = omega (arith, length-take k (take m (drop n ws))) in
+    let near : k ≤ m = omega (arith, length-take m (drop n ws)) in
+    let once : take k (take m (drop n ws)) ≡ take k (drop n ws) = take-take-le k m (drop n ws) near in
+    let P : List Event → Type 0 = λ ys. All IsUnlinked ys in
+    once ∙ sym (bares-plain (take k (drop n ws)) (subst P once u)) ∙ sym (bares-part n k ws) ∙ ap (λ y. take k (drop n (bares y))) w ∙ ap (λ y. take k (drop n y)) v ∙ ap (λ j. take j (drop n vs)) (sym size)
+  where
+    take-take-le : (a b : ℕ) (ys : List Event) → a ≤ b → take a (take b ys) ≡ take a ys
+    take-take-le zero b ys h = refl
+    take-take-le (suc a) zero ys h = absurd (omega arith)
+    take-take-le (suc a) (suc b) [] h = refl
+    take-take-le (suc a) (suc b) (y ∷ ys) h = ap (λ zs. y ∷ zs) (take-take-le a b ys (omega arith))
+
+fresh-plain : (e : Event) → IsUnlinked e → IsFresh e
+fresh-plain e u = let P : Option Link → Type 0 = λ l. IsFreshLink e.kind l in subst P (sym u) tt
+
+pub view-extended : (xs vs ys zs : List Event) → bares xs ≡ vs → All IsUnlinked ys → zs ≡ xs ++ ys → bares zs ≡ vs ++ ys
+view-extended xs vs ys zs v u h = ap bares h ∙ bares-append xs ys ∙ ap (λ x. bares xs ++ x) (bares-plain ys u) ∙ ap (λ x. x ++ ys) v
+
+extended : (xs ys : List Event) → IsFilled xs → All IsUnlinked ys → IsFilled (xs ++ ys)
+extended xs [] k u = subst IsFilled (sym (append-nil xs)) k
+extended xs (y ∷ ys) k u =
+    let one : IsFilled (xs ++ y ∷ []) = kept-push xs (bares xs) (xs ++ y ∷ []) y refl k (fresh-plain y (u 0 y (omega arith))) refl in
+    subst IsFilled (append_assoc xs (y ∷ []) ys) (extended (xs ++ y ∷ []) ys one (λ j d l. u (suc j) d (omega arith)))
+
+pub kept-extended : (xs ys zs : List Event) → IsFilled xs → All IsUnlinked ys → zs ≡ xs ++ ys → IsFilled zs
+kept-extended xs ys zs k u h = subst IsFilled (sym h) (extended xs ys k u)

@@ -1,6 +1,7 @@
 // The events so far.
-ghost use Rattle.std.specs.Prelude.{◌≡◌, ◌<◌, ◌-◌, ◌++◌, ◌∷◌, ◌==◌, [], length, take, OnOk, OnErr, Some, None, true, slice_index_or};
-ghost use Rattle.markdown_engine.specs.Chain.{bare, chained, changed_at, with_next, with_previous, link_previous, previous_at, linked_at, EndsChain, IsLinked, IsFresh};
+ghost use Rattle.std.specs.Prelude.{◌≡◌, ◌<◌, ◌≤◌, ◌+◌, ◌-◌, ◌++◌, ◌∷◌, ◌==◌, [], length, take, drop, OnOk, OnErr, IfOk, Some, None, true, slice_index_or};
+ghost use Rattle.markdown_engine.specs.Chain.{bare, chained, changed_at, with_next, with_previous, link_previous, previous_at, linked_at, EndsChain, IsLinked, IsFresh, IsUnlinked};
+ghost use Rattle.std.specs.List.{All};
 
 use crate::event::{Event, Link};
 use crate::seq::Seq;
@@ -96,6 +97,18 @@ fn set_previous(items: &mut Seq<Event>, index: usize, previous: usize)
     items.put(index, event);
 }
 
+// How many events at the front carry no link.
+fn plain_count(items: &[Event]) -> usize
+    ensures within { result ≤ length items.now }
+    ensures plain { All IsUnlinked (take result items.now) }
+{
+    let mut count = 0usize;
+    while count < items.len() && items[count].link.is_none() {
+        count += 1;
+    }
+    count
+}
+
 impl Events {
     /// No event. Takes no memory.
     pub fn new(alloc: Global) -> Events
@@ -155,6 +168,37 @@ impl Events {
         ensures err { OnErr result (self.new ≡ self.old) }
     {
         self.items.push(event)?;
+        Ok(())
+    }
+
+    // No event, with room for so many.
+    pub(crate) fn with_capacity(alloc: Global, capacity: usize) -> Result<Events, AllocError>
+        ensures { IfOk result (λ events. events ≡ []) }
+    {
+        Ok(Events {
+            items: Seq::from_vec(Vec::with_capacity(alloc, capacity)?),
+        })
+    }
+
+    // The events from `from` on that carry no link, up to the first that does, or up to `to`; lent.
+    pub(crate) fn plain(&self, from: usize, to: usize) -> &[Event]
+        requires order { from ≤ to }
+        requires within { to ≤ length self.now }
+        ensures here { result.now ≡ take (length result.now) (drop from self.now) }
+        ensures plain { All IsUnlinked result.now }
+        ensures end { from + length result.now ≤ to }
+    {
+        let items = &self.items.as_slice()[from..to];
+        &items[..plain_count(items)]
+    }
+
+    // Adds events that carry no link. `Err` only if memory is refused; the events are then as they were.
+    pub(crate) fn extend_plain(&mut self, items: &[Event]) -> Result<(), AllocError>
+        requires { All IsUnlinked items.now }
+        ensures ok { OnOk result (self.new ≡ self.old ++ items.now) }
+        ensures err { OnErr result (self.new ≡ self.old) }
+    {
+        self.items.extend_from_slice(items)?;
         Ok(())
     }
 

@@ -1,6 +1,7 @@
 // Edits of a list of events, collected first and applied at once.
-ghost use Rattle.std.specs.Prelude.{◌≡◌, ◌≢◌, ℕ, ◌<◌, ◌≤◌, ◌+◌, ◌-◌, ◌^◌, ◌++◌, ◌∷◌, ◌==◌, [], length, take, drop, slice_index_or, min, max, OnOk, OnErr, IfOk, true, false};
+ghost use Rattle.std.specs.Prelude.{◌≡◌, ◌≢◌, ℕ, ◌<◌, ◌≤◌, ◌+◌, ◌-◌, ◌^◌, ◌++◌, ◌∷◌, ◌==◌, [], length, take, drop, slice_index_or, min, max, sum_by, OnOk, OnErr, IfOk, true, false};
 ghost use Rattle.std.specs.List.{All};
+ghost use Rattle.std.specs.List.Sorted.{IsNonDecreasingBy};
 ghost use Rattle.markdown_engine.specs.Chain.{bare, IsLinked, IsUnlinked};
 ghost use Rattle.markdown_engine.specs.Edits.{removed_at, front_at, back_at, added_at, lent, number_of, renumbered, noted, edited, AddsUnlinked, IsRest, CanEdit};
 
@@ -70,17 +71,6 @@ fn count_at(edits: &[&Edit], at: usize) -> usize
     count
 }
 
-// Adds events that carry no link.
-fn push_all(events: &mut Events, items: &[Event]) -> Result<(), AllocError>
-    requires { All IsUnlinked items.now }
-    ensures { OnOk result (events.new ≡ events.old ++ items.now) }
-{
-    for item in items {
-        events.push(*item)?;
-    }
-    Ok(())
-}
-
 // Adds the events that edits put at a place before others: the last edit's first.
 fn push_fronts(done: &mut Events, edits: &[&Edit], at: usize) -> Result<(), AllocError>
     requires { AddsUnlinked (lent edits.now) }
@@ -89,7 +79,7 @@ fn push_fronts(done: &mut Events, edits: &[&Edit], at: usize) -> Result<(), Allo
     for index in (0..edits.len()).rev() {
         let edit = edits[index];
         if edit.at == at && edit.before {
-            push_all(done, edit.events.as_slice())?;
+            done.extend_plain(edit.events.as_slice())?;
         }
     }
     Ok(())
@@ -102,7 +92,7 @@ fn push_backs(done: &mut Events, edits: &[&Edit], at: usize) -> Result<(), Alloc
 {
     for edit in edits {
         if edit.at == at && !edit.before {
-            push_all(done, edit.events.as_slice())?;
+            done.extend_plain(edit.events.as_slice())?;
         }
     }
     Ok(())
@@ -219,6 +209,61 @@ fn keep(
     notes.push((index, number))
 }
 
+// The place of the next edit, or the end of the list if that comes first.
+fn next_place(edits: &[&Edit], passed: usize, count: usize) -> usize
+    requires { passed ≤ length edits.now }
+    ensures within { result ≤ count }
+    ensures from { (n : ℕ) → n ≤ count → All (λ e. n ≤ e.at) (drop passed (lent edits.now)) → n ≤ result }
+    ensures rest { IsNonDecreasingBy (λ e. e.at) (drop passed (lent edits.now)) → All (λ e. result ≤ e.at) (drop passed (lent edits.now)) }
+{
+    if passed < edits.len() {
+        edits[passed].at.min(count)
+    } else {
+        count
+    }
+}
+
+// Adds the events from a place on that stay as they are, up to the next edit or the next event that carries a link;
+// the place behind them.
+fn pass_plain(
+    done: &mut Events,
+    events: &Events,
+    edits: &[&Edit],
+    passed: Passed,
+    from: usize,
+) -> Result<usize, AllocError>
+    requires within { passed.edits ≤ length edits.now }
+    requires from { from ≤ length events.now }
+    requires rest { let rest = drop passed.edits (lent edits.now) in IsRest from rest rest }
+    ensures order { IfOk result (λ end. from ≤ end) }
+    ensures within { IfOk result (λ end. end ≤ length events.now) }
+    ensures done { IfOk result (λ end. done.new ≡ done.old ++ take (end - from) (drop from events.now)) }
+    ensures plain { IfOk result (λ end. All IsUnlinked (take (end - from) (drop from events.now))) }
+    ensures stays { IfOk result (λ end. from < end → passed.removed_to ≤ from) }
+    ensures rest { IfOk result (λ end. All (λ e. end ≤ e.at) (drop passed.edits (lent edits.now))) }
+{
+    if passed.removed_to > from {
+        return Ok(from);
+    }
+    let to = next_place(edits, passed.edits, events.len());
+    let plain = events.plain(from, to);
+    done.extend_plain(plain)?;
+    Ok(from + plain.len())
+}
+
+// How many events there are after the edits, where no event goes twice.
+fn count_after(count: usize, log: &[Edit]) -> usize
+    ensures { result ≡ min (count + sum_by (λ e. length e.events) log.now) (2 ^ 64 - 1) - min (sum_by (λ e. e.remove) log.now) (2 ^ 64 - 1) }
+{
+    let mut after = count;
+    let mut removed = 0usize;
+    for edit in log {
+        after = after.saturating_add(edit.events.len());
+        removed = removed.saturating_add(edit.remove);
+    }
+    after.saturating_sub(removed)
+}
+
 impl EditMap {
     /// No edit. Takes no memory.
     pub fn new(alloc: Global) -> EditMap
@@ -302,19 +347,23 @@ impl EditMap {
         ensures { IfOk result (λ done. done ≡ edited self.now events.now) }
     {
         let edits = by_place(self.alloc, self.log.as_slice())?;
-        let mut done = Events::new(self.alloc);
+        let count = events.len();
+        let room = count_after(count, self.log.as_slice());
+        let mut done = Events::with_capacity(self.alloc, room)?;
         let mut notes = Stack::new(self.alloc);
         let mut passed = Passed {
             edits: 0,
             removed_to: 0,
         };
-        for index in 0..events.len() {
+        let mut index = 0;
+        while index < count {
             passed = pass_place(&mut done, &edits, passed, index)?;
             if passed.removed_to <= index {
                 keep(&mut done, &mut notes, events.bare_at(index), index)?;
             }
+            index = pass_plain(&mut done, events, &edits, passed, index + 1)?;
         }
-        pass_place(&mut done, &edits, passed, events.len())?;
+        pass_place(&mut done, &edits, passed, count)?;
         Ok(done)
     }
 
