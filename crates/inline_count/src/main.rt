@@ -1,0 +1,79 @@
+//! Counts the events of a text that it reads from standard input, with all constructs on: a run alone, without the printing of its events.
+//! Words are the identifiers of definitions.
+#![tactic(auto)]
+
+use markdown_engine::configuration::{Constructs, ParseOptions};
+use markdown_engine::parser::ParseState;
+use markdown_inline::run::{self, Piece};
+use std::alloc::{AllocError, Global};
+use std::env;
+use std::io::Read;
+use std::process::ExitCode;
+
+// All constructs.
+const OPTIONS: ParseOptions = ParseOptions {
+    constructs: Constructs {
+        attention: true,
+        autolink: true,
+        character_escape: true,
+        character_reference: true,
+        code_text: true,
+        gfm_autolink_literal: true,
+        gfm_label_start_footnote: true,
+        gfm_strikethrough: true,
+        gfm_task_list_item: true,
+        hard_break_escape: true,
+        hard_break_trailing: true,
+        html_text: true,
+        label_start_image: true,
+        label_start_link: true,
+        label_end: true,
+        math_text: true,
+    },
+    gfm_strikethrough_single_tilde: true,
+    math_text_single_dollar: true,
+    attention_first_lengths: false,
+    label_shortcut_before_bracket: false,
+};
+
+// The number of events of a whole document; none where that is no text. It is no part of its caller when it runs, so that its work can be told
+// from that of the program.
+#[inline(never)]
+fn count(alloc: Global, bytes: &[u8], words: Vec<String>) -> Result<Option<usize>, AllocError> {
+    let parse_state = ParseState {
+        bytes,
+        options: &OPTIONS,
+        definitions: words,
+        gfm_footnote_definitions: Vec::new(alloc),
+    };
+    let pieces = [Piece {
+        start: (0, 0),
+        end: (bytes.len(), 0),
+    }];
+    if !run::is_text(parse_state.bytes, &pieces) {
+        return Ok(None);
+    }
+    let found = run::text(alloc, &parse_state, &pieces, false)?;
+    Ok(Some(found.events.len()))
+}
+
+// The words after the program's name, or none if they cannot be read.
+fn words(rt: &HostRuntime, alloc: Global) -> Vec<String> {
+    match env::args(rt) {
+        Ok(args) => args.skip(1).collect(alloc).unwrap_or(Vec::new(alloc)),
+        Err(_) => Vec::new(alloc),
+    }
+}
+
+fn main(rt: HostRuntime) -> ExitCode {
+    let alloc = rt.alloc();
+    let words = words(&rt, alloc);
+    let mut bytes = Vec::new(alloc);
+    if rt.stdin().read_to_end(&mut bytes).is_err() {
+        return ExitCode::FAILURE;
+    }
+    match count(alloc, bytes.as_slice(), words) {
+        Ok(Some(events)) if println!(rt; "{events}").is_ok() => ExitCode::SUCCESS,
+        _ => ExitCode::FAILURE,
+    }
+}
