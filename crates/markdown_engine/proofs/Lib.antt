@@ -25,6 +25,7 @@ pub mod ConnectLemmas
 pub mod RunLemmas
 pub mod RunIndexLemmas
 pub mod RunIndexFacts
+pub mod SequenceIndexLemmas
 pub mod ReachLemmas
 pub mod OpRules
 pub mod Laws

@@ -77,7 +77,7 @@ answer_from at None o = o
 abbrev pub asked_run : List ℕ → ℕ → ℕ → Bool → List Code → Option ℕ
 asked_run asked m n inside cs = if is_asked asked m then last_run_from m n inside cs else None
 
-answer-or : (at : ℕ) (x o : Option ℕ) (b : Bool) → answer_from (suc at) x (cond b (Some at) o) ≡ answer_from at (later_or x b) o
+pub answer-or : (at : ℕ) (x o : Option ℕ) (b : Bool) → answer_from (suc at) x (cond b (Some at) o) ≡ answer_from at (later_or x b) o
 answer-or at (Some k) o b = ap (λ n. Some n) (omega arith)
 answer-or at None o true = ap (λ n. Some n) (omega arith)
 answer-or at None o false = refl
@@ -151,6 +151,12 @@ none-known cs = ap (λ es. record { asked = []; entries = es }) (sym (stays None
     stays : (before : Option ℕ) (at : ℕ) (cs : List Code) → entries_from [] before at cs [] ≡ []
     stays before at [] = refl
     stays before at (c ∷ cs) = ap (λ b. entries_from [] (Some c.value) (suc at) cs (with_run b (c.value, leading c.value (c ∷ cs)) at [])) (never (not (is_same before c.value))) ∙ stays (Some c.value) (suc at) cs
+
+-- no later answer, and none here
+pub later-none : (o : Option ℕ) (b : Bool) → later_or o b ≡ None → (o ≡ None) × (b ≡ false)
+later-none (Some k) b e = cc
+later-none None true e = cc
+later-none None false e = (refl, refl)
 
 -- After some codes.
 

@@ -12,6 +12,7 @@ pub mod Chain
 pub mod Edits
 pub mod Nesting
 pub mod RunIndex
+pub mod SequenceIndex
 pub mod Rest
 pub mod Begun
 pub mod Ops

@@ -13,6 +13,7 @@ pub mod resolve;
 pub mod run;
 pub mod run_index;
 pub mod seq;
+pub mod sequence_index;
 pub mod state;
 pub mod subtokenize;
 pub mod tokenizer;

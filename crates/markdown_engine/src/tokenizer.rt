@@ -17,6 +17,7 @@ use crate::parser::{ParseState, Piece};
 use crate::resolve::ResolveName;
 use crate::run_index::RunIndex;
 use crate::seq::{Seq, Stack};
+use crate::sequence_index::SequenceIndex;
 use crate::state::State;
 use crate::util::edit_map::EditMap;
 use std::alloc::{AllocError, Global};
@@ -59,7 +60,7 @@ pub struct Label {
 }
 
 /// The scratch fields of the states: what one state leaves for another. Each is at rest between two constructs, but for the lists of
-/// labels, `markers`, `probes`, `runs` and `document_at_first_paragraph_of_list_item`.
+/// labels, `markers`, `probes`, `runs`, `sequences` and `document_at_first_paragraph_of_list_item`.
 #[derive(Drop)]
 pub struct TokenizeState {
     /// The byte that a construct began with; 0 at rest.
@@ -118,12 +119,14 @@ pub struct TokenizeState {
     pub probes: u128,
     /// Where the last runs of some bytes begin in the content; nothing is known at rest.
     pub runs: RunIndex,
+    /// Where the last of some sequences begins in the content; nothing is known at rest.
+    pub sequences: SequenceIndex,
     /// Whether the content is the first paragraph of a list item.
     pub document_at_first_paragraph_of_list_item: bool,
 }
 
 impl TokenizeState {
-    /// All at rest: no labels, no markers, no probes, no known runs.
+    /// All at rest: no labels, no markers, no probes, no known runs and sequences.
     pub fn new(alloc: Global) -> TokenizeState
         ensures { result ≡ at_rest }
     {
@@ -156,6 +159,7 @@ impl TokenizeState {
             labels: Seq::new(alloc),
             probes: 0,
             runs: RunIndex::new(alloc),
+            sequences: SequenceIndex::new(),
             document_at_first_paragraph_of_list_item: false,
         }
     }

@@ -1,7 +1,9 @@
 -- Readings of codes from one code on.
-use Rattle.std.proofs.Common.{◌≡◌, ℕ, ◌≤◌, Bool, true, false, Option, Some, None, List, [], ◌∷◌, ◌++◌, length, refl, sym, ap, subst, ◌∙◌, append_assoc, arith}
+use Rattle.std.proofs.Common.{◌≡◌, ℕ, ◌≤◌, ◌==◌, ◌&&◌, Bool, true, false, Option, Some, None, List, [], ◌∷◌, ◌++◌, length, refl, sym, ap, subst, ◌∙◌, append_assoc, arith}
 use Rattle.std.proofs.lemmas.Bool.{eqb-true}
 use Rattle.markdown_engine.specs.Codes.{Code}
+use Rattle.markdown_engine.specs.SequenceIndex.{stand_next, last_begin}
+use Rattle.markdown_engine.proofs.RunIndexFacts.{later-none}
 use Rattle.markdown_model.specs.CodeTests.{is_value, is_whitespace_code, next_is}
 use Rattle.markdown_model.specs.Grammar.{Reading, either, if_next, before, one, any_number, with_first, word_of, up_to_word, ◌then_◌}
 use Rattle.markdown_model.proofs.Readings.{itself, takes_up_to_word}
@@ -168,6 +170,25 @@ up-end ns = refl
 pub up-here : (n : ℕ) (c : Code) (cs : List Code) → is_value n c ≡ true → up_to_word (n ∷ []) (c ∷ cs) ≡ word_of (n ∷ []) (c ∷ cs)
 unfolding or_read
 up-here n c cs e = up-is (n ∷ []) c cs ∙ ap (λ o. or_read o (with_first c (up_to_word (n ∷ []) cs))) (word-here n c cs e) ∙ sym (word-here n c cs e)
+
+-- Where a word does not begin, nothing is read up to it.
+
+pub word-absent : (ns : List ℕ) (cs : List Code) → stand_next ns cs ≡ false → word_of ns cs ≡ None
+unfolding word_of
+word-absent [] cs h = cc
+word-absent (n ∷ ns) [] h = refl
+word-absent (n ∷ ns) (c ∷ cs) h =
+    elim (c.value == n) as (λ b. b && stand_next ns cs ≡ false → elim b as (λ _. Option (List Code × List Code)) [ true ↦ with_first c (word_of ns cs) | false ↦ None ] ≡ None) [
+      | true ↦ λ e. ap (with_first c) (word-absent ns cs e)
+      | false ↦ λ e. refl
+    ] h
+
+pub up-absent : (ns : List ℕ) (cs : List Code) → last_begin ns cs ≡ None → up_to_word ns cs ≡ None
+unfolding or_read
+up-absent ns [] h = up-end ns
+up-absent ns (c ∷ cs) h =
+    let k = later-none (last_begin ns cs) (stand_next ns (c ∷ cs)) h in
+    up-is ns c cs ∙ ap (λ o. or_read o (with_first c (up_to_word ns cs))) (word-absent ns (c ∷ cs) k.1) ∙ ap (with_first c) (up-absent ns cs k.0)
 
 -- How many codes they take.
 

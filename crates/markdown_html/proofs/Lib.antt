@@ -2,6 +2,7 @@ pub mod LineLemmas
 pub mod BreakLemmas
 pub mod CodeReadings
 pub mod KindReadings
+pub mod EndingLemmas
 pub mod TagReadings
 pub mod HtmlTextReady
 pub mod LineEndingLaws

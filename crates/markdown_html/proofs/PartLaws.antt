@@ -5,11 +5,14 @@ use Rattle.markdown_engine.specs.Codes.{Code}
 use Rattle.markdown_engine.specs.Lists.{rest_of}
 use Rattle.markdown_engine.specs.Ops.{Op, Consume, current_of, ahead, done, moves, scratched}
 use Rattle.markdown_engine.specs.Runs.{stepped}
+use Rattle.markdown_engine.specs.SequenceIndex.{last_begin, values_of}
 use Rattle.markdown_engine.specs.Weights.{codes_left, weight_at}
+use Rattle.markdown_engine.specs.declared.sequence_index.Sequence.{Sequence}
 use Rattle.markdown_engine.specs.declared.state.State.TheVariants.{Next, Retry, Nok}
 use Rattle.markdown_engine.specs.declared.state.StateName.TheVariants as H
 use Rattle.markdown_engine.specs.declared.tokenizer.TokenizeState.{TokenizeState}
 use Rattle.markdown_engine.specs.declared.tokenizer.Tokenizer.{Tokenizer}
+use Rattle.markdown_engine.proofs.Laws.{if-step}
 use Rattle.markdown_engine.proofs.OpRules.{ahead-some, Begins, some-codes}
 use Rattle.markdown_engine.proofs.OpsLemmas.{left-done, scratch-done}
 use Rattle.markdown_model.specs.Grammar.{Reading, with_first}
@@ -17,8 +20,9 @@ use Rattle.markdown_construct.specs.Plan.{preceded, DoesAs}
 use Rattle.markdown_construct.proofs.PlanLemmas.{DoesAs-then, kept, preceded-nil}
 use Rattle.markdown_html.specs.LineOps.{InLine, break_from, text_from, text_of}
 use Rattle.markdown_html.specs.Rests.{Part, Open, DeclarationOpen, CommentOpenInside, Comment, CommentClose, CommentEnd, Cdata, CdataClose, CdataEnd, Declaration, Instruction, InstructionClose, TagCloseStart, TagClose, TagCloseBetween, TagOpen, TagOpenBetween, AttributeName, AttributeNameAfter, ValueBefore, ValueQuotedAfter, ValueUnquoted, End, state_of, reading_of, rank_of}
-use Rattle.markdown_html.specs.HtmlText.{past_code, over_to, broken, InsideReady, PartReady, part_ends}
+use Rattle.markdown_html.specs.HtmlText.{is_hopeless, past_code, past_unless, over_to, broken, InsideReady, PartReady, part_ends}
 use Rattle.markdown_html.proofs.BreakLemmas.{Goes, text-code, breaks, break-stays, break-depth, break-fits, break-moves}
+use Rattle.markdown_html.proofs.EndingLemmas.{hopeless-none}
 use Rattle.markdown_html.proofs.HtmlTextReady.{part-next, part-broken}
 use Rattle.markdown_html.proofs.LineEndingLaws.{Within}
 use Rattle.markdown_engine.specs.StateWords.{Words, GoesIn, StateWords, words_in}
@@ -71,13 +75,21 @@ module _ (W : Words) (within : Within W) where
       Goes-next W (rank_of k) 2 (text_of (reading_of k)) (text_of (reading_of j)) (Consume ∷ []) T (Next (state_of j)) (within.parts j) alone refl more (omega (arith, rank-low j)) (text-next (reading_of k) (reading_of j) T c e h same) (part-next T more r)
       (λ ok U x. x)
 
+  pub part-fails : (k : Part) (T : Tokenizer) → T.attempts ≡ [] → reading_of k (ahead T) ≡ None → GoesIn W (weight_at (rank_of k) T) (part_ends k T) (stepped Nok T)
+  part-fails k T alone none = Goes-no W (rank_of k) 2 (text_of (reading_of k)) T alone (ap (text_from InLine) none)
+
+  -- past a code, unless it is known that what begins with it does not end
+  pub part-unless : (k j : Part) (s : Sequence) (T : Tokenizer) (c : ℕ) → T.attempts ≡ [] → PartReady T → (e : current_of T ≡ Some c) → (c == 10) ≡ false → reading_of k ((ahead-some T c e).code ∷ rest_of (ahead T)) ≡ with_first (ahead-some T c e).code (reading_of j (rest_of (ahead T))) → (last_begin (values_of s) ((ahead-some T c e).code ∷ rest_of (ahead T)) ≡ None → reading_of j (rest_of (ahead T)) ≡ None) → GoesIn W (weight_at (rank_of k) T) (part_ends k T) (past_unless s (state_of j) T)
+  part-unless k j s T c alone r e h same none =
+      let b : Begins c (ahead T) = ahead-some T c e in
+      if-step (GoesIn W (weight_at (rank_of k) T) (part_ends k T)) (is_hopeless s T) _ _
+      (λ g. part-fails k T alone (ap (reading_of k) b.whole ∙ same ∙ ap (with_first b.code) (none (ap (last_begin (values_of s)) (sym b.whole) ∙ hopeless-none s T r.inside.indexed g))))
+      (λ g. part-past k j T c alone r e h same)
+
   pub part-over : (k j : Part) (T : Tokenizer) → T.attempts ≡ [] → PartReady T → rank_of j < rank_of k → reading_of k (ahead T) ≡ reading_of j (ahead T) → GoesIn W (weight_at (rank_of k) T) (part_ends k T) (over_to (state_of j) T)
   part-over k j T alone r lower same =
       Goes-next W (rank_of k) 2 (text_of (reading_of k)) (text_of (reading_of j)) [] T (Retry (state_of j)) (within.parts j) alone refl (omega arith) (omega (arith, lower)) (ap (text_from InLine) same ∙ preceded-nil (text_of (reading_of j) (ahead T))) r
       (λ ok U x. x)
-
-  pub part-fails : (k : Part) (T : Tokenizer) → T.attempts ≡ [] → reading_of k (ahead T) ≡ None → GoesIn W (weight_at (rank_of k) T) (part_ends k T) (stepped Nok T)
-  part-fails k T alone none = Goes-no W (rank_of k) 2 (text_of (reading_of k)) T alone (ap (text_from InLine) none)
 
   -- past a line ending and the whitespace after it
   pub text-broken : (k : ℕ) (r : Reading (List Code)) (s : TokenizeState) (st : StateName) {w : StateWords} → words_in W st ≡ w → (T : Tokenizer) → 1 < k → k < 5 → w.rank ≡ k → Goes r → T.attempts ≡ [] → InsideReady T → current_of T ≡ Some 10 → w.ready (done (break_from InLine (ahead T)) T) → ((ok : Bool) (U : Tokenizer) → w.ends (done (break_from InLine (ahead T)) T) ok U → DoesAs 2 (text_of r) s (done (break_from InLine (ahead T)) T) ok U) → GoesIn W (weight_at k T) (DoesAs 2 (text_of r) s T) (broken st T)

@@ -3,9 +3,12 @@ use Rattle.std.specs.Prelude.{◌≡◌, ℕ, ◌+◌, ◌<◌, ◌≤◌, Bool,
 use Rattle.markdown_engine.specs.Ops.{Op, Enter, Exit, Consume, IsOpen, ahead, attempted, current_of, done, scratched}
 use Rattle.markdown_engine.specs.Past.{EndsAs, TreeReading}
 use Rattle.markdown_engine.specs.Runs.{Stepped, stepped}
+use Rattle.markdown_engine.specs.SequenceIndex.{rules_out, IsRightFor}
 use Rattle.markdown_engine.specs.Steady.{alone_among}
 use Rattle.markdown_engine.specs.Weights.{codes_left}
 use Rattle.markdown_engine.specs.declared.event.Name.TheVariants as N
+use Rattle.markdown_engine.specs.declared.sequence_index.Sequence.{Sequence}
+use Rattle.markdown_engine.specs.declared.sequence_index.Sequence.TheVariants.{CommentEnd, SectionEnd, InstructionEnd, DeclarationEnd}
 use Rattle.markdown_engine.specs.declared.state.State.TheVariants.{Next, Retry, Nok}
 use Rattle.markdown_engine.specs.declared.state.State.TheVariants as State
 use Rattle.markdown_engine.specs.declared.state.StateName.{StateName}
@@ -64,12 +67,20 @@ start_at (Some c) T = if is_on T && (c == byte "<") then stepped (Next H.HtmlTex
 abbrev pub start_step : Tokenizer → Stepped
 start_step T = start_at (current_of T) T
 
+-- it is known that what ends with this sequence does not end
+abbrev pub is_hopeless : Sequence → Tokenizer → Bool
+is_hopeless ending T = rules_out T.tokenize_state.sequences ending T.cursor.at
+
+-- past the code at hand, unless it is known that what begins with it does not end
+abbrev pub past_unless : Sequence → StateName → Tokenizer → Stepped
+past_unless ending st T = if is_hopeless ending T then stepped Nok T else past_code st T
+
 abbrev pub open_at : Option ℕ → Tokenizer → Stepped
 open_at None T = stepped Nok T
 open_at (Some c) T =
     if c == byte "!" then past_code H.HtmlTextDeclarationOpen T
     else (if c == byte "/" then past_code H.HtmlTextTagCloseStart T
-    else (if c == byte "?" then past_code H.HtmlTextInstruction T
+    else (if c == byte "?" then past_unless InstructionEnd H.HtmlTextInstruction T
     else (if letter_value c then past_code H.HtmlTextTagOpen T
     else stepped Nok T)))
 
@@ -79,9 +90,9 @@ open_step T = open_at (current_of T) T
 abbrev pub declaration_open_at : Option ℕ → Tokenizer → Stepped
 declaration_open_at None T = stepped Nok T
 declaration_open_at (Some c) T =
-    if c == byte "-" then past_code H.HtmlTextCommentOpenInside T
-    else (if letter_value c then past_code H.HtmlTextDeclaration T
-    else (if c == byte "[" then past_code H.HtmlTextCdataOpenInside T
+    if c == byte "-" then past_unless CommentEnd H.HtmlTextCommentOpenInside T
+    else (if letter_value c then past_unless DeclarationEnd H.HtmlTextDeclaration T
+    else (if c == byte "[" then past_unless SectionEnd H.HtmlTextCdataOpenInside T
     else stepped Nok T))
 
 abbrev pub declaration_open_step : Tokenizer → Stepped
@@ -378,14 +389,20 @@ pub record SpacesReady (T : Tokenizer) : Type 0 where
   pub resting : S.rested T.tokenize_state ≡ T.tokenize_state
   pub short : codes_left T ≤ most
 
+-- what is known of the sequences that end HTML is right; it may be nothing
+abbrev pub IsIndexed : Tokenizer → Type 0
+IsIndexed T = IsRightFor T.cursor.codes T.tokenize_state.sequences
+
 pub record StartReady (T : Tokenizer) : Type 0 where
   pub spaces : SpacesReady T
+  pub indexed : IsIndexed T
   pub rest : rested T.tokenize_state ≡ T.tokenize_state
 
 -- in the data of a line
 pub record InsideReady (T : Tokenizer) : Type 0 where
   pub stand_open : AreOpen N.HtmlTextData N.HtmlText T
   pub spaces : SpacesReady T
+  pub indexed : IsIndexed T
 
 -- a state that leaves the scratch fields alone
 pub record PartReady (T : Tokenizer) : Type 0 where

@@ -9,12 +9,13 @@ ghost use Rattle.markdown_engine.specs.Ops.{HasCode, current_of};
 ghost use Rattle.markdown_engine.specs.declared.event.Name.TheVariants.{HtmlText, HtmlTextData};
 ghost use Rattle.markdown_construct.specs.Scratch.{AreOpen};
 ghost use Rattle.markdown_html.specs.Values.{name_value, attribute_first_value, attribute_rest_value, after_value};
-ghost use Rattle.markdown_html.specs.HtmlText.{stops_in, broken, ending_passed, start_step, open_step, declaration_open_step, comment_open_inside_step, comment_step, comment_close_step, comment_end_step, cdata_open_inside_step, cdata_step, cdata_close_step, cdata_end_step, declaration_step, instruction_step, instruction_close_step, tag_close_start_step, tag_close_step, tag_close_between_step, tag_open_step, tag_open_between_step, tag_open_attribute_name_step, tag_open_attribute_name_after_step, tag_open_attribute_value_before_step, tag_open_attribute_value_quoted_step, tag_open_attribute_value_quoted_after_step, tag_open_attribute_value_unquoted_step, end_step, line_ending_before_step, line_ending_after_step, line_ending_after_prefix_step};
+ghost use Rattle.markdown_html.specs.HtmlText.{stops_in, past_unless, broken, ending_passed, start_step, open_step, declaration_open_step, comment_open_inside_step, comment_step, comment_close_step, comment_end_step, cdata_open_inside_step, cdata_step, cdata_close_step, cdata_end_step, declaration_step, instruction_step, instruction_close_step, tag_close_start_step, tag_close_step, tag_close_between_step, tag_open_step, tag_open_between_step, tag_open_attribute_name_step, tag_open_attribute_name_after_step, tag_open_attribute_value_before_step, tag_open_attribute_value_quoted_step, tag_open_attribute_value_quoted_after_step, tag_open_attribute_value_unquoted_step, end_step, line_ending_before_step, line_ending_after_step, line_ending_after_prefix_step};
 
 use markdown_construct::bytes::{is_alphanumeric, is_letter};
 use markdown_engine::byte_set;
 use markdown_engine::bytes::ByteSet;
 use markdown_engine::event::Name;
+use markdown_engine::sequence_index::Sequence;
 use markdown_engine::state::{State, StateName};
 use markdown_engine::tokenizer::{TokenizeState, Tokenizer};
 use markdown_partial::partial_space_or_tab::space_or_tab;
@@ -64,6 +65,19 @@ pub fn stop_bytes(name: StateName, fields: &TokenizeState) -> Option<ByteSet>
     }
 }
 
+// Passes the code at hand and goes on with this state, unless it is known that the sequence does not follow that is to end it.
+fn pass_unless_hopeless(tokenizer: &mut Tokenizer, ending: Sequence, state: StateName) -> State
+    requires { HasCode tokenizer.old }
+    ensures { past_unless ending state tokenizer.old ≡ record { state = result; left = tokenizer.new } }
+{
+    let index = &tokenizer.tokenize_state.sequences;
+    if index.rules_out(ending, tokenizer.cursor.passed()) {
+        return State::Nok;
+    }
+    tokenizer.consume();
+    State::Next(state)
+}
+
 // Goes on with this state after the line ending at hand and the whitespace after it.
 fn break_line(tokenizer: &mut Tokenizer, state: StateName) -> Result<State, AllocError>
     ensures ok { IfOk result (λ s. broken state tokenizer.old ≡ record { state = s; left = tokenizer.new }) }
@@ -102,7 +116,7 @@ pub fn start(tokenizer: &mut Tokenizer) -> Result<State, AllocError>
     }
 }
 
-/// After `<`: which kind it is.
+/// After `<`: which kind it is. An instruction is given up here where it is known that no `?>` follows.
 ///
 /// The error comes where a growth is refused; then `failed` is true.
 pub fn open(tokenizer: &mut Tokenizer) -> Result<State, AllocError>
@@ -118,10 +132,11 @@ pub fn open(tokenizer: &mut Tokenizer) -> Result<State, AllocError>
             tokenizer.consume();
             Ok(State::Next(StateName::HtmlTextTagCloseStart))
         }
-        Some(b'?') => {
-            tokenizer.consume();
-            Ok(State::Next(StateName::HtmlTextInstruction))
-        }
+        Some(b'?') => Ok(pass_unless_hopeless(
+            tokenizer,
+            Sequence::InstructionEnd,
+            StateName::HtmlTextInstruction,
+        )),
         Some(code) if is_letter(code) => {
             tokenizer.consume();
             Ok(State::Next(StateName::HtmlTextTagOpen))
@@ -130,7 +145,7 @@ pub fn open(tokenizer: &mut Tokenizer) -> Result<State, AllocError>
     }
 }
 
-/// After `<!`: a comment, a declaration or a CDATA section.
+/// After `<!`: a comment, a declaration or a CDATA section, each of which is given up here where it is known that its end does not follow.
 ///
 /// The error comes where a growth is refused; then `failed` is true.
 pub fn declaration_open(tokenizer: &mut Tokenizer) -> Result<State, AllocError>
@@ -138,18 +153,21 @@ pub fn declaration_open(tokenizer: &mut Tokenizer) -> Result<State, AllocError>
     ensures err { OnErr result (IsTrue tokenizer.new.failed) }
 {
     match tokenizer.current() {
-        Some(b'-') => {
-            tokenizer.consume();
-            Ok(State::Next(StateName::HtmlTextCommentOpenInside))
-        }
-        Some(code) if is_letter(code) => {
-            tokenizer.consume();
-            Ok(State::Next(StateName::HtmlTextDeclaration))
-        }
-        Some(b'[') => {
-            tokenizer.consume();
-            Ok(State::Next(StateName::HtmlTextCdataOpenInside))
-        }
+        Some(b'-') => Ok(pass_unless_hopeless(
+            tokenizer,
+            Sequence::CommentEnd,
+            StateName::HtmlTextCommentOpenInside,
+        )),
+        Some(code) if is_letter(code) => Ok(pass_unless_hopeless(
+            tokenizer,
+            Sequence::DeclarationEnd,
+            StateName::HtmlTextDeclaration,
+        )),
+        Some(b'[') => Ok(pass_unless_hopeless(
+            tokenizer,
+            Sequence::SectionEnd,
+            StateName::HtmlTextCdataOpenInside,
+        )),
         _ => Ok(State::Nok),
     }
 }

@@ -143,6 +143,11 @@ fn reads_html(rt: HostRuntime) -> Result<(), Fail> {
         ("<![CDATA[]]>", "HtmlText 0-12 [HtmlTextData 0-12]"),
         ("<!--->", "HtmlText 0-6 [HtmlTextData 0-6]"),
         ("<?>", "Data 0-3"),
+        ("<!--><!--", "HtmlText 0-5 [HtmlTextData 0-5], Data 5-9"),
+        (
+            "<!-- <?a?> <?>",
+            "Data 0-5, HtmlText 5-10 [HtmlTextData 5-10], Data 10-14",
+        ),
         ("<a b=/c>", "HtmlText 0-8 [HtmlTextData 0-8]"),
         ("<a b=c/>", "HtmlText 0-8 [HtmlTextData 0-8]"),
         ("<a b=c/d>", "Data 0-9"),

@@ -4,9 +4,9 @@ use Rattle.std.proofs.Common.{◌≡◌, ℕ, zero, suc, ◌≤◌, ◌==◌, Bo
 use Rattle.markdown_engine.specs.Codes.{Code, is_line_ending}
 use Rattle.markdown_engine.specs.Ops.{ahead}
 use Rattle.markdown_engine.specs.Place.{ahead_at}
-use Rattle.markdown_engine.specs.RunIndex.{leading, later_or, last_run_from, last_run, begins_before}
+use Rattle.markdown_engine.specs.RunIndex.{leading, last_run_from, last_run, begins_before}
 use Rattle.markdown_engine.specs.declared.tokenizer.Tokenizer.{Tokenizer}
-use Rattle.markdown_engine.proofs.RunIndexFacts.{none-after, ruled-out}
+use Rattle.markdown_engine.proofs.RunIndexFacts.{later-none, none-after, ruled-out}
 use Rattle.markdown_model.specs.CodeTests.{is_value, next_is}
 use Rattle.markdown_model.specs.Grammar.{span}
 use Rattle.markdown_model.specs.Leaf.{closing_run, closing, code_names}
@@ -21,11 +21,6 @@ unfolding closing_run
 closing-skip p n s ss h e = rw (h, e, closing_run) refl
 
 -- Runs.
-
-later-none : (o : Option ℕ) (b : Bool) → later_or o b ≡ None → (o ≡ None) × (b ≡ false)
-later-none (Some k) b e = cc
-later-none None true e = cc
-later-none None false e = (refl, refl)
 
 span-rest : (p : Code → Bool) (cs : List Code) → length (span p cs).1 ≤ length cs
 span-rest p [] = omega arith

@@ -1,8 +1,7 @@
 -- The states of a span: when the next one may be called, and what its end says.
 use Rattle.std.proofs.Common.{◌≡◌, ℕ, ◌+◌, ◌<◌, ◌≤◌, ◌==◌, Bool, false, List, [], ◌∷◌, length, refl, sym, ap, subst, ◌∙◌, arith}
 use Rattle.std.proofs.lemmas.Grind.{common_steps}
-use Rattle.markdown_engine.specs.Ops.{Op, Enter, Exit, EnterLink, EnterConnected, Consume, ahead, applied, done, scratched, moves}
-use Rattle.markdown_engine.specs.Place.{moved}
+use Rattle.markdown_engine.specs.Ops.{Op, Enter, Exit, Consume, ahead, applied, done, scratched, moves}
 use Rattle.markdown_engine.specs.RunIndex.{LastRuns, last_runs}
 use Rattle.markdown_engine.specs.Weights.{codes_left}
 use Rattle.markdown_engine.specs.declared.event.Name.{Name}
@@ -10,7 +9,7 @@ use Rattle.markdown_engine.specs.declared.event.Name.TheVariants as N
 use Rattle.markdown_engine.specs.declared.tokenizer.TokenizeState.{TokenizeState}
 use Rattle.markdown_engine.specs.declared.tokenizer.Tokenizer.{Tokenizer}
 use Rattle.markdown_engine.proofs.OpRules.{left-scratched}
-use Rattle.markdown_engine.proofs.OpsLemmas.{left-done}
+use Rattle.markdown_engine.proofs.OpsLemmas.{left-done, codes-done}
 use Rattle.markdown_model.specs.Leaf.{SpanNames}
 use Rattle.markdown_construct.proofs.OpenLemmas.{second-open}
 use Rattle.markdown_construct.proofs.NamingLemmas.{renamed-entered, renamed-consumed, renamed-scratched}
@@ -26,19 +25,6 @@ fits-after n k os r X T same within less f = omega (arith, left-done os X within
 pub some-event : (T : Tokenizer) (m : Name) → 0 < length (applied (Enter m) T).events
 unfolding applied
 some-event T m = grind (arith, common_steps)
-
--- the codes stay the same
-codes-applied : (o : Op) (T : Tokenizer) → (applied o T).cursor.codes ≡ T.cursor.codes
-unfolding applied moved
-codes-applied (Enter n) T = refl
-codes-applied (Exit n) T = refl
-codes-applied (EnterLink n c) T = refl
-codes-applied (EnterConnected n c) T = refl
-codes-applied Consume T = refl
-
-codes-done : (os : List Op) (T : Tokenizer) → (done os T).cursor.codes ≡ T.cursor.codes
-codes-done [] T = refl
-codes-done (o ∷ os) T = codes-done os (applied o T) ∙ codes-applied o T
 
 -- what was right stays right
 indexed-after : (os : List Op) (r : TokenizeState) (T : Tokenizer) → r.runs ≡ T.tokenize_state.runs → IsIndexed T → IsIndexed (scratched r (done os T))

@@ -7,6 +7,7 @@ mod events;
 mod run;
 mod run_index;
 mod seq;
+mod sequence_index;
 mod skip;
 mod slice;
 mod walk;

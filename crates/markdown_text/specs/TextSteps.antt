@@ -5,6 +5,7 @@ use Rattle.markdown_engine.specs.Ops.{attempted, scratched, registered, current_
 use Rattle.markdown_engine.specs.Place.{Place}
 use Rattle.markdown_engine.specs.RunIndex.{last_runs}
 use Rattle.markdown_engine.specs.Runs.{Stepped, stepped}
+use Rattle.markdown_engine.specs.SequenceIndex.{last_begins}
 use Rattle.markdown_engine.specs.declared.resolve.ResolveName.TheVariants as R
 use Rattle.markdown_engine.specs.declared.state.State.TheVariants.{Next, Retry, Ok, Nok}
 use Rattle.markdown_engine.specs.declared.state.StateName.{StateName}
@@ -13,6 +14,7 @@ use Rattle.markdown_engine.specs.declared.tokenizer.TokenizeState.{TokenizeState
 use Rattle.markdown_engine.specs.declared.tokenizer.Tokenizer.{Tokenizer}
 use Rattle.markdown_gfm.specs.GfmAutolinkLiteral as G
 use Rattle.markdown_gfm.specs.GfmTaskListItemCheck as C
+use Rattle.markdown_html.specs.HtmlText as H
 use Rattle.markdown_label.specs.LabelEnd as E
 use Rattle.markdown_label.specs.LabelStarts.{footnote_test}
 use Rattle.markdown_leaf.specs.Autolink.{link_here}
@@ -34,9 +36,10 @@ text_markers = 33 ∷ 36 ∷ 96 ∷ 38 ∷ 42 ∷ 95 ∷ 126 ∷ 60 ∷ 72 ∷ 1
 abbrev pub span_markers : List ℕ
 span_markers = 96 ∷ 36 ∷ []
 
--- the scratch fields of a text of these codes: where data stops, and where the last runs begin at which spans may close
+-- the scratch fields of a text of these codes: where data stops, where the last runs begin at which spans may close, and where the sequences
+-- last begin that end HTML
 abbrev pub marked_fields : List Code → TokenizeState → TokenizeState
-marked_fields cs s = record s { markers = text_markers; runs = last_runs span_markers cs }
+marked_fields cs s = record s { markers = text_markers; runs = last_runs span_markers cs; sequences = Some (last_begins cs) }
 
 abbrev pub text_marked : Tokenizer → Tokenizer
 text_marked T = scratched (marked_fields T.cursor.codes T.tokenize_state) T
@@ -113,9 +116,10 @@ pub record StartReady (T : Tokenizer) : Type 0 where
   pub ends : E.StartReady T
   pub last : EndsWithCodes T.cursor
 
--- besides, data stops at the markers of a text
+-- besides, data stops at the markers of a text, and what is known of the sequences that end HTML is right
 pub record IsMarked (T : Tokenizer) : Type 0 where
   pub markers : T.tokenize_state.markers ≡ text_markers
+  pub sequences : H.IsIndexed T
   pub spans : X.StartReady T
   pub look : C.MayLook T
   pub literals : G.StartReady T

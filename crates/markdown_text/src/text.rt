@@ -11,6 +11,7 @@ use markdown_engine::byte_set;
 use markdown_engine::bytes::ByteSet;
 use markdown_engine::resolve::ResolveName;
 use markdown_engine::run_index::RunIndex;
+use markdown_engine::sequence_index::SequenceIndex;
 use markdown_engine::state::{State, StateName};
 use markdown_engine::subtokenize::Subresult;
 use markdown_engine::tokenizer::Tokenizer;
@@ -97,7 +98,8 @@ fn index_runs(tokenizer: &mut Tokenizer) -> Result<(), AllocError>
 
 /// At the start of a text, where the check of a task may stand.
 ///
-/// One walk over the content finds the runs at which spans may close, so that none is looked for in vain.
+/// One walk over the content finds the sequences that end HTML, and a second one the runs at which spans may close, so that none is
+/// looked for in vain.
 ///
 /// The error comes where a growth is refused; then `failed` is true.
 #[tactic(auto, using(markdown_engine::proofs::OpRules::op_rules), unfolding(markdown_engine::specs::Ops::scratched))]
@@ -106,6 +108,7 @@ pub fn start(tokenizer: &mut Tokenizer) -> Result<State, AllocError>
     ensures err { OnErr result (IsTrue tokenizer.new.failed) }
 {
     tokenizer.tokenize_state.markers = markers();
+    tokenizer.tokenize_state.sequences = SequenceIndex::over(&tokenizer.cursor);
     index_runs(tokenizer)?;
     attempt(
         tokenizer,

@@ -10,6 +10,7 @@ use Rattle.markdown_engine.specs.Ops.{ahead, current_of, is_registered, register
 use Rattle.markdown_engine.specs.Past.{past, moved_by, EndsAs, Reads, Refuses, TreeReading}
 use Rattle.markdown_engine.specs.Place.{Place, moved, code_before, last_of, value_of}
 use Rattle.markdown_engine.specs.RunIndex.{LastRuns, last_runs}
+use Rattle.markdown_engine.specs.SequenceIndex.{last_begins}
 use Rattle.markdown_engine.specs.Runs.{Stepped, stepped, GoesOn}
 use Rattle.markdown_engine.specs.Tree.{Forest, empty, leaf_codes}
 use Rattle.markdown_engine.specs.Weights.{codes_left, weight_at}
@@ -21,6 +22,7 @@ use Rattle.markdown_engine.specs.declared.tokenizer.TokenizeState.{TokenizeState
 use Rattle.markdown_engine.specs.declared.tokenizer.Tokenizer.{Tokenizer}
 use Rattle.markdown_engine.proofs.EndsLemmas.{scratched-same}
 use Rattle.markdown_engine.proofs.Laws.{Follows, Goes-plain, Goes-attempt, code-step, restored-fails}
+use Rattle.markdown_engine.proofs.SequenceIndexLemmas.{right-made}
 use Rattle.markdown_engine.proofs.OpRules.{Begins, ahead-some, attempts-registered, attempts-scratched, left-scratched, left-ahead}
 use Rattle.markdown_gfm.specs.GfmAutolinkLiteral as G
 use Rattle.markdown_gfm.specs.GfmTaskListItemCheck as C
@@ -106,6 +108,10 @@ indexed-past T U e k =
     let runs : U.tokenize_state.runs ≡ T.tokenize_state.runs = ap (λ (s : TokenizeState). s.runs) e.fields in
     runs ∙ k ∙ ap (λ (x : LastRuns). last_runs x.asked T.cursor.codes) (sym runs) ∙ ap (λ cs. last_runs U.tokenize_state.runs.asked cs) (sym e.codes)
 
+-- and so does what is known of sequences
+sequences-past : (T U : Tokenizer) → IsSame T U → H.IsIndexed T → H.IsIndexed U
+sequences-past T U e k last known = k last (ap (λ (s : TokenizeState). s.sequences) (sym e.fields) ∙ known) ∙ ap last_begins (sym e.codes)
+
 part-past : (T U : Tokenizer) → IsSame T U → codes_left U ≤ codes_left T → PartReady T → PartReady U
 part-past T U e l k =
     let u : TokenizeState = U.tokenize_state in
@@ -125,6 +131,7 @@ marked-past T U e l within r =
     let u : TokenizeState = U.tokenize_state in
     record {
       markers = ap (λ (s : TokenizeState). s.markers) e.fields ∙ r.markers;
+      sequences = sequences-past T U e r.sequences;
       spans = record { rest = e.fields ∙ ap (relisted u) r.spans.rest ∙ ap X.rested (sym e.fields); fits = omega (arith, l, r.spans.fits); indexed = indexed-past T U e r.spans.indexed };
       look = record { resting = ap W.rested e.fields ∙ ap (relisted u) r.look.resting ∙ sym e.fields; short = omega (arith, l, r.look.short) };
       literals = record { text = e.text; resting = ap G.rested e.fields ∙ ap (relisted u) r.literals.resting ∙ sym e.fields; short = omega (arith, l, r.literals.short) };
@@ -444,7 +451,7 @@ module _ (T : Tokenizer) (alone : T.attempts ≡ []) (ready : BeforeReady T) whe
       (λ v e. tries v e)
 
 html-ready : (T : Tokenizer) → IsMarked T → H.StartReady T
-html-ready T r = record { spaces = record { resting = r.look.resting; short = r.look.short }; rest = sym (html-rest T r) }
+html-ready T r = record { spaces = record { resting = r.look.resting; short = r.look.short }; indexed = r.sequences; rest = sym (html-rest T r) }
   where
     html-rest : (T : Tokenizer) → IsMarked T → T.tokenize_state ≡ H.rested T.tokenize_state
     html-rest T r = r.spans.rest ∙ ap H.rested (sym r.spans.rest)
@@ -527,7 +534,16 @@ ends-marked T r =
 
 marked-start : (T : Tokenizer) → StartReady T → IsMarked (text_marked T)
 unfolding scratched
-marked-start T r = record { markers = refl; spans = spans-marked T r.spans; look = look-marked T r.look; literals = literals-marked T r.literals; ends = ends-marked T r.ends; last = r.last }
+marked-start T r =
+    record {
+      markers = refl;
+      sequences = right-made T.cursor.codes (Some (last_begins T.cursor.codes)) refl;
+      spans = spans-marked T r.spans;
+      look = look-marked T r.look;
+      literals = literals-marked T r.literals;
+      ends = ends-marked T r.ends;
+      last = r.last;
+    }
 
 check-elements : (T : Tokenizer) (o : Option ℕ) → current_of T ≡ o → ReadsElements (C.check_here T) T
 check-elements T None e = no-check-at-end T e

@@ -2,7 +2,9 @@
 use Rattle.std.proofs.Common.{◌≡◌, ◌≤◌, ap, sym, ◌∙◌}
 use Rattle.markdown_engine.specs.Rest.{at_rest}
 use Rattle.markdown_engine.specs.Weights.{codes_left}
+use Rattle.markdown_engine.specs.declared.tokenizer.TokenizeState.{TokenizeState}
 use Rattle.markdown_engine.specs.declared.tokenizer.Tokenizer.{Tokenizer}
+use Rattle.markdown_engine.proofs.SequenceIndexLemmas.{right-unknown}
 use Rattle.markdown_html.specs.HtmlText as H
 use Rattle.markdown_run.proofs.StartLemmas.{start-fits}
 use Rattle.markdown_partial.specs.EolSteps as L
@@ -23,7 +25,8 @@ start-label : (T : Tokenizer) → T.tokenize_state ≡ at_rest → codes_left T 
 start-label T e fits = record { text = start-text T e fits; rest = ap SL.rested e ∙ sym e }
 
 start-html : (T : Tokenizer) → T.tokenize_state ≡ at_rest → codes_left T ≤ most → H.StartReady T
-start-html T e fits = record { spaces = record { resting = ap W.rested e ∙ sym e; short = fits }; rest = ap H.rested e ∙ sym e }
+start-html T e fits =
+    record { spaces = record { resting = ap W.rested e ∙ sym e; short = fits }; indexed = right-unknown T.cursor.codes T.tokenize_state.sequences (ap (λ (s : TokenizeState). s.sequences) e); rest = ap H.rested e ∙ sym e }
 
 pub returns-clause-title : goal.returns-clause-title
 returns-clause-title c =

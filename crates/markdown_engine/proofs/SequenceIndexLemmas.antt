@@ -1,0 +1,170 @@
+-- The walk that finds where sequences last begin, and what an index of them says of the codes that it was made of.
+use Rattle.std.proofs.Common.{◌≡◌, ℕ, zero, suc, ◌+◌, ◌==◌, ◌&&◌, ◌||◌, nat_lt, Bool, true, false, cond, slice_index_or, length, ◌<◌, Option, Some, None, List, [], ◌∷◌, drop, refl, sym, ap, ◌∙◌, arith}
+use Rattle.std.proofs.lemmas.Bool.Decides.{nat_tests}
+use Rattle.std.proofs.lemmas.Grind.{common_steps}
+use Rattle.std.proofs.lemmas.List.{drop_more}
+use Rattle.markdown_engine.specs.Codes.{Code}
+use Rattle.markdown_engine.specs.Place.{Place, ahead_at, moved, code_at}
+use Rattle.markdown_engine.specs.RunIndex.{later_or, begins_before}
+use Rattle.markdown_engine.specs.SequenceIndex.{begins_some, stand_next, last_begin, values_of, last_in, last_begins, rules_out, IsRightFor}
+use Rattle.markdown_engine.specs.declared.sequence_index.LastBegins.{LastBegins}
+use Rattle.markdown_engine.specs.declared.sequence_index.Sequence.{Sequence}
+use Rattle.markdown_engine.specs.declared.sequence_index.Sequence.TheVariants.{CommentEnd, SectionEnd, InstructionEnd, DeclarationEnd}
+use Rattle.markdown_engine.proofs.PlaceRules.{IsAhead, ahead_some, ahead_none}
+use Rattle.markdown_engine.proofs.RunIndexFacts.{answer_from, answer-or}
+
+-- Whether values come next.
+
+next-end : (v : ℕ) (vs : List ℕ) (p : Place) → code_at p ≡ None → stand_next (v ∷ vs) (ahead_at p) ≡ false
+next-end v vs p h = ap (stand_next (v ∷ vs)) (ahead_none p h)
+
+next-other : (v : ℕ) (vs : List ℕ) (p : Place) (w : ℕ) → code_at p ≡ Some w → (w == v) ≡ false → stand_next (v ∷ vs) (ahead_at p) ≡ false
+next-other v vs p w h e =
+    let a : IsAhead p w = ahead_some p w h in
+    ap (stand_next (v ∷ vs)) a.codes ∙ ap (λ b. b && stand_next vs (ahead_at (moved p))) (ap (λ k. k == v) a.value ∙ e)
+
+next-one : (v : ℕ) (vs : List ℕ) (p : Place) (w : ℕ) → code_at p ≡ Some w → (w == v) ≡ true → stand_next (v ∷ vs) (ahead_at p) ≡ stand_next vs (ahead_at (moved p))
+next-one v vs p w h e =
+    let a : IsAhead p w = ahead_some p w h in
+    ap (stand_next (v ∷ vs)) a.codes ∙ ap (λ b. b && stand_next vs (ahead_at (moved p))) (ap (λ k. k == v) a.value ∙ e)
+
+-- Whether the values from one on come next.
+
+-- so many values are passed, which came next
+abbrev pub IsPassing : List ℕ → ℕ → Place → Place → Type 0
+IsPassing vs i start p = stand_next vs (ahead_at start) ≡ stand_next (drop i vs) (ahead_at p)
+
+pub passing-end : (vs : List ℕ) (i : ℕ) (start p : Place) → i < length vs → IsPassing vs i start p → code_at p ≡ None → false ≡ stand_next vs (ahead_at start)
+passing-end vs i start p less k h = sym (k ∙ ap (λ xs. stand_next xs (ahead_at p)) (drop_more vs i 0 less) ∙ next-end (slice_index_or vs i 0) (drop (i + 1) vs) p h)
+
+pub passing-other : (vs : List ℕ) (i v : ℕ) (start p : Place) → i < length vs → IsPassing vs i start p → code_at p ≡ Some v → (v ≡ slice_index_or vs i 0 → ⊥) → false ≡ stand_next vs (ahead_at start)
+passing-other vs i v start p less k h e =
+    sym (k ∙ ap (λ xs. stand_next xs (ahead_at p)) (drop_more vs i 0 less) ∙ next-other (slice_index_or vs i 0) (drop (i + 1) vs) p v h (unlike v (slice_index_or vs i 0) e))
+  where
+    unlike : (a b : ℕ) → (a ≡ b → ⊥) → (a == b) ≡ false
+    unlike a b e = grind (arith, e)
+
+pub passing-one : (vs : List ℕ) (i v : ℕ) (start p q : Place) → i < length vs → IsPassing vs i start p → code_at p ≡ Some v → v ≡ slice_index_or vs i 0 → q ≡ moved p → IsPassing vs (i + 1) start q
+passing-one vs i v start p q less k h e f =
+    k
+    ∙ ap (λ xs. stand_next xs (ahead_at p)) (drop_more vs i 0 less)
+    ∙ next-one (slice_index_or vs i 0) (drop (i + 1) vs) p v h (alike v (slice_index_or vs i 0) e)
+    ∙ ap (λ (x : Place). stand_next (drop (i + 1) vs) (ahead_at x)) (sym f)
+  where
+    alike : (a b : ℕ) → a ≡ b → (a == b) ≡ true
+    alike a b e = grind (arith, e)
+
+-- The walk.
+
+-- what was found up to a place, and what is ahead of it, is what there is
+pub record IsFound (cs : List Code) (p : Place) (last : LastBegins) : Type 0 where
+  pub codes : p.codes ≡ cs
+  pub found : (s : Sequence) → last_begin (values_of s) cs ≡ answer_from p.at (last_begin (values_of s) (ahead_at p)) (last_in last s)
+
+-- this was found, with what begins at the place
+abbrev pub FoundAt : Place → LastBegins → LastBegins → Type 0
+FoundAt p last next = (s : Sequence) → last_in next s ≡ cond (stand_next (values_of s) (ahead_at p)) (Some p.at) (last_in last s)
+
+nothing-before : (o : Option ℕ) → o ≡ answer_from 0 o None
+nothing-before (Some k) = ap (λ n. Some n) (omega arith)
+nothing-before None = refl
+
+abbrev nothing : LastBegins
+nothing = record { comment_end = None; section_end = None; instruction_end = None; declaration_end = None }
+
+nothing-in : (s : Sequence) → last_in nothing s ≡ None
+nothing-in CommentEnd = refl
+nothing-in SectionEnd = refl
+nothing-in InstructionEnd = refl
+nothing-in DeclarationEnd = refl
+
+pub found-start : (p q : Place) → q ≡ record p { at = 0 } → IsFound p.codes q nothing
+unfolding ahead_at
+found-start p q e =
+    record {
+      codes = ap (λ (x : Place). x.codes) e;
+      found = λ s. nothing-before (last_begin (values_of s) p.codes) ∙ ap (λ o. answer_from 0 (last_begin (values_of s) p.codes) o) (sym (nothing-in s)) ∙ ap (λ (x : Place). answer_from x.at (last_begin (values_of s) (ahead_at x)) (last_in nothing s)) (sym e);
+    }
+
+-- past a code
+pub found-past : (cs : List Code) (p q : Place) (v : ℕ) (last next : LastBegins) → code_at p ≡ Some v → q ≡ moved p → FoundAt p last next → IsFound cs p last → IsFound cs q next
+unfolding moved
+found-past cs p q v last next h e step k =
+    let a : IsAhead p v = ahead_some p v h in
+    record {
+      codes = ap (λ (x : Place). x.codes) e ∙ k.codes;
+      found = λ s.
+          let vs : List ℕ = values_of s in
+          let rest : Option ℕ = last_begin vs (ahead_at (moved p)) in
+          let here : Bool = stand_next vs (ahead_at p) in
+          let one : last_begin vs (ahead_at p) ≡ later_or rest here = ap (last_begin vs) a.codes ∙ ap (λ ds. later_or rest (stand_next vs ds)) (sym a.codes) in
+          k.found s
+          ∙ ap (λ o. answer_from p.at o (last_in last s)) one
+          ∙ sym (answer-or p.at rest (last_in last s) here)
+          ∙ ap (λ n. answer_from n rest (cond here (Some p.at) (last_in last s))) (omega arith)
+          ∙ ap (λ o. answer_from (p.at + 1) rest o) (sym (step s))
+          ∙ ap (λ (x : Place). answer_from x.at (last_begin vs (ahead_at x)) (last_in next s)) (sym e);
+    }
+
+-- at a code with which no sequence begins
+
+or-left : (a b : Bool) → a || b ≡ false → a ≡ false
+or-left false b e = refl
+or-left true b e = cc
+
+or-right : (a b : Bool) → a || b ≡ false → b ≡ false
+or-right false b e = e
+or-right true b e = cc
+
+pub none-begins : (p : Place) (v : ℕ) (last : LastBegins) → code_at p ≡ Some v → begins_some v ≡ false → FoundAt p last last
+none-begins p v last h e CommentEnd = ap (λ b. cond b (Some p.at) last.comment_end) (sym (next-other 45 (45 ∷ 62 ∷ []) p v h (or-left (v == 45) _ e)))
+none-begins p v last h e SectionEnd = ap (λ b. cond b (Some p.at) last.section_end) (sym (next-other 93 (93 ∷ 62 ∷ []) p v h (or-left (v == 93) _ (or-right (v == 45) _ e))))
+none-begins p v last h e InstructionEnd =
+    ap (λ b. cond b (Some p.at) last.instruction_end) (sym (next-other 63 (62 ∷ []) p v h (or-left (v == 63) _ (or-right (v == 93) _ (or-right (v == 45) _ e)))))
+none-begins p v last h e DeclarationEnd =
+    ap (λ b. cond b (Some p.at) last.declaration_end) (sym (next-other 62 [] p v h (or-right (v == 63) _ (or-right (v == 93) _ (or-right (v == 45) _ e)))))
+
+-- at the end
+pub found-all : (cs : List Code) (p : Place) (last : LastBegins) → code_at p ≡ None → IsFound cs p last → last ≡ last_begins cs
+found-all cs p last h k =
+    let all : (s : Sequence) → last_in last s ≡ last_begin (values_of s) cs = λ s. sym (k.found s ∙ ap (λ ds. answer_from p.at (last_begin (values_of s) ds) (last_in last s)) (ahead_none p h)) in
+    λ i. record { comment_end = all CommentEnd i; section_end = all SectionEnd i; instruction_end = all InstructionEnd i; declaration_end = all DeclarationEnd i }
+
+-- After some codes.
+
+last-is : (cs : List Code) (s : Sequence) → last_in (last_begins cs) s ≡ last_begin (values_of s) cs
+last-is cs CommentEnd = refl
+last-is cs SectionEnd = refl
+last-is cs InstructionEnd = refl
+last-is cs DeclarationEnd = refl
+
+-- a sequence that begins further on begins in the whole
+later-begin : (vs : List ℕ) (k a : ℕ) (cs : List Code) → last_begin vs (drop k cs) ≡ Some a → last_begin vs cs ≡ Some (k + a)
+later-begin vs zero a cs e = e ∙ ap (λ n. Some n) (omega arith)
+later-begin vs (suc k) a [] e = cc
+later-begin vs (suc k) a (c ∷ cs) e = ap (λ o. later_or o (stand_next vs (c ∷ cs))) (later-begin vs k a cs e) ∙ ap (λ n. Some n) (omega arith)
+
+none-after : (vs : List ℕ) (k : ℕ) (cs : List Code) (o : Option ℕ) → begins_before k (last_begin vs cs) ≡ true → last_begin vs (drop k cs) ≡ o → last_begin vs (drop k cs) ≡ None
+none-after vs k cs None b e = e
+none-after vs k cs (Some a) b e = absurd (too-late (ap (begins_before k) (sym (later-begin vs k a cs e)) ∙ b))
+  where
+    too-late : nat_lt (k + a) k ≡ true → ⊥
+    too-late t = grind (arith, nat_tests, common_steps, t)
+
+-- where an index that is right for some codes rules a sequence out after so many, it does not begin there
+pub ruled-out : (index : Option LastBegins) (cs : List Code) (s : Sequence) (k : ℕ) → IsRightFor cs index → rules_out index s k ≡ true → last_begin (values_of s) (drop k cs) ≡ None
+ruled-out None cs s k right h = cc
+ruled-out (Some last) cs s k right h = none-after (values_of s) k cs (last_begin (values_of s) (drop k cs)) (ap (begins_before k) (sym (ap (λ l. last_in l s) (right last refl) ∙ last-is cs s)) ∙ h) refl
+
+-- what is made of the codes is right for them, and so is nothing
+pub right-made : (cs : List Code) (index : Option LastBegins) → index ≡ Some (last_begins cs) → IsRightFor cs index
+right-made cs index e last h = held (sym h ∙ e)
+  where
+    held : {a b : LastBegins} → Some a ≡ Some b → a ≡ b
+    held x = cc
+
+pub right-unknown : (cs : List Code) (index : Option LastBegins) → index ≡ None → IsRightFor cs index
+right-unknown cs index e last h = absurd (absent (sym e ∙ h))
+  where
+    absent : None ≡ Some last → ⊥
+    absent x = cc
