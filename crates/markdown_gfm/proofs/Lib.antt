@@ -3,6 +3,7 @@ pub mod GfmTaskListItemCheckLaws
 pub mod LiteralReadings
 pub mod LiteralLooks
 pub mod LiteralTrailLaws
+mod LiteralKnown
 pub mod LiteralAddressLaws
 pub mod LiteralWhole
 pub mod LiteralAttempts

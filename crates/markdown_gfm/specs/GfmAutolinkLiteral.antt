@@ -1,17 +1,17 @@
 -- What the states of autolink literals do, and how runs from them end.
-use Rattle.std.specs.Prelude.{◌≡◌, ◌<◌, ◌≤◌, ◌+◌, ℕ, suc, Bool, true, false, ◌&&◌, ◌||◌, not, ◌==◌, nat_le, nat_lt, if◌then◌else◌, Option, Some, None, List, [], ◌∷◌, ◌++◌, drop, codes, slice_get, IsUtf8}
+use Rattle.std.specs.Prelude.{◌≡◌, ◌<◌, ◌≤◌, ◌+◌, ℕ, Bool, true, false, ◌&&◌, ◌||◌, not, ◌==◌, nat_le, nat_lt, if◌then◌else◌, Option, Some, None, List, [], ◌∷◌, ◌++◌, drop, codes, IsUtf8}
 use Rattle.std.specs.Str.{IsCharBoundary, byte}
 use Rattle.markdown_engine.specs.Codes.{Code}
 use Rattle.markdown_engine.specs.Grown.{Grown}
 use Rattle.markdown_engine.specs.Ops.{Op, Enter, Exit, Consume, HasCode, ahead, attempted, done, current_of, previous_of, scratched, IsOpen}
 use Rattle.markdown_engine.specs.Past.{EndsAs, TreeReading}
-use Rattle.markdown_engine.specs.Place.{Place, point_of, last_of}
+use Rattle.markdown_engine.specs.Place.{point_of, last_of}
 use Rattle.markdown_engine.specs.Runs.{Stepped, stepped}
 use Rattle.markdown_engine.specs.TreeOps.{consumes}
 use Rattle.markdown_engine.specs.Weights.{codes_left}
-use Rattle.markdown_model.specs.CodeTests.{is_between, is_later_byte, is_empty, next_is, is_whitespace_code, is_among}
+use Rattle.markdown_model.specs.CodeTests.{is_empty, next_is, is_whitespace_code, is_among}
 use Rattle.markdown_model.specs.Grammar.{Reading, ◌>>◌, ◌then_◌, either, provided}
-use Rattle.markdown_model.specs.Literal.{letters, is_other, is_space, trails_in, domain, domain_from, path, path_from, protocol_literal, www_from_here, www_literal}
+use Rattle.markdown_model.specs.Literal.{letters, is_other, is_space, trails_in, domain, domain_from, path, path_from, count_if, protocol_literal, www_from_here, www_literal}
 use Rattle.markdown_util.specs.Neighbours.{class_of, after_index}
 use Rattle.markdown_util.specs.declared.util.char.Kind.{Kind}
 use Rattle.markdown_construct.specs.Values.{letter_value, among_values}
@@ -55,17 +55,36 @@ trail_value v = among_values (codes "!\"'),*.:;?_~") v
 abbrev pub mark_value : ℕ → Bool
 mark_value v = among_values (codes "!\"&'),*.:;<?]_~") v
 
+-- a `.` or a `_` is at hand: a domain may end there
+abbrev pub at_domain_mark : Option ℕ → Bool
+at_domain_mark None = false
+at_domain_mark (Some v) = among_values (codes "._") v
+
 -- The scratch fields: the codes of a word passed, or the parentheses opened and closed; the last part of a domain and the one
--- before hold `_`; a character of class other was seen.
+-- before hold `_`; a character of class other was seen. In a path the marker says what is known of trails: by `.` none begins here,
+-- by `&` none goes on here behind a `&`, by `a` none goes on here behind a `&` and letters; by 0 nothing is known.
+
+-- what is known behind this code, where so much was known before it
+abbrev pub known_after : ℕ → ℕ → ℕ
+known_after known v =
+    if (known == byte ".") && (v == byte "&") then byte "&"
+    else (if (known == byte ".") && (trail_value v || v == byte "]") then byte "."
+    else (if (known == byte "&" || known == byte "a") && letter_value v then byte "a"
+    else (if (known == byte "a") && (v == byte ";") then byte "." else 0)))
+
+-- this code is known to begin no trail
+abbrev pub is_known : ℕ → ℕ → Bool
+is_known known v = known == byte "." || ((known == byte "a") && (v == byte ";"))
+
+-- one more where this is the code that is counted
+abbrev pub count_value : ℕ → ℕ → ℕ → ℕ
+count_value n v k = elim (v == n) [ true ↦ k + 1 | false ↦ k ]
 
 abbrev pub rested : TokenizeState → TokenizeState
 rested s = record s { marker = 0; marker_b = 0; size = 0; size_b = 0; seen = false }
 
 abbrev pub sized : ℕ → TokenizeState → TokenizeState
 sized n s = record s { size = n }
-
-abbrev pub closed : ℕ → TokenizeState → TokenizeState
-closed n s = record s { size_b = n }
 
 abbrev pub saw : TokenizeState → TokenizeState
 saw s = record s { seen = true }
@@ -76,8 +95,18 @@ underscored s = record s { marker = 95 }
 abbrev pub dotted : TokenizeState → TokenizeState
 dotted s = record s { marker = 0; marker_b = s.marker }
 
+-- the fields after a `.` or a `_` of a domain
+abbrev pub marked : Option ℕ → TokenizeState → TokenizeState
+marked None s = dotted s
+marked (Some v) s = if v == byte "_" then underscored s else dotted s
+
 abbrev pub domain_rested : TokenizeState → TokenizeState
 domain_rested s = record s { marker = 0; marker_b = 0; seen = false }
+
+-- the fields after a code of a path, where so much was known before it
+abbrev pub path_passed : ℕ → ℕ → TokenizeState → TokenizeState
+path_passed known v s =
+    record s { marker = known_after known v; size = count_value (byte "(") v s.size; size_b = count_value (byte ")") v s.size_b }
 
 -- The states.
 
@@ -152,15 +181,14 @@ domain_at (Some c) T =
 abbrev pub domain_step : Tokenizer → Stepped
 domain_step T = domain_at (current_of T) T
 
-abbrev pub domain_punctuation_at : Option ℕ → Tokenizer → Stepped
-domain_punctuation_at None T = stepped (Next GfmAutolinkLiteralDomainInside) (scratched (dotted T.tokenize_state) (done (Consume ∷ []) T))
-domain_punctuation_at (Some c) T =
-    if c == byte "_"
-    then stepped (Next GfmAutolinkLiteralDomainInside) (scratched (underscored T.tokenize_state) (done (Consume ∷ []) T))
-    else stepped (Next GfmAutolinkLiteralDomainInside) (scratched (dotted T.tokenize_state) (done (Consume ∷ []) T))
+-- behind a mark that does not trail the next mark does not either
+abbrev pub domain_on : Tokenizer → StateName
+domain_on T = if at_domain_mark (current_of T) then GfmAutolinkLiteralDomainAtPunctuation else GfmAutolinkLiteralDomainInside
 
 abbrev pub domain_punctuation_step : Tokenizer → Stepped
-domain_punctuation_step T = domain_punctuation_at (current_of T) T
+domain_punctuation_step T =
+    let V = scratched (marked (current_of T) T.tokenize_state) (done (Consume ∷ []) T) in
+    stepped (Next (domain_on V)) V
 
 -- a domain with these fields is one
 abbrev pub is_well : TokenizeState → Bool
@@ -170,27 +198,33 @@ abbrev pub domain_after_step : Tokenizer → Stepped
 domain_after_step T =
     if is_well T.tokenize_state then stepped (Retry GfmAutolinkLiteralPathInside) (scratched (domain_rested T.tokenize_state) T) else refused T
 
+-- the path goes on behind this code
+abbrev pub passing : ℕ → ℕ → Tokenizer → Stepped
+passing known v T = stepped (Next GfmAutolinkLiteralPathInside) (scratched (path_passed known v T.tokenize_state) (done (Consume ∷ []) T))
+
+-- whitespace
+abbrev pub is_space_at : ℕ → Tokenizer → Bool
+is_space_at v T = not (later_value v) && is_space (kind_here T)
+
+-- a mark that closes no parenthesis of the path
+abbrev pub is_open_mark : ℕ → TokenizeState → Bool
+is_open_mark v s = mark_value v && not ((v == byte ")") && nat_lt s.size_b s.size)
+
 abbrev pub path_at : Option ℕ → Tokenizer → Stepped
 path_at None T = stepped (Retry GfmAutolinkLiteralPathAfter) T
 path_at (Some c) T =
     let s = T.tokenize_state in
-    if later_value c then stepped (Next GfmAutolinkLiteralPathInside) (done (Consume ∷ []) T)
-    else (if is_space (kind_here T) then stepped (Retry GfmAutolinkLiteralPathAfter) T
-    else (if c == byte "(" then stepped (Next GfmAutolinkLiteralPathInside) (scratched (sized (s.size + 1) s) (done (Consume ∷ []) T))
-    else (if (c == byte ")") && nat_lt s.size_b s.size then stepped (Retry GfmAutolinkLiteralPathAtPunctuation) T
-    else (if mark_value c then looked GfmAutolinkLiteralPathAfter GfmAutolinkLiteralPathAtPunctuation T
-    else stepped (Next GfmAutolinkLiteralPathInside) (done (Consume ∷ []) T)))))
+    if is_space_at c T then stepped (Retry GfmAutolinkLiteralPathAfter) T
+    else (if is_open_mark c s && not (is_known s.marker c)
+    then looked GfmAutolinkLiteralPathAfter GfmAutolinkLiteralPathAtPunctuation T
+    else passing s.marker c T)
 
 abbrev pub path_step : Tokenizer → Stepped
 path_step T = path_at (current_of T) T
 
 abbrev pub path_punctuation_at : Option ℕ → Tokenizer → Stepped
-path_punctuation_at None T = stepped (Next GfmAutolinkLiteralPathInside) (done (Consume ∷ []) T)
-path_punctuation_at (Some c) T =
-    let s = T.tokenize_state in
-    if c == byte ")"
-    then stepped (Next GfmAutolinkLiteralPathInside) (scratched (closed (s.size_b + 1) s) (done (Consume ∷ []) T))
-    else stepped (Next GfmAutolinkLiteralPathInside) (done (Consume ∷ []) T)
+path_punctuation_at None T = stepped (Retry GfmAutolinkLiteralPathInside) T
+path_punctuation_at (Some c) T = passing (byte ".") c T
 
 abbrev pub path_punctuation_step : Tokenizer → Stepped
 path_punctuation_step T = path_punctuation_at (current_of T) T
@@ -305,10 +339,27 @@ pub record LiteralReady (T : Tokenizer) : Type 0 where
   pub opened : T.tokenize_state.size + codes_left T ≤ most
   pub closed : T.tokenize_state.size_b + codes_left T ≤ most
 
--- at a code of it
+-- what is known of trails is so
+pub record Knows (bytes : List ℕ) (end known : ℕ) (cs : List Code) : Type 0 where
+  pub mark : known ≡ byte "." → trails_in bytes end None cs ≡ false
+  pub sign : known ≡ byte "&" → trails_in bytes end (Some false) cs ≡ false
+  pub name : known ≡ byte "a" → trails_in bytes end (Some true) cs ≡ false
+
+-- in a path
+pub record PathReady (T : Tokenizer) : Type 0 where
+  pub literal : LiteralReady T
+  pub knows : Knows (bytes_of T) (end_of T) T.tokenize_state.marker (ahead T)
+
+-- at a code of it that begins no trail
 pub record CodeReady (T : Tokenizer) : Type 0 where
   pub goes_on : LiteralReady T
   pub code : HasCode T
+  pub stays : trails_in (bytes_of T) (end_of T) None (ahead T) ≡ false
+
+-- and this code is a `.` or a `_`
+pub record MarkReady (T : Tokenizer) : Type 0 where
+  pub here : CodeReady T
+  pub mark : at_domain_mark (current_of T) ≡ true
 
 -- in a trail, at no later byte of a character
 pub record LookReady (T : Tokenizer) : Type 0 where
@@ -372,7 +423,7 @@ module _ (bytes : List ℕ) (end : ℕ) where
   abbrev pub path_punctuation_plan : ℕ → ℕ → Plan
   path_punctuation_plan opened closed [] = None
   path_punctuation_plan opened closed (c ∷ cs) =
-      preceded (Consume ∷ []) (path_plan opened (if c.value == byte ")" then closed + 1 else closed) cs)
+      preceded (Consume ∷ []) (path_plan (count_if (byte "(") c opened) (count_if (byte ")") c closed) cs)
 
   -- after a domain
   abbrev pub domain_after_plan : TokenizeState → Plan
@@ -383,11 +434,6 @@ module _ (bytes : List ℕ) (end : ℕ) where
   domain_plan s cs =
       let d = domain_from bytes end cs in
       if is_well (fields_after d.0 s) then Some (consumes d.0 ++ consumes (path_from bytes end s.size s.size_b d.1).0) else None
-
-  -- at punctuation of a domain
-  abbrev pub domain_punctuation_plan : TokenizeState → Plan
-  domain_punctuation_plan s [] = None
-  domain_punctuation_plan s (c ∷ cs) = preceded (Consume ∷ []) (domain_plan (if c.value == byte "_" then underscored s else dotted s) cs)
 
   abbrev pub address : Reading (List Code)
   address = domain bytes end then_ path bytes end
@@ -428,9 +474,6 @@ slashes_ends T ok U = DoesAs 0 (slashes_plan (bytes_of T) (end_of T) T.tokenize_
 
 abbrev pub domain_ends : Tokenizer → Bool → Tokenizer → Type 0
 domain_ends T ok U = DoesAs 0 (domain_plan (bytes_of T) (end_of T) T.tokenize_state) (rested T.tokenize_state) T ok U
-
-abbrev pub domain_punctuation_ends : Tokenizer → Bool → Tokenizer → Type 0
-domain_punctuation_ends T ok U = DoesAs 0 (domain_punctuation_plan (bytes_of T) (end_of T) T.tokenize_state) (rested T.tokenize_state) T ok U
 
 abbrev pub domain_after_ends : Tokenizer → Bool → Tokenizer → Type 0
 domain_after_ends T ok U = DoesAs 0 (domain_after_plan (bytes_of T) (end_of T) T.tokenize_state) (rested T.tokenize_state) T ok U
@@ -510,13 +553,13 @@ abbrev pub domain_words : StateWords
 domain_words = record { ready = LiteralReady; step = domain_step; ends = domain_ends; rank = 5 }
 
 abbrev pub domain_punctuation_words : StateWords
-domain_punctuation_words = record { ready = CodeReady; step = domain_punctuation_step; ends = domain_punctuation_ends; rank = 1 }
+domain_punctuation_words = record { ready = MarkReady; step = domain_punctuation_step; ends = domain_ends; rank = 1 }
 
 abbrev pub domain_after_words : StateWords
 domain_after_words = record { ready = LiteralReady; step = domain_after_step; ends = domain_after_ends; rank = 4 }
 
 abbrev pub path_words : StateWords
-path_words = record { ready = LiteralReady; step = path_step; ends = path_ends; rank = 3 }
+path_words = record { ready = PathReady; step = path_step; ends = path_ends; rank = 3 }
 
 abbrev pub path_punctuation_words : StateWords
 path_punctuation_words = record { ready = CodeReady; step = path_punctuation_step; ends = path_punctuation_ends; rank = 1 }

@@ -4,17 +4,18 @@
 // Domains and paths look at characters of the document; both end with the content at the latest.
 #![tactic(auto, using(markdown_engine::proofs::OpRules::law_rules), unfolding(markdown_engine::specs::Ops::scratched))]
 
-ghost use Rattle.std.specs.Prelude.{◌≡◌, false, IfOk, OnErr, IsTrue};
+ghost use Rattle.std.specs.Prelude.{◌≡◌, ◌<◌, false, IfOk, OnErr, IsTrue};
 ghost use Rattle.markdown_engine.specs.Ops.{HasCode, IsOpen, current_of, scratched};
 ghost use Rattle.markdown_engine.specs.declared.event.Name.TheVariants.{GfmAutolinkLiteralProtocol, GfmAutolinkLiteralWww};
 ghost use Rattle.markdown_construct.specs.Values.{letter_value};
 ghost use Rattle.markdown_construct.specs.Characters.{at_later};
-ghost use Rattle.markdown_gfm.specs.GfmAutolinkLiteral.{kind_here, scheme_letter, trail_value, mark_value, rested, refused, protocol_start_step, protocol_after_step, prefix_step, slashes_step, precedes_www, www_letter, www_start_step, www_prefix_step, www_prefix_after_step, www_after_step, domain_step, domain_punctuation_step, domain_after_step, path_step, path_punctuation_step, path_after_step, trail_step, bracket_after_step, reference_start_step, reference_step, MayClass, TrailReady, MayCount};
+ghost use Rattle.markdown_partial.specs.SpaceSteps.{most};
+ghost use Rattle.markdown_gfm.specs.GfmAutolinkLiteral.{kind_here, scheme_letter, trail_value, mark_value, known_after, is_known, count_value, marked, domain_on, rested, refused, protocol_start_step, protocol_after_step, prefix_step, slashes_step, precedes_www, www_letter, www_start_step, www_prefix_step, www_prefix_after_step, www_after_step, domain_step, domain_punctuation_step, domain_after_step, passing, path_step, path_punctuation_step, path_after_step, trail_step, bracket_after_step, reference_start_step, reference_step, MayClass, TrailReady, MayCount};
 
 use markdown_construct::bytes::is_letter;
 use markdown_engine::event::Name;
 use markdown_engine::state::{State, StateName};
-use markdown_engine::tokenizer::Tokenizer;
+use markdown_engine::tokenizer::{TokenizeState, Tokenizer};
 use markdown_util::util::char::{Kind, kind_after_index};
 use std::alloc::AllocError;
 
@@ -303,7 +304,29 @@ pub fn domain_inside(tokenizer: &mut Tokenizer) -> Result<State, AllocError>
     }
 }
 
-/// In a domain, at a `.` or a `_` that belongs to it.
+// Keeps a `.` or a `_` of a domain in mind.
+fn mark(scratch: &mut TokenizeState, code: Option<u8>)
+    ensures { scratch.new ≡ marked code scratch.old }
+{
+    if code == Some(b'_') {
+        scratch.marker = b'_';
+    } else {
+        scratch.marker_b = scratch.marker;
+        scratch.marker = 0;
+    }
+}
+
+// How a domain goes on behind a `.` or a `_` of it.
+fn domain_on(tokenizer: &Tokenizer) -> StateName
+    ensures { result ≡ domain_on tokenizer.now }
+{
+    match tokenizer.current() {
+        Some(b'.' | b'_') => StateName::GfmAutolinkLiteralDomainAtPunctuation,
+        _ => StateName::GfmAutolinkLiteralDomainInside,
+    }
+}
+
+/// In a domain, at a `.` or a `_` that belongs to it. Where another one follows, that belongs to it too.
 ///
 /// The error comes where a growth is refused; then `failed` is true.
 pub fn domain_at_punctuation(tokenizer: &mut Tokenizer) -> Result<State, AllocError>
@@ -311,17 +334,10 @@ pub fn domain_at_punctuation(tokenizer: &mut Tokenizer) -> Result<State, AllocEr
     ensures ok { IfOk result (λ s. domain_punctuation_step tokenizer.old ≡ record { state = s; left = tokenizer.new }) }
     ensures err { OnErr result (IsTrue tokenizer.new.failed) }
 {
-    let marker = tokenizer.tokenize_state.marker;
-    if tokenizer.current() == Some(b'_') {
-        tokenizer.consume();
-        tokenizer.tokenize_state.marker = b'_';
-        Ok(State::Next(StateName::GfmAutolinkLiteralDomainInside))
-    } else {
-        tokenizer.consume();
-        tokenizer.tokenize_state.marker = 0;
-        tokenizer.tokenize_state.marker_b = marker;
-        Ok(State::Next(StateName::GfmAutolinkLiteralDomainInside))
-    }
+    let code = tokenizer.current();
+    tokenizer.consume();
+    mark(&mut tokenizer.tokenize_state, code);
+    Ok(State::Next(domain_on(tokenizer)))
 }
 
 /// After a domain: it holds a character of class other, and no `_` in its last two parts.
@@ -342,7 +358,51 @@ pub fn domain_after(tokenizer: &mut Tokenizer) -> Result<State, AllocError>
     }
 }
 
-/// In a path: `size` parentheses of it opened, and `size_b` closed.
+// What is known of trails behind a code, where so much was known before it: by `.` none begins there, by `&` none goes on there behind
+// a `&`, by `a` none goes on there behind a `&` and letters; by 0 nothing is known.
+fn known_after(known: u8, code: u8) -> u8
+    ensures { result ≡ known_after known code }
+{
+    match (known, code) {
+        (b'.', b'&') => b'&',
+        (b'.', _) if is_trail(code) || code == b']' => b'.',
+        (b'&' | b'a', _) if is_letter(code) => b'a',
+        (b'a', b';') => b'.',
+        _ => 0,
+    }
+}
+
+// Whether no trail begins with this code, by what is known.
+fn is_known(known: u8, code: u8) -> bool
+    ensures { result ≡ is_known known code }
+{
+    known == b'.' || (known == b'a' && code == b';')
+}
+
+// This count, or one more where the code is the one that is counted.
+fn counted(of: u8, code: u8, count: usize) -> usize
+    requires { count < most }
+    ensures { result ≡ count_value of code count }
+{
+    if code == of { count + 1 } else { count }
+}
+
+// Passes a code of a path, where so much is known of trails.
+fn pass(tokenizer: &mut Tokenizer, known: u8, code: u8) -> State
+    requires code { HasCode tokenizer.old }
+    requires count { MayCount tokenizer.old }
+    ensures { passing known code tokenizer.old ≡ record { state = result; left = tokenizer.new } }
+{
+    tokenizer.consume();
+    let scratch = &mut tokenizer.tokenize_state;
+    scratch.marker = known_after(known, code);
+    scratch.size = counted(b'(', code, scratch.size);
+    scratch.size_b = counted(b')', code, scratch.size_b);
+    State::Next(StateName::GfmAutolinkLiteralPathInside)
+}
+
+/// In a path: `size` parentheses of it opened, and `size_b` closed. `marker` says what is known of trails, so that a row of marks that
+/// does not trail is looked at once.
 ///
 /// The error comes where a growth is refused; then `failed` is true.
 pub fn path_inside(tokenizer: &mut Tokenizer) -> Result<State, AllocError>
@@ -354,33 +414,24 @@ pub fn path_inside(tokenizer: &mut Tokenizer) -> Result<State, AllocError>
     let Some(code) = tokenizer.current() else {
         return Ok(State::Retry(StateName::GfmAutolinkLiteralPathAfter));
     };
-    if matches!(code, 0x80..=0xBF) {
-        tokenizer.consume();
-        return Ok(State::Next(StateName::GfmAutolinkLiteralPathInside));
-    }
-    if class_here(tokenizer) == Kind::Whitespace {
+    if !matches!(code, 0x80..=0xBF) && class_here(tokenizer) == Kind::Whitespace {
         return Ok(State::Retry(StateName::GfmAutolinkLiteralPathAfter));
     }
-    let opened = tokenizer.tokenize_state.size;
-    if code == b'(' {
-        tokenizer.consume();
-        tokenizer.tokenize_state.size = opened + 1;
-        Ok(State::Next(StateName::GfmAutolinkLiteralPathInside))
-    } else if code == b')' && tokenizer.tokenize_state.size_b < opened {
-        Ok(State::Retry(StateName::GfmAutolinkLiteralPathAtPunctuation))
-    } else if is_mark(code) {
+    let scratch = &tokenizer.tokenize_state;
+    let known = scratch.marker;
+    let closes = code == b')' && scratch.size_b < scratch.size;
+    if is_mark(code) && !closes && !is_known(known, code) {
         tokenizer.check(
             State::Next(StateName::GfmAutolinkLiteralPathAfter),
             State::Next(StateName::GfmAutolinkLiteralPathAtPunctuation),
         )?;
         Ok(State::Retry(StateName::GfmAutolinkLiteralTrail))
     } else {
-        tokenizer.consume();
-        Ok(State::Next(StateName::GfmAutolinkLiteralPathInside))
+        Ok(pass(tokenizer, known, code))
     }
 }
 
-/// In a path, at punctuation that belongs to it.
+/// In a path, at punctuation that belongs to it, as no trail begins with it.
 ///
 /// The error comes where a growth is refused; then `failed` is true.
 pub fn path_at_punctuation(tokenizer: &mut Tokenizer) -> Result<State, AllocError>
@@ -389,15 +440,10 @@ pub fn path_at_punctuation(tokenizer: &mut Tokenizer) -> Result<State, AllocErro
     ensures ok { IfOk result (λ s. path_punctuation_step tokenizer.old ≡ record { state = s; left = tokenizer.new }) }
     ensures err { OnErr result (IsTrue tokenizer.new.failed) }
 {
-    let closed = tokenizer.tokenize_state.size_b;
-    if tokenizer.current() == Some(b')') {
-        tokenizer.consume();
-        tokenizer.tokenize_state.size_b = closed + 1;
-        Ok(State::Next(StateName::GfmAutolinkLiteralPathInside))
-    } else {
-        tokenizer.consume();
-        Ok(State::Next(StateName::GfmAutolinkLiteralPathInside))
-    }
+    Ok(match tokenizer.current() {
+        Some(code) => pass(tokenizer, b'.', code),
+        None => State::Retry(StateName::GfmAutolinkLiteralPathInside),
+    })
 }
 
 /// After a path.

@@ -1,6 +1,6 @@
 use Rattle.std.proofs.Common.{subst}
 use Rattle.markdown_engine.specs.declared.state.StateName.{StateName}
-use Rattle.markdown_gfm.specs.GfmAutolinkLiteral.{LiteralReady, CodeReady, LookReady}
+use Rattle.markdown_gfm.specs.GfmAutolinkLiteral.{LiteralReady, PathReady, CodeReady, LookReady}
 use Rattle.markdown_gfm.proofs.LiteralLooks.{may-class, may-count, trail-ready}
 use Rattle.markdown_run.specs.Layer.{ready_of}
 use Rattle.markdown_run.proofs.state.dispatch.Goals as goal
@@ -12,13 +12,13 @@ domain_inside-requires c =
 
 pub path_inside-requires-clause-class : goal.path_inside-requires-clause-class
 path_inside-requires-clause-class c =
-    let r : LiteralReady c.args.tokenizer.now = subst (λ (n : StateName). ready_of n c.args.tokenizer.now) c.in-GfmAutolinkLiteralPathInside.is c.requires in
-    may-class c.args.tokenizer.now r.text
+    let r : PathReady c.args.tokenizer.now = subst (λ (n : StateName). ready_of n c.args.tokenizer.now) c.in-GfmAutolinkLiteralPathInside.is c.requires in
+    may-class c.args.tokenizer.now r.literal.text
 
 pub path_inside-requires-clause-count : goal.path_inside-requires-clause-count
 path_inside-requires-clause-count c =
-    let r : LiteralReady c.args.tokenizer.now = subst (λ (n : StateName). ready_of n c.args.tokenizer.now) c.in-GfmAutolinkLiteralPathInside.is c.requires in
-    may-count c.args.tokenizer.now r
+    let r : PathReady c.args.tokenizer.now = subst (λ (n : StateName). ready_of n c.args.tokenizer.now) c.in-GfmAutolinkLiteralPathInside.is c.requires in
+    may-count c.args.tokenizer.now r.literal
 
 pub path_at_punctuation-requires-clause-count : goal.path_at_punctuation-requires-clause-count
 path_at_punctuation-requires-clause-count c =
