@@ -316,18 +316,32 @@ fn groups_runs(rt: HostRuntime) -> Result<(), Fail> {
     Ok(())
 }
 
-// A thousand runs that may only open, then a thousand of another marker that may only close.
+// Very many runs that may only open, and then runs that may only close, none of which fits: the texts, how often each stands, how many pairs there are,
+// and the most looks.
 #[test]
 fn finds_no_pair_in_many_runs(rt: HostRuntime) -> Result<(), Fail> {
-    let mut text = String::new(rt.alloc());
-    for _opener in 0..1000 {
-        text.push_str("*a ")?;
+    let cases = [
+        ("*a ", 10_000, "", 0, 0, 60_000),
+        ("*a ", 1_000, "b_ ", 1_000, 0, 7_000),
+        ("~a ", 1_000, "b~~ ", 1_000, 0, 7_000),
+    ];
+    for (opener, openers, closer, closers, pairs, bound) in cases {
+        let mut text = String::new(rt.alloc());
+        for _opener in 0..openers {
+            text.push_str(opener)?;
+        }
+        for _closer in 0..closers {
+            text.push_str(closer)?;
+        }
+        let (events, probes) = grouped_text(
+            &rt,
+            rt.alloc(),
+            text.as_bytes(),
+            &options(false),
+            false,
+        )?;
+        assert!(rt; !events.contains("Emphasis") && !events.contains("Strikethrough"));
+        assert!(rt; pairs <= probes && probes <= bound, "{opener}: {probes}");
     }
-    for _closer in 0..1000 {
-        text.push_str("b_ ")?;
-    }
-    let (events, probes) = grouped_text(&rt, rt.alloc(), text.as_bytes(), &options(false), false)?;
-    assert!(rt; !events.contains("Emphasis"));
-    assert!(rt; probes <= 7000, "{probes}");
     Ok(())
 }
