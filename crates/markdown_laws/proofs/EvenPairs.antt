@@ -16,7 +16,7 @@ use Rattle.markdown_model.specs.Pairs.{Pair, run_at, remaining, taken_by, is_str
 use Rattle.markdown_model.specs.Groups.{Token, item, opens, closes, nest, onto, after_loose, joined, loose, pair_names, pair_group, closing_sizes, opening_sizes, cut_front, run_tokens, assembled, tokens_of, paired}
 use Rattle.markdown_model.proofs.PairFacts.{pairs_are_sound}
 use Rattle.markdown_model.proofs.PairLaws.{some_pair_list}
-use Rattle.markdown_laws.specs.PairGroups.{is_pair, pair_groups, HasEvenSides, HasEvenPairs, PairsAreEven}
+use Rattle.markdown_laws.specs.PairGroups.{is_pair, pair_groups, HasEvenSides, HasEvenPairs}
 
 -- Rows.
 
@@ -395,6 +395,6 @@ module _ (s : Setting) where
       by_name true g e = omega (arith, g)
       by_name false g e = both_ways false refl e
 
-pub pairs_are_even : PairsAreEven
+pub even-paired : (s : Setting) (tree : Forest) → pair_groups tree ≡ 0 → HasEvenPairs (paired s (pair_list s) tree)
 unfolding paired
-pairs_are_even s tree h = whole-row s tree (law s tree) h
+even-paired s tree h = whole-row s tree (law s tree) h

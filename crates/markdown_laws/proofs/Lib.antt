@@ -8,3 +8,6 @@ pub mod EmailLeaves
 pub mod EmailLaws
 pub mod TrimmingLaws
 pub mod EvenPairs
+pub mod MadeReadings
+pub mod MadeLabels
+pub mod TextPairs

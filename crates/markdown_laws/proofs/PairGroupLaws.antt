@@ -10,16 +10,17 @@ use Rattle.markdown_model.specs.Setting.{Setting}
 use Rattle.markdown_model.specs.Runs.{Run, runs_of, run_of, marker_of, rows_inside, containers_of}
 use Rattle.markdown_model.specs.Pairs.{Pair, pair_list, ArePairsFrom}
 use Rattle.markdown_model.specs.Groups.{Token, item, opens, closes, nest, nested, onto, after_loose, joined, loose, pair_names, pair_group, closing_sizes, opening_sizes, cut_front, run_tokens, assembled, tokens_of, paired}
+use Rattle.markdown_model.specs.Inline.{pair_count}
 use Rattle.markdown_model.proofs.PairLaws.{some_pair_list}
-use Rattle.markdown_laws.specs.PairGroups.{is_pair, pair_groups, EachPairIsAGroup}
+use Rattle.markdown_laws.specs.PairGroups.{is_pair, pair_groups}
 
 -- Groups of rows.
 
-groups-leaf : (name : Name) (cs : List Code) → pair_groups (leaf name cs) ≡ 0
+pub groups-leaf : (name : Name) (cs : List Code) → pair_groups (leaf name cs) ≡ 0
 groups-leaf name [] = refl
 groups-leaf name (c ∷ cs) = refl
 
-groups-join : (a b : Forest) → pair_groups (a ⊕ b) ≡ pair_groups a + pair_groups b
+pub groups-join : (a b : Forest) → pair_groups (a ⊕ b) ≡ pair_groups a + pair_groups b
 groups-join empty b = omega arith
 groups-join (leaf_then name link cs rest) b = groups-join rest b
 groups-join (group_then name enter exit inside rest) b = omega (arith, groups-join rest b)
@@ -259,7 +260,8 @@ module _ (s : Setting) where
   law (group_then name enter exit inside rest) pairs n total h k =
       omega (arith, whole-row inside (law inside), law rest pairs n total h k, sum_by-append (λ runs. length (pair_list s runs)) (runs_of s inside ∷ rows_inside s inside) (rows_inside s rest), sum_by-cons (λ runs. length (pair_list s runs)) (runs_of s inside) (rows_inside s inside))
 
-pub each_pair_is_a_group : EachPairIsAGroup
+-- grouping the pairs of all containers makes one group for each
+pub groups-paired : (s : Setting) (tree : Forest) → pair_groups (paired s (pair_list s) tree) ≡ pair_groups tree + pair_count s tree
 unfolding paired containers_of
-each_pair_is_a_group s tree =
+groups-paired s tree =
     omega (arith, whole-row s tree (law s tree), sum_by-cons (λ runs. length (pair_list s runs)) (runs_of s tree) (rows_inside s tree))

@@ -4,3 +4,4 @@ pub mod PairGroups
 pub mod ProbeBounds
 pub mod Trimming
 pub mod Emails
+pub mod Filled

@@ -1,11 +1,12 @@
 -- Each pair of a container's list is a group of the tree.
-use Rattle.std.specs.Prelude.{◌≡◌, ℕ, ◌+◌, Bool, true, false, length, None, if◌then◌else◌}
+use Rattle.std.specs.Prelude.{◌≡◌, ℕ, ◌+◌, Bool, true, false, List, length, None, if◌then◌else◌}
 use Rattle.markdown_engine.specs.declared.event.Name.{Name}
+use Rattle.markdown_engine.specs.Codes.{Code}
 use Rattle.markdown_engine.specs.Tree.{Forest, empty, leaf_then, group_then}
 use Rattle.markdown_model.specs.Setting.{Setting}
 use Rattle.markdown_model.specs.Pairs.{pair_list}
-use Rattle.markdown_model.specs.Groups.{paired}
-use Rattle.markdown_model.specs.Inline.{pair_count}
+use Rattle.markdown_model.specs.Element.{elements_of}
+use Rattle.markdown_model.specs.Inline.{label_tree, raw_tree, text_tree, pair_count}
 
 -- emphasis, strong emphasis and strikethrough
 abbrev pub is_pair : Name → Bool
@@ -20,10 +21,10 @@ pair_groups empty = 0
 pair_groups (leaf_then name link cs rest) = pair_groups rest
 pair_groups (group_then name enter exit inside rest) = (if is_pair name then 1 else 0) + pair_groups inside + pair_groups rest
 
--- Grouping the pairs of all containers makes as many groups as there are pairs. So no marker that a pair takes is left
--- without its partner.
+-- The inline tree of a text has as many such groups as there are pairs in the lists of its containers. So no marker that a
+-- pair takes is left without its partner.
 abbrev pub EachPairIsAGroup : Type 0
-EachPairIsAGroup = (s : Setting) (tree : Forest) → pair_groups (paired s (pair_list s) tree) ≡ pair_groups tree + pair_count s tree
+EachPairIsAGroup = (s : Setting) (cs : List Code) → pair_groups (text_tree s cs) ≡ pair_count s (label_tree s cs)
 
 -- a group of a pair holds two sequences of one name and of equally many markers, with a text between them
 abbrev pub HasEvenSides : Forest → Type 0
@@ -37,6 +38,6 @@ HasEvenPairs empty = Unit {0}
 HasEvenPairs (leaf_then name link cs rest) = HasEvenPairs rest
 HasEvenPairs (group_then name enter exit inside rest) = (is_pair name ≡ true → HasEvenSides inside) × HasEvenPairs inside × HasEvenPairs rest
 
--- in a tree without such groups, grouping the pairs of all containers makes even ones
+-- grouping the pairs of a text makes such groups alone
 abbrev pub PairsAreEven : Type 0
-PairsAreEven = (s : Setting) (tree : Forest) → pair_groups tree ≡ 0 → HasEvenPairs (paired s (pair_list s) tree)
+PairsAreEven = (s : Setting) (cs : List Code) → HasEvenPairs (raw_tree s (pair_list s) (elements_of s cs))

@@ -17,7 +17,8 @@ pub fn escapes()
     ensures { Escapes }
 {}
 
-/// Grouping the pairs of all containers makes one group for each pair, so no marker that a pair takes is left alone.
+/// The inline tree of a text has as many groups of emphasis, strong emphasis and strikethrough as its containers have
+/// pairs, so no marker that a pair takes is left alone.
 pub fn each_pair_is_a_group()
     ensures { EachPairIsAGroup }
 {}

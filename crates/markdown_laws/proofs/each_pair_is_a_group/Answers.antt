@@ -1,4 +1,4 @@
-use Rattle.markdown_laws.proofs.PairGroupLaws.{each_pair_is_a_group}
+use Rattle.markdown_laws.proofs.TextPairs.{each_pair_is_a_group}
 use Rattle.markdown_laws.proofs.each_pair_is_a_group.Goals as goal
 
 pub returns : goal.returns

@@ -1,4 +1,4 @@
-use Rattle.markdown_laws.proofs.EvenPairs.{pairs_are_even}
+use Rattle.markdown_laws.proofs.TextPairs.{pairs_are_even}
 use Rattle.markdown_laws.proofs.pairs_are_even.Goals as goal
 
 pub returns : goal.returns
