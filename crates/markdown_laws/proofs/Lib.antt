@@ -11,3 +11,4 @@ pub mod EvenPairs
 pub mod MadeReadings
 pub mod MadeLabels
 pub mod TextPairs
+pub mod FilledLaws

@@ -221,14 +221,14 @@ module _ (whole : Bool) (f : Forest) (k : IsTight false whole f) where
           (after x.2 (λ _. refl) (never false refl) (last-part (ends_before whole f) x.0 (leaf_codes x.1) x.2 all h last))
 
 -- a row begins with a leaf that is no line ending
-abbrev BeginsLeaf : Forest → Type 0
+abbrev pub BeginsLeaf : Forest → Type 0
 BeginsLeaf f = (begins_line_ending f ≡ false) × (is_nothing f ≡ false)
 
 data-begins : (cs : List Code) (f : Forest) → is_empty cs ≡ false → BeginsLeaf (leaf Name.Data cs ⊕ f)
 data-begins [] f h = cc
 data-begins (c ∷ cs) f h = (refl, refl)
 
-emails-begin : (n : ℕ) (before cs : List Code) (f : Forest) → is_empty (reverse before ++ cs) ≡ false → BeginsLeaf (email_leaves n before cs ⊕ f)
+pub emails-begin : (n : ℕ) (before cs : List Code) (f : Forest) → is_empty (reverse before ++ cs) ≡ false → BeginsLeaf (email_leaves n before cs ⊕ f)
 unfolding email_leaves
 emails-begin n before [] f h = data-begins (reverse before) f (ap is_empty (sym (append-nil (reverse before))) ∙ h)
 emails-begin zero before (c ∷ cs) f h = data-begins (reverse before ++ c ∷ cs) f h

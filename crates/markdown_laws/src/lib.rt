@@ -10,6 +10,7 @@ ghost use Rattle.markdown_laws.specs.PairGroups.{EachPairIsAGroup, PairsAreEven}
 ghost use Rattle.markdown_laws.specs.ProbeBounds.{ProbesAreFew};
 ghost use Rattle.markdown_laws.specs.Emails.{EmailsStandInData};
 ghost use Rattle.markdown_laws.specs.Trimming.{DataIsTight};
+ghost use Rattle.markdown_laws.specs.Filled.{TreesAreFilled};
 
 /// A one-line text with a backslash before each ASCII punctuation character, read as a string with escapes on, is given
 /// back by what is lent for its data and for what its escapes stand for.
@@ -42,4 +43,9 @@ pub fn data_is_tight()
 /// The two sequences of a pair's group have equally many markers, so each marker closes the pair that it belongs to.
 pub fn pairs_are_even()
     ensures { PairsAreEven }
+{}
+
+/// Each leaf of an inline tree has a code, and a group around nothing is the text of a label or of a pair.
+pub fn trees_are_filled()
+    ensures { TreesAreFilled }
 {}
