@@ -4,7 +4,7 @@ ghost use Rattle.std.specs.Prelude.{◌≡◌, ◌<◌, ◌≤◌, [], length, d
 ghost use Rattle.markdown_engine.specs.Content.{IsTextContent, document_limit};
 ghost use Rattle.markdown_engine.specs.Resolves.{MayResolve, unregistered};
 ghost use Rattle.markdown_engine.specs.Walk.{IsPoint};
-ghost use Rattle.markdown_inline.specs.Resolve.{MayPair, may_resolve_of, resolves_of};
+ghost use Rattle.markdown_text.specs.Resolve.{MayPair, may_resolve_of, resolves_of};
 ghost use Rattle.markdown_partial.specs.Trim.{IsStretch};
 ghost use Rattle.markdown_partial.specs.TrimEvents.{FirstHasPlaces, HasPlaces};
 

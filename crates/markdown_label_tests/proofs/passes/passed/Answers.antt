@@ -1,6 +1,6 @@
 use Rattle.std.proofs.Common.{false}
-use Rattle.markdown_inline.proofs.RunEnds.{begun-starts}
-use Rattle.markdown_inline.proofs.TextRun.{started, text-ready, text-may}
+use Rattle.markdown_run.proofs.RunEnds.{begun-starts}
+use Rattle.markdown_run.proofs.TextRun.{started, text-ready, text-may}
 use Rattle.markdown_label_tests.proofs.passes.passed.Goals as goal
 
 pub run_state-requires-clause-ready : goal.run_state-requires-clause-ready
