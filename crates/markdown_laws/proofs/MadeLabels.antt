@@ -213,9 +213,6 @@ made-end : (back : List Code) → IsSome back → IsMade (group Name.LabelEnd (l
 made-end [] h = cc
 made-end (c ∷ cs) h = refl
 
-label-some : (name : Name) (f g : Forest) → is_nothing (group name f ⊕ g) ≡ false
-label-some name f g = refl
-
 start-some : (kind : LabelKind) (cs : List Code) (g : Forest) → is_nothing (start_tree kind cs ⊕ g) ≡ false
 start-some LabelKind.Image cs g = refl
 start-some LabelKind.GfmFootnote cs g = refl
