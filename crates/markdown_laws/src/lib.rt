@@ -40,7 +40,7 @@ pub fn data_is_tight()
     ensures { DataIsTight }
 {}
 
-/// The two sequences of a pair's group have equally many markers, so each marker closes the pair that it belongs to.
+/// The group of each pair is two sequences of one name and of equally many markers, with a text between them.
 pub fn pairs_are_even()
     ensures { PairsAreEven }
 {}
