@@ -8,6 +8,8 @@ mod constructs;
 #[cfg(test)]
 mod fixtures;
 #[cfg(test)]
+mod leaves;
+#[cfg(test)]
 mod literals;
 #[cfg(test)]
 mod parts;

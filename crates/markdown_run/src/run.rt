@@ -1,10 +1,12 @@
 //! Runs over a content.
-ghost use Rattle.std.specs.Prelude.{◌≡◌, ◌-◌, true, false, [], take, drop, length, IfOk, IsErr, OnErr, IsTrue};
+ghost use Rattle.std.specs.Prelude.{◌≡◌, ◌-◌, true, false, [], take, drop, map, length, IfOk, IsErr, OnErr, IsTrue};
+ghost use Rattle.std.specs.List.{All};
 ghost use Rattle.markdown_run.specs.Construct.{IsConstruct, ConstructEnds};
 ghost use Rattle.markdown_engine.specs.Chain.{chained};
 ghost use Rattle.markdown_engine.specs.Content.{IsContent, IsTextContent, content_of};
 ghost use Rattle.markdown_text.specs.Settings.{setting_of, text_setting_of};
 ghost use Rattle.markdown_emphasis.specs.Pass.{IsProbed};
+ghost use Rattle.markdown_leaves.specs.Leaves.{IsInOrder, covered, innermost, lent};
 ghost use Rattle.markdown_model.specs.Inline.{label_tree, string_events, text_events};
 
 use crate::state::Inline;
@@ -42,10 +44,14 @@ fn found(tokenizer: Tokenizer) -> Run
 
 /// The events of the inline tree of a content that is read as a string: of its escapes, character references and data.
 ///
+/// What `leaves` lends for them from the document's bytes covers the content's codes one after another, each once.
+///
 /// The error comes only where memory is refused.
 pub fn string(alloc: Global, parse_state: &ParseState, pieces: &[Piece]) -> Result<Run, AllocError>
     requires { IsContent parse_state.now.bytes.now pieces.now }
     ensures events { IfOk result (λ run. run.events.items ≡ string_events (setting_of parse_state.now) pieces.now) }
+    ensures places { IfOk result (λ run. All (IsInOrder parse_state.now.bytes.now) (innermost run.events.items)) }
+    ensures leaves { let bytes = parse_state.now.bytes.now in IfOk result (λ run. covered bytes (map (lent bytes) (innermost run.events.items)) ≡ content_of bytes pieces.now) }
     ensures probes { IfOk result (λ run. run.probes ≡ 0) }
 {
     let mut tokenizer = Tokenizer::new(alloc, parse_state, pieces);
@@ -56,6 +62,8 @@ pub fn string(alloc: Global, parse_state: &ParseState, pieces: &[Piece]) -> Resu
 
 /// The events of the inline tree of a content that is read as text: of the inside of a paragraph, a heading or a table's cell. `first_of_item`
 /// says that it is the first paragraph of a list item, where the check of a task may stand.
+///
+/// What `leaves` lends for them from the document's bytes covers the content's codes one after another, each once.
 ///
 /// The number of looks that pairing took at earlier runs of markers (CommonMark 6.2) is at least the number of pairs, and at most each of two
 /// bounds by the runs and pairs of the content; it is 0 where no run stands.
@@ -69,6 +77,8 @@ pub fn text(
 ) -> Result<Run, AllocError>
     requires { IsTextContent parse_state.now.bytes.now pieces.now }
     ensures events { IfOk result (λ run. run.events.items ≡ text_events (text_setting_of parse_state.now first_of_item) pieces.now) }
+    ensures places { IfOk result (λ run. All (IsInOrder parse_state.now.bytes.now) (innermost run.events.items)) }
+    ensures leaves { let bytes = parse_state.now.bytes.now in IfOk result (λ run. covered bytes (map (lent bytes) (innermost run.events.items)) ≡ content_of bytes pieces.now) }
     ensures probes { let s = text_setting_of parse_state.now first_of_item in IfOk result (λ run. IsProbed s (label_tree s (content_of s.bytes pieces.now)) run.probes) }
     ensures no_probes { let on = parse_state.now.options.now.constructs in on.attention ≡ false → on.gfm_strikethrough ≡ false → IfOk result (λ run. run.probes ≡ 0) }
 {

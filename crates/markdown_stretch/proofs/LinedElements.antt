@@ -1,0 +1,260 @@
+-- The elements of a content are on lines.
+use Rattle.std.proofs.Common.{◌≡◌, ℕ, ◌==◌, ◌||◌, not, Bool, true, false, List, [], ◌∷◌, ◌++◌, Option, Some, None, refl, sym, ap, subst, ◌∙◌}
+use Rattle.std.specs.List.{list_any}
+use Rattle.markdown_engine.specs.Codes.{Code, is_line_ending}
+use Rattle.markdown_engine.specs.Tree.{Forest, leaf}
+use Rattle.markdown_engine.specs.declared.event.Name.TheVariants as N
+use Rattle.markdown_engine.specs.declared.tokenizer.LabelKind.{LabelKind}
+use Rattle.markdown_model.specs.CodeTests.{is_value}
+use Rattle.markdown_model.specs.Element.{as_plain, switched, line_ending, data_code, attention_run, image_start, footnote_start, link_start, code_span, math_span, Tries, tries, tried, first_check, text_element, string_element, text_choice, string_choice, Choice, AreElementsFrom, AreElements, AreStringElements, code_before}
+use Rattle.markdown_model.specs.Grammar.{Reading, ◌>>=◌, ◌>>◌, gives, provided, either, one, word}
+use Rattle.markdown_model.specs.LabelEnd.{Element, plain, starts, ends, Label, label_before, is_barred, footnote_call, link_or_image, outcome_of, label_end}
+use Rattle.markdown_model.specs.Leaf.{code_names, math_names}
+use Rattle.markdown_model.specs.Setting.{Setting}
+use Rattle.markdown_model.proofs.ElementCodes.{covers_text_element, covers_string_element}
+use Rattle.markdown_model.proofs.LabelCodes.{element_codes, unused}
+use Rattle.markdown_model.proofs.LinkFree.{Passes, Yields, yields_bind, yields_gives, yields_passed, yields_either, yields_before}
+use Rattle.markdown_model.proofs.Readings.{At, Covers}
+use Rattle.markdown_stretch.specs.Lined.{IsSomeLine, IsLined, AtStart, IsLinedElement, AreLined}
+use Rattle.markdown_stretch.proofs.LinedLiterals.{TreeThere, protocol-tree, www-tree}
+use Rattle.markdown_stretch.proofs.LinedNodes.{Tree, Trees, one-leaf, line-leaf, escape-tree, break-tree, reference-tree, autolink-tree, span-here-tree, html-tree, check-tree, after-tree}
+use Rattle.markdown_stretch.proofs.LineReadings.{IsOne, one-one, one-line, some-line, word-some}
+use Rattle.markdown_stretch.proofs.SpacedCodes.{AreSpaced, spaced-both}
+
+module _ (s : Setting) where
+  -- on lines, where whitespace stands at each line ending
+  abbrev IsThere : Element → Type 0
+  IsThere (plain t) = TreeThere s.bytes 0 t
+  IsThere (starts kind marker) = IsSomeLine marker
+  IsThere (ends marker None) = IsSomeLine marker
+  IsThere (ends marker (Some outcome)) = IsSomeLine marker × IsLined AtStart outcome.1
+
+  abbrev There : Reading Element → Type 0
+  There a = Yields IsThere a
+
+  -- Single elements.
+
+  there-plain : (a : Reading Forest) → Trees a → There (as_plain a)
+  unfolding as_plain
+  there-plain a h = yields_bind Tree _ _ _ h λ tree k. yields_gives _ (plain tree) (λ _. k)
+
+  there-literal : (end : ℕ) (a : Reading Forest) → Yields (TreeThere s.bytes end) a → There (as_plain a)
+  unfolding as_plain
+  there-literal end a h = yields_bind (TreeThere s.bytes end) _ _ _ h λ tree k. yields_gives _ (plain tree) k
+
+  there-switched : (on : Bool) (a : Reading Element) → There a → There (switched on a)
+  unfolding switched
+  there-switched on a h = yields_passed _ _ _ h
+
+  there-ending : There line_ending
+  unfolding line_ending
+  there-ending = yields_bind IsOne _ _ _ (one-one _) λ c h. yields_gives _ (plain (leaf N.LineEnding c)) (λ _. one-leaf N.LineEnding c refl h)
+
+  there-run : (m : ℕ) → (10 == m) ≡ false → There (attention_run m)
+  unfolding attention_run
+  there-run m e = yields_bind IsSomeLine _ _ _ (some-line (is_value m) (λ c. e)) λ markers h. yields_gives _ (plain (leaf N.AttentionSequence markers)) (λ _. line-leaf N.AttentionSequence markers h.1)
+
+  there-image : (footnotes : Bool) → There (image_start footnotes)
+  unfolding image_start word
+  there-image footnotes = yields_bind IsSomeLine _ _ _ (yields_before _ _ _ (word-some 33 (91 ∷ []) refl)) λ marker h. yields_gives _ (starts LabelKind.Image marker) h
+
+  there-footnote : There footnote_start
+  unfolding footnote_start word
+  there-footnote = yields_bind IsSomeLine _ _ _ (word-some 91 (94 ∷ []) refl) λ marker h. yields_gives _ (starts LabelKind.GfmFootnote marker) h
+
+  there-link : There link_start
+  unfolding link_start
+  there-link = yields_bind IsSomeLine _ _ _ (one-line _ λ c. refl) λ marker h. yields_gives _ (starts LabelKind.Link marker) h
+
+  abbrev LinedOutcome : LabelKind × Forest → Type 0
+  LinedOutcome outcome = IsLined AtStart outcome.1
+
+  lined-outcome : (l : Option Label) (back : List Code) → Yields LinedOutcome (outcome_of s l back)
+  unfolding outcome_of footnote_call link_or_image
+  lined-outcome None back = record { at = λ cs. tt }
+  lined-outcome (Some l) back = record { at = λ cs. whole.at cs }
+    where
+      whole : Yields LinedOutcome (provided (not (is_barred l)) >> either (footnote_call s l back) (link_or_image s l back))
+      whole = yields_passed _ _ _ (yields_either _ _ _
+          (yields_passed _ _ _ (yields_gives _ _ tt))
+          (yields_bind Tree _ _ _ (after-tree s _) λ tail k. yields_gives _ _ k))
+
+  there-end : (earlier : List Element) → There (label_end s earlier)
+  unfolding label_end
+  there-end earlier =
+      yields_bind IsSomeLine _ _ _ (one-line _ λ c. refl) λ back b. yields_either _ _ _
+      (yields_bind LinedOutcome _ _ _ (lined-outcome (label_before earlier) back) λ outcome k. yields_gives _ (ends back (Some outcome)) (b, k))
+      (yields_gives _ (ends back None) b)
+
+  there-code : (earlier : List Element) (previous : Option Code) → There (code_span earlier previous)
+  unfolding code_span
+  there-code earlier previous = there-plain _ (span-here-tree 96 code_names _ _ _ (λ c. refl))
+
+  there-math : (single : Bool) (earlier : List Element) (previous : Option Code) → There (math_span single earlier previous)
+  unfolding math_span
+  there-math single earlier previous = there-plain _ (span-here-tree 36 math_names _ _ _ (λ c. refl))
+
+  -- At some codes, and at a code.
+
+  pass-either : (cs : List Code) (a b : Reading Element) → Passes IsThere (a cs) → Passes IsThere (b cs) → Passes IsThere (either a b cs)
+  unfolding either
+  pass-either cs a b h k = by_answer (a cs) h
+    where
+      by_answer : (r : Option (Element × List Code)) → Passes IsThere r → Passes IsThere (elim r [ None ↦ b cs | Some x ↦ Some x ])
+      by_answer None x = k
+      by_answer (Some r) x = x
+
+  no-data : Passes IsThere (data_code [])
+  unfolding data_code one ◌>>=◌
+  no-data = tt
+
+  module _ (c : Code) (cs : List Code) where
+    abbrev Here : Reading Element → Type 0
+    Here a = Passes IsThere (a (c ∷ cs))
+
+    here-either : (a b : Reading Element) → Here a → Here b → Here (either a b)
+    here-either a b h k = pass-either (c ∷ cs) a b h k
+
+    -- the first, where it holds
+    here-first : (a b : Reading Element) (e : Element) (rest : List Code) → a (c ∷ cs) ≡ Some (e, rest) → IsThere e → Here (either a b)
+    unfolding either
+    here-first a b e rest k h = subst (λ r. Passes IsThere (elim r as (λ _. Option (Element × List Code)) [ None ↦ b (c ∷ cs) | Some x ↦ Some x ])) (sym k) h
+
+    here-data : is_line_ending c ≡ false → Here data_code
+    unfolding data_code one ◌>>=◌ gives
+    here-data h = λ _. line-leaf N.Data (c ∷ []) (ap (λ b. b || false) h)
+
+    ending-read : is_line_ending c ≡ true → line_ending (c ∷ cs) ≡ Some (plain (leaf N.LineEnding (c ∷ [])), cs)
+    unfolding line_ending one ◌>>=◌ gives
+    ending-read h = ap (λ b. elim (elim b as (λ _. Option (List Code × List Code)) [ true ↦ Some (c ∷ [], cs) | false ↦ None ]) as (λ _. Option (Element × List Code)) [ None ↦ None | Some r ↦ Some (plain (leaf N.LineEnding r.0), r.1) ]) h
+
+    ending-there : IsThere (plain (leaf N.LineEnding (c ∷ [])))
+    ending-there = λ _. one-leaf N.LineEnding (c ∷ []) refl tt
+
+    abbrev EachHere : Tries → Type 0
+    EachHere [] = Unit {0}
+    EachHere (row ∷ rows) = Here row.1 × EachHere rows
+
+    here-tried : (rows : Tries) (v : ℕ) → EachHere rows → Here data_code → Here (tried rows v)
+    unfolding tried
+    here-tried [] v h k = k
+    here-tried (row ∷ rows) v h k = by_test (list_any (λ n. v == n) row.0) (here-tried rows v h.1 k)
+      where
+        by_test : (b : Bool) → Here (tried rows v) → Passes IsThere ((elim b as (λ _. Reading Element) [ true ↦ row.1 | false ↦ tried rows v ]) (c ∷ cs))
+        by_test true x = h.0
+        by_test false x = x
+
+    first-tried : (row : List ℕ × Reading Element) (rows : Tries) (v : ℕ) → list_any (λ n. v == n) row.0 ≡ true → tried (row ∷ rows) v (c ∷ cs) ≡ row.1 (c ∷ cs)
+    unfolding tried
+    first-tried row rows v h = ap (λ b. (elim b as (λ _. Reading Element) [ true ↦ row.1 | false ↦ tried rows v ]) (c ∷ cs)) h
+
+    module _ (end : ℕ) (earlier : List Element) (previous : Option Code) where
+      each-here : EachHere (tries s end earlier previous)
+      unfolding tries
+      each-here = (
+        there-ending.at (c ∷ cs),
+        (
+          (there-switched _ _ (there-image _)).at (c ∷ cs),
+          (
+            (there-switched _ _ (there-math _ _ _)).at (c ∷ cs),
+            (
+              (there-switched _ _ (there-code _ _)).at (c ∷ cs),
+              (
+                (there-switched _ _ (there-plain _ (reference-tree _))).at (c ∷ cs),
+                (
+                  (there-switched _ _ (there-run 42 refl)).at (c ∷ cs),
+                  (
+                    (there-switched _ _ (there-run 95 refl)).at (c ∷ cs),
+                    (
+                      (there-switched _ _ (there-run 126 refl)).at (c ∷ cs),
+                      (
+                        here-either _ _ ((there-switched _ _ (there-plain _ autolink-tree)).at (c ∷ cs)) ((there-switched _ _ (there-plain _ html-tree)).at (c ∷ cs)),
+                        (
+                          (there-switched _ _ (there-literal end _ (protocol-tree s.bytes end previous))).at (c ∷ cs),
+                          (
+                            (there-switched _ _ (there-literal end _ (www-tree s.bytes end previous))).at (c ∷ cs),
+                            (
+                              here-either _ _ ((there-switched _ _ there-footnote).at (c ∷ cs)) ((there-switched _ _ there-link).at (c ∷ cs)),
+                              (
+                                here-either _ _ ((there-switched _ _ (there-plain _ escape-tree)).at (c ∷ cs)) ((there-switched _ _ (there-plain _ break-tree)).at (c ∷ cs)),
+                                (
+                                  (there-switched _ _ (there-end earlier)).at (c ∷ cs),
+                                  tt,
+                                ),
+                              ),
+                            ),
+                          ),
+                        ),
+                      ),
+                    ),
+                  ),
+                ),
+              ),
+            ),
+          ),
+        ),
+      )
+
+      tried-ending : is_line_ending c ≡ true → tried (tries s end earlier previous) c.value (c ∷ cs) ≡ line_ending (c ∷ cs)
+      unfolding tries
+      tried-ending h = first-tried _ _ c.value (ap (λ b. b || false) h)
+
+      here-check : Here (first_check s end earlier previous)
+      unfolding first_check
+      here-check = (there-switched _ _ (there-plain _ check-tree)).at (c ∷ cs)
+
+      here-row : (b : Bool) → is_line_ending c ≡ b → Here (either (tried (tries s end earlier previous) c.value) data_code)
+      here-row true h = here-first (tried (tries s end earlier previous) c.value) data_code (plain (leaf N.LineEnding (c ∷ []))) cs (tried-ending h ∙ ending-read h) ending-there
+      here-row false h = here-either (tried (tries s end earlier previous) c.value) data_code (here-tried (tries s end earlier previous) c.value each-here (here-data h)) (here-data h)
+
+      here-text : Here (text_element s end earlier previous)
+      unfolding text_element
+      here-text = here-either (first_check s end earlier previous) (either (tried (tries s end earlier previous) c.value) data_code) here-check (here-row (is_line_ending c) refl)
+
+    here-plain : (b : Bool) → is_line_ending c ≡ b → Here (either line_ending data_code)
+    here-plain true h = here-first line_ending data_code (plain (leaf N.LineEnding (c ∷ []))) cs (ending-read h) ending-there
+    here-plain false h = here-either line_ending data_code (there-ending.at (c ∷ cs)) (here-data h)
+
+    here-string : Here (string_element s)
+    unfolding string_element
+    here-string =
+        here-either _ _ ((there-switched _ _ (there-plain _ escape-tree)).at (c ∷ cs)) (here-either _ _ ((there-switched _ _ (there-plain _ (reference-tree _))).at (c ∷ cs)) (here-plain (is_line_ending c) refl))
+
+  -- Lists of elements.
+
+  lined-there : (d : ℕ) (e : Element) → AreSpaced s.bytes (element_codes d e) → IsThere e → IsLinedElement e
+  lined-there d (plain t) k h = h k
+  lined-there d (starts kind marker) k h = h
+  lined-there d (ends marker None) k h = h
+  lined-there d (ends marker (Some outcome)) k h = h
+
+  -- where each choice covers its codes, and is on lines at any code
+  lined-elements : (choice : Choice) → ((earlier : List Element) (previous : Option Code) → Covers (element_codes (unused earlier)) [] (choice earlier previous))
+      → ((earlier : List Element) (previous : Option Code) (cs : List Code) → Passes IsThere (choice earlier previous cs))
+      → (es earlier : List Element) (previous : Option Code) (cs : List Code) → AreSpaced s.bytes cs → AreElementsFrom choice earlier previous cs es → AreLined es
+  lined-elements choice covers there [] earlier previous cs k h = tt
+  lined-elements choice covers there (e ∷ es) earlier previous cs k h =
+      let d : ℕ = unused earlier in
+      let whole : element_codes d e ++ h.0 ≡ cs = subst (λ z. At (element_codes d) [] cs z) h.1 ((covers earlier previous).at cs) in
+      let both = spaced-both s.bytes (element_codes d e) h.0 (subst (λ (x : List Code). AreSpaced s.bytes x) (sym whole) k) in
+      (lined-there d e both.0 (subst (λ z. Passes IsThere z) h.1 (there earlier previous cs)), lined-elements choice covers there es (e ∷ earlier) (code_before cs h.0) h.0 both.1 h.2)
+
+  text-there : (end : ℕ) (earlier : List Element) (previous : Option Code) (cs : List Code) → Passes IsThere (text_element s end earlier previous cs)
+  unfolding text_element
+  text-there end earlier previous [] = tt
+  text-there end earlier previous (c ∷ cs) = here-text c cs end earlier previous
+
+  string-none : Passes IsThere (string_element s [])
+  unfolding string_element
+  string-none =
+      pass-either [] _ _ ((there-switched _ _ (there-plain _ escape-tree)).at []) (pass-either [] _ _ ((there-switched _ _ (there-plain _ (reference-tree _))).at []) (pass-either [] line_ending data_code (there-ending.at []) no-data))
+
+  string-there : (earlier : List Element) (previous : Option Code) (cs : List Code) → Passes IsThere (string_choice s earlier previous cs)
+  string-there earlier previous [] = string-none
+  string-there earlier previous (c ∷ cs) = here-string c cs
+
+  pub text-lined : (cs : List Code) (es : List Element) → AreSpaced s.bytes cs → AreElements s cs es → AreLined es
+  text-lined cs es k h = lined-elements (text_choice s cs) (λ earlier previous. covers_text_element s _ earlier previous) (λ earlier previous ds. text-there _ earlier previous ds) es [] None cs k h
+
+  pub string-lined : (cs : List Code) (es : List Element) → AreSpaced s.bytes cs → AreStringElements s cs es → AreLined es
+  string-lined cs es k h = lined-elements (string_choice s) (λ earlier previous. covers_string_element s (unused earlier)) string-there es [] None cs k h
