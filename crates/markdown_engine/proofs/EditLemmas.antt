@@ -539,17 +539,5 @@ module _ (log : List Edit) (es : List Event) (i : ℕ) (done put : List Event) (
 pub placed-put : (log : List Edit) (i : ℕ) (done put : List Event) → length done ≡ start log i → put ≡ done ++ added_at i log → length put ≡ moved_number log i
 placed-put log i done put s g = omega (arith, ap length g, length-append done (added_at i log), moved-start log i)
 
-pub placed-kept : (log : List Edit) (i : ℕ) (put : List Event) (x : Event) → length put ≡ moved_number log i → is_removed log i ≡ false → length (put ++ x ∷ []) ≡ start log (i + 1)
-placed-kept log i put x h s =
-    let e : suc i ≡ i + 1 = omega arith in
-    let size : length (put ++ x ∷ []) ≡ suc (moved_number log i) = omega (arith, length_push put x) in
-    size ∙ sym (start-kept log i s) ∙ ap (start log) e
-
-start-gone : (log : List Edit) (i : ℕ) → is_removed log i ≡ true → start log (suc i) ≡ moved_number log i
-start-gone log i h = let m = moved-start log i in rw h (omega arith)
-
-pub placed-gone : (log : List Edit) (i : ℕ) (put : List Event) → length put ≡ moved_number log i → is_removed log i ≡ true → length put ≡ start log (i + 1)
-placed-gone log i put h s = let e : suc i ≡ i + 1 = omega arith in h ∙ sym (start-gone log i s) ∙ ap (start log) e
-
 pub unlinked-seen : (a log : List Edit) → a ≡ log → AddsUnlinked a → AddsUnlinked log
 unlinked-seen a log h u = let P : List Edit → Type 0 = λ x. AddsUnlinked x in subst P h u

@@ -154,10 +154,6 @@ rest-trans n m log a b l r s = record {
   removed = λ i h. s.removed i h ∙ r.removed i (omega arith);
 }
 
--- what is left is itself in the order of its places
-pub rest-self : (n : ℕ) (log a : List Edit) → IsRest n log a → IsRest n a a
-rest-self n log a r = record { ahead = r.ahead; rises = r.rises; plain = r.plain; added = λ i h. refl; removed = λ i h. refl }
-
 -- Edits that are lent, read one by one.
 
 lent-read : (es : List (Bor Edit)) (k : ℕ) (r : Bor Edit) → k < length es → r ≡ get_or es k r → (e : Edit) → get_or (lent es) k e ≡ r.now
@@ -297,9 +293,6 @@ pub next-rest : (es : List (Bor Edit)) (p t : ℕ) (r : Bor Edit) → p < length
 next-rest es p t r l h le up = λ k d m.
     let more = up 0 k d (omega arith) m in
     omega (arith, ap (λ (e : Edit). e.at) (first-left es p r l h d))
-
-pub next-none : (es : List (Bor Edit)) (p t : ℕ) → length es ≤ p → All (λ e. t ≤ e.at) (drop p (lent es))
-next-none es p t h = λ k d m. let size = left-size es p in absurd (omega arith)
 
 -- the edits left lie from a later place on
 pub rest-later : (n m : ℕ) (log a : List Edit) → n ≤ m → IsRest n log a → All (λ e. m ≤ e.at) a → IsRest m log a

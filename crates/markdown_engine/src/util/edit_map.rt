@@ -120,7 +120,7 @@ struct Passed {
     removed_to: usize,
 }
 
-// Adds the events that come at a place, and passes its edits.
+// Adds the events that come at a place, and passes its edits. The answer is how far the walk has then come.
 fn pass_place(
     done: &mut Events,
     edits: &[&Edit],
@@ -223,8 +223,8 @@ fn next_place(edits: &[&Edit], passed: usize, count: usize) -> usize
     }
 }
 
-// Adds the events from a place on that stay as they are, up to the next edit or the next event that carries a link;
-// the place behind them.
+// Adds the events from a place on that stay as they are, up to the next edit or the next event that carries a link. The
+// answer is the place behind them.
 fn pass_plain(
     done: &mut Events,
     events: &Events,
@@ -373,7 +373,8 @@ impl EditMap {
     /// At each place first the events come that the edits put there, and then follows the event that
     /// stood there, unless it goes; an event in the ranges of several edits goes once. The links follow
     /// the events that they name. `Err` only if memory is refused; events and edits are then as they
-    /// were. The work is that of the events before and after and of the edits.
+    /// were. The work is that of the events before and after, of sorting the edits by place where they are
+    /// not in that order, and, for an event on a chain, of the linked events since the one before it.
     pub fn consume(&mut self, events: &mut Events) -> Result<(), AllocError>
         requires { CanEdit self.old events.old }
         ensures ok { OnOk result (events.new ≡ edited self.old events.old) }
