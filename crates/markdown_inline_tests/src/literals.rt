@@ -68,6 +68,10 @@ const LITERALS: &[(&str, &str)] = &[
     ("-www.a.b", "Data 0-8"),
     ("http:/a", "Data 0-7"),
     ("hh ww h", "Data 0-7"),
+    ("www.a..-b..", "GfmAutolinkLiteralWww 0-9, Data 9-11"),
+    ("www.a/..b..", "GfmAutolinkLiteralWww 0-9, Data 9-11"),
+    ("www.a/.&a;b.", "GfmAutolinkLiteralWww 0-11, Data 11-12"),
+    ("www.a/(.)b).", "GfmAutolinkLiteralWww 0-10, Data 10-12"),
 ];
 
 #[test]
@@ -122,6 +126,32 @@ fn looks_behind_the_content(rt: HostRuntime) -> Result<(), Fail> {
     for (document, end, want) in ENDS {
         let got = printed_up_to(rt.alloc(), document, *end)?;
         assert_eq!(rt; got.as_str(), *want, "{document}");
+    }
+    Ok(())
+}
+
+// What stands before a row of marks, and what the row is made of.
+const ROWS: &[(&str, &str)] = &[
+    ("www.a", "."),
+    ("www.a/", "_"),
+    ("www.a/", ")"),
+    ("www.a", "&amp;"),
+    ("www.a/((", ".)&a;"),
+];
+
+// A letter stands behind the row: it does not trail, and this is found once, and not again from each of its marks.
+#[test]
+fn long_rows_of_marks(rt: HostRuntime) -> Result<(), Fail> {
+    let alloc = rt.alloc();
+    for (before, mark) in ROWS {
+        let mut document = String::from_str(alloc, before)?;
+        for _ in 0..50_000 {
+            document.push_str(mark)?;
+        }
+        document.push_str("b")?;
+        let got = printed_up_to(alloc, document.as_str(), document.len())?;
+        let want = format!(in alloc; "GfmAutolinkLiteralWww 0-{}", document.len())?;
+        assert_eq!(&rt; got.as_str(), want.as_str(), "{mark}");
     }
     Ok(())
 }
