@@ -1,0 +1,283 @@
+"""What is measured: prose that is drawn by a seed, each construct alone, and patterns that parsers are known to be slow on.
+
+An input is a text and the definitions that it is read with, as pairs of an identifier and a destination. No text has a blank
+line, and each begins with a letter, so that a parser of whole documents reads it as a paragraph (some lines of HTML aside,
+which such a parser takes for a block).
+"""
+import random
+
+WORDS = ('the of and to in is that it was for on are as with his they be at one have this from or had by not but what some we can '
+         'out other were all your when up use word how said an each she which do their time if will way about many then them would '
+         'write like so these her long make thing see him two has look more day could go come did my sound no most number who over '
+         'know water than call first people may down side been now find any new work part take get place made live where after back '
+         'little only round man year came show every good me give our under name very through just form much great think say help '
+         'low line before turn cause same mean differ move right boy old too does tell sentence set three want air well also play '
+         'small end put home read hand port large spell add even land here must big high such follow act why ask men change went '
+         'light kind off need house picture try us again animal point mother world near build self earth father').split()
+
+
+class Input:
+    def __init__(self, text, definitions=()):
+        self.text = text if text[:1].isalpha() else 'a ' + text
+        self.definitions = list(definitions)
+
+    def words(self):
+        """The definitions as words of our program."""
+        return ['label=' + name for name, _ in self.definitions]
+
+    def document(self):
+        """The text with its definitions behind it, as other programs read them."""
+        lines = ''.join('[%s]: %s\n' % pair for pair in self.definitions)
+        return self.text + ('\n\n' + lines if lines else '\n')
+
+
+def lines_of(parts, size, width=72):
+    """Lines of the parts, up to so many bytes in all. No line is blank, and none ends with a space."""
+    lines, line, total = [], [], 0
+    for part in parts:
+        line.append(part)
+        length = sum(map(len, line)) + len(line)
+        if length >= width:
+            lines.append(' '.join(line))
+            total += length
+            line = []
+            if total >= size:
+                break
+    return '\n'.join(lines)
+
+
+def words(draw):
+    while True:
+        yield draw.choice(WORDS)
+
+
+def phrase(draw, most):
+    return ' '.join(draw.choice(WORDS) for _ in range(draw.randint(1, most)))
+
+
+MARKUP = [
+    (6, lambda d: '*%s*' % phrase(d, 3)),
+    (4, lambda d: '**%s**' % phrase(d, 3)),
+    (2, lambda d: '_%s **%s** %s_' % (phrase(d, 2), phrase(d, 2), phrase(d, 1))),
+    (5, lambda d: '`%s`' % phrase(d, 2)),
+    (5, lambda d: '[%s](/%s)' % (phrase(d, 3), phrase(d, 1))),
+    (2, lambda d: '[%s](</%s> "%s")' % (phrase(d, 3), phrase(d, 2), phrase(d, 3))),
+    (2, lambda d: '[*%s* %s](/%s)' % (phrase(d, 1), phrase(d, 2), phrase(d, 1))),
+    (2, lambda d: '[%s][ref]' % phrase(d, 2)),
+    (1, lambda d: '[ref]'),
+    (2, lambda d: '![%s](/%s.png)' % (phrase(d, 2), phrase(d, 1))),
+    (2, lambda d: '<http://%s.org/%s>' % (phrase(d, 1), phrase(d, 1))),
+    (1, lambda d: '<%s@%s.org>' % (phrase(d, 1), phrase(d, 1))),
+    (2, lambda d: '<b class="%s">%s</b>' % (phrase(d, 1), phrase(d, 2))),
+    (2, lambda d: '&amp;'),
+    (1, lambda d: '&#8212;'),
+    (2, lambda d: '\\*%s\\*' % phrase(d, 1)),
+    (1, lambda d: 'snake_case_%s' % phrase(d, 1)),
+]
+TEXT_WEIGHT = 90
+
+
+def markup(draw):
+    weights = [weight for weight, _ in MARKUP] + [TEXT_WEIGHT]
+    makers = [maker for _, maker in MARKUP] + [lambda d: d.choice(WORDS)]
+    while True:
+        yield draw.choices(makers, weights)[0](draw)
+
+
+DEFINED = [('ref', '/url')]
+
+
+def prose(size, seed):
+    """Prose with much inline markup, and words alone."""
+    return [
+        ('prose with much inline markup', Input(lines_of(markup(random.Random(seed)), size), DEFINED)),
+        ('plain prose', Input(lines_of(words(random.Random(seed)), size))),
+    ]
+
+
+# Each construct alone: what stands again and again between words.
+CONSTRUCTS = [
+    ('emphasis', '*a b*'),
+    ('strong emphasis', '**a b**'),
+    ('nested emphasis', '***a** b*'),
+    ('strikethrough', '~~a b~~'),
+    ('code span', '`a b`'),
+    ('math span', '$a b$'),
+    ('link with resource', '[a b](/c "d")'),
+    ('link by reference', '[a b][ref]'),
+    ('image', '![a b](/c)'),
+    ('autolink', '<http://a.b/c>'),
+    ('email autolink', '<a.b@c.de>'),
+    ('HTML', '<a b="c">'),
+    ('HTML comment', '<!-- a b -->'),
+    ('escape', '\\*'),
+    ('named reference', '&amp;'),
+    ('numeric reference', '&#8212;'),
+    ('literal', 'www.a.de/b'),
+    ('literal with protocol', 'http://a.de/b'),
+    ('email literal', 'a.b@c.de'),
+]
+
+
+def constructs(size):
+    found = []
+    for name, part in CONSTRUCTS:
+        line = ' '.join(['word', part] * (72 // (len(part) + 6) + 1))
+        count = size // (len(line) + 1) + 1
+        found.append((name, Input('\n'.join([line] * count), DEFINED)))
+    count = size // 8 + 1
+    found.append(('hard break', Input('\n'.join(['word  ', 'word\\'] * (count // 2)) + '\na')))
+    found.append(('line ending', Input('\n'.join(['a'] * (size // 2)))))
+    return found
+
+
+def again(part):
+    """A part again and again."""
+    return lambda size: Input(part * (size // len(part) + 1))
+
+
+def rows(*parts):
+    """Parts in a row, each as often as the others."""
+    def made(size):
+        count = size // sum(map(len, parts)) + 1
+        return Input(''.join(part * count for part in parts))
+    return made
+
+
+def around(before, part, after, definitions=()):
+    """A part again and again, with a text before and one behind."""
+    return lambda size: Input(before + part * (size // len(part) + 1) + after, definitions)
+
+
+def nested(before, middle, after, definitions=()):
+    """A middle with as many openings before as closings behind."""
+    def made(size):
+        count = size // (len(before) + len(after)) + 1
+        return Input(before * count + middle + after * count, definitions)
+    return made
+
+
+def growing_runs(size):
+    """Runs of grave accents of the lengths 1, 2, 3 .., each before an `a`."""
+    parts, total, length = [], 0, 1
+    while total < size:
+        parts.append('`' * length + 'a')
+        total += length + 1
+        length += 1
+    return Input('a ' + ''.join(parts))
+
+
+def long_label(size):
+    """Brackets around an `a`, and a definition that is as long as the content."""
+    count = size // 2 + 1
+    return Input('[' * count + 'a' + ']' * count, [('b' * count, '/c')])
+
+
+def many_definitions(size):
+    """As many references as definitions, all different."""
+    names = ['b%d' % i for i in range(size // 10 + 1)]
+    return Input(' '.join('[a][%s]' % name for name in names), [(name, '/c') for name in names])
+
+
+def tag_of_lines(size):
+    """One tag with an attribute in each line."""
+    return Input('a <a' + '\nb="c"' * (size // 6 + 1) + '>')
+
+
+ONE = [('a', '/b')]
+
+# Patterns by their group: what stands again and again, or how it is made.
+PATTERNS = [
+    ('text', [
+        ('`a`', again('a')),
+        ('words', lambda size: Input(lines_of(words(random.Random(1)), size))),
+        ('`a` and a line ending', lambda size: Input('\n'.join(['a'] * (size // 2)))),
+        ('a space', around('a', ' ', 'b')),
+        ('NUL', again('\0')),
+        ('`é`', lambda size: Input('é' * (size // 2))),
+    ]),
+    ('escapes, references, spans', [
+        ('`\\`', again('\\')),
+        ('`&`', again('&')),
+        ('`&amp`', again('&amp')),
+        ('`&amp;`', again('&amp;')),
+        ('`&#`', again('&#')),
+        ('`` `a` ``', again('`a` ')),
+        ('runs of 1, 2, 3 .. grave accents, each before an `a`', growing_runs),
+        ('``\\``a``', again('\\``a')),
+        ('`$a$`', again('$a$ ')),
+        ('``\\$$a``', again('\\$$a')),
+    ]),
+    ('autolinks and HTML', [
+        ('`<`', again('<')),
+        ('`<a`', again('<a')),
+        ('`<a@b.c`', again('<a@b.c')),
+        ('`<ab:`', again('<ab:')),
+        ('`<!--`', again('<!--')),
+        ('`<!--`, and one `-->` behind', around('', '<!--', '-->')),
+        ('`<!---`', again('<!---')),
+        ('`<!--` and a line ending', around('a', '\n<!--', '')),
+        ('`<?`', again('<?')),
+        ('`<?`, and one `?>` behind', around('', '<?', '?>')),
+        ('`<!a`', again('<!a')),
+        ('`<!a`, and one `>` behind', around('', '<!a', '>')),
+        ('`<![CDATA[`', again('<![CDATA[')),
+        ('`<![CDATA[`, and one `]]>` behind', around('', '<![CDATA[', ']]>')),
+        ('`<a b="`', again('<a b="')),
+        ("`<a b='x' `", again("<a b='x' ")),
+        ('`</a `', again('</a ')),
+        ('one tag with an attribute in each line', tag_of_lines),
+    ]),
+    ('emphasis', [
+        ('`*`', again('*')),
+        ('`*a `', again('*a ')),
+        ('`*a_b `', again('*a_b ')),
+        ('`**a* `', again('**a* ')),
+        ('`_a__b `', again('_a__b ')),
+        ('`~a~~b `', again('~a~~b ')),
+        ('`*****a `', again('*****a ')),
+        ('`*a* `', again('*a* ')),
+        ('`*a **a `', again('*a **a ')),
+        ('`a_ `', again('a_ ')),
+        ('`_a `', again('_a ')),
+        ('`*a_ `', again('*a_ ')),
+        ('`a**b` and as many `c* `', rows('a**b', 'c* ')),
+        ('`*a **a ` and as many ` b** b*`', rows('*a **a ', ' b** b*')),
+    ]),
+    ('links and images', [
+        ('`[`', again('[')),
+        ('`[a`', again('[a')),
+        ('`a]`', again('a]')),
+        ('`[ a_`', again('[ a_')),
+        ('`[` and as many `[a](b)`', rows('[', '[a](b)')),
+        ('`[a](b)`', again('[a](b)')),
+        ('`![a](b)`', again('![a](b)')),
+        ('`![a](`', again('![a](')),
+        ('`[a](<b`', again('[a](<b')),
+        ('`[a](b "c`', again('[a](b "c')),
+        ('`[a](b (c `', again('[a](b (c ')),
+        ('`[a](b (c `, and one `)` behind', around('', '[a](b (c ', ')')),
+        ('`[a][b`', again('[a][b')),
+        ('`[a](b\\)`', again('[a](b\\)')),
+        ('`[ (](`', again('[ (](')),
+        ('`![[]()`', again('![[]()')),
+        ('`[` .. `a` `]` .., nothing defined', nested('[', 'a', ']')),
+        ('the same, `a` defined', nested('[', 'a', ']', ONE)),
+        ('the same, a definition as long as the content', long_label),
+        ('`![` .. `a` `](b)` ..', nested('![', 'a', '](b)')),
+        ('`[a][b0] [a][b1] ..`, all defined', many_definitions),
+        ('`[^`', again('[^')),
+        ('`[^a]`', again('[^a]')),
+    ]),
+    ('literals', [
+        ('`http://a.`', again('http://a.')),
+        ('`www.a&a`', again('www.a&a')),
+        ('`a@b.`', again('a@b.')),
+        ('`a@`', again('a@')),
+        ('`_`, and one `@`', around('', '_', '@')),
+        ('`.`, and one `@`', around('', '.', '@')),
+        ('`www.a`, then `.` again and again, then `b`', around('www.a', '.', 'b')),
+        ('`www.a`, then `)` again and again, then `b`', around('www.a', ')', 'b')),
+        ('`www.a/`, then `&a;` again and again', around('www.a/', '&a;', '')),
+    ]),
+]

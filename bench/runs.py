@@ -1,0 +1,152 @@
+"""Builds the programs, runs them, and tells instructions and memory."""
+import os
+import re
+import resource
+import shutil
+import subprocess
+import sys
+import tempfile
+
+HERE = os.path.dirname(os.path.dirname(os.path.abspath(__file__)))
+MDINLINE = os.path.join(HERE, 'crates', 'mdinline', 'out', 'mdinline')
+COUNT = os.path.join(HERE, 'crates', 'inline_count', 'out', 'inline_count')
+# The function of `inline_count` that a run is called in.
+COUNTED = 'inline_count::count'
+TIME = '/usr/bin/time'
+
+
+class Program:
+    """A program: what it is called with, whether it reads words for definitions, and the function that alone is counted."""
+    def __init__(self, name, command, ours=False, prefix='', function=None):
+        self.name, self.command, self.ours, self.prefix, self.function = name, command, ours, prefix, function
+
+    def call(self, given):
+        words = [self.prefix + name for name, _ in given.definitions] if self.ours else []
+        return self.command + words
+
+    def bytes_of(self, given):
+        return (given.text if self.ours else given.document()).encode()
+
+
+LIBRARY = Program('library', [COUNT], ours=True, function=COUNTED)
+WHOLE = Program('mdinline', [MDINLINE, 'text', 'gfm', 'math'], ours=True, prefix='label=')
+OTHERS = [
+    Program('cmark', ['cmark']),
+    Program('cmark-gfm', ['cmark-gfm', '-e', 'autolink', '-e', 'strikethrough', '-e', 'footnotes']),
+    Program('pulldown-cmark', ['pulldown-cmark', '-S', '-F']),
+]
+
+
+def say(text):
+    print(text, file=sys.stderr, flush=True)
+
+
+def build():
+    """Proves and builds our two programs, where that is not done yet."""
+    for command, folder in ((['./mdinline', 'string'], HERE), (['rt', 'run'], os.path.join(HERE, 'crates', 'inline_count'))):
+        done = subprocess.run(command, cwd=folder, stdin=subprocess.DEVNULL, stdout=subprocess.PIPE, stderr=subprocess.PIPE)
+        if done.returncode != 0:
+            sys.exit(done.stderr.decode() + 'the programs were not built')
+
+
+def others():
+    """The other programs that are installed."""
+    return [program for program in OTHERS if shutil.which(program.command[0])]
+
+
+def version(program):
+    done = subprocess.run([program.command[0], '--version'], stdout=subprocess.PIPE, stderr=subprocess.STDOUT)
+    found = re.search(r'\d+\.\d+\S*', done.stdout.decode())
+    return found.group(0) if done.returncode == 0 and found else ''
+
+
+def has_callgrind():
+    return shutil.which('valgrind') is not None
+
+
+class Profile:
+    """What callgrind counted: of all, of each function by itself, and of each with all that it calls."""
+    def __init__(self, path):
+        self.total, self.own, self.whole = 0, {}, {}
+        names, current, called = {}, '', None
+        for line in open(path):
+            match = re.match(r'(c?)fn=\((\d+)\)(?: (.*))?', line)
+            if match:
+                if match.group(3):
+                    names[match.group(2)] = match.group(3).strip()
+                name = names[match.group(2)]
+                if match.group(1):
+                    called = name
+                else:
+                    current = name
+            elif line.startswith('totals:') or line.startswith('summary:'):
+                self.total = int(line.split()[1])
+            elif line[:1] in '0123456789+-*' and line[:1]:
+                cost = int(line.split()[1])
+                if called is None:
+                    self.own[current] = self.own.get(current, 0) + cost
+                else:
+                    self.whole[called] = self.whole.get(called, 0) + cost
+                    called = None
+
+
+def profile(program, given, seconds):
+    """Counts the instructions of a run; none where it takes longer than so many seconds."""
+    with tempfile.TemporaryDirectory() as room:
+        path = os.path.join(room, 'profile')
+        command = ['valgrind', '--tool=callgrind', '--callgrind-out-file=' + path] + program.call(given)
+        try:
+            done = subprocess.run(command, input=program.bytes_of(given), stdout=subprocess.DEVNULL, stderr=subprocess.PIPE,
+                                  timeout=seconds)
+        except subprocess.TimeoutExpired:
+            return None
+        if done.returncode != 0:
+            raise RuntimeError('%s ends with status %d: %s' % (program.name, done.returncode, done.stderr.decode()[-500:]))
+        return Profile(path)
+
+
+class Empty:
+    text, definitions = 'a', []
+
+    def document(self):
+        return 'a\n'
+
+
+BASE = {}
+
+
+def instructions(program, given, seconds=300):
+    """The instructions of a run less those for a document of one letter; of our library, those of the run alone."""
+    found = profile(program, given, seconds)
+    if found is None:
+        return None
+    if program.function:
+        return found.whole[program.function]
+    if program.name not in BASE:
+        BASE[program.name] = profile(program, Empty(), seconds).total
+    return found.total - BASE[program.name]
+
+
+def peak(program, given):
+    """The most memory that a run holds, in bytes, less that for a document of one letter; none where `time` is not installed."""
+    if not os.path.exists(TIME):
+        return None
+    def held(what):
+        command = [TIME, '-f', '%M'] + program.call(what)
+        done = subprocess.run(command, input=program.bytes_of(what), stdout=subprocess.DEVNULL, stderr=subprocess.PIPE)
+        return int(done.stderr.split()[-1]) * 1024
+    return max(held(given) - held(Empty()), 0)
+
+
+def seconds_of(program, given):
+    """The seconds of processor time that a run takes."""
+    before = resource.getrusage(resource.RUSAGE_CHILDREN)
+    subprocess.run(program.call(given), input=program.bytes_of(given), stdout=subprocess.DEVNULL, check=True)
+    after = resource.getrusage(resource.RUSAGE_CHILDREN)
+    return after.ru_utime + after.ru_stime - before.ru_utime - before.ru_stime
+
+
+def events_of(given):
+    """How many events a text has."""
+    done = subprocess.run(LIBRARY.call(given), input=LIBRARY.bytes_of(given), stdout=subprocess.PIPE, check=True)
+    return int(done.stdout)
