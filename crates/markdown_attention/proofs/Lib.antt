@@ -5,7 +5,6 @@ pub mod Classes
 pub mod OpenLists
 pub mod Walking
 pub mod ListScan
-pub mod Looks
 pub mod Turns
 pub mod Places
 pub mod ModelPairs

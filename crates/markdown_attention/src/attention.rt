@@ -4,6 +4,7 @@
 //! has them as they stand, and `pairing` finds the pairs.
 #![tactic(auto, using(markdown_engine::proofs::OpRules::law_rules), unfolding(markdown_engine::specs::Ops::scratched))]
 
+mod newest;
 pub mod pairing;
 mod reading;
 pub mod runs;

@@ -9,6 +9,7 @@ ghost use Rattle.markdown_attention.specs.Walk.{Stands, Whole, AreSmall};
 ghost use Rattle.markdown_attention.specs.Open.{key_of, kind_of, class_of, WalkFound, WalkEnded, IsCut, HaveMarkers, IsClosing};
 ghost use Rattle.markdown_attention.specs.Containers.{ArePairLists, AreWithin, AreTakenOnce};
 
+use crate::attention::newest::Newest;
 use crate::attention::runs::{Runs, Sequence};
 use markdown_engine::configuration::ParseOptions;
 use std::alloc::{AllocError, Global};
@@ -129,8 +130,8 @@ fn class_number(options: ParseOptions, closer: Sequence) -> usize
 fn walk(
     options: ParseOptions,
     runs: &mut Runs,
-    head: usize,
-    older: &[usize],
+    head: Newest,
+    older: &[Newest],
     mark: usize,
     closer: Sequence,
 ) -> Option<Sequence>
@@ -156,32 +157,34 @@ fn walk(
         return None;
     }
     let mut at = head;
-    while at > mark {
-        let opener = runs.look(at - 1);
+    while let Some(run) = at.number_from(mark) {
+        let opener = runs.look(run);
         if do_sizes_fit(options, opener, closer) {
             return Some(opener);
         }
-        at = older[at - 1];
+        at = older[run];
     }
     None
 }
 
 // The newest of a list that is not past the opener.
-fn cut(head: usize, older: &[usize], opener: usize) -> usize
+fn cut(head: Newest, older: &[Newest], opener: usize) -> Newest
+    requires opener { opener < length older.now }
     requires down { (r : ℕ) → r < length older.now → slice_index older.now r ≤ r }
     requires head { head ≤ length older.now }
     ensures cut { IsCut older.now opener head result }
     ensures down { result ≤ head }
 {
     let mut at = head;
-    while at > 0 && at - 1 > opener {
-        at = older[at - 1];
+    while let Some(run) = at.number_from(opener + 1) {
+        at = older[run];
     }
     at
 }
 
 // Cuts the three lists of a container behind the opener.
-fn cut_lists(heads: &mut Vec<usize>, older: &[usize], first: usize, opener: usize)
+fn cut_lists(heads: &mut Vec<Newest>, older: &[Newest], first: usize, opener: usize)
+    requires opener { opener < length older.now }
     requires lists { first + 3 ≤ length heads.old.items }
     requires down { (r : ℕ) → r < length older.now → slice_index older.now r ≤ r }
     requires heads { (i : ℕ) → i < length heads.old.items → slice_index heads.old.items i ≤ length older.now }
@@ -212,8 +215,8 @@ fn lower_marks(marks: &mut Vec<usize>, first: usize, opener: usize)
 
 // Cuts the three lists of a container, and takes a used-up opener out of its own.
 fn cut_for_pair(
-    heads: &mut Vec<usize>,
-    older: &[usize],
+    heads: &mut Vec<Newest>,
+    older: &[Newest],
     first: usize,
     list: usize,
     opener: usize,
@@ -247,14 +250,22 @@ fn mark_end(marks: &mut Vec<usize>, at: usize, closer: Sequence)
 }
 
 // Puts a run on top of its list, if it may open.
-fn list_end(heads: &mut Vec<usize>, list: usize, closer: Sequence)
+fn list_end(heads: &mut Vec<Newest>, list: usize, closer: Sequence)
     requires list { list < length heads.old.items }
     requires number { closer.number + 1 < 2 ^ 64 }
     ensures { heads.new.items ≡ (if closer.may_open && nat_lt 0 closer.remaining then slice_set heads.old.items list (closer.number + 1) else heads.old.items) }
 {
     if closer.may_open && closer.remaining > 0 {
-        heads[list] = closer.number + 1;
+        heads[list] = Newest::run(closer.number);
     }
+}
+
+// Three empty lists for each row.
+fn empty_lists(alloc: Global, rows: usize) -> Result<Vec<Newest>, AllocError>
+    ensures { IfOk result (λ table. table.items ≡ replicate (rows * 3) 0) }
+{
+    let size = rows.checked_mul(3).ok_or(AllocError)?;
+    vec![in alloc; Newest::none(); size]
 }
 
 // A table of zeros, so many for each row.
@@ -291,7 +302,7 @@ pub fn pair_runs(
     ensures half { IfOk result (λ pairs. 2 * length pairs.items ≤ markers_left runs.old.list) }
 {
     let mut pairs = Vec::new(alloc);
-    let mut heads = zeros(alloc, rows, 3)?;
+    let mut heads = empty_lists(alloc, rows)?;
     let mut marks = zeros(alloc, rows, 18)?;
     let mut older = Vec::new(alloc);
     while let Some(closer) = runs.closer() {

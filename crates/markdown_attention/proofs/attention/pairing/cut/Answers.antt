@@ -1,17 +1,19 @@
-use Rattle.std.proofs.Common.{suc, ◌-◌, ◌<◌, ◌≤◌, get_or, refl, arith}
-use Rattle.markdown_attention.proofs.Looks.{cut_more}
+use Rattle.std.proofs.Common.{◌≡◌, ℕ, suc, ◌<◌, ◌≤◌, get_or, length, subst, arith}
+use Rattle.markdown_attention.specs.Open.{CutFrom}
+use Rattle.std.proofs.lemmas.List.{get_or_read}
 use Rattle.markdown_attention.proofs.attention.pairing.cut.Goals as goal
 
-pub loop-at-preserved : goal.loop-at-preserved
-loop-at-preserved c =
-    let i = c.loop-at.invariant in
-    let some : 0 < c.loop-at.at = omega arith in
-    let past : c.args.opener < c.loop-at.at - 1 = omega arith in
-    let h = c.args.head in
-    let up = c.requires.head in
+pub loop-run-preserved : goal.loop-run-preserved
+loop-run-preserved c =
+    let i = c.loop-run.invariant in
+    let r : ℕ = c.in-Some.run' in
+    let at : c.loop-run.at ≡ suc r = omega (arith, c.in-Some.ensures.number) in
+    let past : c.args.opener < r = omega (arith, c.in-Some.ensures.from) in
     let in' = i.within in
-    let down : get_or c.args.older.now (c.loop-at.at - 1) 0 ≤ c.loop-at.at - 1 = c.requires.down (c.loop-at.at - 1) (omega arith) in
+    let inside : r < length c.args.older.now = omega (arith, at, in', c.requires.head) in
+    let next : c.index-older-run.result ≡ get_or c.args.older.now r 0 = get_or_read c.args.older.now r c.index-older-run.result inside c.index-older-run.is 0 in
+    let low : get_or c.args.older.now r 0 ≤ r = c.requires.down r inside in
     record {
-      within = omega arith;
-      cut = (suc i.cut.0, cut_more c.args.older.now c.args.opener c.args.head i.cut.0 c.loop-at.at (get_or c.args.older.now (c.loop-at.at - 1) 0) some i.cut.1 past refl);
+      within = omega (arith, low, next, in', at);
+      cut = (suc i.cut.0, (r, subst (λ (x : ℕ). CutFrom c.args.older.now c.args.opener c.args.head i.cut.0 x) at i.cut.1, past, next));
     }

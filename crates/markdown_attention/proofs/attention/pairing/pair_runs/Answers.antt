@@ -9,7 +9,7 @@ use Rattle.markdown_attention.proofs.ListScan.{inv_start}
 use Rattle.markdown_attention.proofs.Scan.{all-within, all-once}
 use Rattle.markdown_attention.proofs.Turns.{scanned-all, paid-all, looks-all, end_turn, pair_turn, fits, key_is, small_runs, some_key, zeros, length_if, less}
 use Rattle.markdown_attention.proofs.attention.pairing.pair_runs.Goals as goal
-use Rattle.markdown_attention.proofs.attention.pairing.pair_runs.Goals.{After-walk, After-pair_size-size, After-row_known-in-Some-1}
+use Rattle.markdown_attention.proofs.attention.pairing.pair_runs.Goals.{After-walk, After-pair_size-size, After-row_known-1}
 
 pub loop-closer-init : goal.loop-closer-init
 loop-closer-init c =
@@ -22,36 +22,36 @@ loop-closer-init c =
       marks_length = length-replicate (c.args.rows * 18) 0;
     })
 
-here : (c : After-row_known-in-Some-1) → c.loop-closer.runs.turn < length c.args.runs.now.list
+here : (c : After-row_known-1) → c.loop-closer.runs.turn < length c.args.runs.now.list
 here c =
     let e = c.loop-closer.invariant.inv.stands.same_length in
     let w = c.in-Some.ensures.within.0 refl in
     omega (arith, e, w)
 
-keys : (c : After-row_known-in-Some-1) → (r : ℕ) → r < length c.args.runs.now.list → list_of c.args.runs.now.list r < length c.loop-closer.heads.items
+keys : (c : After-row_known-1) → (r : ℕ) → r < length c.args.runs.now.list → list_of c.args.runs.now.list r < length c.loop-closer.heads.items
 keys c = some_key c.args.runs.now.list c.args.rows c.loop-closer.heads.items c.loop-closer.invariant.heads_length c.requires.rows
 
-marks_six : (c : After-row_known-in-Some-1) → length c.loop-closer.marks.items ≡ length c.loop-closer.heads.items * 6
+marks_six : (c : After-row_known-1) → length c.loop-closer.marks.items ≡ length c.loop-closer.heads.items * 6
 marks_six c = let a = c.loop-closer.invariant.heads_length in let b = c.loop-closer.invariant.marks_length in omega arith
 
-list_is : (c : After-row_known-in-Some-1) → c.list_of-list.result ≡ list_of c.args.runs.now.list c.loop-closer.runs.turn
+list_is : (c : After-row_known-1) → c.list_of-list.result ≡ list_of c.args.runs.now.list c.loop-closer.runs.turn
 list_is c =
     c.list_of-list.ensures
     ∙ key_is c.args.options c.args.runs.now.list c.loop-closer.runs.list c.loop-closer.runs.turn c.loop-closer.pairs.items c.loop-closer.runs.probes
     c.loop-closer.heads.items c.loop-closer.older.items c.loop-closer.marks.items c.loop-closer.invariant.inv (here c) (by-marker c.args.runs.now.list c.requires.markers) (keys c) (marks_six c)
     c.in-Some.closer c.in-Some.ensures.run
 
-class_is : (c : After-row_known-in-Some-1) → c.class_number-class.result
+class_is : (c : After-row_known-1) → c.class_number-class.result
     ≡ class_of c.args.options (run_at c.loop-closer.runs.list c.loop-closer.runs.turn) (run_at c.loop-closer.runs.list c.loop-closer.runs.turn).remaining
 class_is c = c.class_number-class.ensures.is ∙ ap (λ r. class_of c.args.options r r.remaining) c.in-Some.ensures.run
 
-head_is : (c : After-row_known-in-Some-1) → c.index-head.result.now ≡ get_or c.loop-closer.heads.items (list_of c.args.runs.now.list c.loop-closer.runs.turn) 0
+head_is : (c : After-row_known-1) → c.index-head.result.now ≡ get_or c.loop-closer.heads.items (list_of c.args.runs.now.list c.loop-closer.runs.turn) 0
 head_is c =
     let inside : c.list_of-list.result < length c.loop-closer.heads.items = rw (list_is c) (keys c c.loop-closer.runs.turn (here c)) in
     get_or_read c.loop-closer.heads.items c.list_of-list.result c.index-head.result.now inside c.index-head.ensures 0
     ∙ ap (λ x. get_or c.loop-closer.heads.items x 0) (list_is c)
 
-mark_is : (c : After-row_known-in-Some-1) → c.index.result.now
+mark_is : (c : After-row_known-1) → c.index.result.now
     ≡ mark_of c.loop-closer.marks.items (list_of c.args.runs.now.list c.loop-closer.runs.turn)
     (class_of c.args.options (run_at c.loop-closer.runs.list c.loop-closer.runs.turn) (run_at c.loop-closer.runs.list c.loop-closer.runs.turn).remaining)
 mark_is c =
@@ -74,7 +74,7 @@ walk-requires-clause-small c =
 
 pub loop-closer-preserved-in-None : goal.loop-closer-preserved-in-None
 loop-closer-preserved-in-None c =
-    let b = (goal.at.loop-closer-preserved-in-None c).After-row_known-in-Some-1 in
+    let b = (goal.at.loop-closer-preserved-in-None c).After-walk.before in
     let k : ℕ = list_of c.args.runs.now.list c.loop-closer.runs.turn in
     let class : ℕ = class_of c.args.options (run_at c.loop-closer.runs.list c.loop-closer.runs.turn) (run_at c.loop-closer.runs.list c.loop-closer.runs.turn).remaining in
     let heads' : c.list_end.new.heads.items
@@ -111,7 +111,7 @@ loop-closer-preserved-in-None c =
 
 pub take-requires-clause-opener_has : goal.take-requires-clause-opener_has
 take-requires-clause-opener_has c =
-    let b = (goal.at.take-requires-clause-opener_has c).After-row_known-in-Some-1 in
+    let b = (goal.at.take-requires-clause-opener_has c).After-walk.before in
     let k : ℕ = list_of c.args.runs.now.list c.loop-closer.runs.turn in
     let class : ℕ = class_of c.args.options (run_at c.loop-closer.runs.list c.loop-closer.runs.turn) (run_at c.loop-closer.runs.list c.loop-closer.runs.turn).remaining in
     let o : ℕ = c.in-Some-walk.opener.number in
@@ -129,7 +129,7 @@ take-requires-clause-opener_has c =
 
 pub loop-closer-smaller : goal.loop-closer-smaller
 loop-closer-smaller c =
-    let b = (goal.at.loop-closer-smaller c).After-row_known-in-Some-1 in
+    let b = (goal.at.loop-closer-smaller c).After-walk.before in
     let k : ℕ = list_of c.args.runs.now.list c.loop-closer.runs.turn in
     let class : ℕ = class_of c.args.options (run_at c.loop-closer.runs.list c.loop-closer.runs.turn) (run_at c.loop-closer.runs.list c.loop-closer.runs.turn).remaining in
     let o : ℕ = c.in-Some-walk.opener.number in
@@ -157,7 +157,7 @@ loop-closer-smaller c =
 
 pub loop-closer-preserved : goal.loop-closer-preserved
 loop-closer-preserved c =
-    let b = (goal.at.loop-closer-preserved c).After-row_known-in-Some-1 in
+    let b = (goal.at.loop-closer-preserved c).After-walk.before in
     let k : ℕ = list_of c.args.runs.now.list c.loop-closer.runs.turn in
     let class : ℕ = class_of c.args.options (run_at c.loop-closer.runs.list c.loop-closer.runs.turn) (run_at c.loop-closer.runs.list c.loop-closer.runs.turn).remaining in
     let o : ℕ = c.in-Some-walk.opener.number in

@@ -2,8 +2,8 @@ use Rattle.std.proofs.Common.{◌≡◌, ◌+◌, ◌-◌, ◌≤◌}
 use Rattle.markdown_attention.specs.Open.{Passed}
 use Rattle.markdown_attention.proofs.attention.pairing.walk.Given as goal
 
-abbrev pub invariant-loop-at : goal.invariant-loop-at
-invariant-loop-at l = record {
+abbrev pub invariant-loop-run : goal.invariant-loop-run
+invariant-loop-run l = record {
   same_list : l.runs.list ≡ l.fn.runs.list;
   same_turn : l.runs.turn ≡ l.fn.runs.turn;
   within : l.at ≤ l.fn.runs.turn;
@@ -12,5 +12,5 @@ invariant-loop-at l = record {
   passed : Passed l.options l.fn.runs.list l.older l.mark l.fn.runs.turn l.fn.head (l.runs.probes - l.fn.runs.probes) l.at;
 }
 
-abbrev pub decreases-loop-at : goal.decreases-loop-at
-decreases-loop-at l = l.at
+abbrev pub decreases-loop-run : goal.decreases-loop-run
+decreases-loop-run l = l.at
