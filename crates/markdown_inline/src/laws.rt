@@ -1,6 +1,13 @@
 //! Laws of the definitions: each function stands for the law that its contract states.
 
-pub use markdown_laws::escapes;
-pub use markdown_model::laws::{one_pair_list, one_tree};
+pub use markdown_laws::{
+    data_is_tight, each_pair_is_a_group, emails_stand_in_data, escapes, pairs_are_even,
+    probes_are_few, trees_are_filled,
+};
+pub use markdown_model::laws::{
+    counts_suffice, ends_take_the_nearest, events_nest, labels_match, leaves_cover,
+    links_are_not_mailed, links_do_not_nest, merged_data_is_apart, no_run_is_left,
+    one_element_list, one_end, one_pair_list, one_tree, pairs_are_local, pairs_are_sound,
+};
 pub use markdown_stretch::laws::leaves_are_stretches;
 pub use markdown_util::laws::{identifier, unchanged};
