@@ -244,6 +244,15 @@ PATTERNS = [
         ('`a**b` and as many `c* `', rows('a**b', 'c* ')),
         ('`*a **a ` and as many ` b** b*`', rows('*a **a ', ' b** b*')),
     ]),
+    ('emphasis in the text of a link', [
+        ('`*a `', around('[', '*a ', 'b](c)')),
+        ('`*a_b `', around('[', '*a_b ', 'b](c)')),
+        ('`**a* `', around('[', '**a* ', 'b](c)')),
+        ('`_a__b `', around('[', '_a__b ', 'b](c)')),
+        ('`~a~~b `', around('[', '~a~~b ', 'b](c)')),
+        ('`*****`', around('[', '*****', 'b](c)')),
+        ('`[*a](b) `', again('[*a](b) ')),
+    ]),
     ('links and images', [
         ('`[`', again('[')),
         ('`[a`', again('[a')),
@@ -279,5 +288,6 @@ PATTERNS = [
         ('`www.a`, then `.` again and again, then `b`', around('www.a', '.', 'b')),
         ('`www.a`, then `)` again and again, then `b`', around('www.a', ')', 'b')),
         ('`www.a/`, then `&a;` again and again', around('www.a/', '&a;', '')),
+        ('`_www.`', again('_www.')),
     ]),
 ]
