@@ -26,6 +26,9 @@ pub mod RunLemmas
 pub mod RunIndexLemmas
 pub mod RunIndexFacts
 pub mod SequenceIndexLemmas
+pub mod CountLemmas
+pub mod NameOrder
+pub mod NameSort
 pub mod ReachLemmas
 pub mod OpRules
 pub mod Laws

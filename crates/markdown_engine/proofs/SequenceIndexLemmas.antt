@@ -1,15 +1,15 @@
 -- The walk that finds where sequences last begin, and what an index of them says of the codes that it was made of.
-use Rattle.std.proofs.Common.{◌≡◌, ℕ, zero, suc, ◌+◌, ◌==◌, ◌&&◌, ◌||◌, nat_lt, Bool, true, false, cond, slice_index_or, length, ◌<◌, Option, Some, None, List, [], ◌∷◌, drop, refl, sym, ap, ◌∙◌, arith}
+use Rattle.std.proofs.Common.{◌≡◌, ℕ, zero, suc, ◌+◌, ◌==◌, ◌&&◌, ◌||◌, nat_lt, Bool, true, false, if◌then◌else◌, cond, slice_index_or, length, ◌<◌, Option, Some, None, List, [], ◌∷◌, drop, refl, sym, ap, ◌∙◌, arith}
 use Rattle.std.proofs.lemmas.Bool.Decides.{nat_tests}
 use Rattle.std.proofs.lemmas.Grind.{common_steps}
 use Rattle.std.proofs.lemmas.List.{drop_more}
 use Rattle.markdown_engine.specs.Codes.{Code}
 use Rattle.markdown_engine.specs.Place.{Place, ahead_at, moved, code_at}
 use Rattle.markdown_engine.specs.RunIndex.{later_or, begins_before}
-use Rattle.markdown_engine.specs.SequenceIndex.{begins_some, stand_next, last_begin, values_of, last_in, last_begins, rules_out, IsRightFor}
+use Rattle.markdown_engine.specs.SequenceIndex.{begins_at, begins_some, closes_past_spacing, closes_twice, is_spacing, stand_next, last_where, last_in, last_begins, rules_out, IsRightFor}
 use Rattle.markdown_engine.specs.declared.sequence_index.LastBegins.{LastBegins}
 use Rattle.markdown_engine.specs.declared.sequence_index.Sequence.{Sequence}
-use Rattle.markdown_engine.specs.declared.sequence_index.Sequence.TheVariants.{CommentEnd, SectionEnd, InstructionEnd, DeclarationEnd}
+use Rattle.markdown_engine.specs.declared.sequence_index.Sequence.TheVariants.{CommentEnd, SectionEnd, InstructionEnd, DeclarationEnd, ResourceEnd}
 use Rattle.markdown_engine.proofs.PlaceRules.{IsAhead, ahead_some, ahead_none}
 use Rattle.markdown_engine.proofs.RunIndexFacts.{answer_from, answer-or}
 
@@ -54,36 +54,77 @@ passing-one vs i v start p q less k h e f =
     alike : (a b : ℕ) → a ≡ b → (a == b) ≡ true
     alike a b e = grind (arith, e)
 
+-- Whether parentheses close.
+
+-- whitespace is passed
+abbrev pub IsSpaced : Place → Place → Type 0
+IsSpaced start p = closes_past_spacing (ahead_at start) ≡ closes_past_spacing (ahead_at p)
+
+pub spaced-end : (start p : Place) → IsSpaced start p → code_at p ≡ None → false ≡ closes_past_spacing (ahead_at start)
+spaced-end start p k h = sym (k ∙ ap closes_past_spacing (ahead_none p h))
+
+spaced-by : (p : Place) (v : ℕ) → code_at p ≡ Some v → closes_past_spacing (ahead_at p) ≡ (if is_spacing v then closes_past_spacing (ahead_at (moved p)) else v == 41)
+spaced-by p v h =
+    let a : IsAhead p v = ahead_some p v h in
+    ap closes_past_spacing a.codes ∙ ap (λ w. if is_spacing w then closes_past_spacing (ahead_at (moved p)) else w == 41) a.value
+
+pub spaced-other : (start p : Place) (v : ℕ) → IsSpaced start p → code_at p ≡ Some v → is_spacing v ≡ false → (v == 41) ≡ closes_past_spacing (ahead_at start)
+spaced-other start p v k h e = sym (k ∙ spaced-by p v h ∙ ap (λ b. if b then closes_past_spacing (ahead_at (moved p)) else v == 41) e)
+
+pub spaced-one : (start p q : Place) (v : ℕ) → IsSpaced start p → code_at p ≡ Some v → is_spacing v ≡ true → q ≡ moved p → IsSpaced start q
+spaced-one start p q v k h e f = k ∙ spaced-by p v h ∙ ap (λ b. if b then closes_past_spacing (ahead_at (moved p)) else v == 41) e ∙ ap (λ (x : Place). closes_past_spacing (ahead_at x)) (sym f)
+
+twice-by : (p : Place) (v : ℕ) → code_at p ≡ Some v → closes_twice (ahead_at p) ≡ (v == 41 && closes_past_spacing (ahead_at (moved p)))
+twice-by p v h =
+    let a : IsAhead p v = ahead_some p v h in
+    ap closes_twice a.codes ∙ ap (λ w. w == 41 && closes_past_spacing (ahead_at (moved p))) a.value
+
+twice-other : (p : Place) (v : ℕ) → code_at p ≡ Some v → (v == 41) ≡ false → closes_twice (ahead_at p) ≡ false
+twice-other p v h e = twice-by p v h ∙ ap (λ b. b && closes_past_spacing (ahead_at (moved p))) e
+
+pub twice-end : (p : Place) → code_at p ≡ None → false ≡ closes_twice (ahead_at p)
+twice-end p h = sym (ap closes_twice (ahead_none p h))
+
+pub twice-not : (p : Place) (v : ℕ) → code_at p ≡ Some v → (v ≡ 41 → ⊥) → false ≡ closes_twice (ahead_at p)
+twice-not p v h e = sym (twice-other p v h (unlike v e))
+  where
+    unlike : (a : ℕ) → (a ≡ 41 → ⊥) → (a == 41) ≡ false
+    unlike a e = grind (arith, e)
+
+pub twice-some : (p q : Place) (v : ℕ) → code_at p ≡ Some v → v ≡ 41 → q ≡ moved p → closes_past_spacing (ahead_at q) ≡ closes_twice (ahead_at p)
+twice-some p q v h e f = ap (λ (x : Place). closes_past_spacing (ahead_at x)) f ∙ sym (twice-by p v h ∙ ap (λ w. w == 41 && closes_past_spacing (ahead_at (moved p))) e)
+
 -- The walk.
 
 -- what was found up to a place, and what is ahead of it, is what there is
 pub record IsFound (cs : List Code) (p : Place) (last : LastBegins) : Type 0 where
   pub codes : p.codes ≡ cs
-  pub found : (s : Sequence) → last_begin (values_of s) cs ≡ answer_from p.at (last_begin (values_of s) (ahead_at p)) (last_in last s)
+  pub found : (s : Sequence) → last_where (begins_at s) cs ≡ answer_from p.at (last_where (begins_at s) (ahead_at p)) (last_in last s)
 
 -- this was found, with what begins at the place
 abbrev pub FoundAt : Place → LastBegins → LastBegins → Type 0
-FoundAt p last next = (s : Sequence) → last_in next s ≡ cond (stand_next (values_of s) (ahead_at p)) (Some p.at) (last_in last s)
+FoundAt p last next = (s : Sequence) → last_in next s ≡ cond (begins_at s (ahead_at p)) (Some p.at) (last_in last s)
 
 nothing-before : (o : Option ℕ) → o ≡ answer_from 0 o None
 nothing-before (Some k) = ap (λ n. Some n) (omega arith)
 nothing-before None = refl
 
 abbrev nothing : LastBegins
-nothing = record { comment_end = None; section_end = None; instruction_end = None; declaration_end = None }
+nothing = record { comment_end = None; section_end = None; instruction_end = None; declaration_end = None; resource_end = None }
 
 nothing-in : (s : Sequence) → last_in nothing s ≡ None
 nothing-in CommentEnd = refl
 nothing-in SectionEnd = refl
 nothing-in InstructionEnd = refl
 nothing-in DeclarationEnd = refl
+nothing-in ResourceEnd = refl
 
 pub found-start : (p q : Place) → q ≡ record p { at = 0 } → IsFound p.codes q nothing
 unfolding ahead_at
 found-start p q e =
     record {
       codes = ap (λ (x : Place). x.codes) e;
-      found = λ s. nothing-before (last_begin (values_of s) p.codes) ∙ ap (λ o. answer_from 0 (last_begin (values_of s) p.codes) o) (sym (nothing-in s)) ∙ ap (λ (x : Place). answer_from x.at (last_begin (values_of s) (ahead_at x)) (last_in nothing s)) (sym e);
+      found = λ s. nothing-before (last_where (begins_at s) p.codes) ∙ ap (λ o. answer_from 0 (last_where (begins_at s) p.codes) o) (sym (nothing-in s)) ∙ ap (λ (x : Place). answer_from x.at (last_where (begins_at s) (ahead_at x)) (last_in nothing s)) (sym e);
     }
 
 -- past a code
@@ -94,16 +135,16 @@ found-past cs p q v last next h e step k =
     record {
       codes = ap (λ (x : Place). x.codes) e ∙ k.codes;
       found = λ s.
-          let vs : List ℕ = values_of s in
-          let rest : Option ℕ = last_begin vs (ahead_at (moved p)) in
-          let here : Bool = stand_next vs (ahead_at p) in
-          let one : last_begin vs (ahead_at p) ≡ later_or rest here = ap (last_begin vs) a.codes ∙ ap (λ ds. later_or rest (stand_next vs ds)) (sym a.codes) in
+          let t : List Code → Bool = begins_at s in
+          let rest : Option ℕ = last_where t (ahead_at (moved p)) in
+          let here : Bool = t (ahead_at p) in
+          let one : last_where t (ahead_at p) ≡ later_or rest here = ap (last_where t) a.codes ∙ ap (λ ds. later_or rest (t ds)) (sym a.codes) in
           k.found s
           ∙ ap (λ o. answer_from p.at o (last_in last s)) one
           ∙ sym (answer-or p.at rest (last_in last s) here)
           ∙ ap (λ n. answer_from n rest (cond here (Some p.at) (last_in last s))) (omega arith)
           ∙ ap (λ o. answer_from (p.at + 1) rest o) (sym (step s))
-          ∙ ap (λ (x : Place). answer_from x.at (last_begin vs (ahead_at x)) (last_in next s)) (sym e);
+          ∙ ap (λ (x : Place). answer_from x.at (last_where t (ahead_at x)) (last_in next s)) (sym e);
     }
 
 -- at a code with which no sequence begins
@@ -122,39 +163,42 @@ none-begins p v last h e SectionEnd = ap (λ b. cond b (Some p.at) last.section_
 none-begins p v last h e InstructionEnd =
     ap (λ b. cond b (Some p.at) last.instruction_end) (sym (next-other 63 (62 ∷ []) p v h (or-left (v == 63) _ (or-right (v == 93) _ (or-right (v == 45) _ e)))))
 none-begins p v last h e DeclarationEnd =
-    ap (λ b. cond b (Some p.at) last.declaration_end) (sym (next-other 62 [] p v h (or-right (v == 63) _ (or-right (v == 93) _ (or-right (v == 45) _ e)))))
+    ap (λ b. cond b (Some p.at) last.declaration_end) (sym (next-other 62 [] p v h (or-left (v == 62) _ (or-right (v == 63) _ (or-right (v == 93) _ (or-right (v == 45) _ e))))))
+none-begins p v last h e ResourceEnd =
+    ap (λ b. cond b (Some p.at) last.resource_end) (sym (twice-other p v h (or-right (v == 62) _ (or-right (v == 63) _ (or-right (v == 93) _ (or-right (v == 45) _ e))))))
 
 -- at the end
 pub found-all : (cs : List Code) (p : Place) (last : LastBegins) → code_at p ≡ None → IsFound cs p last → last ≡ last_begins cs
 found-all cs p last h k =
-    let all : (s : Sequence) → last_in last s ≡ last_begin (values_of s) cs = λ s. sym (k.found s ∙ ap (λ ds. answer_from p.at (last_begin (values_of s) ds) (last_in last s)) (ahead_none p h)) in
-    λ i. record { comment_end = all CommentEnd i; section_end = all SectionEnd i; instruction_end = all InstructionEnd i; declaration_end = all DeclarationEnd i }
+    let all : (s : Sequence) → last_in last s ≡ last_where (begins_at s) cs = λ s. sym (k.found s ∙ ap (λ ds. answer_from p.at (last_where (begins_at s) ds) (last_in last s)) (ahead_none p h)) in
+    λ i. record { comment_end = all CommentEnd i; section_end = all SectionEnd i; instruction_end = all InstructionEnd i; declaration_end = all DeclarationEnd i; resource_end = all ResourceEnd i }
 
 -- After some codes.
 
-last-is : (cs : List Code) (s : Sequence) → last_in (last_begins cs) s ≡ last_begin (values_of s) cs
+last-is : (cs : List Code) (s : Sequence) → last_in (last_begins cs) s ≡ last_where (begins_at s) cs
 last-is cs CommentEnd = refl
 last-is cs SectionEnd = refl
 last-is cs InstructionEnd = refl
 last-is cs DeclarationEnd = refl
+last-is cs ResourceEnd = refl
 
 -- a sequence that begins further on begins in the whole
-later-begin : (vs : List ℕ) (k a : ℕ) (cs : List Code) → last_begin vs (drop k cs) ≡ Some a → last_begin vs cs ≡ Some (k + a)
-later-begin vs zero a cs e = e ∙ ap (λ n. Some n) (omega arith)
-later-begin vs (suc k) a [] e = cc
-later-begin vs (suc k) a (c ∷ cs) e = ap (λ o. later_or o (stand_next vs (c ∷ cs))) (later-begin vs k a cs e) ∙ ap (λ n. Some n) (omega arith)
+later-begin : (p : List Code → Bool) (k a : ℕ) (cs : List Code) → last_where p (drop k cs) ≡ Some a → last_where p cs ≡ Some (k + a)
+later-begin p zero a cs e = e ∙ ap (λ n. Some n) (omega arith)
+later-begin p (suc k) a [] e = cc
+later-begin p (suc k) a (c ∷ cs) e = ap (λ o. later_or o (p (c ∷ cs))) (later-begin p k a cs e) ∙ ap (λ n. Some n) (omega arith)
 
-none-after : (vs : List ℕ) (k : ℕ) (cs : List Code) (o : Option ℕ) → begins_before k (last_begin vs cs) ≡ true → last_begin vs (drop k cs) ≡ o → last_begin vs (drop k cs) ≡ None
-none-after vs k cs None b e = e
-none-after vs k cs (Some a) b e = absurd (too-late (ap (begins_before k) (sym (later-begin vs k a cs e)) ∙ b))
+none-after : (p : List Code → Bool) (k : ℕ) (cs : List Code) (o : Option ℕ) → begins_before k (last_where p cs) ≡ true → last_where p (drop k cs) ≡ o → last_where p (drop k cs) ≡ None
+none-after p k cs None b e = e
+none-after p k cs (Some a) b e = absurd (too-late (ap (begins_before k) (sym (later-begin p k a cs e)) ∙ b))
   where
     too-late : nat_lt (k + a) k ≡ true → ⊥
     too-late t = grind (arith, nat_tests, common_steps, t)
 
 -- where an index that is right for some codes rules a sequence out after so many, it does not begin there
-pub ruled-out : (index : Option LastBegins) (cs : List Code) (s : Sequence) (k : ℕ) → IsRightFor cs index → rules_out index s k ≡ true → last_begin (values_of s) (drop k cs) ≡ None
+pub ruled-out : (index : Option LastBegins) (cs : List Code) (s : Sequence) (k : ℕ) → IsRightFor cs index → rules_out index s k ≡ true → last_where (begins_at s) (drop k cs) ≡ None
 ruled-out None cs s k right h = cc
-ruled-out (Some last) cs s k right h = none-after (values_of s) k cs (last_begin (values_of s) (drop k cs)) (ap (begins_before k) (sym (ap (λ l. last_in l s) (right last refl) ∙ last-is cs s)) ∙ h) refl
+ruled-out (Some last) cs s k right h = none-after (begins_at s) k cs (last_where (begins_at s) (drop k cs)) (ap (begins_before k) (sym (ap (λ l. last_in l s) (right last refl) ∙ last-is cs s)) ∙ h) refl
 
 -- what is made of the codes is right for them, and so is nothing
 pub right-made : (cs : List Code) (index : Option LastBegins) → index ≡ Some (last_begins cs) → IsRightFor cs index

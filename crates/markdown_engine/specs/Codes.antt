@@ -1,5 +1,6 @@
 -- The codes of a document, each with its places.
 use Rattle.std.specs.Prelude.{ℕ, zero, suc, ◌+◌, ◌-◌, ◌%◌, Bool, true, false, ◌&&◌, ◌||◌, nat_lt, nat_le, ◌==◌, List, [], ◌∷◌, ◌++◌, if◌then◌else◌, filter}
+use Rattle.std.specs.List.{count_by}
 use Rattle.markdown_engine.specs.declared.event.Point.{Point}
 
 -- A code is what the rules of Markdown read one of: a byte, or the line feed that stands for a line
@@ -107,3 +108,7 @@ is_line_ending c = c.value == line_feed
 -- a space, a tab, or a column of a tab
 abbrev pub is_blank : Code → Bool
 is_blank c = c.value == space_value || c.value == tab_value
+
+-- how many of the codes have this value
+abbrev pub count_of : ℕ → List Code → ℕ
+count_of v cs = count_by (λ c. c.value == v) cs

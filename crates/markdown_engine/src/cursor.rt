@@ -1,6 +1,6 @@
 // A place in a content, which hides the pieces, the tabs and what is left out of the lines.
-ghost use Rattle.std.specs.Prelude.{◌≡◌, ◌∷◌, [], ℕ, List, drop, length, ◌<◌, ◌≤◌, IsSome, IsTrue};
-ghost use Rattle.markdown_engine.specs.Codes.{line_feed, place_of};
+ghost use Rattle.std.specs.Prelude.{◌≡◌, ◌∷◌, [], ℕ, List, drop, length, nat_le, ◌<◌, ◌≤◌, IsSome, IsTrue};
+ghost use Rattle.markdown_engine.specs.Codes.{count_of, line_feed, place_of};
 ghost use Rattle.markdown_engine.specs.Content.{IsContent};
 ghost use Rattle.markdown_engine.specs.Place.{start_of_content, code_at, code_before, point_of, exit_point, moved};
 ghost use Rattle.markdown_engine.specs.Standing.{is_open, first_point, followed};
@@ -93,6 +93,24 @@ impl<'a> Cursor<'a> {
         ensures { result ≡ record self.now { at = 0 } }
     {
         Cursor::new(self.bytes, self.pieces)
+    }
+
+    /// Answers whether the byte stands in the whole content at least so many times.
+    pub fn holds(&self, byte: u8, times: usize) -> bool
+        ensures { result ≡ nat_le times (count_of byte self.now.codes) }
+    {
+        let mut left = times;
+        let mut place = self.restart();
+        while left > 0 {
+            let Some(code) = place.current() else {
+                return false;
+            };
+            if code == byte {
+                left -= 1;
+            }
+            place.consume();
+        }
+        true
     }
 
     /// Answers how many codes are passed.

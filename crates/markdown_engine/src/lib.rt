@@ -8,6 +8,7 @@ pub mod cursor;
 pub mod event;
 pub mod events;
 pub mod layer;
+pub mod name_index;
 pub mod parser;
 pub mod resolve;
 pub mod run;

@@ -1,7 +1,7 @@
 // Where the last of some sequences of bytes begins.
 ghost use Rattle.std.specs.Prelude.{◌≡◌, Some, None, cond};
 ghost use Rattle.markdown_engine.specs.Place.{ahead_at};
-ghost use Rattle.markdown_engine.specs.SequenceIndex.{begins_some, stand_next, values_of, last_in, last_begins, rules_out};
+ghost use Rattle.markdown_engine.specs.SequenceIndex.{begins_at, begins_some, closes_past_spacing, closes_twice, is_spacing, stand_next, last_in, last_begins, rules_out};
 ghost use Rattle.markdown_engine.specs.declared.sequence_index.Sequence.{Sequence as Kind};
 
 use crate::cursor::Cursor;
@@ -18,6 +18,8 @@ pub enum Sequence {
     InstructionEnd,
     /// `>`: a declaration ends.
     DeclarationEnd,
+    /// `)`, and another one behind it, past spaces, tabs and line endings: a title in parentheses ends, and its resource.
+    ResourceEnd,
 }
 
 /// For each sequence, how many codes stand before the last place where it begins; `None` where there is no such place.
@@ -31,6 +33,8 @@ pub struct LastBegins {
     pub instruction_end: Option<usize>,
     /// Of `>`.
     pub declaration_end: Option<usize>,
+    /// Of two `)` with nothing but whitespace between them.
+    pub resource_end: Option<usize>,
 }
 
 impl LastBegins {
@@ -43,6 +47,7 @@ impl LastBegins {
             Sequence::SectionEnd => self.section_end,
             Sequence::InstructionEnd => self.instruction_end,
             Sequence::DeclarationEnd => self.declaration_end,
+            Sequence::ResourceEnd => self.resource_end,
         }
     }
 }
@@ -81,6 +86,7 @@ impl SequenceIndex {
             section_end: None,
             instruction_end: None,
             declaration_end: None,
+            resource_end: None,
         };
         let mut place = cursor.restart();
         while let Some(code) = place.current() {
@@ -108,7 +114,7 @@ impl SequenceIndex {
 
 // What was found, with the sequences that begin at the place.
 fn found_at(place: &Cursor, last: LastBegins) -> LastBegins
-    ensures { (s : Kind) → last_in result s ≡ cond (stand_next (values_of s) (ahead_at place.now)) (Some place.now.at) (last_in last s) }
+    ensures { (s : Kind) → last_in result s ≡ cond (begins_at s (ahead_at place.now)) (Some place.now.at) (last_in last s) }
 {
     let at = place.passed();
     LastBegins {
@@ -116,6 +122,7 @@ fn found_at(place: &Cursor, last: LastBegins) -> LastBegins
         section_end: at_or(stand_next(place, b"]]>"), at, last.section_end),
         instruction_end: at_or(stand_next(place, b"?>"), at, last.instruction_end),
         declaration_end: at_or(stand_next(place, b">"), at, last.declaration_end),
+        resource_end: at_or(closes_twice(place), at, last.resource_end),
     }
 }
 
@@ -123,7 +130,7 @@ fn found_at(place: &Cursor, last: LastBegins) -> LastBegins
 fn begins_some(byte: u8) -> bool
     ensures { result ≡ begins_some byte }
 {
-    matches!(byte, b'-' | b']' | b'?' | b'>')
+    matches!(byte, b'-' | b']' | b'?' | b'>' | b')')
 }
 
 // This place where the test holds, else the earlier one.
@@ -148,4 +155,40 @@ fn stand_next(cursor: &Cursor, bytes: &[u8]) -> bool
         place.consume();
     }
     true
+}
+
+// Whether it is a space, a tab or a line ending.
+fn is_spacing(byte: u8) -> bool
+    ensures { result ≡ is_spacing byte }
+{
+    matches!(byte, b' ' | b'\t' | b'\n')
+}
+
+// Whether a closing parenthesis comes next, past whitespace.
+fn closes_past_spacing(cursor: &Cursor) -> bool
+    ensures { result ≡ closes_past_spacing (ahead_at cursor.now) }
+{
+    let mut place = cursor.save();
+    while let Some(code) = place.current() {
+        if !is_spacing(code) {
+            return code == b')';
+        }
+        place.consume();
+    }
+    false
+}
+
+// Whether a closing parenthesis comes next, and another one behind it, past whitespace.
+fn closes_twice(cursor: &Cursor) -> bool
+    ensures { result ≡ closes_twice (ahead_at cursor.now) }
+{
+    let Some(code) = cursor.current() else {
+        return false;
+    };
+    if code != b')' {
+        return false;
+    }
+    let mut behind = cursor.save();
+    behind.consume();
+    closes_past_spacing(&behind)
 }

@@ -13,6 +13,7 @@ use crate::bytes::ByteSet;
 use crate::cursor::Cursor;
 use crate::event::{Content, Event, Kind, Link, Name, Point};
 use crate::events::Events;
+use crate::name_index::Names;
 use crate::parser::{ParseState, Piece};
 use crate::resolve::ResolveName;
 use crate::run_index::RunIndex;
@@ -60,7 +61,7 @@ pub struct Label {
 }
 
 /// The scratch fields of the states: what one state leaves for another. Each is at rest between two constructs, but for the lists of
-/// labels, `markers`, `probes`, `runs`, `sequences` and `document_at_first_paragraph_of_list_item`.
+/// labels, `markers`, `probes`, `runs`, `sequences`, `names` and `document_at_first_paragraph_of_list_item`.
 #[derive(Drop)]
 pub struct TokenizeState {
     /// The byte that a construct began with; 0 at rest.
@@ -121,12 +122,14 @@ pub struct TokenizeState {
     pub runs: RunIndex,
     /// Where the last of some sequences begins in the content; nothing is known at rest.
     pub sequences: SequenceIndex,
+    /// The names of what is defined, each found by a search; none at rest.
+    pub names: Option<Names>,
     /// Whether the content is the first paragraph of a list item.
     pub document_at_first_paragraph_of_list_item: bool,
 }
 
 impl TokenizeState {
-    /// All at rest: no labels, no markers, no probes, no known runs and sequences.
+    /// All at rest: no labels, no markers, no probes, no known runs and sequences, no names.
     pub fn new(alloc: Global) -> TokenizeState
         ensures { result ≡ at_rest }
     {
@@ -160,6 +163,7 @@ impl TokenizeState {
             probes: 0,
             runs: RunIndex::new(alloc),
             sequences: SequenceIndex::new(),
+            names: None,
             document_at_first_paragraph_of_list_item: false,
         }
     }

@@ -2,7 +2,7 @@
 use Rattle.std.proofs.Common.{◌≡◌, ℕ, ◌≤◌, ◌==◌, ◌&&◌, Bool, true, false, Option, Some, None, List, [], ◌∷◌, ◌++◌, length, refl, sym, ap, subst, ◌∙◌, append_assoc, arith}
 use Rattle.std.proofs.lemmas.Bool.{eqb-true}
 use Rattle.markdown_engine.specs.Codes.{Code}
-use Rattle.markdown_engine.specs.SequenceIndex.{stand_next, last_begin}
+use Rattle.markdown_engine.specs.SequenceIndex.{stand_next, last_where}
 use Rattle.markdown_engine.proofs.RunIndexFacts.{later-none}
 use Rattle.markdown_model.specs.CodeTests.{is_value, is_whitespace_code, next_is}
 use Rattle.markdown_model.specs.Grammar.{Reading, either, if_next, before, one, any_number, with_first, word_of, up_to_word, ◌then_◌}
@@ -183,11 +183,11 @@ word-absent (n ∷ ns) (c ∷ cs) h =
       | false ↦ λ e. refl
     ] h
 
-pub up-absent : (ns : List ℕ) (cs : List Code) → last_begin ns cs ≡ None → up_to_word ns cs ≡ None
+pub up-absent : (ns : List ℕ) (cs : List Code) → last_where (stand_next ns) cs ≡ None → up_to_word ns cs ≡ None
 unfolding or_read
 up-absent ns [] h = up-end ns
 up-absent ns (c ∷ cs) h =
-    let k = later-none (last_begin ns cs) (stand_next ns (c ∷ cs)) h in
+    let k = later-none (last_where (stand_next ns) cs) (stand_next ns (c ∷ cs)) h in
     up-is ns c cs ∙ ap (λ o. or_read o (with_first c (up_to_word ns cs))) (word-absent ns (c ∷ cs) k.1) ∙ ap (with_first c) (up-absent ns cs k.0)
 
 -- How many codes they take.

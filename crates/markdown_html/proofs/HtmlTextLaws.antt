@@ -6,7 +6,7 @@ use Rattle.markdown_engine.specs.Codes.{Code}
 use Rattle.markdown_engine.specs.Lists.{rest_of}
 use Rattle.markdown_engine.specs.Ops.{Op, Exit, Consume, current_of, ahead, applied, done, scratched}
 use Rattle.markdown_engine.specs.Runs.{Stepped}
-use Rattle.markdown_engine.specs.SequenceIndex.{last_begin, values_of}
+use Rattle.markdown_engine.specs.SequenceIndex.{begins_at, last_where}
 use Rattle.markdown_engine.specs.Weights.{weight_at}
 use Rattle.markdown_engine.specs.declared.event.Name.TheVariants as N
 use Rattle.markdown_engine.specs.declared.sequence_index.Sequence.TheVariants.{CommentEnd, SectionEnd, InstructionEnd, DeclarationEnd}
@@ -175,7 +175,7 @@ module _ (W : Words) (within : Within W) where
       let b : Begins c (ahead T) = ahead-some T c e in
       let rest : List Code = rest_of (ahead T) in
       if-step (GoesIn W (weight_at (rank_of DeclarationOpen) T) (part_ends DeclarationOpen T)) (is_hopeless SectionEnd T) _ _
-      (λ g. part-fails W within DeclarationOpen T alone (ap declaration_rest b.whole ∙ marked-bracket b.code rest (is-so (λ v. v == 45) 91 T c e h) (is-so letter_value 91 T c e h) (is-so (λ v. v == 91) 91 T c e h) ∙ ap (with_first b.code) (section-absent b.code rest (ap (last_begin (values_of SectionEnd)) (sym b.whole) ∙ hopeless-none SectionEnd T r.inside.indexed g))))
+      (λ g. part-fails W within DeclarationOpen T alone (ap declaration_rest b.whole ∙ marked-bracket b.code rest (is-so (λ v. v == 45) 91 T c e h) (is-so letter_value 91 T c e h) (is-so (λ v. v == 91) 91 T c e h) ∙ ap (with_first b.code) (section-absent b.code rest (ap (last_where (begins_at SectionEnd)) (sym b.whole) ∙ hopeless-none SectionEnd T r.inside.indexed g))))
       (λ g. cdata-entered T c alone r e h)
 
   pub declaration_open-law : Law W (part_words DeclarationOpen)

@@ -5,7 +5,7 @@ use Rattle.markdown_engine.specs.Codes.{Code}
 use Rattle.markdown_engine.specs.Lists.{rest_of}
 use Rattle.markdown_engine.specs.Ops.{Op, Consume, current_of, ahead, done, moves, scratched}
 use Rattle.markdown_engine.specs.Runs.{stepped}
-use Rattle.markdown_engine.specs.SequenceIndex.{last_begin, values_of}
+use Rattle.markdown_engine.specs.SequenceIndex.{begins_at, last_where}
 use Rattle.markdown_engine.specs.Weights.{codes_left, weight_at}
 use Rattle.markdown_engine.specs.declared.sequence_index.Sequence.{Sequence}
 use Rattle.markdown_engine.specs.declared.state.State.TheVariants.{Next, Retry, Nok}
@@ -79,11 +79,11 @@ module _ (W : Words) (within : Within W) where
   part-fails k T alone none = Goes-no W (rank_of k) 2 (text_of (reading_of k)) T alone (ap (text_from InLine) none)
 
   -- past a code, unless it is known that what begins with it does not end
-  pub part-unless : (k j : Part) (s : Sequence) (T : Tokenizer) (c : ℕ) → T.attempts ≡ [] → PartReady T → (e : current_of T ≡ Some c) → (c == 10) ≡ false → reading_of k ((ahead-some T c e).code ∷ rest_of (ahead T)) ≡ with_first (ahead-some T c e).code (reading_of j (rest_of (ahead T))) → (last_begin (values_of s) ((ahead-some T c e).code ∷ rest_of (ahead T)) ≡ None → reading_of j (rest_of (ahead T)) ≡ None) → GoesIn W (weight_at (rank_of k) T) (part_ends k T) (past_unless s (state_of j) T)
+  pub part-unless : (k j : Part) (s : Sequence) (T : Tokenizer) (c : ℕ) → T.attempts ≡ [] → PartReady T → (e : current_of T ≡ Some c) → (c == 10) ≡ false → reading_of k ((ahead-some T c e).code ∷ rest_of (ahead T)) ≡ with_first (ahead-some T c e).code (reading_of j (rest_of (ahead T))) → (last_where (begins_at s) ((ahead-some T c e).code ∷ rest_of (ahead T)) ≡ None → reading_of j (rest_of (ahead T)) ≡ None) → GoesIn W (weight_at (rank_of k) T) (part_ends k T) (past_unless s (state_of j) T)
   part-unless k j s T c alone r e h same none =
       let b : Begins c (ahead T) = ahead-some T c e in
       if-step (GoesIn W (weight_at (rank_of k) T) (part_ends k T)) (is_hopeless s T) _ _
-      (λ g. part-fails k T alone (ap (reading_of k) b.whole ∙ same ∙ ap (with_first b.code) (none (ap (last_begin (values_of s)) (sym b.whole) ∙ hopeless-none s T r.inside.indexed g))))
+      (λ g. part-fails k T alone (ap (reading_of k) b.whole ∙ same ∙ ap (with_first b.code) (none (ap (last_where (begins_at s)) (sym b.whole) ∙ hopeless-none s T r.inside.indexed g))))
       (λ g. part-past k j T c alone r e h same)
 
   pub part-over : (k j : Part) (T : Tokenizer) → T.attempts ≡ [] → PartReady T → rank_of j < rank_of k → reading_of k (ahead T) ≡ reading_of j (ahead T) → GoesIn W (weight_at (rank_of k) T) (part_ends k T) (over_to (state_of j) T)

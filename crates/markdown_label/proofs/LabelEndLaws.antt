@@ -163,9 +163,11 @@ module _ (W : Words) (within : Within states W) where
       record {
         part = record {
           short = k.part.short;
+          indexed = k.part.indexed;
           spaces = record { space = ap f k.part.spaces.space; eol = ap f k.part.spaces.eol };
           rest = ap f k.part.rest;
         };
+        listed = k.listed;
         text = k.text;
         end = k.end;
       }

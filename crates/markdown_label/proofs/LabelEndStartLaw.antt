@@ -5,6 +5,7 @@ use Rattle.markdown_engine.specs.Grown.{Fails}
 use Rattle.markdown_engine.specs.Lists.{rest_of}
 use Rattle.markdown_engine.specs.Ops.{ahead, current_of, done, scratched}
 use Rattle.markdown_engine.specs.Past.{past, appended_from}
+use Rattle.markdown_engine.specs.Place.{moved}
 use Rattle.markdown_engine.specs.Runs.{Stepped, stepped}
 use Rattle.markdown_engine.specs.StateWords.{Words, Law, GoesIn}
 use Rattle.markdown_engine.specs.Tree.{Forest, leaf}
@@ -118,6 +119,7 @@ module _ (T : Tokenizer) (x : Code) (cs : List Code) (whole : ahead T ≡ x ∷ 
       let back : place_at P.events (length T.events) ≡ x.start = place-there T.events _ _ in
       let first : is_later_byte x ≡ false = ap later_value (eqb-true x.value 93 here) in
       record {
+        listed = k.listed;
         text = k.text.text;
         first = omega (arith, w.within, length-append T.events more);
         last = omega (arith, length-append T.events more);
@@ -126,15 +128,17 @@ module _ (T : Tokenizer) (x : Code) (cs : List Code) (whole : ahead T ≡ x ∷ 
       }
 
   after-there : (l : Kept.LabelStart) (ls : List Kept.LabelStart) → T.tokenize_state.label_starts ≡ l ∷ ls → StartReady T → is_value 93 x ≡ true → AfterReady P
-  unfolding past scratched
+  unfolding past scratched moved
   after-there l ls e k here =
       let f : TokenizeState → TokenizeState = ended_at (length T.events) in
       record {
         part = record {
           short = omega (arith, left-there, k.part.short);
+          indexed = k.part.indexed;
           spaces = record { space = ap f k.part.spaces.space; eol = ap f k.part.spaces.eol };
           rest = ap f k.part.rest;
         };
+        listed = k.listed;
         some = λ h. none-some l ls (sym e ∙ h);
         text = text-past None (end_tree (x ∷ [])) (ended_at (length T.events) T.tokenize_state) T k.text;
         around = λ m ms h. around-there m ms h k here;

@@ -1,6 +1,7 @@
 -- The proofs of the starts and ends of labels.
 pub mod TextBetween
 pub mod Fronts
+pub mod ListedNames
 pub mod AfterSteps
 pub mod StartStack
 pub mod StartPlaces

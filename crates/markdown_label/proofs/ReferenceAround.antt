@@ -12,6 +12,7 @@ use Rattle.markdown_engine.specs.declared.event.Point.{Point}
 use Rattle.markdown_engine.specs.declared.tokenizer.Tokenizer.{Tokenizer}
 use Rattle.markdown_construct.specs.Characters.{bytes_of}
 use Rattle.markdown_label.specs.LabelEnd.{point_or, place_at, ReferenceIsAround}
+use Rattle.markdown_label.specs.Settings.{IsListed}
 use Rattle.markdown_label.proofs.ReferenceShape.{IsReference, get-after}
 use Rattle.markdown_label.proofs.ReferencePlaces.{HasText}
 
@@ -40,15 +41,16 @@ text-there es t k =
     }
 
 -- so its identifier may be asked for
-pub reference-around : (T U : Tokenizer) (t : Forest) (k : HasText t) → IsUtf8 (bytes_of U) → U.events ≡ T.events ++ appended_from (length T.events) None t → length T.events ≡ U.tokenize_state.end + 4
+pub reference-around : (T U : Tokenizer) (t : Forest) (k : HasText t) → IsListed U → IsUtf8 (bytes_of U) → U.events ≡ T.events ++ appended_from (length T.events) None t → length T.events ≡ U.tokenize_state.end + 4
     → IsCharBoundary (bytes_of U) k.x.start.index → IsCharBoundary (bytes_of U) (stop_of document_start (k.x ∷ k.xs)).index → ReferenceIsAround U
-reference-around T U t k text events end from to =
+reference-around T U t k listed text events end from to =
     let r : AreThere T.events (T.events ++ appended_from (length T.events) None t) k.shape.from k.shape.to = text-there T.events t k.shape in
     let number : U.tokenize_state.end + 7 ≡ length T.events + 3 = omega (arith, end) in
     let enters : place_at U.events (U.tokenize_state.end + 7) ≡ k.x.start = (λ i. place_at (events i) (number i)) ∙ r.enter ∙ k.from in
     let exits : place_at U.events (length U.events - 4) ≡ stop_of document_start (k.x ∷ k.xs) = (λ i. place_at (events i) (length (events i) - 4)) ∙ r.exit ∙ k.to in (
       omega (arith, r.long, ap length events),
       record {
+        listed = listed;
         text = text;
         first = omega (arith, end, r.long, ap length events);
         last = omega (arith, r.long, ap length events);

@@ -30,7 +30,7 @@ use Rattle.markdown_model.proofs.ReadingSteps.{bind-some, bind-none, switched-on
 use Rattle.markdown_string.specs.Label as SL
 use Rattle.markdown_label.specs.LabelEnd.{names_set, label_seen, reference_name, ReferenceIsAround, FullReady, FullFails, reference_full_ends, reference_full_after_ends, reference_full_missing_ends, states, reference_full_words, reference_full_after_words, reference_full_missing_words}
 use Rattle.markdown_resource.specs.Parts.{names_rested, rested, PartReady}
-use Rattle.markdown_label.specs.Settings.{setting_in}
+use Rattle.markdown_label.specs.Settings.{setting_in, IsListed}
 use Rattle.markdown_label.proofs.ReferenceAround.{reference-around}
 use Rattle.markdown_label.proofs.ReferencePlaces.{HasText, label-text}
 use Rattle.markdown_label.proofs.ReferenceShape.{IsReference, label-shape, name-there}
@@ -119,7 +119,7 @@ text-around T U f r =
     let codes : ahead T ≡ k.c ∷ k.x ∷ (k.xs ++ k.d ∷ r.rest) = r.whole ∙ ap (λ cs. cs ++ r.rest) k.whole ∙ ap (λ cs. k.c ∷ k.x ∷ cs) (append_assoc k.xs (k.d ∷ []) r.rest) in
     let places = text-places (bytes_of T) T.cursor k.c k.x k.xs k.d r.rest f.text codes (ap (λ v. nat_lt v 128) k.opens) (ap later_value k.closes) in
     let same : bytes_of U ≡ bytes_of T = ap bytes_of r.left in
-    reference-around T U r.tree k (subst IsUtf8 (sym same) f.text.text) (ap (λ (x : Tokenizer). x.events) r.left) (f.end ∙ ap (λ (x : Tokenizer). x.tokenize_state.end + 4) (sym r.left))
+    reference-around T U r.tree k (subst IsListed (sym r.left) f.listed) (subst IsUtf8 (sym same) f.text.text) (ap (λ (x : Tokenizer). x.events) r.left) (f.end ∙ ap (λ (x : Tokenizer). x.tokenize_state.end + 4) (sym r.left))
     (subst (λ bs. IsCharBoundary bs k.x.start.index) (sym same) places.0)
     (subst (λ bs. IsCharBoundary bs (stop_of document_start (k.x ∷ k.xs)).index) (sym same) places.1)
 

@@ -32,7 +32,7 @@ use Rattle.markdown_resource.specs.Resource as P
 use Rattle.markdown_string.specs.Label as SL
 use Rattle.markdown_util.specs.Identifier.{identifier_of}
 use Rattle.markdown_label.specs.Fields.{bars, with_kind, tried, labelled, loosened}
-use Rattle.markdown_label.specs.Settings.{setting_in}
+use Rattle.markdown_label.specs.Settings.{setting_in, IsListed}
 
 -- Identifiers.
 
@@ -50,8 +50,9 @@ identifier_between T m n = identifier_of (bytes_between (setting_in T) (place_at
 
 -- When the bytes between two events are whole characters.
 
--- both events are there, and each stands between characters of the text
+-- both events are there, and each stands between characters of the text; and what is known of the names that are defined is right
 pub record AreAround (T : Tokenizer) (m n : ℕ) : Type 0 where
+  pub listed : IsListed T
   pub text : IsUtf8 (bytes_of T)
   pub first : m < length T.events
   pub last : n < length T.events
@@ -212,6 +213,7 @@ AreWithin T (l ∷ ls) = EndsBetween T l × AreWithin T ls
 
 pub record StartReady (T : Tokenizer) : Type 0 where
   pub part : PartReady T
+  pub listed : IsListed T
   pub text : ReadsText T
   pub within : AreWithin T T.tokenize_state.label_starts
   pub resting : T.tokenize_state.end ≡ 0
@@ -219,6 +221,7 @@ pub record StartReady (T : Tokenizer) : Type 0 where
 -- the end's four events are the last ones
 pub record AfterReady (T : Tokenizer) : Type 0 where
   pub part : PartReady T
+  pub listed : IsListed T
   pub some : T.tokenize_state.label_starts ≢ []
   pub text : ReadsText T
   pub around : LabelIsAround T
@@ -226,6 +229,7 @@ pub record AfterReady (T : Tokenizer) : Type 0 where
 
 pub record FullReady (T : Tokenizer) : Type 0 where
   pub part : PartReady T
+  pub listed : IsListed T
   pub text : ReadsText T
   pub end : length T.events ≡ T.tokenize_state.end + 4
 

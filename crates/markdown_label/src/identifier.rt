@@ -9,7 +9,7 @@ ghost use Rattle.markdown_util.specs.Identifier.{identifier_of};
 ghost use Rattle.markdown_label.specs.LabelEnd.{AreAround};
 ghost use Rattle.markdown_label.specs.Lookup.{AreCuts, IsKnownName};
 ghost use Rattle.markdown_label.specs.LabelEnd.{identifier_between};
-ghost use Rattle.markdown_label.specs.Settings.{setting_in};
+ghost use Rattle.markdown_label.specs.Settings.{setting_in, IsListed};
 ghost use Rattle.markdown_model.specs.LabelEnd.{is_footnote, link_identifier};
 ghost use Rattle.markdown_model.specs.Setting.{is_defined};
 
@@ -94,21 +94,40 @@ pub(crate) fn link_identifier(
 
 // Whether a label of this kind with this identifier is a footnote call.
 pub(crate) fn is_call(tokenizer: &Tokenizer, kind: LabelKind, name: &str) -> bool
+    requires { IsListed tokenizer.now }
     ensures { result ≡ (is_footnote kind && is_defined (setting_in tokenizer.now).footnotes name.now) }
 {
-    let calls = tokenizer.parse_state.gfm_footnote_definitions.as_slice();
-    is_footnote(kind) && is_defined(calls, name)
+    is_footnote(kind) && names_footnote(tokenizer, name)
 }
 
-// Whether the identifier is that of a definition.
+// Whether the identifier is that of a footnote: by a search, where the names are known in order.
+fn names_footnote(tokenizer: &Tokenizer, name: &str) -> bool
+    requires { IsListed tokenizer.now }
+    ensures { result ≡ is_defined (setting_in tokenizer.now).footnotes name.now }
+{
+    match &tokenizer.tokenize_state.names {
+        Some(names) => names.footnotes.has(name),
+        None => is_defined(
+            tokenizer.parse_state.gfm_footnote_definitions.as_slice(),
+            name,
+        ),
+    }
+}
+
+// Whether the identifier is that of a definition: by a search, where the names are known in order.
 fn names_definition(tokenizer: &Tokenizer, name: &str) -> bool
+    requires { IsListed tokenizer.now }
     ensures { result ≡ is_defined (setting_in tokenizer.now).definitions name.now }
 {
-    is_defined(tokenizer.parse_state.definitions.as_slice(), name)
+    match &tokenizer.tokenize_state.names {
+        Some(names) => names.definitions.has(name),
+        None => is_defined(tokenizer.parse_state.definitions.as_slice(), name),
+    }
 }
 
 // Whether the identifier of a label of this kind is defined, as a link's.
 fn is_link_defined(tokenizer: &Tokenizer, kind: LabelKind, name: &str) -> Result<bool, AllocError>
+    requires { IsListed tokenizer.now }
     ensures { IfOk result (λ defined. defined ≡ is_defined (setting_in tokenizer.now).definitions (link_identifier kind name.now)) }
 {
     let text = link_identifier(tokenizer.alloc, kind, name)?;
@@ -157,6 +176,7 @@ pub(crate) fn is_link(
     kind: LabelKind,
     name: &str,
 ) -> Result<bool, AllocError>
+    requires { IsListed tokenizer.old }
     ensures defined { IfOk result (λ defined. defined ≡ is_defined (setting_in tokenizer.old).definitions (link_identifier kind name.now)) }
     ensures same { OnOk result (tokenizer.new ≡ tokenizer.old) }
     ensures err { OnErr result (IsTrue tokenizer.new.failed) }

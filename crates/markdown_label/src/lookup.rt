@@ -7,7 +7,7 @@ ghost use Rattle.std.specs.Str.{IsCharBoundary};
 ghost use Rattle.markdown_construct.specs.Characters.{bytes_of};
 ghost use Rattle.markdown_util.specs.Identifier.{identifier_of};
 ghost use Rattle.markdown_label.specs.Lookup.{AreCuts, begins_one, begins_defined, IsUnknown};
-ghost use Rattle.markdown_label.specs.Settings.{setting_in};
+ghost use Rattle.markdown_label.specs.Settings.{setting_in, IsListed};
 
 use crate::identifier::{identifier_of, is_footnote, link_identifier};
 use markdown_engine::tokenizer::{LabelKind, Tokenizer};
@@ -46,16 +46,41 @@ fn begins_one(definitions: &[String], front: &str) -> bool
     one_begins(definitions, front)
 }
 
+// Whether the identifier of a footnote begins so: by a search, where the names are known in order.
+fn begins_footnote(tokenizer: &Tokenizer, front: &str) -> bool
+    requires { IsListed tokenizer.now }
+    ensures { result ≡ begins_one (setting_in tokenizer.now).footnotes front.now }
+{
+    match &tokenizer.tokenize_state.names {
+        Some(names) => names.footnotes.begins(front),
+        None => begins_one(
+            tokenizer.parse_state.gfm_footnote_definitions.as_slice(),
+            front,
+        ),
+    }
+}
+
+// Whether the identifier of a definition begins so: by a search, where the names are known in order.
+fn begins_definition(tokenizer: &Tokenizer, front: &str) -> bool
+    requires { IsListed tokenizer.now }
+    ensures { result ≡ begins_one (setting_in tokenizer.now).definitions front.now }
+{
+    match &tokenizer.tokenize_state.names {
+        Some(names) => names.definitions.begins(front),
+        None => begins_one(tokenizer.parse_state.definitions.as_slice(), front),
+    }
+}
+
 // Whether anything that a label of this kind may stand for begins so.
 fn begins_defined(tokenizer: &Tokenizer, kind: LabelKind, front: &str) -> Result<bool, AllocError>
+    requires { IsListed tokenizer.now }
     ensures { IfOk result (λ begins. begins ≡ begins_defined (setting_in tokenizer.now) kind front.now) }
 {
-    let calls = tokenizer.parse_state.gfm_footnote_definitions.as_slice();
-    if is_footnote(kind) && begins_one(calls, front) {
+    if is_footnote(kind) && begins_footnote(tokenizer, front) {
         return Ok(true);
     }
     let text = link_identifier(tokenizer.alloc, kind, front)?;
-    Ok(begins_one(tokenizer.parse_state.definitions.as_slice(), text.as_str()))
+    Ok(begins_definition(tokenizer, text.as_str()))
 }
 
 // Whether nothing is defined, so that no identifier has to be read.
@@ -76,7 +101,8 @@ pub(crate) fn is_ruled_out(
     start: usize,
     end: usize,
 ) -> Result<bool, AllocError>
-    requires { AreCuts (bytes_of tokenizer.now) start end }
+    requires cuts { AreCuts (bytes_of tokenizer.now) start end }
+    requires listed { IsListed tokenizer.now }
     ensures { IfOk result (λ out. IsTrue out → IsUnknown (setting_in tokenizer.now) kind (identifier_of (slice_range (bytes_of tokenizer.now) start end))) }
 {
     if defines_nothing(tokenizer) {

@@ -162,3 +162,28 @@ fn reads_long_labels_of_footnotes(rt: HostRuntime) -> Result<(), Fail> {
     )?;
     Ok(())
 }
+
+// Behind so many brackets, with so many definitions, that their names are put in order.
+const ORDERED: [Row; 3] = [
+    (
+        &[("]", 16), ("[b] [d]", 1)],
+        "Data 0-16, Link 16-19 [Label 16-19 [LabelLink 16-17, LabelText 17-18 [Data 17-18], LabelEnd 18-19]], Data 19-23",
+    ),
+    (
+        &[("]", 16), ("[^e] [^g]", 1)],
+        "Data 0-16, GfmFootnoteCall 16-20 [Label 16-20 [GfmFootnoteCallLabel 16-18 [LabelMarker 16-17, GfmFootnoteCallMarker 17-18], LabelText 18-19 [Data 18-19], LabelEnd 19-20]], Data 20-25",
+    ),
+    (&[("]", 16), ("[", 1), ("x", 100), ("]", 1)], "Data 0-118"),
+];
+
+#[test]
+fn finds_names_in_order(rt: HostRuntime) -> Result<(), Fail> {
+    let given = noted(
+        &[
+            "p", "o", "n", "m", "l", "k", "j", "i", "h", "q", "r", "s", "t", "c", "b", "a",
+        ],
+        &["f", "e"],
+    );
+    expect_repeated(&rt, rt.alloc(), &given, &ORDERED)?;
+    Ok(())
+}

@@ -133,6 +133,39 @@ fn reads_titles(rt: HostRuntime) -> Result<(), Fail> {
     Ok(())
 }
 
+// Titles in parentheses, which are tried only where a resource may end behind one.
+const PARENTHESES: [(&str, &str); 8] = [
+    (
+        "[a](b (c) )",
+        "Link 0-11 [Label 0-3 [LabelLink 0-1, LabelText 1-2 [Data 1-2], LabelEnd 2-3], Resource 3-11 [ResourceMarker 3-4, Raw 4-5, SpaceOrTab 5-6, ResourceTitle 6-9 [ResourceTitleMarker 6-7, ResourceTitleString 7-8 [Data 7-8], ResourceTitleMarker 8-9], SpaceOrTab 9-10, ResourceMarker 10-11]]",
+    ),
+    (
+        "[a](b (c)\n)",
+        "Link 0-11 [Label 0-3 [LabelLink 0-1, LabelText 1-2 [Data 1-2], LabelEnd 2-3], Resource 3-11 [ResourceMarker 3-4, Raw 4-5, SpaceOrTab 5-6, ResourceTitle 6-9 [ResourceTitleMarker 6-7, ResourceTitleString 7-8 [Data 7-8], ResourceTitleMarker 8-9], LineEnding 9-10, ResourceMarker 10-11]]",
+    ),
+    ("[a](b (c", "Data 0-8"),
+    ("[a](b (c)", "Data 0-9"),
+    ("[a](b (c) d)", "Data 0-12"),
+    (
+        "[a](b (c [a](b (c))",
+        "Link 0-19 [Label 0-3 [LabelLink 0-1, LabelText 1-2 [Data 1-2], LabelEnd 2-3], Resource 3-19 [ResourceMarker 3-4, Raw 4-5, SpaceOrTab 5-6, ResourceTitle 6-18 [ResourceTitleMarker 6-7, ResourceTitleString 7-17 [Data 7-17], ResourceTitleMarker 17-18], ResourceMarker 18-19]]",
+    ),
+    (
+        "[a](b (c) d) [a](b (c))",
+        "Data 0-13, Link 13-23 [Label 13-16 [LabelLink 13-14, LabelText 14-15 [Data 14-15], LabelEnd 15-16], Resource 16-23 [ResourceMarker 16-17, Raw 17-18, SpaceOrTab 18-19, ResourceTitle 19-22 [ResourceTitleMarker 19-20, ResourceTitleString 20-21 [Data 20-21], ResourceTitleMarker 21-22], ResourceMarker 22-23]]",
+    ),
+    (
+        "[a](b (c)) [a](b (c)",
+        "Link 0-10 [Label 0-3 [LabelLink 0-1, LabelText 1-2 [Data 1-2], LabelEnd 2-3], Resource 3-10 [ResourceMarker 3-4, Raw 4-5, SpaceOrTab 5-6, ResourceTitle 6-9 [ResourceTitleMarker 6-7, ResourceTitleString 7-8 [Data 7-8], ResourceTitleMarker 8-9], ResourceMarker 9-10]], Data 10-20",
+    ),
+];
+
+#[test]
+fn reads_titles_in_parentheses(rt: HostRuntime) -> Result<(), Fail> {
+    expect(&rt, rt.alloc(), &plain(), &PARENTHESES)?;
+    Ok(())
+}
+
 // What is no resource, where nothing is defined.
 const NO_RESOURCES: [(&str, &str); 10] = [
     ("[a](b c)", "Data 0-8"),

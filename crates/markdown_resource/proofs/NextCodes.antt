@@ -1,7 +1,9 @@
--- Readings and tests by the code at hand.
-use Rattle.std.proofs.Common.{◌≡◌, ℕ, ◌==◌, Bool, true, false, Some, None, List, refl, ap, ◌∙◌}
+-- Readings and tests by the code at hand, and what the codes of a content are past some of them.
+use Rattle.std.proofs.Common.{◌≡◌, ℕ, ◌==◌, Bool, true, false, Some, None, List, [], ◌∷◌, refl, ap, ◌∙◌}
 use Rattle.markdown_engine.specs.Codes.{Code}
 use Rattle.markdown_engine.specs.Ops.{ahead, current_of}
+use Rattle.markdown_engine.specs.Past.{moved_by}
+use Rattle.markdown_engine.specs.Place.{Place, moved}
 use Rattle.markdown_engine.specs.declared.tokenizer.Tokenizer.{Tokenizer}
 use Rattle.markdown_engine.proofs.OpRules.{Begins, ahead-none, ahead-some}
 use Rattle.markdown_model.specs.CodeTests.{is_value, next_is}
@@ -22,3 +24,9 @@ next-takes p a b cs e = rw (e, if_next) refl
 pub next-leaves : {A : Type 0} (p : Code → Bool) (a b : Reading A) (cs : List Code) → next_is p cs ≡ false → if_next p a b cs ≡ b cs
 unfolding if_next
 next-leaves p a b cs e = rw (e, if_next) refl
+
+-- the codes of a content stay the same past some of them
+pub same-codes : (cs : List Code) (p : Place) → (moved_by cs p).codes ≡ p.codes
+unfolding moved
+same-codes [] p = refl
+same-codes (c ∷ cs) p = same-codes cs (moved p)

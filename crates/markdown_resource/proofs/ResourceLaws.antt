@@ -6,6 +6,7 @@ use Rattle.markdown_engine.specs.Lists.{rest_of}
 use Rattle.markdown_engine.specs.Ops.{Exit, ahead, applied, current_of, frame_of, scratched}
 use Rattle.markdown_engine.specs.Past.{TreeReading, Reads, Refuses, past, last_link, behind}
 use Rattle.markdown_engine.specs.Runs.{restored}
+use Rattle.markdown_engine.specs.SequenceIndex.{IsRightFor, last_begins}
 use Rattle.markdown_engine.specs.StateWords.{Words, Law, GoesIn}
 use Rattle.markdown_engine.specs.Tree.{Forest, empty, leaf_then, group_then, ◌⊕◌, leaf_codes, event_count}
 use Rattle.markdown_engine.specs.Weights.{weight_at}
@@ -33,6 +34,7 @@ use Rattle.markdown_partial.specs.EolSteps.{WhitespaceAtRest, eol_asked, at_endi
 use Rattle.markdown_partial.proofs.AskedLaws.{eol-asked-ready, eol-asked-ends}
 use Rattle.markdown_partial.proofs.SpacingLemmas.{spacing-none}
 use Rattle.markdown_resource.specs.Parts.{PartReady, rested}
+use Rattle.markdown_resource.proofs.NextCodes.{same-codes}
 use Rattle.markdown_resource.specs.Resource.{at_space, at_close, spaced, or_without, opened, inside, InReady, RowEnds, before_ends, open_ends, before_words, states}
 
 -- Rows.
@@ -119,11 +121,20 @@ stack-read : (r : TreeReading) (T U : Tokenizer) → (k : Reads r None T.tokeniz
 unfolding past scratched
 stack-read r T U k = ap (λ (x : Tokenizer). x.stack) k.left
 
+-- what is known of sequences is right for a tokenizer with the same codes, of which as much is known
+pub indexed-same : (T U : Tokenizer) → U.cursor.codes ≡ T.cursor.codes → U.tokenize_state.sequences ≡ T.tokenize_state.sequences → IsRightFor T.cursor.codes T.tokenize_state.sequences → IsRightFor U.cursor.codes U.tokenize_state.sequences
+indexed-same T U codes same right last known = right last (sym same ∙ known) ∙ ap last_begins (sym codes)
+
+pub codes-read : (r : TreeReading) (s : TokenizeState) (T U : Tokenizer) → (k : Reads r None s T U) → U.cursor.codes ≡ T.cursor.codes
+unfolding past scratched
+codes-read r s T U k = ap (λ (x : Tokenizer). x.cursor.codes) k.left ∙ same-codes (leaf_codes k.tree) T.cursor
+
 pub part-read : (r : TreeReading) (T U : Tokenizer) → Reads r None T.tokenize_state T U → PartReady T → PartReady U
 part-read r T U k p =
     let same : U.tokenize_state ≡ T.tokenize_state = fields-read r T U k in
     record {
       short = omega (arith, left-read r None T.tokenize_state T U k, p.short);
+      indexed = indexed-same T U (codes-read r T.tokenize_state T U k) (ap (λ (s : TokenizeState). s.sequences) same) p.indexed;
       spaces = subst WhitespaceAtRest (sym same) p.spaces;
       rest = subst (λ (s : TokenizeState). rested s ≡ s) (sym same) p.rest;
     }

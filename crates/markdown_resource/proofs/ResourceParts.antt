@@ -5,11 +5,13 @@ use Rattle.markdown_engine.specs.Grown.{Grown, Fails}
 use Rattle.markdown_engine.specs.Lists.{rest_of}
 use Rattle.markdown_engine.specs.Ops.{Exit, ahead, applied, current_of, done, scratched}
 use Rattle.markdown_engine.specs.Past.{TreeReading, Reads, past, behind}
+use Rattle.markdown_engine.specs.Place.{ahead_at}
 use Rattle.markdown_engine.specs.Runs.{stepped}
 use Rattle.markdown_engine.specs.StateWords.{StateWords, Words, words_in, Law, GoesIn}
 use Rattle.markdown_engine.specs.Tree.{Forest, leaf, leaf_codes}
 use Rattle.markdown_engine.specs.Weights.{codes_left, weight_at}
 use Rattle.markdown_engine.specs.declared.event.Name.TheVariants as N
+use Rattle.markdown_engine.specs.declared.sequence_index.Sequence.TheVariants.{ResourceEnd}
 use Rattle.markdown_engine.specs.declared.state.State.TheVariants.{Next, Retry}
 use Rattle.markdown_engine.specs.declared.state.StateName.{StateName}
 use Rattle.markdown_engine.specs.declared.state.StateName.TheVariants.{DestinationStart, LabelEndResourceBetween, LabelEndResourceDestinationAfter, LabelEndResourceDestinationMissing, LabelEndResourceEnd, LabelEndResourceTitleAfter, TitleStart}
@@ -18,7 +20,8 @@ use Rattle.markdown_engine.specs.declared.tokenizer.Tokenizer.{Tokenizer}
 use Rattle.markdown_engine.proofs.EndsLemmas.{left-read, scratched-same}
 use Rattle.markdown_engine.proofs.Laws.{Grown-refl, if-step, restored-fails}
 use Rattle.markdown_engine.proofs.OpRules.{Begins, ahead-none, ahead-some, attempts-scratched, left-scratched}
-use Rattle.markdown_engine.proofs.OpsLemmas.{attempts-done}
+use Rattle.markdown_engine.proofs.OpsLemmas.{and-left, and-right, attempts-done}
+use Rattle.markdown_engine.proofs.SequenceIndexLemmas.{ruled-out}
 use Rattle.markdown_engine.proofs.SolidLemmas.{IsSolid-leaf}
 use Rattle.markdown_engine.proofs.TreeLemmas.{ahead-past, ops-past}
 use Rattle.markdown_model.specs.CodeTests.{is_value, next_is}
@@ -33,8 +36,10 @@ use Rattle.markdown_partial.specs.EolSteps.{WhitespaceAtRest}
 use Rattle.markdown_string.specs.Destination as SD
 use Rattle.markdown_string.specs.Title as ST
 use Rattle.markdown_resource.specs.Parts.{PartReady, rested, names_rested}
-use Rattle.markdown_resource.specs.Resource.{destination_asked, destination_rested, title_asked, front_ops, at_space, at_close, at_title, spaced, destination_put, destination_after_step, title_put, title_after_step, RowReads, RowEnds, closes, or_without, and_then, after_title, between, after_destination_of, after_destination, opened, InReady, open_ends, destination_after_ends, missing_ends, between_ends, title_after_ends, end_ends, open_words, destination_after_words, missing_words, between_words, title_after_words, end_words, states}
-use Rattle.markdown_resource.proofs.ResourceLaws.{NoLinks, row-then, row-scratched, row-same, no-space, closes-here, fields-read, in-read, spacing-unlinked, spaced-law}
+use Rattle.markdown_resource.specs.Resource.{destination_asked, destination_rested, title_asked, front_ops, at_space, at_close, at_title, at_parenthesis, is_hopeless, spaced, destination_put, destination_after_step, title_put, title_after_step, RowReads, RowEnds, closes, or_without, and_then, after_title, between, after_destination_of, after_destination, opened, InReady, open_ends, destination_after_ends, missing_ends, between_ends, title_after_ends, end_ends, open_words, destination_after_words, missing_words, between_words, title_after_words, end_words, states}
+use Rattle.markdown_resource.proofs.NextCodes.{at-value, at-none}
+use Rattle.markdown_resource.proofs.TitleEnds.{no-title}
+use Rattle.markdown_resource.proofs.ResourceLaws.{NoLinks, indexed-same, codes-read, row-then, row-scratched, row-same, no-space, closes-here, fields-read, in-read, spacing-unlinked, spaced-law}
 use Rattle.markdown_resource.proofs.ResourceReadings.{closes-none}
 
 -- Names that were set, put to rest.
@@ -64,6 +69,10 @@ asked-stack q r T U k = ap (λ (x : Tokenizer). x.stack) k.left
 asked-fewer : (q : TokenizeState) (r : TreeReading) (T U : Tokenizer) → (k : Reads r None q (scratched q T) U) → codes_left U ≤ codes_left T
 asked-fewer q r T U k = omega (arith, left-read r None q (scratched q T) U k, left-scratched q T)
 
+asked-codes : (q : TokenizeState) (r : TreeReading) (T U : Tokenizer) → (k : Reads r None q (scratched q T) U) → U.cursor.codes ≡ T.cursor.codes
+unfolding scratched
+asked-codes q r T U k = codes-read r q (scratched q T) U k
+
 asked-whole : (q : TokenizeState) (r : TreeReading) (T U : Tokenizer) → (k : Reads r None q (scratched q T) U) → ahead T ≡ leaf_codes k.tree ++ ahead U
 unfolding scratched
 asked-whole q r T U k = k.whole ∙ ap (λ xs. leaf_codes k.tree ++ xs) (sym k.after)
@@ -73,10 +82,10 @@ unfolding scratched
 asked-holds q r T U k = k.holds ∙ ap (λ xs. Some (k.tree, xs)) (sym k.after)
 
 -- the fields are as they were in T
-part-back : (put : TokenizeState → TokenizeState) (T U : Tokenizer) → PartReady T → codes_left U ≤ codes_left T → put U.tokenize_state ≡ T.tokenize_state → PartReady (scratched (put U.tokenize_state) U)
+part-back : (put : TokenizeState → TokenizeState) (T U : Tokenizer) → PartReady T → codes_left U ≤ codes_left T → U.cursor.codes ≡ T.cursor.codes → put U.tokenize_state ≡ T.tokenize_state → PartReady (scratched (put U.tokenize_state) U)
 unfolding scratched
-part-back put T U p fewer e =
-    record { short = omega (arith, fewer, p.short); spaces = subst WhitespaceAtRest (sym e) p.spaces; rest = subst (λ (s : TokenizeState). rested s ≡ s) (sym e) p.rest }
+part-back put T U p fewer codes e =
+    record { short = omega (arith, fewer, p.short); indexed = indexed-same T (scratched (put U.tokenize_state) U) codes (ap (λ (s : TokenizeState). s.sequences) e) p.indexed; spaces = subst WhitespaceAtRest (sym e) p.spaces; rest = subst (λ (s : TokenizeState). rested s ≡ s) (sym e) p.rest }
 
 -- destinations and titles are groups
 destination-yields : Yields NoLinks (destination 32 resource_names)
@@ -100,6 +109,16 @@ given-unlinked r y cs t rest e = subst (λ o. Passes NoLinks o) e (y.at cs)
 titles-here : (T : Tokenizer) (o : Option ℕ) → current_of T ≡ o → at_title o ≡ begins_title (ahead T)
 titles-here T None e = sym (ap begins_title (ahead-none T e))
 titles-here T (Some v) e = let b : Begins v (ahead T) = ahead-some T v e in sym (ap begins_title b.whole ∙ ap (λ x. x == 34 || (x == 39 || (x == 40 || false))) b.value)
+
+parenthesis-here : (T : Tokenizer) (o : Option ℕ) → current_of T ≡ o → at_parenthesis o ≡ next_is (is_value 40) (ahead T)
+parenthesis-here T None e = sym (at-none T 40 e)
+parenthesis-here T (Some v) e = sym (at-value T v 40 (v == 40) e refl)
+
+hopeless-between : (T : Tokenizer) → InReady T → is_hopeless T ≡ true → between (ahead T) ≡ None
+unfolding ahead_at
+hopeless-between T p h =
+    no-title (ahead T) (sym (parenthesis-here T (current_of T) refl) ∙ and-left _ _ h)
+    (ruled-out T.tokenize_state.sequences T.cursor.codes ResourceEnd T.cursor.at p.part.indexed (and-right (at_parenthesis (current_of T)) _ h))
 
 exited-ahead : (T : Tokenizer) → ahead (applied (Exit N.Resource) T) ≡ ahead T
 unfolding applied
@@ -237,7 +256,7 @@ module _ (W : Words) (within : Within states W) where
       (size-rest T p)
       (omega (arith, left-scratched q T))
       (λ U now g. let k = destination-read T U g in
-      follows W n (open_ends T) (Next LabelEndResourceDestinationAfter) (within LabelEndResourceDestinationAfter) U (record { part = part-back destination_rested T U p.part (asked-fewer q _ T U k) (ap destination_rested (asked-fields q _ T U k) ∙ destination-back s p.part.rest); whole = subst (λ ns. ns ≡ N.Resource ∷ rest_of ns) (sym (asked-stack q _ T U k)) p.whole })
+      follows W n (open_ends T) (Next LabelEndResourceDestinationAfter) (within LabelEndResourceDestinationAfter) U (record { part = part-back destination_rested T U p.part (asked-fewer q _ T U k) (asked-codes q _ T U k) (ap destination_rested (asked-fields q _ T U k) ∙ destination-back s p.part.rest); whole = subst (λ ns. ns ≡ N.Resource ∷ rest_of ns) (sym (asked-stack q _ T U k)) p.whole })
       (omega (arith, asked-fewer q _ T U k))
       (λ ok V x.
       row-then opened after_destination k.tree q s T U (given-unlinked (destination 32 resource_names) destination-yields (ahead T) k.tree (ahead U) (asked-holds q _ T U k)) (asked-left q _ T U k) (asked-whole q _ T U k)
@@ -247,12 +266,20 @@ module _ (W : Words) (within : Within states W) where
       subst (λ (x : Tokenizer). FollowsIn W n (open_ends T) (Next LabelEndResourceDestinationMissing) x) (sym (restored-fails false (Next LabelEndResourceDestinationAfter) (Next LabelEndResourceDestinationMissing) q M U k.1))
       (missing-there n q opened T (omega arith) (destination-back s p.part.rest) (other ∙ ap (λ o. and_then o after_destination) k.0))))
 
+  -- no resource ends behind a title in parentheses
+  given-up : (T : Tokenizer) → InReady T → is_hopeless T ≡ true → (ok : Bool) (U : Tokenizer) → (ok ≡ false) × (U ≡ T) → between_ends T ok U
+  given-up T p h true U x = cc
+  given-up T p h false U x = refuses-so between T U (hopeless-between T p h) x.1
+
   pub between-law : Law W between_words
   between-law T alone p =
       let s : TokenizeState = T.tokenize_state in
       let q : TokenizeState = title_asked s in
       let n : ℕ = weight_at 12 T in
       let M : Tokenizer = scratched q T in
+      if-step (GoesIn W n (between_ends T)) (is_hopeless T) _ _
+      (λ h. Goes-end W n (between_ends T) false T alone (omega arith) (λ ok U x. given-up T p h ok U x))
+      (λ h.
       if-step (GoesIn W n (between_ends T)) (at_title (current_of T)) _ _
       (λ h.
       let here : between (ahead T) ≡ and_then (title title_names (ahead T)) after_title = if-true _ _ _ (sym (titles-here T (current_of T) refl) ∙ h) in
@@ -260,7 +287,7 @@ module _ (W : Words) (within : Within states W) where
       (title-ready T p)
       (omega (arith, left-scratched q T))
       (λ U now g. let k = title-read T U g in
-      follows W n (between_ends T) (Next LabelEndResourceTitleAfter) (within LabelEndResourceTitleAfter) U (record { part = part-back names_rested T U p.part (asked-fewer q _ T U k) (ap names_rested (asked-fields q _ T U k) ∙ title-back s p.part.rest); whole = subst (λ ns. ns ≡ N.Resource ∷ rest_of ns) (sym (asked-stack q _ T U k)) p.whole })
+      follows W n (between_ends T) (Next LabelEndResourceTitleAfter) (within LabelEndResourceTitleAfter) U (record { part = part-back names_rested T U p.part (asked-fewer q _ T U k) (asked-codes q _ T U k) (ap names_rested (asked-fields q _ T U k) ∙ title-back s p.part.rest); whole = subst (λ ns. ns ≡ N.Resource ∷ rest_of ns) (sym (asked-stack q _ T U k)) p.whole })
       (omega (arith, asked-fewer q _ T U k))
       (λ ok V x.
       row-then between after_title k.tree q s T U (given-unlinked (title title_names) title-yields (ahead T) k.tree (ahead U) (asked-holds q _ T U k)) (asked-left q _ T U k) (asked-whole q _ T U k)
@@ -269,7 +296,7 @@ module _ (W : Words) (within : Within states W) where
       (λ U now g. let k = title-refused T U g in
       subst (λ (x : Tokenizer). FollowsIn W n (between_ends T) (Next LabelEndResourceDestinationMissing) x) (sym (restored-fails false (Next LabelEndResourceTitleAfter) (Next LabelEndResourceDestinationMissing) q M U k.1))
       (missing-there n q between T (omega arith) (missing-back s p.part.rest) (here ∙ ap (λ o. and_then o after_title) k.0))))
-      (λ h. end-goes n between T alone p (omega arith) (sym (if-false _ _ _ (sym (titles-here T (current_of T) refl) ∙ h))))
+      (λ h. end-goes n between T alone p (omega arith) (sym (if-false _ _ _ (sym (titles-here T (current_of T) refl) ∙ h)))))
 
   -- the closing marker
   pub end-law : Law W end_words

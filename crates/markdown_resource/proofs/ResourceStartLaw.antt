@@ -5,7 +5,7 @@ use Rattle.markdown_engine.specs.Grown.{Grown, Fails}
 use Rattle.markdown_engine.specs.Lists.{rest_of}
 use Rattle.markdown_engine.specs.Ops.{Enter, Exit, ahead, applied, current_of, done, scratched}
 use Rattle.markdown_engine.specs.Past.{TreeReading, past, behind, moved_by}
-use Rattle.markdown_engine.specs.Place.{point_of, exit_point}
+use Rattle.markdown_engine.specs.Place.{point_of, exit_point, moved}
 use Rattle.markdown_engine.specs.Runs.{Stepped, stepped}
 use Rattle.markdown_engine.specs.StateWords.{Words, Law, GoesIn}
 use Rattle.markdown_engine.specs.Tree.{Forest, empty, leaf_then, group_then, leaf, ◌⊕◌, group, leaf_codes, exit_after}
@@ -133,8 +133,8 @@ module _ (T : Tokenizer) (x : Code) (cs : List Code) (whole : ahead T ≡ x ∷ 
   left-there = omega (arith, left-ahead P, left-ahead T, ap length ahead-there, ap length whole)
 
   ready-there : PartReady T → InReady P
-  unfolding past applied
-  ready-there p = record { part = record { short = omega (arith, left-there, p.short); spaces = p.spaces; rest = p.rest }; whole = refl }
+  unfolding past applied moved
+  ready-there p = record { part = record { short = omega (arith, left-there, p.short); indexed = p.indexed; spaces = p.spaces; rest = p.rest }; whole = refl }
 
   row-there : (t : Forest) (U : Tokenizer) → U ≡ applied (Exit N.Resource) (past None t (scratched P.tokenize_state P)) → U ≡ applied (Exit N.Resource) (past None (M ⊕ t) (applied (Enter N.Resource) T))
   unfolding past applied scratched

@@ -1,13 +1,15 @@
 -- What the states of a resource do, and how runs from them end.
-use Rattle.std.specs.Prelude.{◌≡◌, ℕ, Bool, true, false, ◌==◌, ◌||◌, if◌then◌else◌, List, [], ◌∷◌, ◌++◌, Option, Some, None}
+use Rattle.std.specs.Prelude.{◌≡◌, ℕ, Bool, true, false, ◌==◌, ◌&&◌, ◌||◌, if◌then◌else◌, List, [], ◌∷◌, ◌++◌, Option, Some, None}
 use Rattle.markdown_engine.specs.Codes.{Code}
 use Rattle.markdown_engine.specs.Grown.{Grown}
 use Rattle.markdown_engine.specs.Ops.{Op, Enter, Exit, Consume, IsOpen, ahead, applied, attempted, current_of, done, scratched}
 use Rattle.markdown_engine.specs.Past.{EndsAs, TreeReading, past, behind}
 use Rattle.markdown_engine.specs.Runs.{Stepped, stepped}
+use Rattle.markdown_engine.specs.SequenceIndex.{rules_out}
 use Rattle.markdown_engine.specs.StateWords.{StateWords}
 use Rattle.markdown_engine.specs.Tree.{Forest, leaf, leaf_codes}
 use Rattle.markdown_engine.specs.declared.event.Name.TheVariants as N
+use Rattle.markdown_engine.specs.declared.sequence_index.Sequence.TheVariants.{ResourceEnd}
 use Rattle.markdown_engine.specs.declared.state.State.TheVariants.{Next, Retry, Ok, Nok}
 use Rattle.markdown_engine.specs.declared.state.StateName.{StateName}
 use Rattle.markdown_engine.specs.declared.state.StateName.TheVariants.{DestinationStart, LabelEndResourceBefore, LabelEndResourceBetween, LabelEndResourceDestinationAfter, LabelEndResourceDestinationMissing, LabelEndResourceEnd, LabelEndResourceOpen, LabelEndResourceStart, LabelEndResourceTitleAfter, SpaceOrTabEolStart, TitleStart}
@@ -87,9 +89,18 @@ abbrev pub at_title : Option ℕ → Bool
 at_title None = false
 at_title (Some v) = v == 34 || (v == 39 || (v == 40 || false))
 
+abbrev pub at_parenthesis : Option ℕ → Bool
+at_parenthesis None = false
+at_parenthesis (Some v) = v == 40
+
+-- a title in parentheses may begin here, and it is known that no resource ends behind one
+abbrev pub is_hopeless : Tokenizer → Bool
+is_hopeless T = at_parenthesis (current_of T) && rules_out T.tokenize_state.sequences ResourceEnd T.cursor.at
+
 abbrev pub between_step : Tokenizer → Stepped
 between_step T =
-    if at_title (current_of T) then stepped (Retry TitleStart) (attempted false (Next LabelEndResourceTitleAfter) (Next LabelEndResourceDestinationMissing) (scratched (title_asked T.tokenize_state) T))
+    if is_hopeless T then stepped Nok T
+    else if at_title (current_of T) then stepped (Retry TitleStart) (attempted false (Next LabelEndResourceTitleAfter) (Next LabelEndResourceDestinationMissing) (scratched (title_asked T.tokenize_state) T))
     else stepped (Retry LabelEndResourceEnd) T
 
 abbrev pub title_put : Tokenizer → Tokenizer

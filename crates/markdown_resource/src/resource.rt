@@ -8,9 +8,10 @@ ghost use Rattle.std.specs.Prelude.{◌≡◌, IfOk, OnErr, IsTrue};
 ghost use Rattle.markdown_engine.specs.Ops.{IsOpen};
 ghost use Rattle.markdown_engine.specs.declared.event.Name.TheVariants.{Resource};
 ghost use Rattle.markdown_resource.specs.Parts.{names_rested};
-ghost use Rattle.markdown_resource.specs.Resource.{destination_asked, destination_rested, title_asked, start_step, before_step, open_step, destination_after_step, missing_step, between_step, title_after_step, end_step};
+ghost use Rattle.markdown_resource.specs.Resource.{destination_asked, destination_rested, title_asked, start_step, before_step, open_step, destination_after_step, missing_step, is_hopeless, between_step, title_after_step, end_step};
 
 use markdown_engine::event::Name;
+use markdown_engine::sequence_index::Sequence;
 use markdown_engine::state::{State, StateName};
 use markdown_engine::tokenizer::{TokenizeState, Tokenizer};
 use markdown_partial::partial_space_or_tab_eol::space_or_tab_eol;
@@ -150,13 +151,27 @@ pub fn resource_destination_missing(tokenizer: &mut Tokenizer) -> Result<State, 
     Ok(State::Nok)
 }
 
+// Whether a title in parentheses may begin here, and it is known that no resource ends behind one.
+fn is_hopeless(tokenizer: &Tokenizer) -> bool
+    ensures { result ≡ is_hopeless tokenizer.now }
+{
+    let index = &tokenizer.tokenize_state.sequences;
+    matches!(tokenizer.current(), Some(b'('))
+        && index.rules_out(Sequence::ResourceEnd, tokenizer.cursor.passed())
+}
+
 /// Behind a destination and whitespace: at a title, if a quote or a parenthesis stands there, or else at the end.
+///
+/// A title in parentheses is not tried where it is known that no `)` behind it has another one behind it, past whitespace.
 ///
 /// The error comes where a growth is refused; then `failed` is true.
 pub fn resource_between(tokenizer: &mut Tokenizer) -> Result<State, AllocError>
     ensures ok { IfOk result (λ s. between_step tokenizer.old ≡ record { state = s; left = tokenizer.new }) }
     ensures err { OnErr result (IsTrue tokenizer.new.failed) }
 {
+    if is_hopeless(tokenizer) {
+        return Ok(State::Nok);
+    }
     match tokenizer.current() {
         Some(b'"' | b'\'' | b'(') => {
             ask_for_title(&mut tokenizer.tokenize_state);

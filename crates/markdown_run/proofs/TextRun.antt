@@ -14,6 +14,8 @@ use Rattle.markdown_engine.specs.declared.parser.Piece.{Piece}
 use Rattle.markdown_engine.specs.declared.resolve.ResolveName.TheVariants as R
 use Rattle.markdown_engine.specs.declared.tokenizer.TokenizeState.{TokenizeState}
 use Rattle.markdown_engine.specs.declared.tokenizer.Tokenizer.{Tokenizer}
+use Rattle.markdown_engine.proofs.SequenceIndexLemmas.{right-unknown}
+use Rattle.markdown_label.proofs.ListedNames.{listed-unknown}
 use Rattle.markdown_gfm.specs.GfmAutolinkLiteral as G
 use Rattle.markdown_leaf.specs.RawText as X
 use Rattle.markdown_partial.specs.SpaceSteps as W
@@ -74,7 +76,8 @@ text-ready p pieces first T text k =
       literals = start-literals p.bytes.now pieces T content input k.place (ap G.rested k.fields ∙ sym k.fields);
       last = start-last p.bytes.now pieces T.cursor text k.place;
       ends = record {
-        part = record { short = fits; spaces = record { space = ap W.rested k.fields ∙ sym k.fields; eol = ap L.eol_rested k.fields ∙ sym k.fields }; rest = ap Parts.rested k.fields ∙ sym k.fields };
+        part = record { short = fits; indexed = right-unknown T.cursor.codes T.tokenize_state.sequences (ap (λ (s : TokenizeState). s.sequences) k.fields); spaces = record { space = ap W.rested k.fields ∙ sym k.fields; eol = ap L.eol_rested k.fields ∙ sym k.fields }; rest = ap Parts.rested k.fields ∙ sym k.fields };
+        listed = listed-unknown T (ap (λ (s : TokenizeState). s.names) k.fields);
         text = start-reads p.bytes.now pieces T content input k.place;
         within = subst (λ (s : TokenizeState). AreWithin T s.label_starts) (sym k.fields) tt;
         resting = ap (λ (s : TokenizeState). s.end) k.fields;
@@ -82,14 +85,14 @@ text-ready p pieces first T text k =
     }
 
 -- where data stops at the markers of a text, and where the runs of its spans stand
-marked-start : (p : ParseState) (pieces : List Piece) (first : Bool) (T : Tokenizer) → text_start p pieces first T → Starts p pieces (marked_fields T.cursor.codes (text_fields first)) (text_marked T)
+marked-start : (p : ParseState) (pieces : List Piece) (first : Bool) (T : Tokenizer) → text_start p pieces first T → Starts p pieces (marked_fields T.cursor.codes T.parse_state.now (text_fields first)) (text_marked T)
 unfolding scratched
 marked-start p pieces first T k =
-    let m : Starts p pieces (marked_fields T.cursor.codes T.tokenize_state) (text_marked T) = start-with p pieces (text_fields first) (marked_fields T.cursor.codes T.tokenize_state) T k in
-    subst (λ (s : TokenizeState). Starts p pieces (marked_fields T.cursor.codes s) (text_marked T)) k.fields m
+    let m : Starts p pieces (marked_fields T.cursor.codes T.parse_state.now T.tokenize_state) (text_marked T) = start-with p pieces (text_fields first) (marked_fields T.cursor.codes T.parse_state.now T.tokenize_state) T k in
+    subst (λ (s : TokenizeState). Starts p pieces (marked_fields T.cursor.codes T.parse_state.now s) (text_marked T)) k.fields m
 
-fresh-fields : (first : Bool) (cs : List Code) → AreFresh (marked_fields cs (text_fields first))
-fresh-fields first cs = record { labels = refl; starts = refl; loose = refl; end = refl; seen = refl; probes = refl }
+fresh-fields : (first : Bool) (cs : List Code) (p : ParseState) → AreFresh (marked_fields cs p (text_fields first))
+fresh-fields first cs p = record { labels = refl; starts = refl; loose = refl; end = refl; seen = refl; probes = refl }
 
 module _ (p : ParseState) (pieces : List Piece) (first : Bool) (content : IsContent p.bytes.now pieces) (T U : Tokenizer) (start : text_start p pieces first T) where
   abbrev M : Tokenizer
@@ -119,11 +122,11 @@ module _ (p : ParseState) (pieces : List Piece) (first : Bool) (content : IsCont
     abbrev E : Finishes (text_choice_of M) text_passed M U
     E = ended ok k
 
-    abbrev S : Starts p pieces (marked_fields T.cursor.codes (text_fields first)) M
+    abbrev S : Starts p pieces (marked_fields T.cursor.codes T.parse_state.now (text_fields first)) M
     S = marked-start p pieces first T start
 
-    abbrev F : AreFresh (marked_fields T.cursor.codes (text_fields first))
-    F = fresh-fields first T.cursor.codes
+    abbrev F : AreFresh (marked_fields T.cursor.codes T.parse_state.now (text_fields first))
+    F = fresh-fields first T.cursor.codes T.parse_state.now
 
     -- the row with its labels grouped
     abbrev Tree : Forest

@@ -4,6 +4,7 @@ mod content;
 mod cursor;
 mod edit_map;
 mod events;
+mod name_index;
 mod run;
 mod run_index;
 mod seq;

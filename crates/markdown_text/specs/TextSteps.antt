@@ -1,11 +1,14 @@
 -- What the states of a text do, and how runs from them end.
-use Rattle.std.specs.Prelude.{◌≡◌, ◌≢◌, ℕ, Bool, true, false, ◌==◌, ◌||◌, if◌then◌else◌, List, [], ◌∷◌, Option, Some, None}
-use Rattle.markdown_engine.specs.Codes.{Code, stop_of, document_start}
+use Rattle.std.specs.Prelude.{◌≡◌, ◌≢◌, ℕ, Bool, true, false, nat_le, ◌==◌, ◌&&◌, ◌||◌, if◌then◌else◌, List, [], ◌∷◌, Option, Some, None, length, map, string_bytes}
+use Rattle.markdown_engine.specs.Codes.{Code, count_of, stop_of, document_start}
+use Rattle.markdown_engine.specs.NameIndex.{names_in_order}
 use Rattle.markdown_engine.specs.Ops.{attempted, scratched, registered, current_of, ahead}
 use Rattle.markdown_engine.specs.Place.{Place}
 use Rattle.markdown_engine.specs.RunIndex.{last_runs}
 use Rattle.markdown_engine.specs.Runs.{Stepped, stepped}
 use Rattle.markdown_engine.specs.SequenceIndex.{last_begins}
+use Rattle.markdown_engine.specs.declared.name_index.Names.{Names}
+use Rattle.markdown_engine.specs.declared.parser.ParseState.{ParseState}
 use Rattle.markdown_engine.specs.declared.resolve.ResolveName.TheVariants as R
 use Rattle.markdown_engine.specs.declared.state.State.TheVariants.{Next, Retry, Ok, Nok}
 use Rattle.markdown_engine.specs.declared.state.StateName.{StateName}
@@ -14,7 +17,6 @@ use Rattle.markdown_engine.specs.declared.tokenizer.TokenizeState.{TokenizeState
 use Rattle.markdown_engine.specs.declared.tokenizer.Tokenizer.{Tokenizer}
 use Rattle.markdown_gfm.specs.GfmAutolinkLiteral as G
 use Rattle.markdown_gfm.specs.GfmTaskListItemCheck as C
-use Rattle.markdown_html.specs.HtmlText as H
 use Rattle.markdown_label.specs.LabelEnd as E
 use Rattle.markdown_label.specs.LabelStarts.{footnote_test}
 use Rattle.markdown_leaf.specs.Autolink.{link_here}
@@ -36,13 +38,21 @@ text_markers = 33 ∷ 36 ∷ 96 ∷ 38 ∷ 42 ∷ 95 ∷ 126 ∷ 60 ∷ 72 ∷ 1
 abbrev pub span_markers : List ℕ
 span_markers = 96 ∷ 36 ∷ []
 
--- the scratch fields of a text of these codes: where data stops, where the last runs begin at which spans may close, and where the sequences
--- last begin that end HTML
-abbrev pub marked_fields : List Code → TokenizeState → TokenizeState
-marked_fields cs s = record s { markers = text_markers; runs = last_runs span_markers cs; sequences = Some (last_begins cs) }
+-- so many names are defined, and so many labels may end in these codes, that an order of the names pays
+abbrev pub order_pays : List Code → ParseState → Bool
+order_pays cs p = (nat_le 16 (length p.definitions.items) || nat_le 16 (length p.gfm_footnote_definitions.items)) && nat_le 16 (count_of 93 cs)
+
+-- the names of what is defined, in order, if that pays
+abbrev pub names_for : List Code → ParseState → Option Names
+names_for cs p = if order_pays cs p then Some (names_in_order (map string_bytes p.definitions.items) (map string_bytes p.gfm_footnote_definitions.items)) else None
+
+-- the scratch fields of a text of these codes: where data stops, where the last runs begin at which spans may close, where the sequences
+-- last begin that end HTML and resources, and the names of what is defined
+abbrev pub marked_fields : List Code → ParseState → TokenizeState → TokenizeState
+marked_fields cs p s = record s { markers = text_markers; runs = last_runs span_markers cs; sequences = Some (last_begins cs); names = names_for cs p }
 
 abbrev pub text_marked : Tokenizer → Tokenizer
-text_marked T = scratched (marked_fields T.cursor.codes T.tokenize_state) T
+text_marked T = scratched (marked_fields T.cursor.codes T.parse_state.now T.tokenize_state) T
 
 -- a construct is tried, from this state, and where it does not hold the run goes on with another
 abbrev pub trying : StateName → StateName → Tokenizer → Stepped
@@ -116,10 +126,9 @@ pub record StartReady (T : Tokenizer) : Type 0 where
   pub ends : E.StartReady T
   pub last : EndsWithCodes T.cursor
 
--- besides, data stops at the markers of a text, and what is known of the sequences that end HTML is right
+-- besides, data stops at the markers of a text
 pub record IsMarked (T : Tokenizer) : Type 0 where
   pub markers : T.tokenize_state.markers ≡ text_markers
-  pub sequences : H.IsIndexed T
   pub spans : X.StartReady T
   pub look : C.MayLook T
   pub literals : G.StartReady T

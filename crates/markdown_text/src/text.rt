@@ -5,10 +5,11 @@ ghost use Rattle.std.specs.Prelude.{◌≡◌, IfOk, OnOk, OnErr, IsTrue, None, 
 ghost use Rattle.markdown_engine.specs.Ops.{scratched};
 ghost use Rattle.markdown_engine.specs.RunIndex.{last_runs};
 ghost use Rattle.markdown_text.specs.Resolve.{MayFinish, FinishesText};
-ghost use Rattle.markdown_text.specs.TextSteps.{span_markers, text_markers, first_try, trying, start_step, before_step, before_html_step, before_hard_break_escape_step, before_label_start_link_step, before_data_step};
+ghost use Rattle.markdown_text.specs.TextSteps.{names_for, order_pays, span_markers, text_markers, first_try, trying, start_step, before_step, before_html_step, before_hard_break_escape_step, before_label_start_link_step, before_data_step};
 
 use markdown_engine::byte_set;
 use markdown_engine::bytes::ByteSet;
+use markdown_engine::name_index::Names;
 use markdown_engine::resolve::ResolveName;
 use markdown_engine::run_index::RunIndex;
 use markdown_engine::sequence_index::SequenceIndex;
@@ -21,6 +22,9 @@ use std::alloc::AllocError;
 
 // The bytes whose runs close spans.
 const SPAN_MARKERS: [u8; 2] = [b'`', b'$'];
+
+// Where so many names are defined, and so many labels may end, an order of the names pays.
+const MANY: usize = 16;
 
 // The bytes at which data of a text stops: those at which a construct may begin.
 fn markers() -> ByteSet
@@ -96,10 +100,44 @@ fn index_runs(tokenizer: &mut Tokenizer) -> Result<(), AllocError>
     }
 }
 
+// Whether so many names are defined, and so many labels may end, that an order of the names pays.
+fn order_pays(tokenizer: &Tokenizer) -> bool
+    ensures { result ≡ order_pays tokenizer.now.cursor.codes tokenizer.now.parse_state.now }
+{
+    let state = tokenizer.parse_state;
+    (state.definitions.len() >= MANY || state.gfm_footnote_definitions.len() >= MANY)
+        && tokenizer.cursor.holds(b']', MANY)
+}
+
+// Makes known the names of what is defined, where their order pays.
+#[tactic(auto, unfolding(markdown_engine::specs::Ops::scratched))]
+fn index_names(tokenizer: &mut Tokenizer) -> Result<(), AllocError>
+    ensures ok { OnOk result (tokenizer.new ≡ scratched (record tokenizer.old.tokenize_state { names = names_for tokenizer.old.cursor.codes tokenizer.old.parse_state.now }) tokenizer.old) }
+    ensures err { OnErr result (IsTrue tokenizer.new.failed) }
+{
+    if !order_pays(tokenizer) {
+        tokenizer.tokenize_state.names = None;
+        return Ok(());
+    }
+    let definitions = tokenizer.parse_state.definitions.as_slice();
+    let footnotes = tokenizer.parse_state.gfm_footnote_definitions.as_slice();
+    match Names::over(tokenizer.alloc, definitions, footnotes) {
+        Ok(names) => {
+            tokenizer.tokenize_state.names = Some(names);
+            Ok(())
+        }
+        Err(refused) => {
+            tokenizer.fail();
+            Err(refused)
+        }
+    }
+}
+
 /// At the start of a text, where the check of a task may stand.
 ///
-/// One walk over the content finds the sequences that end HTML, and a second one the runs at which spans may close, so that none is
-/// looked for in vain.
+/// One walk over the content finds the sequences that end HTML and resources, and a second one the runs at which spans may close, so
+/// that none is looked for in vain. Where many names are defined and many labels may end, the names are put in order, so that each is
+/// found by a search.
 ///
 /// The error comes where a growth is refused; then `failed` is true.
 #[tactic(auto, using(markdown_engine::proofs::OpRules::op_rules), unfolding(markdown_engine::specs::Ops::scratched))]
@@ -110,6 +148,7 @@ pub fn start(tokenizer: &mut Tokenizer) -> Result<State, AllocError>
     tokenizer.tokenize_state.markers = markers();
     tokenizer.tokenize_state.sequences = SequenceIndex::over(&tokenizer.cursor);
     index_runs(tokenizer)?;
+    index_names(tokenizer)?;
     attempt(
         tokenizer,
         StateName::GfmTaskListItemCheckStart,

@@ -91,7 +91,7 @@ pub(crate) const LEAVES: [Row; 9] = [
 ];
 
 // What holds others: emphasis, strikethrough, links, images and footnote calls.
-pub(crate) const GROUPS: [Row; 6] = [
+pub(crate) const GROUPS: [Row; 7] = [
     (
         "**a**",
         &[
@@ -154,6 +154,20 @@ pub(crate) const GROUPS: [Row; 6] = [
             Name::ReferenceString,
             Name::Data,
             Name::ReferenceMarker,
+        ],
+    ),
+    (
+        "]]]]]]]]]]]]]]][b]",
+        &[
+            Name::Data,
+            Name::Link,
+            Name::Label,
+            Name::LabelLink,
+            Name::LabelMarker,
+            Name::LabelText,
+            Name::Data,
+            Name::LabelEnd,
+            Name::LabelMarker,
         ],
     ),
     (

@@ -5,6 +5,8 @@ use Rattle.std.proofs.Common.{◌≡◌, ◌≢◌, ℕ, ◌+◌, ◌*◌, ◌<�
 use Rattle.std.specs.List.{list_any}
 use Rattle.std.proofs.lemmas.Bool.{eqb-true}
 use Rattle.markdown_engine.specs.Codes.{Code, stop_of, document_start}
+use Rattle.markdown_engine.specs.NameIndex.{names_in_order}
+use Rattle.markdown_engine.specs.declared.name_index.Names.{Names}
 use Rattle.markdown_engine.specs.declared.event.Point.{Point}
 use Rattle.markdown_engine.specs.Ops.{ahead, current_of, is_registered, registered, scratched, previous_of}
 use Rattle.markdown_engine.specs.Past.{past, moved_by, EndsAs, Reads, Refuses, TreeReading}
@@ -34,12 +36,15 @@ use Rattle.markdown_construct.specs.Characters.{bytes_of, ReadsText}
 use Rattle.markdown_construct.proofs.TextPasses.{text-scratched}
 use Rattle.markdown_label.specs.LabelEnd as E
 use Rattle.markdown_label.specs.LabelEnd.{AreWithin}
+use Rattle.markdown_label.specs.Settings.{setting_of, setting_in, IsListed}
 use Rattle.markdown_label.specs.LabelStarts.{image_ends, footnote_ends, link_ends}
 use Rattle.markdown_label.proofs.BegunStarts.{link-within, footnote-within, image-within}
 use Rattle.markdown_label.proofs.StartPlaces.{within-grown}
 use Rattle.markdown_partial.specs.EolSteps as L
 use Rattle.markdown_resource.specs.Parts as Parts
 use Rattle.markdown_resource.specs.Parts.{PartReady}
+use Rattle.markdown_resource.proofs.NextCodes.{same-codes}
+use Rattle.markdown_resource.proofs.ResourceLaws.{indexed-same}
 use Rattle.markdown_leaf.specs.Autolink.{link_here}
 use Rattle.markdown_leaf.specs.CharacterEscape.{escape_here}
 use Rattle.markdown_leaf.specs.CharacterReference.{IsAtRest, reference_here}
@@ -54,7 +59,7 @@ use Rattle.markdown_row.specs.Row.{EndsRest, Row, loses, row_end, row_then, past
 use Rattle.markdown_row.proofs.LabelElements.{empty-part, mark-alone}
 use Rattle.markdown_row.proofs.RowFields.{relisted, row-cursor, row-input, row-text, row-fields, tree-within, made-within, lost-within}
 use Rattle.markdown_text.specs.StringSteps.{is_on}
-use Rattle.markdown_text.specs.TextSteps.{text_markers, marked_fields, text_marked, text_passed, trying, start_step, first_try, tries_at, before_at, before_step, before_html_step, before_hard_break_escape_step, before_label_start_link_step, before_data_step, text_choice_of, EndsWithCodes, StartReady, IsMarked, BeforeReady, BeforeHtmlReady, BeforeDataReady, BeforeBreakReady, BeforeLinkReady, StandsAlone, before_ends, data_ends, start_ends}
+use Rattle.markdown_text.specs.TextSteps.{text_markers, order_pays, marked_fields, text_marked, text_passed, trying, start_step, first_try, tries_at, before_at, before_step, before_html_step, before_hard_break_escape_step, before_label_start_link_step, before_data_step, text_choice_of, EndsWithCodes, StartReady, IsMarked, BeforeReady, BeforeHtmlReady, BeforeDataReady, BeforeBreakReady, BeforeLinkReady, StandsAlone, before_ends, data_ends, start_ends}
 use Rattle.markdown_row.proofs.NodeLemmas.{protocol-node, www-node, check-node, html-node, escape-node, reference-node, break-node, autolink-node, span-node}
 use Rattle.markdown_run.specs.Laws.TextElements.{is_marker}
 use Rattle.markdown_run.specs.Laws.TextTries.{ReadsNodes, ReadsElements, none-valued, check-reads, no-check-at-end, reference-reads, reference-alone, autolink-reads, html-reads, html-alone, escape-reads, break-reads, break-alone, span-reads, span-alone, run-reads, run-alone, run-leaf, protocol-reads, protocol-alone, www-reads, www-alone, other-alone, other-data}
@@ -64,11 +69,6 @@ use Rattle.markdown_text.specs.Settings.{text_setting_of}
 use Rattle.markdown_run.specs.Laws.LabelTries.{image-advances, image-alone, footnote-advances, link-advances, bracket-alone, made-advances, failed-advances, end-alone}
 
 -- Past a row the choice is as it was, and so are the scratch fields but for the lists of labels.
-
-same-codes : (cs : List Code) (p : Place) → (moved_by cs p).codes ≡ p.codes
-unfolding moved
-same-codes [] p = refl
-same-codes (c ∷ cs) p = same-codes cs (moved p)
 
 same-end : (cs : List Code) (p : Place) → (moved_by cs p).end ≡ p.end
 unfolding moved
@@ -108,15 +108,19 @@ indexed-past T U e k =
     let runs : U.tokenize_state.runs ≡ T.tokenize_state.runs = ap (λ (s : TokenizeState). s.runs) e.fields in
     runs ∙ k ∙ ap (λ (x : LastRuns). last_runs x.asked T.cursor.codes) (sym runs) ∙ ap (λ cs. last_runs U.tokenize_state.runs.asked cs) (sym e.codes)
 
--- and so does what is known of sequences
+-- and so do what is known of sequences, and of names
 sequences-past : (T U : Tokenizer) → IsSame T U → H.IsIndexed T → H.IsIndexed U
-sequences-past T U e k last known = k last (ap (λ (s : TokenizeState). s.sequences) (sym e.fields) ∙ known) ∙ ap last_begins (sym e.codes)
+sequences-past T U e k = indexed-same T U e.codes (ap (λ (s : TokenizeState). s.sequences) e.fields) k
+
+listed-past : (T U : Tokenizer) → IsSame T U → IsListed T → IsListed U
+listed-past T U e k names known = k names (ap (λ (s : TokenizeState). s.names) (sym e.fields) ∙ known) ∙ (λ i. names_in_order (setting_of (sym e.input i).now).definitions (setting_of (sym e.input i).now).footnotes)
 
 part-past : (T U : Tokenizer) → IsSame T U → codes_left U ≤ codes_left T → PartReady T → PartReady U
 part-past T U e l k =
     let u : TokenizeState = U.tokenize_state in
     record {
       short = omega (arith, l, k.short);
+      indexed = sequences-past T U e k.indexed;
       spaces = record { space = ap W.rested e.fields ∙ ap (relisted u) k.spaces.space ∙ sym e.fields; eol = ap L.eol_rested e.fields ∙ ap (relisted u) k.spaces.eol ∙ sym e.fields };
       rest = ap Parts.rested e.fields ∙ ap (relisted u) k.rest ∙ sym e.fields;
     }
@@ -131,11 +135,10 @@ marked-past T U e l within r =
     let u : TokenizeState = U.tokenize_state in
     record {
       markers = ap (λ (s : TokenizeState). s.markers) e.fields ∙ r.markers;
-      sequences = sequences-past T U e r.sequences;
       spans = record { rest = e.fields ∙ ap (relisted u) r.spans.rest ∙ ap X.rested (sym e.fields); fits = omega (arith, l, r.spans.fits); indexed = indexed-past T U e r.spans.indexed };
       look = record { resting = ap W.rested e.fields ∙ ap (relisted u) r.look.resting ∙ sym e.fields; short = omega (arith, l, r.look.short) };
       literals = record { text = e.text; resting = ap G.rested e.fields ∙ ap (relisted u) r.literals.resting ∙ sym e.fields; short = omega (arith, l, r.literals.short) };
-      ends = record { part = part-past T U e l r.ends.part; text = e.text; within = within; resting = ap (λ (s : TokenizeState). s.end) e.fields ∙ r.ends.resting };
+      ends = record { part = part-past T U e l r.ends.part; listed = listed-past T U e r.ends.listed; text = e.text; within = within; resting = ap (λ (s : TokenizeState). s.end) e.fields ∙ r.ends.resting };
       last = last-past T U e r.last;
     }
 
@@ -267,7 +270,7 @@ unmarked v a b c d f g i j k l =
 -- The laws.
 
 weight-marked : (T : Tokenizer) → weight_at 9 (text_marked T) ≡ weight_at 9 T
-weight-marked T = ap (λ n. 256 * n + 9 + 1) (left-scratched (marked_fields T.cursor.codes T.tokenize_state) T)
+weight-marked T = ap (λ n. 256 * n + 9 + 1) (left-scratched (marked_fields T.cursor.codes T.parse_state.now T.tokenize_state) T)
 
 at-rest-reference : (T : Tokenizer) → IsMarked T → IsAtRest T
 at-rest-reference T r = record { marker = ap (λ (s : TokenizeState). s.marker) r.spans.rest; size = ap (λ (s : TokenizeState). s.size) r.spans.rest }
@@ -451,7 +454,7 @@ module _ (T : Tokenizer) (alone : T.attempts ≡ []) (ready : BeforeReady T) whe
       (λ v e. tries v e)
 
 html-ready : (T : Tokenizer) → IsMarked T → H.StartReady T
-html-ready T r = record { spaces = record { resting = r.look.resting; short = r.look.short }; indexed = r.sequences; rest = sym (html-rest T r) }
+html-ready T r = record { spaces = record { resting = r.look.resting; short = r.look.short }; indexed = r.ends.part.indexed; rest = sym (html-rest T r) }
   where
     html-rest : (T : Tokenizer) → IsMarked T → T.tokenize_state ≡ H.rested T.tokenize_state
     html-rest T r = r.spans.rest ∙ ap H.rested (sym r.spans.rest)
@@ -508,25 +511,30 @@ before_data-law T alone r =
 
 spans-marked : (T : Tokenizer) → X.StartReady T → X.StartReady (text_marked T)
 unfolding scratched
-spans-marked T r = record { rest = ap {A = TokenizeState} (λ s. marked_fields T.cursor.codes s) r.rest; fits = r.fits; indexed = refl }
+spans-marked T r = record { rest = ap {A = TokenizeState} (λ s. marked_fields T.cursor.codes T.parse_state.now s) r.rest; fits = r.fits; indexed = refl }
 
 look-marked : (T : Tokenizer) → C.MayLook T → C.MayLook (text_marked T)
 unfolding scratched
-look-marked T r = record { resting = ap {A = TokenizeState} (λ s. marked_fields T.cursor.codes s) r.resting; short = r.short }
+look-marked T r = record { resting = ap {A = TokenizeState} (λ s. marked_fields T.cursor.codes T.parse_state.now s) r.resting; short = r.short }
 
 literals-marked : (T : Tokenizer) → G.StartReady T → G.StartReady (text_marked T)
 unfolding scratched
 literals-marked T r =
-    let s : TokenizeState → TokenizeState = marked_fields T.cursor.codes in
+    let s : TokenizeState → TokenizeState = marked_fields T.cursor.codes T.parse_state.now in
     record { text = text-scratched (s T.tokenize_state) T r.text; resting = ap s r.resting; short = r.short }
+
+ordered-names : (many : Bool) (order names : Names) → (if many then Some order else None) ≡ Some names → names ≡ order
+ordered-names true order names e = cc
+ordered-names false order names e = cc
 
 ends-marked : (T : Tokenizer) → E.StartReady T → E.StartReady (text_marked T)
 unfolding scratched
 ends-marked T r =
     let M : Tokenizer = text_marked T in
-    let s : TokenizeState → TokenizeState = marked_fields T.cursor.codes in
+    let s : TokenizeState → TokenizeState = marked_fields T.cursor.codes T.parse_state.now in
     record {
-      part = record { short = r.part.short; spaces = record { space = ap s r.part.spaces.space; eol = ap s r.part.spaces.eol }; rest = ap s r.part.rest };
+      part = record { short = r.part.short; indexed = right-made T.cursor.codes (Some (last_begins T.cursor.codes)) refl; spaces = record { space = ap s r.part.spaces.space; eol = ap s r.part.spaces.eol }; rest = ap s r.part.rest };
+      listed = λ names. ordered-names (order_pays T.cursor.codes T.parse_state.now) (names_in_order (setting_in T).definitions (setting_in T).footnotes) names;
       text = text-scratched (s T.tokenize_state) T r.text;
       within = within-grown T M [] refl (sym (append-nil T.events)) T.tokenize_state.label_starts r.within;
       resting = r.resting;
@@ -537,7 +545,6 @@ unfolding scratched
 marked-start T r =
     record {
       markers = refl;
-      sequences = right-made T.cursor.codes (Some (last_begins T.cursor.codes)) refl;
       spans = spans-marked T r.spans;
       look = look-marked T r.look;
       literals = literals-marked T r.literals;
@@ -552,7 +559,7 @@ check-elements T (Some v) e = check-reads T v e
 pub start-law : (T : Tokenizer) → T.attempts ≡ [] → StartReady T → GoesOn ready_of ends_of weight_of (weight_at 9 T) (start_ends T) (start_step T)
 start-law T alone r =
     let M : Tokenizer = text_marked T in
-    let s : TokenizeState = marked_fields T.cursor.codes T.tokenize_state in
+    let s : TokenizeState = marked_fields T.cursor.codes T.parse_state.now T.tokenize_state in
     let marked : IsMarked M = marked-start T r in
     subst (λ n. GoesOn ready_of ends_of weight_of n (before_ends M) (start_step T)) (weight-marked T)
     (try-law 9 M GfmTaskListItemCheckStart TextBefore (C.check_here M) (attempts-scratched s T ∙ alone) marked.look (omega arith) marked (λ ok U g. g)

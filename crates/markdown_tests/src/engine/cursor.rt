@@ -146,6 +146,28 @@ fn passes_stretches(rt: HostRuntime) {
     }
 }
 
+// The whole content counts, wherever the cursor stands; bytes behind it do not.
+#[test]
+fn counts_a_byte(rt: HostRuntime) {
+    let bytes = b"]a]b]]";
+    let pieces = [piece((0, 0), (5, 0))];
+    assert!(rt; is_content(bytes, &pieces));
+    let mut cursor = Cursor::new(bytes, &pieces);
+    if cursor.current().is_some() {
+        cursor.consume();
+    }
+    for (byte, times, holds) in [
+        (b']', 0, true),
+        (b']', 3, true),
+        (b']', 4, false),
+        (b'a', 1, true),
+        (b'c', 0, true),
+        (b'c', 1, false),
+    ] {
+        assert_eq!(rt; cursor.holds(byte, times), holds);
+    }
+}
+
 #[test]
 fn reads_parts_of_one_tab(rt: HostRuntime) {
     reads(

@@ -27,6 +27,20 @@ fn knows_where_each_sequence_last_begins(rt: HostRuntime) {
     }
 }
 
+// Whitespace alone may stand between the two parentheses.
+#[test]
+fn knows_where_a_resource_may_end(rt: HostRuntime) {
+    let bytes = b"a)) \t\r\n)b) c)";
+    let pieces = [Piece {
+        start: (0, 0),
+        end: (13, 0),
+    }];
+    assert!(rt; is_content(bytes, &pieces));
+    let index = SequenceIndex::over(&Cursor::new(bytes, &pieces));
+    assert!(rt; !index.rules_out(Sequence::ResourceEnd, 2));
+    assert!(rt; index.rules_out(Sequence::ResourceEnd, 3));
+}
+
 #[test]
 fn rules_out_what_does_not_begin(rt: HostRuntime) {
     let bytes = b"--]?]";
@@ -42,6 +56,7 @@ fn rules_out_what_does_not_begin(rt: HostRuntime) {
         Sequence::SectionEnd,
         Sequence::InstructionEnd,
         Sequence::DeclarationEnd,
+        Sequence::ResourceEnd,
     ] {
         assert!(rt; index.rules_out(sequence, 0));
         assert!(rt; !unknown.rules_out(sequence, 5));

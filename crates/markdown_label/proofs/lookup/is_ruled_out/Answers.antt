@@ -6,7 +6,7 @@ use Rattle.markdown_label.proofs.Fronts.{front-cuts, unknown-from, unknown-nothi
 use Rattle.markdown_label.proofs.lookup.is_ruled_out.Goals as goal
 
 pub identifier_of-requires : goal.identifier_of-requires
-identifier_of-requires c = front-cuts _ c.args.start c.boundary-middle.result c.args.end _ c.requires c.boundary-middle.ensures.after c.boundary-middle.ensures.boundary
+identifier_of-requires c = front-cuts _ c.args.start c.boundary-middle.result c.args.end _ c.requires.cuts c.boundary-middle.ensures.after c.boundary-middle.ensures.boundary
 
 pub returns-then-defines_nothing : goal.returns-then-defines_nothing
 returns-then-defines_nothing c = λ _. unknown-nothing (setting_in c.args.tokenizer.now) c.args.kind _ (c.defines_nothing.ensures.definitions c.if-defines_nothing.true) (c.defines_nothing.ensures.footnotes c.if-defines_nothing.true)
@@ -14,4 +14,4 @@ returns-then-defines_nothing c = λ _. unknown-nothing (setting_in c.args.tokeni
 pub returns-then-not-branch : goal.returns-then-not-branch
 returns-then-not-branch c = λ _.
     unknown-from (setting_in c.args.tokenizer.now) c.args.kind (bytes_of c.args.tokenizer.now) c.as_str.result.now c.args.start c.boundary-middle.result c.args.end
-    (front-cuts _ c.args.start c.boundary-middle.result c.args.end _ c.requires c.boundary-middle.ensures.after c.boundary-middle.ensures.boundary) c.boundary-middle.ensures.before (c.as_str.ensures.value ∙ c.in_ok-front.ensures) (sym c.in_ok-begins_defined.ensures ∙ c.if-not-branch.true)
+    (front-cuts _ c.args.start c.boundary-middle.result c.args.end _ c.requires.cuts c.boundary-middle.ensures.after c.boundary-middle.ensures.boundary) c.boundary-middle.ensures.before (c.as_str.ensures.value ∙ c.in_ok-front.ensures) (sym c.in_ok-begins_defined.ensures ∙ c.if-not-branch.true)
