@@ -173,10 +173,22 @@ def long_label(size):
     return Input('[' * count + 'a' + ']' * count, [('b' * count, '/c')])
 
 
+def long_front(size):
+    """Nested brackets, and one definition that begins as they do."""
+    count = size // 2 + 1
+    return Input('[' * count + 'a' + ']' * count, [('[' * count + 'b', '/c')])
+
+
 def many_definitions(size):
     """As many references as definitions, all different."""
     names = ['b%d' % i for i in range(size // 10 + 1)]
     return Input(' '.join('[a][%s]' % name for name in names), [(name, '/c') for name in names])
+
+
+def closed_path(size):
+    """A path of parentheses that are closed again."""
+    count = size // 2 + 1
+    return Input('a http://a/' + '(' * count + ')' * count + 'b')
 
 
 def tag_of_lines(size):
@@ -216,7 +228,9 @@ PATTERNS = [
         ('`<!--`', again('<!--')),
         ('`<!--`, and one `-->` behind', around('', '<!--', '-->')),
         ('`<!---`', again('<!---')),
+        ('`<!---`, and one `-->` behind', around('', '<!---', '-->')),
         ('`<!--` and a line ending', around('a', '\n<!--', '')),
+        ('`<!--` and a line ending, and one `-->` behind', around('a', '\n<!--', '-->')),
         ('`<?`', again('<?')),
         ('`<?`, and one `?>` behind', around('', '<?', '?>')),
         ('`<!a`', again('<!a')),
@@ -250,6 +264,7 @@ PATTERNS = [
         ('`**a* `', around('[', '**a* ', 'b](c)')),
         ('`_a__b `', around('[', '_a__b ', 'b](c)')),
         ('`~a~~b `', around('[', '~a~~b ', 'b](c)')),
+        ('`*****a `', around('[', '*****a ', 'b](c)')),
         ('`*****`', around('[', '*****', 'b](c)')),
         ('`[*a](b) `', again('[*a](b) ')),
     ]),
@@ -266,6 +281,7 @@ PATTERNS = [
         ('`[a](b "c`', again('[a](b "c')),
         ('`[a](b (c `', again('[a](b (c ')),
         ('`[a](b (c `, and one `)` behind', around('', '[a](b (c ', ')')),
+        ('`[a](b (c `, and `) x ))` behind', around('', '[a](b (c ', ') x ))')),
         ('`[a][b`', again('[a][b')),
         ('`[a](b\\)`', again('[a](b\\)')),
         ('`[ (](`', again('[ (](')),
@@ -273,6 +289,7 @@ PATTERNS = [
         ('`[` .. `a` `]` .., nothing defined', nested('[', 'a', ']')),
         ('the same, `a` defined', nested('[', 'a', ']', ONE)),
         ('the same, a definition as long as the content', long_label),
+        ('the same, a definition of as many `[` and a `b`', long_front),
         ('`![` .. `a` `](b)` ..', nested('![', 'a', '](b)')),
         ('`[a][b0] [a][b1] ..`, all defined', many_definitions),
         ('`[^`', again('[^')),
@@ -287,7 +304,20 @@ PATTERNS = [
         ('`.`, and one `@`', around('', '.', '@')),
         ('`www.a`, then `.` again and again, then `b`', around('www.a', '.', 'b')),
         ('`www.a`, then `)` again and again, then `b`', around('www.a', ')', 'b')),
+        ('`www.a`, then `&amp;` again and again, then `b`', around('www.a', '&amp;', 'b')),
+        ('`www.a`, then `&a` again and again, then `b`', around('www.a', '&a', 'b')),
+        ('`www.a`, then `).&amp;?]` again and again, then `b`', around('www.a', ').&amp;?]', 'b')),
+        ('`http://a/`, then `.` again and again, then `b`', around('http://a/', '.', 'b')),
+        ('`http://a/`, then `)` again and again, then `b`', around('http://a/', ')', 'b')),
+        ('`http://a/`, then `&amp;` again and again, then `b`', around('http://a/', '&amp;', 'b')),
+        ('`http://a/`, then `).&amp;?]` again and again, then `b`', around('http://a/', ').&amp;?]', 'b')),
+        ('`http://a/`, `(` and as many `)`, then `b`', closed_path),
         ('`www.a/`, then `&a;` again and again', around('www.a/', '&a;', '')),
+        ('`a@b.c`', again('a@b.c ')),
+        ('`mailto:`', again('mailto:')),
+        ('`xmpp:a@b.c/.`', again('xmpp:a@b.c/.')),
+        ('`xmpp:a@b.c/`, then `.` again and again, then `d`', around('xmpp:a@b.c/', '.', 'd')),
+        ('`a@b`, then `.b-` again and again', around('a@b', '.b-', '')),
         ('`_www.`', again('_www.')),
     ]),
 ]

@@ -10,4 +10,4 @@ pub use markdown_model::laws::{
     one_element_list, one_end, one_pair_list, one_tree, pairs_are_local, pairs_are_sound,
 };
 pub use markdown_stretch::laws::leaves_are_stretches;
-pub use markdown_util::laws::{identifier, unchanged};
+pub use markdown_util::laws::{identifier, tables, unchanged};

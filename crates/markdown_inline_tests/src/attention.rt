@@ -201,17 +201,19 @@ fn groups_runs_of_pieces(rt: HostRuntime) -> Result<(), Fail> {
     let alloc = rt.alloc();
     let options = ParseOptions::default();
     let pieces = [piece((2, 0), (13, 0))];
-    let (got, _) = counted(alloc, b"# Hi *Earth*!", &pieces, &options)?;
+    let (got, probes) = counted(alloc, b"# Hi *Earth*!", &pieces, &options)?;
     assert_eq!(&rt;
         got.as_str(),
         "Data 2-5, Emphasis 5-12 [EmphasisSequence 5-6, EmphasisText 6-11 [Data 6-11], EmphasisSequence 11-12], Data 12-13"
     );
+    assert!(&rt; 1 <= probes && probes <= 6);
     let lines = [piece((1, 0), (4, 0)), piece((5, 0), (6, 0))];
-    let (got, _) = counted(alloc, b">*a\n>*", &lines, &options)?;
+    let (got, probes) = counted(alloc, b">*a\n>*", &lines, &options)?;
     assert_eq!(&rt;
         got.as_str(),
         "Emphasis 1-6 [EmphasisSequence 1-2, EmphasisText 2-5 [Data 2-3, LineEnding 3-4], EmphasisSequence 5-6]"
     );
+    assert!(&rt; 1 <= probes && probes <= 6);
     Ok(())
 }
 

@@ -1,4 +1,4 @@
-// Runs over contents that are read as text, where no construct is looked for that is not built.
+// Runs over contents that are read as text, where neither runs of markers nor labels nor literals are looked for.
 use crate::fixtures::{piece, printed, state_of};
 use markdown_engine::configuration::{Constructs, ParseOptions};
 use markdown_inline::run::{Piece, is_text, text};
@@ -6,8 +6,8 @@ use std::alloc::{AllocError, Global};
 use std::process::Abort;
 use std::test::Fail;
 
-// CommonMark's constructs as far as they are built, and math spans where they are asked for.
-fn built(math_text: bool, math_text_single_dollar: bool) -> ParseOptions {
+// CommonMark's constructs without emphasis and labels, and math spans where they are asked for.
+fn unlabelled(math_text: bool, math_text_single_dollar: bool) -> ParseOptions {
     let constructs = Constructs {
         attention: false,
         gfm_autolink_literal: false,
@@ -32,7 +32,7 @@ fn with_checks() -> ParseOptions {
     ParseOptions {
         constructs: Constructs {
             gfm_task_list_item: true,
-            ..built(false, true).constructs
+            ..unlabelled(false, true).constructs
         },
         ..ParseOptions::default()
     }
@@ -88,7 +88,7 @@ fn reads_spans(rt: HostRuntime) -> Result<(), Fail> {
         ),
         ("`a``b```c", "Data 0-9"),
     ];
-    expect(&rt, rt.alloc(), &built(false, true), &cases)?;
+    expect(&rt, rt.alloc(), &unlabelled(false, true), &cases)?;
     Ok(())
 }
 
@@ -105,9 +105,14 @@ fn reads_math_spans(rt: HostRuntime) -> Result<(), Fail> {
             "MathText 0-5 [MathTextSequence 0-2, MathTextData 2-3, MathTextSequence 3-5]",
         ),
     ];
-    expect(&rt, rt.alloc(), &built(true, true), &one)?;
-    expect(&rt, rt.alloc(), &built(true, false), &two)?;
-    expect(&rt, rt.alloc(), &built(false, true), &[("$a$", "Data 0-3")])?;
+    expect(&rt, rt.alloc(), &unlabelled(true, true), &one)?;
+    expect(&rt, rt.alloc(), &unlabelled(true, false), &two)?;
+    expect(
+        &rt,
+        rt.alloc(),
+        &unlabelled(false, true),
+        &[("$a$", "Data 0-3")],
+    )?;
     Ok(())
 }
 
@@ -128,7 +133,7 @@ fn reads_hard_breaks_by_spaces(rt: HostRuntime) -> Result<(), Fail> {
         ),
         ("a  ", "Data 0-1, SpaceOrTab 1-3"),
     ];
-    expect(&rt, rt.alloc(), &built(false, true), &cases)?;
+    expect(&rt, rt.alloc(), &unlabelled(false, true), &cases)?;
     Ok(())
 }
 
@@ -161,7 +166,7 @@ fn reads_html(rt: HostRuntime) -> Result<(), Fail> {
             "Data 0-7, CodeText 7-10 [CodeTextSequence 7-8, CodeTextData 8-9, CodeTextSequence 9-10]",
         ),
     ];
-    expect(&rt, rt.alloc(), &built(false, true), &cases)?;
+    expect(&rt, rt.alloc(), &unlabelled(false, true), &cases)?;
     Ok(())
 }
 
@@ -214,7 +219,7 @@ fn reads_autolinks(rt: HostRuntime) -> Result<(), Fail> {
         ),
         ("<ab:\0>", "Data 0-6"),
     ];
-    expect(&rt, rt.alloc(), &built(false, true), &cases)?;
+    expect(&rt, rt.alloc(), &unlabelled(false, true), &cases)?;
     Ok(())
 }
 
@@ -230,14 +235,14 @@ fn reads_lines(rt: HostRuntime) -> Result<(), Fail> {
         ("a\r\nb", "Data 0-1, LineEnding 1-3, Data 3-4"),
         ("{a}", "Data 0-3"),
     ];
-    expect(&rt, rt.alloc(), &built(false, true), &cases)?;
+    expect(&rt, rt.alloc(), &unlabelled(false, true), &cases)?;
     Ok(())
 }
 
 // The places whole, of texts with tabs that are cut, and with characters of several bytes.
 #[test]
 fn reads_places(rt: HostRuntime) -> Result<(), Fail> {
-    let options = built(false, true);
+    let options = unlabelled(false, true);
     for (text, start, end, want) in [
         (
             "\ta",
@@ -273,7 +278,7 @@ fn reads_places(rt: HostRuntime) -> Result<(), Fail> {
 
 #[test]
 fn reads_pieces_of_texts(rt: HostRuntime) -> Result<(), Fail> {
-    let options = built(false, true);
+    let options = unlabelled(false, true);
     let none = printed_text(rt.alloc(), b"> a", &[], &options, false)?;
     assert_eq!(rt; none.as_str(), "");
     let pieces = [piece((2, 0), (5, 0)), piece((7, 0), (9, 0))];

@@ -397,7 +397,7 @@ fn expect(
 }
 
 // Documents with runs of markers, alone and around and in labels.
-const DOCUMENTS: [&str; 42] = [
+const DOCUMENTS: [&str; 45] = [
     "# Hi *Earth*!",
     "***a***",
     "*a**b*",
@@ -440,6 +440,9 @@ const DOCUMENTS: [&str; 42] = [
     "[^*a*] *b",
     "~[~a~](b)~",
     "contact ~Mercury~Venus at hi@venus.com!",
+    "![a *b* c](#)",
+    "http://a_b.c",
+    "a@b_c",
 ];
 
 // CommonMark's constructs, strikethrough, email literals and footnote calls.
