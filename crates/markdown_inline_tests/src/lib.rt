@@ -6,7 +6,11 @@ mod attention;
 #[cfg(test)]
 mod constructs;
 #[cfg(test)]
+mod drawn;
+#[cfg(test)]
 mod fixtures;
+#[cfg(test)]
+mod labels;
 #[cfg(test)]
 mod leaves;
 #[cfg(test)]

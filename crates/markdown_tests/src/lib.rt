@@ -8,6 +8,8 @@ mod engine;
 #[cfg(test)]
 mod fixtures;
 #[cfg(test)]
+mod mail;
+#[cfg(test)]
 mod partial;
 #[cfg(test)]
 mod string;
