@@ -9,5 +9,5 @@ pub use markdown_model::laws::{
     links_are_not_mailed, links_do_not_nest, merged_data_is_apart, no_run_is_left,
     one_element_list, one_end, one_pair_list, one_tree, pairs_are_local, pairs_are_sound,
 };
-pub use markdown_stretch::laws::leaves_are_stretches;
+pub use markdown_stretch::laws::{events_give_content, leaves_are_stretches};
 pub use markdown_util::laws::{identifier, tables, unchanged};

@@ -1,5 +1,5 @@
 -- The leaves of the inline tree of each content are stretches of the document.
-use Rattle.std.proofs.Common.{◌≡◌, Bool, true, false, List, map, sym, subst, ◌∙◌, inl}
+use Rattle.std.proofs.Common.{◌≡◌, Bool, true, false, List, map, refl, sym, subst, ◌∙◌, inl}
 use Rattle.std.specs.List.{All}
 use Rattle.markdown_emphasis.specs.Trees.{HasStripes}
 use Rattle.markdown_emphasis.specs.Word.{IsUnlinkedRow}
@@ -26,7 +26,7 @@ use Rattle.markdown_model.proofs.Coverage.{codes-paired}
 use Rattle.markdown_model.proofs.ElementLaws.{text_elements, string_elements}
 use Rattle.markdown_model.proofs.LabelCodes.{codes-labels_of}
 use Rattle.markdown_model.proofs.TreeLaws.{codes-finished_text, codes-finished_string, leaves_cover}
-use Rattle.markdown_stretch.specs.Laws.{LeavesAreStretches}
+use Rattle.markdown_stretch.specs.Laws.{LeavesAreStretches, EventsGiveContent}
 use Rattle.markdown_stretch.specs.Lined.{IsLined, AtStart, Stands, IsApart}
 use Rattle.markdown_stretch.proofs.LinedElements.{text-lined, string-lined}
 use Rattle.markdown_stretch.proofs.LinedLabels.{apart-labels}
@@ -131,3 +131,9 @@ string-in-order s pieces es content e = leaves-in-order s.bytes (string_tree s (
 pub string-covers : (s : Setting) (pieces : List Piece) (es : List Event) → IsContent s.bytes pieces → es ≡ string_events s pieces → covered s.bytes (map (lent s.bytes) (innermost es)) ≡ content_of s.bytes pieces
 string-covers s pieces es content e =
     lent-covers s.bytes (string_tree s (content_of s.bytes pieces)) es (string-leaves s pieces content) e ∙ (leaves_cover s (content_of s.bytes pieces)).1
+
+pub events-give-content : EventsGiveContent
+events-give-content s pieces content = (
+  record { places = text-in-order s pieces (text_events s pieces) content refl; leaves = text-covers s pieces (text_events s pieces) content refl },
+  record { places = string-in-order s pieces (string_events s pieces) content refl; leaves = string-covers s pieces (string_events s pieces) content refl },
+)

@@ -1,9 +1,11 @@
--- The law on the leaves of inline trees.
-use Rattle.std.specs.Prelude.{List}
+-- The laws on the leaves of inline trees, and on the innermost events.
+use Rattle.std.specs.Prelude.{◌≡◌, ℕ, List, map}
+use Rattle.std.specs.List.{All}
 use Rattle.markdown_engine.specs.Content.{IsContent, content_of}
+use Rattle.markdown_engine.specs.declared.event.Event.{Event}
 use Rattle.markdown_engine.specs.declared.parser.Piece.{Piece}
-use Rattle.markdown_leaves.specs.Leaves.{HasLeaves}
-use Rattle.markdown_model.specs.Inline.{text_tree, string_tree}
+use Rattle.markdown_leaves.specs.Leaves.{HasLeaves, IsInOrder, covered, innermost, lent}
+use Rattle.markdown_model.specs.Inline.{text_tree, string_tree, text_events, string_events}
 use Rattle.markdown_model.specs.Setting.{Setting}
 
 -- each leaf of the inline tree of a content is codes of the document that follow one another, and a group around nothing stands at one
@@ -12,3 +14,15 @@ abbrev pub LeavesAreStretches : Type 0
 LeavesAreStretches =
     (s : Setting) (pieces : List Piece) → IsContent s.bytes pieces
     → HasLeaves s.bytes (text_tree s (content_of s.bytes pieces)) × HasLeaves s.bytes (string_tree s (content_of s.bytes pieces))
+
+-- the innermost of these events begin and end at places of the document, and the codes from where each begins to where it ends, one
+-- after another, are those of the content
+pub record GivesContent (bytes : List ℕ) (pieces : List Piece) (es : List Event) : Type 0 where
+  pub places : All (IsInOrder bytes) (innermost es)
+  pub leaves : covered bytes (map (lent bytes) (innermost es)) ≡ content_of bytes pieces
+
+-- so it is with the events of each content, read as text and read as a string
+abbrev pub EventsGiveContent : Type 0
+EventsGiveContent =
+    (s : Setting) (pieces : List Piece) → IsContent s.bytes pieces
+    → GivesContent s.bytes pieces (text_events s pieces) × GivesContent s.bytes pieces (string_events s pieces)
