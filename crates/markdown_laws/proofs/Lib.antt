@@ -7,8 +7,10 @@ pub mod ProbeLaws
 pub mod EmailLeaves
 pub mod EmailLaws
 pub mod TrimmingLaws
-pub mod EvenPairs
 pub mod MadeReadings
 pub mod MadeLabels
+pub mod RunRows
+pub mod FilledRows
+pub mod PairSides
 pub mod TextPairs
 pub mod FilledLaws

@@ -22,11 +22,11 @@ use Rattle.markdown_laws.proofs.MadeReadings.{made-join, made-leaf, made-group, 
 
 -- Elements.
 
-abbrev IsGoodEnd : End → Type 0
+abbrev pub IsGoodEnd : End → Type 0
 IsGoodEnd (back, None) = IsSome back
 IsGoodEnd (back, Some outcome) = IsSome back × IsMade outcome.1
 
-abbrev IsGood : Element → Type 0
+abbrev pub IsGood : Element → Type 0
 IsGood (plain tree) = IsMade tree
 IsGood (starts kind marker) = IsSome marker
 IsGood (ends back outcome) = IsGoodEnd (back, outcome)
@@ -167,7 +167,7 @@ good_string_element s =
     yields_either _ _ _ (good_switched _ _ (good_plain _ makes_escape))
     (yields_either _ _ _ (good_switched _ _ (good_plain _ (makes_reference _))) (yields_either _ _ _ good_line_ending good_data_code))
 
-abbrev AllGood : List Element → Type 0
+abbrev pub AllGood : List Element → Type 0
 AllGood [] = Unit {0}
 AllGood (e ∷ es) = IsGood e × AllGood es
 
@@ -283,8 +283,11 @@ made-labels es h =
     let r = made-nest es h in
     made-joined _ (made-append (nest_labels es).0 (after_loose labelled loose_start loose_end (nest_labels es).1) r.0 (made-after (nest_labels es).1 r.1))
 
+pub good-text : (s : Setting) (cs : List Code) → AllGood (elements_of s cs)
+good-text s cs = all_good (text_choice s cs) (λ earlier previous. good_text_element s _ earlier previous) (elements_of s cs) [] None cs (text_elements s cs)
+
 pub made-text-labels : (s : Setting) (cs : List Code) → IsMade (labels_of (elements_of s cs))
-made-text-labels s cs = made-labels (elements_of s cs) (all_good (text_choice s cs) (λ earlier previous. good_text_element s _ earlier previous) (elements_of s cs) [] None cs (text_elements s cs))
+made-text-labels s cs = made-labels (elements_of s cs) (good-text s cs)
 
 pub made-string-labels : (s : Setting) (cs : List Code) → IsMade (labels_of (string_elements_of s cs))
 made-string-labels s cs = made-labels (string_elements_of s cs) (all_good (string_choice s) (λ earlier previous. good_string_element s) (string_elements_of s cs) [] None cs (string_elements s cs))

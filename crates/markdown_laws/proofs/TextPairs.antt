@@ -1,23 +1,27 @@
 -- The groups of pairs in the inline tree of a text.
-use Rattle.std.proofs.Common.{◌≡◌, ℕ, zero, suc, ◌+◌, Bool, true, false, ◌&&◌, ◌||◌, not, List, [], ◌∷◌, ◌++◌, length, reverse, if◌then◌else◌, refl, ap, ◌∙◌, arith, Option, Some, None}
+use Rattle.std.proofs.Common.{◌≡◌, ℕ, zero, suc, ◌+◌, Bool, true, false, ◌&&◌, ◌||◌, not, List, [], ◌∷◌, ◌++◌, length, reverse, if◌then◌else◌, refl, sym, ap, subst, ◌∙◌, arith, Option, Some, None}
 use Rattle.std.proofs.lemmas.Bool.{and_parts}
 use Rattle.markdown_engine.specs.declared.event.Name.{Name}
+use Rattle.markdown_engine.specs.declared.event.Point.{Point}
 use Rattle.markdown_engine.specs.Codes.{Code, is_blank}
 use Rattle.markdown_engine.specs.Tree.{Forest, empty, leaf_then, group_then, leaf, ◌⊕◌}
 use Rattle.markdown_model.specs.CodeTests.{is_empty}
 use Rattle.markdown_model.specs.Grammar.{span}
 use Rattle.markdown_model.specs.Email.{email_at, email_leaves, with_emails}
 use Rattle.markdown_model.specs.Element.{elements_of}
+use Rattle.markdown_model.specs.Groups.{paired}
 use Rattle.markdown_model.specs.Pairs.{pair_list}
 use Rattle.markdown_model.specs.Passes.{data_onto, merged, begins_line_ending, is_nothing, blank_name, trimmed_data, trimmed, mailed, labels_of}
 use Rattle.markdown_model.specs.Inline.{label_tree, raw_tree, finished_text, text_tree, pair_count}
 use Rattle.markdown_laws.specs.Filled.{is_label_text}
-use Rattle.markdown_laws.specs.PairGroups.{is_pair, pair_groups, EachPairIsAGroup, PairsAreEven}
+use Rattle.markdown_laws.specs.PairGroups.{is_pair, is_sequence, pair_groups, HasSides, EachPairHas, AreOfPair, EachPairIsAGroup, PairsAreEven, PairsTakeTheirMarkers}
 use Rattle.markdown_laws.proofs.EmailLeaves.{AnswerIsEmail, answer-email}
-use Rattle.markdown_laws.proofs.EvenPairs.{even-paired}
+use Rattle.markdown_laws.proofs.FilledRows.{made-filled}
 use Rattle.markdown_laws.proofs.MadeReadings.{made}
 use Rattle.markdown_laws.proofs.MadeLabels.{made-text-labels}
 use Rattle.markdown_laws.proofs.PairGroupLaws.{groups-leaf, groups-join, groups-paired}
+use Rattle.markdown_laws.proofs.PairSides.{right-paired, pairs-join}
+use Rattle.markdown_laws.proofs.RunRows.{apart-text-labels}
 
 -- The passes keep the groups of pairs.
 
@@ -80,7 +84,7 @@ not-pair : (b : Bool) → not b ≡ true → ◌≡◌ {A = ℕ} (if b then 1 el
 not-pair true h = cc
 not-pair false h = refl
 
-no-groups : (f : Forest) → made f ≡ true → pair_groups f ≡ 0
+pub no-groups : (f : Forest) → made f ≡ true → pair_groups f ≡ 0
 no-groups empty h = refl
 no-groups (leaf_then name link cs rest) h = no-groups rest (and_parts (not (is_empty cs)) (made rest) h).1
 no-groups (group_then name enter exit inside rest) h =
@@ -109,6 +113,180 @@ each_pair_is_a_group s cs = by_test s.options.constructs.gfm_autolink_literal �
     by_test true = groups-mailed done
     by_test false = refl
 
+-- The passes keep the sides of pairs.
+
+not-data : {A : Type 0} → is_sequence Name.Data ≡ true → A
+not-data h = cc
+
+not-ending : {A : Type 0} → is_sequence Name.LineEnding ≡ true → A
+not-ending h = cc
+
+module _ (P : List Code → List Code → Type 0) where
+  -- two sequences with a text between them
+  record Sides (f : Forest) : Type 0 where
+    name : Name
+    front : List Code
+    back : List Code
+    text : Name
+    enter : Point
+    exit : Point
+    inside : Forest
+    is : f ≡ leaf_then name None front (group_then text enter exit inside (leaf_then name None back empty))
+    sequence : is_sequence name ≡ true
+    said : P front back
+
+  sides-of : (f : Forest) → HasSides P f → Sides f
+  sides-of (leaf_then name None front (group_then text enter exit inside (leaf_then other None back empty))) h = record {
+    name = name;
+    front = front;
+    back = back;
+    text = text;
+    enter = enter;
+    exit = exit;
+    inside = inside;
+    is = λ i. leaf_then name None front (group_then text enter exit inside (leaf_then (sym h.1 i) None back empty));
+    sequence = h.0;
+    said = h.2;
+  }
+  sides-of f h = absurd h
+
+  -- a pass that keeps sequences, and groups whatever it makes of what they have inside
+  record KeepsSides (pass : Forest → Forest) : Type 0 where
+    sequence : (name : Name) (cs : List Code) (rest : Forest) → is_sequence name ≡ true → pass (leaf_then name None cs rest) ≡ leaf_then name None cs (pass rest)
+    group : (name : Name) (enter exit : Point) (inside rest : Forest) → (other : Forest) × (pass (group_then name enter exit inside rest) ≡ group_then name enter exit other (pass rest))
+    nothing : pass empty ≡ empty
+
+  sides-kept : (pass : Forest → Forest) → KeepsSides pass → (f : Forest) → HasSides P f → HasSides P (pass f)
+  sides-kept pass k f h =
+      let x = sides-of f h in
+      let g = k.group x.text x.enter x.exit x.inside (leaf_then x.name None x.back empty) in
+      subst (HasSides P)
+      (sym
+      (ap pass x.is ∙ k.sequence x.name x.front (group_then x.text x.enter x.exit x.inside (leaf_then x.name None x.back empty)) x.sequence
+      ∙ ap (leaf_then x.name None x.front) (g.1 ∙ ap (group_then x.text x.enter x.exit g.0) (k.sequence x.name x.back empty x.sequence ∙ ap (leaf_then x.name None x.back) k.nothing))))
+      (x.sequence, refl, x.said)
+
+  pairs-leaf : (name : Name) (cs : List Code) → EachPairHas P (leaf name cs)
+  pairs-leaf name [] = tt
+  pairs-leaf name (c ∷ cs) = tt
+
+  pairs-onto : (cs : List Code) (f : Forest) → EachPairHas P f → EachPairHas P (data_onto cs f)
+  pairs-onto cs (leaf_then Name.Data None more rest) h = h
+  pairs-onto cs rest h = h
+
+  merged-keeps : KeepsSides merged
+  unfolding merged
+  merged-keeps = record { sequence = sequence; group = λ name enter exit inside rest. (merged inside, refl); nothing = refl }
+    where
+      sequence : (name : Name) (cs : List Code) (rest : Forest) → is_sequence name ≡ true → merged (leaf_then name None cs rest) ≡ leaf_then name None cs (merged rest)
+      sequence Name.Data cs rest h = not-data h
+      sequence name cs rest h = refl
+
+  pairs-merged : (f : Forest) → EachPairHas P f → EachPairHas P (merged f)
+  unfolding merged
+  pairs-merged empty h = tt
+  pairs-merged (leaf_then Name.Data None cs rest) h = pairs-onto cs (merged rest) (pairs-merged rest h)
+  pairs-merged (leaf_then name link cs rest) h = pairs-merged rest h
+  pairs-merged (group_then name enter exit inside rest) h = ((λ e. sides-kept merged merged-keeps inside (h.0 e)), pairs-merged inside h.1, pairs-merged rest h.2)
+
+  pairs-data : (front back hard : Bool) (cs : List Code) → EachPairHas P (trimmed_data front back hard cs)
+  pairs-data front back hard cs = three Name.SpaceOrTab Name.Data (blank_name hard (reverse cut.0)) lead.0 lead.1 (reverse cut.0)
+    where
+      cut : List Code × List Code
+      cut = elim back [ true ↦ span is_blank (reverse cs) | false ↦ ([], reverse cs) ]
+
+      lead : List Code × List Code
+      lead = elim front [ true ↦ span is_blank (reverse cut.1) | false ↦ ([], reverse cut.1) ]
+
+      three : (a b c : Name) (xs ys zs : List Code) → EachPairHas P (leaf a xs ⊕ leaf b ys ⊕ leaf c zs)
+      three a b c xs ys zs = pairs-join P (leaf a xs) (leaf b ys ⊕ leaf c zs) (pairs-leaf a xs) (pairs-join P (leaf b ys) (leaf c zs) (pairs-leaf b ys) (pairs-leaf c zs))
+
+  -- a pair's own row is trimmed at neither end
+  trimmed-keeps : (hard : Bool) → KeepsSides (trimmed hard false false)
+  unfolding trimmed
+  trimmed-keeps hard = record { sequence = sequence; group = λ name enter exit inside rest. (trimmed hard false false inside, refl); nothing = refl }
+    where
+      sequence : (name : Name) (cs : List Code) (rest : Forest) → is_sequence name ≡ true → trimmed hard false false (leaf_then name None cs rest) ≡ leaf_then name None cs (trimmed hard false false rest)
+      sequence Name.Data cs rest h = not-data h
+      sequence Name.LineEnding cs rest h = not-ending h
+      sequence name cs rest h = refl
+
+  pairs-trimmed : (hard front whole : Bool) (f : Forest) → EachPairHas P f → EachPairHas P (trimmed hard front whole f)
+  unfolding trimmed
+  pairs-trimmed hard front whole empty h = tt
+  pairs-trimmed hard front whole (leaf_then Name.Data None cs rest) h =
+      pairs-join P (trimmed_data front (begins_line_ending rest || (whole && is_nothing rest)) (hard && begins_line_ending rest) cs) (trimmed hard false whole rest)
+      (pairs-data front (begins_line_ending rest || (whole && is_nothing rest)) (hard && begins_line_ending rest) cs) (pairs-trimmed hard false whole rest h)
+  pairs-trimmed hard front whole (leaf_then Name.LineEnding link cs rest) h = pairs-trimmed hard true whole rest h
+  pairs-trimmed hard front whole (leaf_then name link cs rest) h = pairs-trimmed hard false whole rest h
+  pairs-trimmed hard front whole (group_then name enter exit inside rest) h =
+      ((λ e. sides-kept (trimmed hard false false) (trimmed-keeps hard) inside (h.0 e)), pairs-trimmed hard false false inside h.1, pairs-trimmed hard false whole rest h.2)
+
+  pairs-emails : (n : ℕ) (before cs : List Code) → EachPairHas P (email_leaves n before cs)
+  unfolding email_leaves
+  pairs-emails n before [] = pairs-leaf Name.Data (reverse before)
+  pairs-emails zero before (c ∷ cs) = pairs-leaf Name.Data (reverse before ++ c ∷ cs)
+  pairs-emails (suc n) before (c ∷ cs) = by_answer (email_at before c cs) (answer-email before c cs) (pairs-emails n)
+    where
+      by_answer : (r : Option (List Code × Forest × List Code)) → AnswerIsEmail r → ((front ds : List Code) → EachPairHas P (email_leaves n front ds))
+          → EachPairHas P (elim r as (λ _. Forest) [ None ↦ email_leaves n (c ∷ before) cs | Some x ↦ leaf Name.Data x.0 ⊕ x.1 ⊕ email_leaves n [] x.2 ])
+      by_answer None h more = more (c ∷ before) cs
+      by_answer (Some x) h more =
+          pairs-join P (leaf Name.Data x.0) (x.1 ⊕ email_leaves n [] x.2) (pairs-leaf Name.Data x.0) (subst (λ t. EachPairHas P (t ⊕ email_leaves n [] x.2)) (sym h.is) (more [] x.2))
+
+  mailed-keeps : KeepsSides mailed
+  unfolding mailed
+  mailed-keeps = record { sequence = sequence; group = group; nothing = refl }
+    where
+      sequence : (name : Name) (cs : List Code) (rest : Forest) → is_sequence name ≡ true → mailed (leaf_then name None cs rest) ≡ leaf_then name None cs (mailed rest)
+      sequence Name.Data cs rest h = not-data h
+      sequence name cs rest h = refl
+
+      group : (name : Name) (enter exit : Point) (inside rest : Forest) → (other : Forest) × (mailed (group_then name enter exit inside rest) ≡ group_then name enter exit other (mailed rest))
+      group Name.Link enter exit inside rest = (inside, refl)
+      group name enter exit inside rest = (mailed inside, refl)
+
+  pairs-mailed : (f : Forest) → EachPairHas P f → EachPairHas P (mailed f)
+  unfolding mailed with_emails
+  pairs-mailed empty h = tt
+  pairs-mailed (leaf_then Name.Data None cs rest) h = pairs-join P (email_leaves (length cs) [] cs) (mailed rest) (pairs-emails (length cs) [] cs) (pairs-mailed rest h)
+  pairs-mailed (leaf_then name link cs rest) h = pairs-mailed rest h
+  pairs-mailed (group_then Name.Link enter exit inside rest) h = (h.0, h.1, pairs-mailed rest h.2)
+  pairs-mailed (group_then name enter exit inside rest) h = ((λ e. sides-kept mailed mailed-keeps inside (h.0 e)), pairs-mailed inside h.1, pairs-mailed rest h.2)
+
+pub pairs_take_their_markers : PairsTakeTheirMarkers
+unfolding text_tree finished_text raw_tree label_tree
+pairs_take_their_markers s cs = by_test s.options.constructs.gfm_autolink_literal
+  where
+    labels : Forest
+    labels = labels_of (elements_of s cs)
+
+    P : List Code → List Code → Type 0
+    P front back = AreOfPair s labels front back
+
+    done : Forest
+    done = trimmed s.options.constructs.hard_break_trailing true true (merged (paired s (pair_list s) labels))
+
+    kept : EachPairHas P done
+    kept =
+        pairs-trimmed P s.options.constructs.hard_break_trailing true true (merged (paired s (pair_list s) labels))
+        (pairs-merged P (paired s (pair_list s) labels) (right-paired s labels (no-groups labels (made-text-labels s cs)) (made-filled labels (made-text-labels s cs)) (apart-text-labels s cs)).0)
+
+    by_test : (b : Bool) → EachPairHas P (elim b as (λ _. Forest) [ true ↦ mailed done | false ↦ done ])
+    by_test true = pairs-mailed P done kept
+    by_test false = kept
+
+-- What is said of the sides of pairs may be weakened.
+
+module _ (P R : List Code → List Code → Type 0) (weaker : (front back : List Code) → P front back → R front back) where
+  sides-weaker : (f : Forest) → HasSides P f → HasSides R f
+  sides-weaker f h = let x = sides-of P f h in subst (HasSides R) (sym x.is) (x.sequence, refl, weaker x.front x.back x.said)
+
+  pairs-weaker : (f : Forest) → EachPairHas P f → EachPairHas R f
+  pairs-weaker empty h = tt
+  pairs-weaker (leaf_then name link cs rest) h = pairs-weaker rest h
+  pairs-weaker (group_then name enter exit inside rest) h = ((λ e. sides-weaker inside (h.0 e)), pairs-weaker inside h.1, pairs-weaker rest h.2)
+
 pub pairs_are_even : PairsAreEven
-unfolding raw_tree
-pairs_are_even s cs = even-paired s (labels_of (elements_of s cs)) (no-groups (labels_of (elements_of s cs)) (made-text-labels s cs))
+pairs_are_even s cs =
+    pairs-weaker (AreOfPair s (label_tree s cs)) (λ front back. length front ≡ length back) (λ front back h. h.opener_size ∙ sym h.closer_size) (text_tree s cs) (pairs_take_their_markers s cs)

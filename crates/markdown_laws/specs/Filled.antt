@@ -1,4 +1,4 @@
--- Nothing in the inline tree is empty but texts of groups.
+-- Nothing in the inline tree is empty but the texts of labels.
 use Rattle.std.specs.Prelude.{◌≡◌, Bool, true, false, List}
 use Rattle.markdown_engine.specs.declared.event.Name.{Name}
 use Rattle.markdown_engine.specs.Codes.{Code}
@@ -12,19 +12,11 @@ abbrev pub is_label_text : Name → Bool
 is_label_text Name.LabelText = true
 is_label_text _ = false
 
--- the text of a label or of a pair
-abbrev pub is_text_group : Name → Bool
-is_text_group Name.LabelText = true
-is_text_group Name.EmphasisText = true
-is_text_group Name.StrongText = true
-is_text_group Name.GfmStrikethroughText = true
-is_text_group _ = false
-
--- each leaf has a code, and a group around nothing is such a text
+-- each leaf has a code, and a group around nothing is the text of a label
 abbrev pub IsFilled : Forest → Type 0
 IsFilled empty = Unit {0}
 IsFilled (leaf_then name link cs rest) = (is_empty cs ≡ false) × IsFilled rest
-IsFilled (group_then name enter exit inside rest) = (is_nothing inside ≡ true → is_text_group name ≡ true) × IsFilled inside × IsFilled rest
+IsFilled (group_then name enter exit inside rest) = (is_nothing inside ≡ true → is_label_text name ≡ true) × IsFilled inside × IsFilled rest
 
 -- the inline tree of each text and each string is so
 abbrev pub TreesAreFilled : Type 0

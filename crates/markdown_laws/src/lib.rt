@@ -6,7 +6,7 @@
 #![tactic(auto)]
 
 ghost use Rattle.markdown_laws.specs.Escapes.{Escapes};
-ghost use Rattle.markdown_laws.specs.PairGroups.{EachPairIsAGroup, PairsAreEven};
+ghost use Rattle.markdown_laws.specs.PairGroups.{EachPairIsAGroup, PairsAreEven, PairsTakeTheirMarkers};
 ghost use Rattle.markdown_laws.specs.ProbeBounds.{ProbesAreFew};
 ghost use Rattle.markdown_laws.specs.Emails.{EmailsStandInData};
 ghost use Rattle.markdown_laws.specs.Trimming.{DataIsTight};
@@ -40,12 +40,18 @@ pub fn data_is_tight()
     ensures { DataIsTight }
 {}
 
-/// The group of each pair is two sequences of one name and of equally many markers, with a text between them.
+/// In the inline tree of a text, the group of each pair is two sequences of one name and of equally many markers, with a text between them.
 pub fn pairs_are_even()
     ensures { PairsAreEven }
 {}
 
-/// Each leaf of an inline tree has a code, and a group around nothing is the text of a label or of a pair.
+/// In the inline tree of a text, the group of each pair has markers of its opener's run in front and of its closer's run at its back, as many of each
+/// as the pair takes.
+pub fn pairs_take_their_markers()
+    ensures { PairsTakeTheirMarkers }
+{}
+
+/// Each leaf of an inline tree has a code, and a group around nothing is the text of a label; so a pair stands around something.
 pub fn trees_are_filled()
     ensures { TreesAreFilled }
 {}

@@ -1,0 +1,70 @@
+-- Rows in which nothing is empty but the texts of labels.
+use Rattle.std.proofs.Common.{◌≡◌, ℕ, Bool, true, false, ◌&&◌, ◌||◌, not, List, [], ◌∷◌, ◌++◌, refl, sym, ◌∙◌}
+use Rattle.std.proofs.lemmas.Bool.{and_parts}
+use Rattle.markdown_engine.specs.declared.event.Name.{Name}
+use Rattle.markdown_engine.specs.Codes.{Code}
+use Rattle.markdown_engine.specs.Tree.{Forest, empty, leaf_then, group_then, leaf, ◌⊕◌, leaf_codes}
+use Rattle.markdown_model.specs.CodeTests.{is_empty}
+use Rattle.markdown_model.specs.Groups.{assembled, tokens_of}
+use Rattle.markdown_model.specs.Pairs.{Pair, pair_list}
+use Rattle.markdown_model.specs.Passes.{is_nothing}
+use Rattle.markdown_model.specs.Setting.{Setting}
+use Rattle.markdown_model.proofs.Coverage.{codes-assembled, codes-tokens_of}
+use Rattle.markdown_laws.specs.Filled.{is_label_text, IsFilled}
+use Rattle.markdown_laws.specs.PairGroups.{is_pair}
+use Rattle.markdown_laws.proofs.MadeReadings.{made}
+
+-- Rows.
+
+pub filled-leaf : (name : Name) (cs : List Code) → IsFilled (leaf name cs)
+filled-leaf name [] = tt
+filled-leaf name (c ∷ cs) = (refl, tt)
+
+pub filled-join : (a b : Forest) → IsFilled a → IsFilled b → IsFilled (a ⊕ b)
+filled-join empty b h k = k
+filled-join (leaf_then name link cs rest) b h k = (h.0, filled-join rest b h.1 k)
+filled-join (group_then name enter exit inside rest) b h k = (h.0, h.1, filled-join rest b h.2 k)
+
+-- What labels make.
+
+either-text : (a b : Bool) → (a || not b) ≡ true → b ≡ true → a ≡ true
+either-text true b h k = refl
+either-text false true h k = h
+either-text false false h k = k
+
+full : (b : Bool) → not b ≡ true → b ≡ false
+full true h = cc
+full false h = refl
+
+pub made-filled : (f : Forest) → made f ≡ true → IsFilled f
+made-filled empty h = tt
+made-filled (leaf_then name link cs rest) h =
+    let p = and_parts (not (is_empty cs)) (made rest) h in
+    (full (is_empty cs) p.0, made-filled rest p.1)
+made-filled (group_then name enter exit inside rest) h =
+    let p = and_parts (is_label_text name || not (is_nothing inside)) (not (is_pair name) && (made inside && made rest)) h in
+    let q = and_parts (not (is_pair name)) (made inside && made rest) p.1 in
+    let r = and_parts (made inside) (made rest) q.1 in
+    ((λ e. either-text (is_label_text name) (is_nothing inside) p.0 e), made-filled inside r.0, made-filled rest r.1)
+
+pub nothing-codes : (f : Forest) → is_nothing f ≡ true → leaf_codes f ≡ []
+nothing-codes empty h = refl
+nothing-codes (leaf_then name link cs rest) h = cc
+nothing-codes (group_then name enter exit inside rest) h = cc
+
+some-codes : (cs ds : List Code) → is_empty cs ≡ false → cs ++ ds ≡ [] → ⊥
+some-codes [] ds h e = cc
+some-codes (c ∷ cs) ds h e = cc
+
+module _ (s : Setting) where
+  -- a row that is assembled is nothing only if it was
+  pub nothing-assembled : (f : Forest) (pairs : List Pair) (n : ℕ) → IsFilled f → is_nothing (assembled (tokens_of s (pair_list s) f pairs n)) ≡ true → is_nothing f ≡ true
+  unfolding tokens_of
+  nothing-assembled empty pairs n h e = refl
+  nothing-assembled (leaf_then Name.AttentionSequence link cs rest) pairs n h e =
+      absurd (some-codes cs (leaf_codes rest) h.0 (sym (covered (leaf_then Name.AttentionSequence link cs rest)) ∙ nothing-codes (assembled (tokens_of s (pair_list s) (leaf_then Name.AttentionSequence link cs rest) pairs n)) e))
+    where
+      covered : (f : Forest) → leaf_codes (assembled (tokens_of s (pair_list s) f pairs n)) ≡ leaf_codes f
+      covered f = codes-assembled (tokens_of s (pair_list s) f pairs n) ∙ codes-tokens_of s (pair_list s) f pairs n
+  nothing-assembled (leaf_then name link cs rest) pairs n h e = cc
+  nothing-assembled (group_then name enter exit inside rest) pairs n h e = cc
