@@ -51,5 +51,9 @@ row_11 = text_outline (record default { gfm_autolink_literal = true; gfm_label_s
 abbrev pub row_12 : Type 0
 row_12 = text_answer (record default { gfm_autolink_literal = true; gfm_label_start_footnote = true; gfm_strikethrough = true; gfm_task_list_item = true; first_of_item = true }) (codes " [x] a") (piece 0 0 6 0 ∷ []) ≡ (enter Name.SpaceOrTab 1 1 0 0 ∷ exit Name.SpaceOrTab 1 2 1 0 ∷ enter Name.Data 1 2 1 0 ∷ exit Name.Data 1 7 6 0 ∷ [])
 
+-- text outer gfm first «[x] ␊a»: GfmTaskListItemCheck 0-3, SpaceOrTab 3-4, LineEnding 4-5, Data 5-6
+abbrev pub row_13 : Type 0
+row_13 = text_outline (record default { gfm_autolink_literal = true; gfm_label_start_footnote = true; gfm_strikethrough = true; gfm_task_list_item = true; first_of_item = true }) (91 ∷ 120 ∷ 93 ∷ 32 ∷ 10 ∷ 97 ∷ []) (piece 0 0 6 0 ∷ []) ≡ (enter Name.GfmTaskListItemCheck 1 1 0 0 ∷ exit Name.GfmTaskListItemCheck 1 4 3 0 ∷ enter Name.SpaceOrTab 1 4 3 0 ∷ exit Name.SpaceOrTab 1 5 4 0 ∷ enter Name.LineEnding 1 5 4 0 ∷ exit Name.LineEnding 2 1 5 0 ∷ enter Name.Data 2 1 5 0 ∷ exit Name.Data 2 2 6 0 ∷ [])
+
 abbrev pub Rows : Type 0
-Rows = row_1 × row_2 × row_3 × row_4 × row_5 × row_6 × row_7 × row_8 × row_9 × row_10 × row_11 × row_12
+Rows = row_1 × row_2 × row_3 × row_4 × row_5 × row_6 × row_7 × row_8 × row_9 × row_10 × row_11 × row_12 × row_13

@@ -107,5 +107,9 @@ row_25 = string_answer (default) (32 ∷ 32 ∷ 10 ∷ 9 ∷ []) (piece 0 0 4 0 
 abbrev pub row_26 : Type 0
 row_26 = string_answer (default) (13 ∷ []) (piece 0 0 1 0 ∷ []) ≡ (enter Name.LineEnding 1 1 0 0 ∷ exit Name.LineEnding 2 1 1 0 ∷ [])
 
+-- text «a\ ␊b»: Data 0-2, SpaceOrTab 2-3, LineEnding 3-4, Data 4-5
+abbrev pub row_27 : Type 0
+row_27 = text_answer (default) (97 ∷ 92 ∷ 32 ∷ 10 ∷ 98 ∷ []) (piece 0 0 5 0 ∷ []) ≡ (enter Name.Data 1 1 0 0 ∷ exit Name.Data 1 3 2 0 ∷ enter Name.SpaceOrTab 1 3 2 0 ∷ exit Name.SpaceOrTab 1 4 3 0 ∷ enter Name.LineEnding 1 4 3 0 ∷ exit Name.LineEnding 2 1 4 0 ∷ enter Name.Data 2 1 4 0 ∷ exit Name.Data 2 2 5 0 ∷ [])
+
 abbrev pub Rows : Type 0
-Rows = row_1 × row_2 × row_3 × row_4 × row_5 × row_6 × row_7 × row_8 × row_9 × row_10 × row_11 × row_12 × row_13 × row_14 × row_15 × row_16 × row_17 × row_18 × row_19 × row_20 × row_21 × row_22 × row_23 × row_24 × row_25 × row_26
+Rows = row_1 × row_2 × row_3 × row_4 × row_5 × row_6 × row_7 × row_8 × row_9 × row_10 × row_11 × row_12 × row_13 × row_14 × row_15 × row_16 × row_17 × row_18 × row_19 × row_20 × row_21 × row_22 × row_23 × row_24 × row_25 × row_26 × row_27

@@ -115,5 +115,13 @@ row_27 = text_answer (default) (codes "<![CDATA[a") (piece 0 0 10 0 ∷ []) ≡ 
 abbrev pub row_28 : Type 0
 row_28 = text_answer (default) (60 ∷ 97 ∷ 98 ∷ 58 ∷ 0 ∷ 62 ∷ []) (piece 0 0 6 0 ∷ []) ≡ (enter Name.Data 1 1 0 0 ∷ exit Name.Data 1 7 6 0 ∷ [])
 
+-- text outer «<?@a>?>»: Autolink 0-5, Data 5-7
+abbrev pub row_29 : Type 0
+row_29 = text_outline (default) (codes "<?@a>?>") (piece 0 0 7 0 ∷ []) ≡ (enter Name.Autolink 1 1 0 0 ∷ exit Name.Autolink 1 6 5 0 ∷ enter Name.Data 1 6 5 0 ∷ exit Name.Data 1 8 7 0 ∷ [])
+
+-- text outer «<!-->-->»: HtmlText 0-5, Data 5-8
+abbrev pub row_30 : Type 0
+row_30 = text_outline (default) (codes "<!-->-->") (piece 0 0 8 0 ∷ []) ≡ (enter Name.HtmlText 1 1 0 0 ∷ exit Name.HtmlText 1 6 5 0 ∷ enter Name.Data 1 6 5 0 ∷ exit Name.Data 1 9 8 0 ∷ [])
+
 abbrev pub Rows : Type 0
-Rows = row_1 × row_2 × row_3 × row_4 × row_5 × row_6 × row_7 × row_8 × row_9 × row_10 × row_11 × row_12 × row_13 × row_14 × row_15 × row_16 × row_17 × row_18 × row_19 × row_20 × row_21 × row_22 × row_23 × row_24 × row_25 × row_26 × row_27 × row_28
+Rows = row_1 × row_2 × row_3 × row_4 × row_5 × row_6 × row_7 × row_8 × row_9 × row_10 × row_11 × row_12 × row_13 × row_14 × row_15 × row_16 × row_17 × row_18 × row_19 × row_20 × row_21 × row_22 × row_23 × row_24 × row_25 × row_26 × row_27 × row_28 × row_29 × row_30

@@ -159,5 +159,9 @@ row_38 = text_answer (default) (codes "![a]") (piece 0 0 4 0 ∷ []) ≡ (enter 
 abbrev pub row_39 : Type 0
 row_39 = text_answer (default) (codes "!a") (piece 0 0 2 0 ∷ []) ≡ (enter Name.Data 1 1 0 0 ∷ exit Name.Data 1 3 2 0 ∷ [])
 
+-- text «[a](b\\)»: Link 0-8 [Label 0-3 [LabelLink 0-1, LabelText 1-2 [Data 1-2], LabelEnd 2-3], Resource 3-8 [ResourceMarker 3-4, Raw 4-7, ResourceMarker 7-8]]
+abbrev pub row_40 : Type 0
+row_40 = text_answer (default) (codes "[a](b\\\\)") (piece 0 0 8 0 ∷ []) ≡ (enter Name.Link 1 1 0 0 ∷ enter Name.Label 1 1 0 0 ∷ enter Name.LabelLink 1 1 0 0 ∷ enter Name.LabelMarker 1 1 0 0 ∷ exit Name.LabelMarker 1 2 1 0 ∷ exit Name.LabelLink 1 2 1 0 ∷ enter Name.LabelText 1 2 1 0 ∷ enter Name.Data 1 2 1 0 ∷ exit Name.Data 1 3 2 0 ∷ exit Name.LabelText 1 3 2 0 ∷ enter Name.LabelEnd 1 3 2 0 ∷ enter Name.LabelMarker 1 3 2 0 ∷ exit Name.LabelMarker 1 4 3 0 ∷ exit Name.LabelEnd 1 4 3 0 ∷ exit Name.Label 1 4 3 0 ∷ enter Name.Resource 1 4 3 0 ∷ enter Name.ResourceMarker 1 4 3 0 ∷ exit Name.ResourceMarker 1 5 4 0 ∷ enter Name.ResourceDestination 1 5 4 0 ∷ enter Name.ResourceDestinationRaw 1 5 4 0 ∷ enter Name.ResourceDestinationString 1 5 4 0 ∷ chained Name.Data 1 5 4 0 None None ∷ exit Name.Data 1 8 7 0 ∷ exit Name.ResourceDestinationString 1 8 7 0 ∷ exit Name.ResourceDestinationRaw 1 8 7 0 ∷ exit Name.ResourceDestination 1 8 7 0 ∷ enter Name.ResourceMarker 1 8 7 0 ∷ exit Name.ResourceMarker 1 9 8 0 ∷ exit Name.Resource 1 9 8 0 ∷ exit Name.Link 1 9 8 0 ∷ [])
+
 abbrev pub Rows : Type 0
-Rows = row_1 × row_2 × row_3 × row_4 × row_5 × row_6 × row_7 × row_8 × row_9 × row_10 × row_11 × row_12 × row_13 × row_14 × row_15 × row_16 × row_17 × row_18 × row_19 × row_20 × row_21 × row_22 × row_23 × row_24 × row_25 × row_26 × row_27 × row_28 × row_29 × row_30 × row_31 × row_32 × row_33 × row_34 × row_35 × row_36 × row_37 × row_38 × row_39
+Rows = row_1 × row_2 × row_3 × row_4 × row_5 × row_6 × row_7 × row_8 × row_9 × row_10 × row_11 × row_12 × row_13 × row_14 × row_15 × row_16 × row_17 × row_18 × row_19 × row_20 × row_21 × row_22 × row_23 × row_24 × row_25 × row_26 × row_27 × row_28 × row_29 × row_30 × row_31 × row_32 × row_33 × row_34 × row_35 × row_36 × row_37 × row_38 × row_39 × row_40

@@ -352,5 +352,9 @@ row_86 = data_answer (codes "&") (10 ∷ 97 ∷ []) ≡ Some (enter Name.LineEnd
 abbrev pub row_87 : Type 0
 row_87 = data_answer (codes "&") (codes "") ≡ Some ([])
 
+-- label «[⟦U+000C⟧]»: Reference 0-3 [ReferenceMarker 0-1, ReferenceString 1-2 [Data 1-2], ReferenceMarker 2-3]
+abbrev pub row_88 : Type 0
+row_88 = label_answer (91 ∷ 12 ∷ 93 ∷ []) ≡ Some (enter Name.Reference 1 1 0 0 ∷ enter Name.ReferenceMarker 1 1 0 0 ∷ exit Name.ReferenceMarker 1 2 1 0 ∷ enter Name.ReferenceString 1 2 1 0 ∷ chained Name.Data 1 2 1 0 None None ∷ exit Name.Data 1 3 2 0 ∷ exit Name.ReferenceString 1 3 2 0 ∷ enter Name.ReferenceMarker 1 3 2 0 ∷ exit Name.ReferenceMarker 1 4 3 0 ∷ exit Name.Reference 1 4 3 0 ∷ [])
+
 abbrev pub Rows : Type 0
-Rows = row_1 × row_2 × row_3 × row_4 × row_5 × row_6 × row_7 × row_8 × row_9 × row_10 × row_11 × row_12 × row_13 × row_14 × row_15 × row_16 × row_17 × row_18 × row_19 × row_20 × row_21 × row_22 × row_23 × row_24 × row_25 × row_26 × row_27 × row_28 × row_29 × row_30 × row_31 × row_32 × row_33 × row_34 × row_35 × row_36 × row_37 × row_38 × row_39 × row_40 × row_41 × row_42 × row_43 × row_44 × row_45 × row_46 × row_47 × row_48 × row_49 × row_50 × row_51 × row_52 × row_53 × row_54 × row_55 × row_56 × row_57 × row_58 × row_59 × row_60 × row_61 × row_62 × row_63 × row_64 × row_65 × row_66 × row_67 × row_68 × row_69 × row_70 × row_71 × row_72 × row_73 × row_74 × row_75 × row_76 × row_77 × row_78 × row_79 × row_80 × row_81 × row_82 × row_83 × row_84 × row_85 × row_86 × row_87
+Rows = row_1 × row_2 × row_3 × row_4 × row_5 × row_6 × row_7 × row_8 × row_9 × row_10 × row_11 × row_12 × row_13 × row_14 × row_15 × row_16 × row_17 × row_18 × row_19 × row_20 × row_21 × row_22 × row_23 × row_24 × row_25 × row_26 × row_27 × row_28 × row_29 × row_30 × row_31 × row_32 × row_33 × row_34 × row_35 × row_36 × row_37 × row_38 × row_39 × row_40 × row_41 × row_42 × row_43 × row_44 × row_45 × row_46 × row_47 × row_48 × row_49 × row_50 × row_51 × row_52 × row_53 × row_54 × row_55 × row_56 × row_57 × row_58 × row_59 × row_60 × row_61 × row_62 × row_63 × row_64 × row_65 × row_66 × row_67 × row_68 × row_69 × row_70 × row_71 × row_72 × row_73 × row_74 × row_75 × row_76 × row_77 × row_78 × row_79 × row_80 × row_81 × row_82 × row_83 × row_84 × row_85 × row_86 × row_87 × row_88

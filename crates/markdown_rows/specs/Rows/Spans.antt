@@ -75,5 +75,9 @@ row_17 = text_outline (record default { math_text = true }) (codes "\\$$a$") (pi
 abbrev pub row_18 : Type 0
 row_18 = text_answer (default) (codes "`\\`") (piece 0 0 3 0 ∷ []) ≡ (enter Name.CodeText 1 1 0 0 ∷ enter Name.CodeTextSequence 1 1 0 0 ∷ exit Name.CodeTextSequence 1 2 1 0 ∷ enter Name.CodeTextData 1 2 1 0 ∷ exit Name.CodeTextData 1 3 2 0 ∷ enter Name.CodeTextSequence 1 3 2 0 ∷ exit Name.CodeTextSequence 1 4 3 0 ∷ exit Name.CodeText 1 4 3 0 ∷ [])
 
+-- text outer «\!```a`»: CharacterEscape 0-2, Data 2-7
+abbrev pub row_19 : Type 0
+row_19 = text_outline (default) (codes "\\!```a`") (piece 0 0 7 0 ∷ []) ≡ (enter Name.CharacterEscape 1 1 0 0 ∷ exit Name.CharacterEscape 1 3 2 0 ∷ enter Name.Data 1 3 2 0 ∷ exit Name.Data 1 8 7 0 ∷ [])
+
 abbrev pub Rows : Type 0
-Rows = row_1 × row_2 × row_3 × row_4 × row_5 × row_6 × row_7 × row_8 × row_9 × row_10 × row_11 × row_12 × row_13 × row_14 × row_15 × row_16 × row_17 × row_18
+Rows = row_1 × row_2 × row_3 × row_4 × row_5 × row_6 × row_7 × row_8 × row_9 × row_10 × row_11 × row_12 × row_13 × row_14 × row_15 × row_16 × row_17 × row_18 × row_19

@@ -119,5 +119,9 @@ row_28 = text_answer (default) (9 ∷ 9 ∷ 97 ∷ []) (piece 0 0 3 0 ∷ []) �
 abbrev pub row_29 : Type 0
 row_29 = text_outline (default) (97 ∷ 38 ∷ 110 ∷ 98 ∷ 115 ∷ 112 ∷ 59 ∷ 10 ∷ 98 ∷ []) (piece 0 0 9 0 ∷ []) ≡ (enter Name.Data 1 1 0 0 ∷ exit Name.Data 1 2 1 0 ∷ enter Name.CharacterReference 1 2 1 0 ∷ exit Name.CharacterReference 1 8 7 0 ∷ enter Name.LineEnding 1 8 7 0 ∷ exit Name.LineEnding 2 1 8 0 ∷ enter Name.Data 2 1 8 0 ∷ exit Name.Data 2 2 9 0 ∷ [])
 
+-- text «ab ␉␊c»: Data 0-2, SpaceOrTab 2-4, LineEnding 4-5, Data 5-6
+abbrev pub row_30 : Type 0
+row_30 = text_answer (default) (97 ∷ 98 ∷ 32 ∷ 9 ∷ 10 ∷ 99 ∷ []) (piece 0 0 6 0 ∷ []) ≡ (enter Name.Data 1 1 0 0 ∷ exit Name.Data 1 3 2 0 ∷ enter Name.SpaceOrTab 1 3 2 0 ∷ exit Name.SpaceOrTab 1 5 4 0 ∷ enter Name.LineEnding 1 5 4 0 ∷ exit Name.LineEnding 2 1 5 0 ∷ enter Name.Data 2 1 5 0 ∷ exit Name.Data 2 2 6 0 ∷ [])
+
 abbrev pub Rows : Type 0
-Rows = row_1 × row_2 × row_3 × row_4 × row_5 × row_6 × row_7 × row_8 × row_9 × row_10 × row_11 × row_12 × row_13 × row_14 × row_15 × row_16 × row_17 × row_18 × row_19 × row_20 × row_21 × row_22 × row_23 × row_24 × row_25 × row_26 × row_27 × row_28 × row_29
+Rows = row_1 × row_2 × row_3 × row_4 × row_5 × row_6 × row_7 × row_8 × row_9 × row_10 × row_11 × row_12 × row_13 × row_14 × row_15 × row_16 × row_17 × row_18 × row_19 × row_20 × row_21 × row_22 × row_23 × row_24 × row_25 × row_26 × row_27 × row_28 × row_29 × row_30

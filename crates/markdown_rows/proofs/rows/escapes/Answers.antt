@@ -1,7 +1,7 @@
 -- Worked rows, written by tools/rows.py from tools/rows.txt.
 use Rattle.std.proofs.Common.{refl}
 use Rattle.markdown_rows.proofs.Computed.{computed}
-use Rattle.markdown_rows.specs.Rows.Escapes.{row_1, row_2, row_3, row_4, row_5, row_6, row_7, row_8, row_9, row_10, row_11, row_12, row_13, row_14, row_15, row_16, row_17, row_18, row_19, row_20, row_21, row_22, row_23, row_24, row_25, row_26}
+use Rattle.markdown_rows.specs.Rows.Escapes.{row_1, row_2, row_3, row_4, row_5, row_6, row_7, row_8, row_9, row_10, row_11, row_12, row_13, row_14, row_15, row_16, row_17, row_18, row_19, row_20, row_21, row_22, row_23, row_24, row_25, row_26, row_27}
 use Rattle.markdown_rows.proofs.rows.escapes.Goals as goal
 
 holds_row_1 : row_1
@@ -108,5 +108,9 @@ holds_row_26 : row_26
 unfolding computed
 holds_row_26 = refl
 
+holds_row_27 : row_27
+unfolding computed
+holds_row_27 = refl
+
 pub returns : goal.returns
-returns c = (holds_row_1, holds_row_2, holds_row_3, holds_row_4, holds_row_5, holds_row_6, holds_row_7, holds_row_8, holds_row_9, holds_row_10, holds_row_11, holds_row_12, holds_row_13, holds_row_14, holds_row_15, holds_row_16, holds_row_17, holds_row_18, holds_row_19, holds_row_20, holds_row_21, holds_row_22, holds_row_23, holds_row_24, holds_row_25, holds_row_26)
+returns c = (holds_row_1, holds_row_2, holds_row_3, holds_row_4, holds_row_5, holds_row_6, holds_row_7, holds_row_8, holds_row_9, holds_row_10, holds_row_11, holds_row_12, holds_row_13, holds_row_14, holds_row_15, holds_row_16, holds_row_17, holds_row_18, holds_row_19, holds_row_20, holds_row_21, holds_row_22, holds_row_23, holds_row_24, holds_row_25, holds_row_26, holds_row_27)

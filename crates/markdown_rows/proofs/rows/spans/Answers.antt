@@ -1,7 +1,7 @@
 -- Worked rows, written by tools/rows.py from tools/rows.txt.
 use Rattle.std.proofs.Common.{refl}
 use Rattle.markdown_rows.proofs.Computed.{computed}
-use Rattle.markdown_rows.specs.Rows.Spans.{row_1, row_2, row_3, row_4, row_5, row_6, row_7, row_8, row_9, row_10, row_11, row_12, row_13, row_14, row_15, row_16, row_17, row_18}
+use Rattle.markdown_rows.specs.Rows.Spans.{row_1, row_2, row_3, row_4, row_5, row_6, row_7, row_8, row_9, row_10, row_11, row_12, row_13, row_14, row_15, row_16, row_17, row_18, row_19}
 use Rattle.markdown_rows.proofs.rows.spans.Goals as goal
 
 holds_row_1 : row_1
@@ -76,5 +76,9 @@ holds_row_18 : row_18
 unfolding computed
 holds_row_18 = refl
 
+holds_row_19 : row_19
+unfolding computed
+holds_row_19 = refl
+
 pub returns : goal.returns
-returns c = (holds_row_1, holds_row_2, holds_row_3, holds_row_4, holds_row_5, holds_row_6, holds_row_7, holds_row_8, holds_row_9, holds_row_10, holds_row_11, holds_row_12, holds_row_13, holds_row_14, holds_row_15, holds_row_16, holds_row_17, holds_row_18)
+returns c = (holds_row_1, holds_row_2, holds_row_3, holds_row_4, holds_row_5, holds_row_6, holds_row_7, holds_row_8, holds_row_9, holds_row_10, holds_row_11, holds_row_12, holds_row_13, holds_row_14, holds_row_15, holds_row_16, holds_row_17, holds_row_18, holds_row_19)
