@@ -14,3 +14,4 @@ pub mod FilledRows
 pub mod PairSides
 pub mod TextPairs
 pub mod FilledLaws
+pub mod MarkerLaws

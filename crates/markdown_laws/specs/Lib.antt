@@ -5,3 +5,4 @@ pub mod ProbeBounds
 pub mod Trimming
 pub mod Emails
 pub mod Filled
+pub mod Markers

@@ -7,6 +7,7 @@
 
 ghost use Rattle.markdown_laws.specs.Escapes.{Escapes};
 ghost use Rattle.markdown_laws.specs.PairGroups.{EachPairIsAGroup, PairsAreEven, PairsTakeTheirMarkers};
+ghost use Rattle.markdown_laws.specs.Markers.{EachMarkerIsHeld};
 ghost use Rattle.markdown_laws.specs.ProbeBounds.{ProbesAreFew};
 ghost use Rattle.markdown_laws.specs.Emails.{EmailsStandInData};
 ghost use Rattle.markdown_laws.specs.Trimming.{DataIsTight};
@@ -54,4 +55,10 @@ pub fn pairs_take_their_markers()
 /// Each leaf of an inline tree has a code, and a group around nothing is the text of a label; so a pair stands around something.
 pub fn trees_are_filled()
     ensures { TreesAreFilled }
+{}
+
+/// Each code of a text that a run of markers covers in the tree of labels is covered in the inline tree by a marker of a pair or by data, or, where
+/// email literals are cut from data, by one of these.
+pub fn each_marker_is_held()
+    ensures { EachMarkerIsHeld }
 {}

@@ -1,0 +1,458 @@
+-- Each marker of a run is a marker of a pair, data, or part of an email literal.
+use Rattle.std.proofs.Common.{◌≡◌, ℕ, zero, suc, ◌-◌, ◌≤◌, ◌==◌, Bool, true, false, ◌&&◌, ◌||◌, List, [], ◌∷◌, ◌++◌, length, take, drop, reverse, map, sum_by, refl, sym, ap, subst, ◌∙◌, arith, append_assoc, append-nil, Option, Some, None}
+use Rattle.std.specs.List.{list_all}
+use Rattle.std.proofs.lemmas.Bool.{both_ways, and_parts}
+use Rattle.std.proofs.lemmas.Bool.Decides.{nat_tests}
+use Rattle.std.proofs.lemmas.List.{map-append, reverse-append, length-drop, take-append-drop}
+use Rattle.std.proofs.lemmas.List.Folds.{list_all-append}
+use Rattle.std.proofs.lemmas.List.Sums.{sum_by-cons}
+use Rattle.markdown_engine.specs.declared.event.Name.{Name}
+use Rattle.markdown_engine.specs.Codes.{Code, is_blank}
+use Rattle.markdown_engine.specs.Tree.{Forest, empty, leaf_then, group_then, leaf, ◌⊕◌, leaf_codes}
+use Rattle.markdown_model.specs.CodeTests.{is_value}
+use Rattle.markdown_model.specs.Grammar.{span}
+use Rattle.markdown_model.specs.Email.{email_at, email_leaves, with_emails}
+use Rattle.markdown_model.specs.Setting.{Setting}
+use Rattle.markdown_model.specs.Runs.{Run, run_of, runs_of, marker_of}
+use Rattle.markdown_model.specs.Pairs.{Pair, pair_list}
+use Rattle.markdown_model.specs.Element.{elements_of}
+use Rattle.markdown_model.specs.Groups.{Token, item, opens, closes, nest, onto, after_loose, joined, loose, pair_names, pair_group, closing_sizes, opening_sizes, cut_front, run_tokens, assembled, tokens_of, paired}
+use Rattle.markdown_model.specs.Passes.{data_onto, merged, begins_line_ending, is_nothing, blank_name, trimmed_data, trimmed, mailed, labels_of}
+use Rattle.markdown_model.specs.Inline.{label_tree, raw_tree, finished_text, text_tree}
+use Rattle.markdown_model.specs.Laws.{is_run}
+use Rattle.markdown_model.proofs.Coverage.{codes-trimmed_data, codes-run_of}
+use Rattle.markdown_model.proofs.Literals.{codes-with_emails}
+use Rattle.markdown_model.proofs.ReadingLaws.{span-all}
+use Rattle.markdown_laws.specs.Emails.{is_email}
+use Rattle.markdown_laws.specs.Markers.{by_code, may_hold_marker, AreAlso, EachMarkerIsHeld}
+use Rattle.markdown_laws.proofs.EmailLeaves.{AnswerIsEmail, answer-email}
+use Rattle.markdown_laws.proofs.RunRows.{is_marker, HasApartRuns, apart-text-labels}
+
+-- Codes with a mark.
+
+abbrev Marked : Type 0
+Marked = List (Bool × Code)
+
+abbrev marked : Bool → List Code → Marked
+marked b cs = map (λ c. (b, c)) cs
+
+marked-append : (b : Bool) (cs ds : List Code) → marked b (cs ++ ds) ≡ marked b cs ++ marked b ds
+marked-append b cs ds = map-append (λ c. (b, c)) cs ds
+
+-- the codes of a tree, each with whether the name of its leaf passes
+module _ (passes : Name → Bool) where
+  abbrev codes_by : Forest → Marked
+  codes_by empty = []
+  codes_by (leaf_then name link cs rest) = marked (passes name) cs ++ codes_by rest
+  codes_by (group_then name enter exit inside rest) = codes_by inside ++ codes_by rest
+
+  by-join : (a b : Forest) → codes_by (a ⊕ b) ≡ codes_by a ++ codes_by b
+  by-join empty b = refl
+  by-join (leaf_then name link cs rest) b = ap (λ x. marked (passes name) cs ++ x) (by-join rest b) ∙ sym (append_assoc (marked (passes name) cs) (codes_by rest) (codes_by b))
+  by-join (group_then name enter exit inside rest) b = ap (λ x. codes_by inside ++ x) (by-join rest b) ∙ sym (append_assoc (codes_by inside) (codes_by rest) (codes_by b))
+
+  by-leaf : (name : Name) (cs : List Code) → codes_by (leaf name cs) ≡ marked (passes name) cs
+  by-leaf name [] = refl
+  by-leaf name (c ∷ cs) = append-nil (marked (passes name) (c ∷ cs))
+
+  marks-leaf : (b : Bool) (cs : List Code) (xs : Marked) → map (λ x. x.0) (marked b cs ++ xs) ≡ map (λ c. b) cs ++ map (λ x. x.0) xs
+  marks-leaf b [] xs = refl
+  marks-leaf b (c ∷ cs) xs = ap (λ x. b ∷ x) (marks-leaf b cs xs)
+
+  by-code : (f : Forest) → map (λ x. x.0) (codes_by f) ≡ by_code passes f
+  by-code empty = refl
+  by-code (leaf_then name link cs rest) = marks-leaf (passes name) cs (codes_by rest) ∙ ap (λ x. map (λ c. passes name) cs ++ x) (by-code rest)
+  by-code (group_then name enter exit inside rest) = map-append (λ x. x.0) (codes_by inside) (codes_by rest) ∙ (λ i. by-code inside i ++ by-code rest i)
+
+abbrev held : Forest → Marked
+held f = codes_by may_hold_marker f
+
+-- Code by code: what the first marks is not blank, and the second marks it.
+abbrev AreHeld : Marked → Marked → Type 0
+AreHeld [] [] = Unit {0}
+AreHeld [] (y ∷ ys) = ⊥
+AreHeld (x ∷ xs) [] = ⊥
+AreHeld (x ∷ xs) (y ∷ ys) = (x.0 ≡ true → (is_blank y.1 ≡ false) × (y.0 ≡ true)) × AreHeld xs ys
+
+-- Code by code: the same codes, and where the first marks one that is not blank, the second does.
+abbrev AreKept : Marked → Marked → Type 0
+AreKept [] [] = Unit {0}
+AreKept [] (y ∷ ys) = ⊥
+AreKept (x ∷ xs) [] = ⊥
+AreKept (x ∷ xs) (y ∷ ys) = (x.1 ≡ y.1) × (x.0 ≡ true → is_blank y.1 ≡ false → y.0 ≡ true) × AreKept xs ys
+
+held-append : (xs ys zs ws : Marked) → AreHeld xs ys → AreHeld zs ws → AreHeld (xs ++ zs) (ys ++ ws)
+held-append [] [] zs ws h k = k
+held-append [] (y ∷ ys) zs ws h k = absurd h
+held-append (x ∷ xs) [] zs ws h k = absurd h
+held-append (x ∷ xs) (y ∷ ys) zs ws h k = (h.0, held-append xs ys zs ws h.1 k)
+
+kept-append : (xs ys zs ws : Marked) → AreKept xs ys → AreKept zs ws → AreKept (xs ++ zs) (ys ++ ws)
+kept-append [] [] zs ws h k = k
+kept-append [] (y ∷ ys) zs ws h k = absurd h
+kept-append (x ∷ xs) [] zs ws h k = absurd h
+kept-append (x ∷ xs) (y ∷ ys) zs ws h k = (h.0, h.1, kept-append xs ys zs ws h.2 k)
+
+kept-same : (xs : Marked) → AreKept xs xs
+kept-same [] = tt
+kept-same (x ∷ xs) = (refl, (λ e f. e), kept-same xs)
+
+held-kept : (xs ys zs : Marked) → AreHeld xs ys → AreKept ys zs → AreHeld xs zs
+held-kept [] [] zs h k = by_codes zs k
+  where
+    by_codes : (ws : Marked) → AreKept [] ws → AreHeld [] ws
+    by_codes [] l = tt
+    by_codes (w ∷ ws) l = l
+held-kept [] (y ∷ ys) zs h k = absurd h
+held-kept (x ∷ xs) [] zs h k = absurd h
+held-kept (x ∷ xs) (y ∷ ys) [] h k = absurd k
+held-kept (x ∷ xs) (y ∷ ys) (z ∷ zs) h k =
+    ((λ e. let f : is_blank z.1 ≡ false = ap is_blank (sym k.0) ∙ (h.0 e).0 in (f, k.1 (h.0 e).1 f)), held-kept xs ys zs h.1 k.2)
+
+marks-held : (xs ys : Marked) → AreHeld xs ys → AreAlso (map (λ x. x.0) xs) (map (λ x. x.0) ys)
+marks-held [] [] h = tt
+marks-held [] (y ∷ ys) h = absurd h
+marks-held (x ∷ xs) [] h = absurd h
+marks-held (x ∷ xs) (y ∷ ys) h = ((λ e. (h.0 e).1), marks-held xs ys h.1)
+
+-- Pairs.
+
+abbrev held_all : List Forest → Marked
+held_all [] = []
+held_all (f ∷ fs) = held f ++ held_all fs
+
+held_all-append : (fs gs : List Forest) → held_all (fs ++ gs) ≡ held_all fs ++ held_all gs
+held_all-append [] gs = refl
+held_all-append (f ∷ fs) gs = ap (λ x. held f ++ x) (held_all-append fs gs) ∙ sym (append_assoc (held f) (held_all fs) (held_all gs))
+
+held-joined : (fs : List Forest) → held (joined fs) ≡ held_all fs
+held-joined [] = refl
+held-joined (f ∷ fs) = by-join may_hold_marker f (joined fs) ∙ ap (λ x. held f ++ x) (held-joined fs)
+
+held-loose : (cs : List Code) → held_all (loose cs) ≡ marked true cs
+held-loose cs = append-nil (held (leaf Name.Data cs)) ∙ by-leaf may_hold_marker Name.Data cs
+
+sequence-held : (marker size : ℕ) → may_hold_marker (pair_names marker size).1 ≡ true
+sequence-held marker size = by_tests (marker == 126) (size == 2)
+  where
+    by_tests : (a b : Bool) → may_hold_marker ((elim a as (λ _. Name × Name × Name) [
+      | true ↦ (Name.GfmStrikethrough, Name.GfmStrikethroughSequence, Name.GfmStrikethroughText)
+      | false ↦ elim b [ true ↦ (Name.Strong, Name.StrongSequence, Name.StrongText) | false ↦ (Name.Emphasis, Name.EmphasisSequence, Name.EmphasisText) ]
+    ]).1) ≡ true
+    by_tests true b = refl
+    by_tests false true = refl
+    by_tests false false = refl
+
+held-group : (front : List Code) (inside : List Forest) (back : List Code) → held_all (pair_group front inside back) ≡ marked true front ++ (held_all inside ++ marked true back)
+held-group front inside back =
+    append-nil _ ∙ append-nil _
+    ∙ by-join may_hold_marker (leaf name front) _
+    ∙ (λ i. side front i ++ (held-joined inside i ++ side back i))
+  where
+    name : Name
+    name = (pair_names (marker_of front) (length front)).1
+
+    side : (cs : List Code) → held (leaf (pair_names (marker_of front) (length front)).1 cs) ≡ marked true cs
+    side cs = by-leaf may_hold_marker (pair_names (marker_of front) (length front)).1 cs ∙ ap (λ b. marked b cs) (sequence-held (marker_of front) (length front))
+
+abbrev Frames : Type 0
+Frames = List (List Code × List Forest)
+
+abbrev held_frames : Frames → Marked
+held_frames [] = []
+held_frames (f ∷ fs) = marked true f.0 ++ (held_all f.1 ++ held_frames fs)
+
+abbrev held_word : List Token → Marked
+held_word [] = []
+held_word (item f ∷ w) = held f ++ held_word w
+held_word (opens o ∷ w) = marked true o ++ held_word w
+held_word (closes c ∷ w) = marked true c ++ held_word w
+
+abbrev nest_pairs : List Token → List Forest × Frames
+nest_pairs w = nest pair_group loose loose w
+
+held-onto : (o : List Code) (inside : List Forest) (more : Frames) →
+    let r : List Forest × Frames = onto pair_group loose loose o inside more in
+    held_all r.0 ++ held_frames r.1 ≡ marked true o ++ (held_all inside ++ held_frames more)
+held-onto o inside [] = append-nil _ ∙ held_all-append (loose o) inside ∙ (λ i. held-loose o i ++ sym (append-nil (held_all inside)) i)
+held-onto o inside (c ∷ more) =
+    (λ i. (held_all-append (pair_group o inside c.0) c.1 ∙ (λ j. held-group o inside c.0 j ++ held_all c.1)) i ++ held_frames more)
+    ∙ regroup (marked true o) (held_all inside) (marked true c.0) (held_all c.1) (held_frames more)
+  where
+    regroup : (a b c d e : Marked) → ((a ++ (b ++ c)) ++ d) ++ e ≡ a ++ (b ++ (c ++ (d ++ e)))
+    regroup a b c d e = simp append_assoc
+
+held-nest : (w : List Token) → held_all (nest_pairs w).0 ++ held_frames (nest_pairs w).1 ≡ held_word w
+held-nest [] = refl
+held-nest (item f ∷ w) = append_assoc (held f) (held_all (nest_pairs w).0) (held_frames (nest_pairs w).1) ∙ ap (λ x. held f ++ x) (held-nest w)
+held-nest (opens o ∷ w) = held-onto o (nest_pairs w).0 (nest_pairs w).1 ∙ ap (λ x. marked true o ++ x) (held-nest w)
+held-nest (closes c ∷ w) = ap (λ x. marked true c ++ x) (held-nest w)
+
+held-after : (fs : Frames) → held_all (after_loose pair_group loose loose fs) ≡ held_frames fs
+held-after [] = refl
+held-after (f ∷ fs) =
+    held_all-append (loose f.0 ++ f.1) (after_loose pair_group loose loose fs)
+    ∙ (λ i. (held_all-append (loose f.0) f.1 ∙ (λ j. held-loose f.0 j ++ held_all f.1)) i ++ held-after fs i)
+    ∙ append_assoc (marked true f.0) (held_all f.1) (held_frames fs)
+
+held-assembled : (w : List Token) → held (assembled w) ≡ held_word w
+held-assembled w =
+    held-joined ((nest_pairs w).0 ++ after_loose pair_group loose loose (nest_pairs w).1) ∙ held_all-append (nest_pairs w).0 (after_loose pair_group loose loose (nest_pairs w).1) ∙ ap (λ x. held_all (nest_pairs w).0 ++ x) (held-after (nest_pairs w).1) ∙ held-nest w
+
+-- The tokens of a run.
+
+word-append : (w v : List Token) → held_word (w ++ v) ≡ held_word w ++ held_word v
+word-append [] v = refl
+word-append (item f ∷ w) v = ap (λ x. held f ++ x) (word-append w v) ∙ sym (append_assoc (held f) (held_word w) (held_word v))
+word-append (opens o ∷ w) v = ap (λ x. marked true o ++ x) (word-append w v) ∙ sym (append_assoc (marked true o) (held_word w) (held_word v))
+word-append (closes c ∷ w) v = ap (λ x. marked true c ++ x) (word-append w v) ∙ sym (append_assoc (marked true c) (held_word w) (held_word v))
+
+split-marked : (n : ℕ) (cs : List Code) → marked true (take n cs) ++ marked true (drop n cs) ≡ marked true cs
+split-marked n cs = sym (marked-append true (take n cs) (drop n cs)) ∙ ap (marked true) (take-append-drop n cs)
+
+cut-closes : (ns : List ℕ) (cs : List Code) → held_word (map closes (cut_front ns cs).0) ++ marked true (cut_front ns cs).1 ≡ marked true cs
+cut-closes [] cs = refl
+cut-closes (n ∷ ns) cs =
+    append_assoc (marked true (take n cs)) (held_word (map closes (cut_front ns (drop n cs)).0)) (marked true (cut_front ns (drop n cs)).1)
+    ∙ ap (λ x. marked true (take n cs) ++ x) (cut-closes ns (drop n cs)) ∙ split-marked n cs
+
+-- a cut that leaves nothing
+cut-opens : (ns : List ℕ) (cs : List Code) → length cs ≤ sum_by (λ n. n) ns → held_word (map opens (cut_front ns cs).0) ≡ marked true cs
+cut-opens [] [] h = refl
+cut-opens [] (c ∷ cs) h = absurd (omega arith)
+cut-opens (n ∷ ns) cs h =
+    ap (λ x. marked true (take n cs) ++ x) (cut-opens ns (drop n cs) (omega (arith, h, length-drop n cs, sum_by-cons (λ m. m) n ns))) ∙ split-marked n cs
+
+word-run : (pairs : List Pair) (i : ℕ) (r : Run) → held_word (run_tokens pairs i r) ≡ marked true r.codes
+word-run pairs i r =
+    word-append (map closes front.0) _
+    ∙ ap (λ x. held_word (map closes front.0) ++ x)
+    ((λ j. by-leaf may_hold_marker Name.Data (take kept front.1) j ++ cut-opens sizes (drop kept front.1) (omega (arith, length-drop kept front.1)) j) ∙ split-marked kept front.1)
+    ∙ cut-closes (closing_sizes i pairs) r.codes
+  where
+    front : List (List Code) × List Code
+    front = cut_front (closing_sizes i pairs) r.codes
+
+    sizes : List ℕ
+    sizes = reverse (opening_sizes i pairs)
+
+    kept : ℕ
+    kept = length front.1 - sum_by (λ n. n) sizes
+
+-- Rows.
+
+abbrev runs_marked : Forest → Marked
+runs_marked f = codes_by is_run f
+
+not-blank : (v m : ℕ) → is_marker m ≡ true → (v == m) ≡ true → (v == 32 || v == 9) ≡ false
+not-blank v m h k = grind (arith, nat_tests)
+
+stripe-held : (m : ℕ) (cs : List Code) → is_marker m ≡ true → list_all (is_value m) cs ≡ true → AreHeld (marked true cs) (marked true cs)
+stripe-held m [] h k = tt
+stripe-held m (c ∷ cs) h k =
+    let p = and_parts (is_value m c) (list_all (is_value m) cs) k in
+    ((λ e. (not-blank c.value m h p.0, refl)), stripe-held m cs h p.1)
+
+unmarked-held : (b : Bool) (cs : List Code) → AreHeld (marked false cs) (marked b cs)
+unmarked-held b [] = tt
+unmarked-held b (c ∷ cs) = ((λ e. absurd (both_ways false refl e)), unmarked-held b cs)
+
+module _ (s : Setting) where
+  abbrev words : Forest → List Pair → ℕ → List Token
+  words f pairs n = tokens_of s (pair_list s) f pairs n
+
+  held-words : (f : Forest) (m : ℕ) (pairs : List Pair) (n : ℕ) → HasApartRuns m f → AreHeld (runs_marked f) (held_word (words f pairs n))
+  unfolding tokens_of
+  held-words empty m pairs n h = tt
+  held-words (leaf_then Name.AttentionSequence link cs rest) m pairs n h =
+      subst (λ x. AreHeld (marked true cs ++ runs_marked rest) x)
+      (sym (word-append (run_tokens pairs n (run_of s cs)) (words rest pairs (suc n)) ∙ ap (λ x. x ++ held_word (words rest pairs (suc n))) (word-run pairs n (run_of s cs) ∙ ap (marked true) (codes-run_of s cs))))
+      (held-append (marked true cs) (marked true cs) (runs_marked rest) (held_word (words rest pairs (suc n))) (stripe-held (marker_of cs) cs h.0.kind h.0.all) (held-words rest (marker_of cs) pairs (suc n) h.2))
+  held-words (leaf_then name link cs rest) m pairs n h =
+      held-append (marked false cs) (marked (may_hold_marker name) cs ++ []) (runs_marked rest) (held_word (words rest pairs n))
+      (subst (AreHeld (marked false cs)) (sym (append-nil (marked (may_hold_marker name) cs))) (unmarked-held (may_hold_marker name) cs)) (held-words rest 0 pairs n h)
+  held-words (group_then name enter exit inside rest) m pairs n h =
+      held-append (runs_marked inside) (held (assembled (words inside (pair_list s (runs_of s inside)) 0)) ++ []) (runs_marked rest) (held_word (words rest pairs n))
+      (subst (AreHeld (runs_marked inside)) (sym (append-nil _ ∙ held-assembled (words inside (pair_list s (runs_of s inside)) 0))) (held-words inside 0 (pair_list s (runs_of s inside)) 0 h.0))
+      (held-words rest 0 pairs n h.1)
+
+  held-paired : (f : Forest) → HasApartRuns 0 f → AreHeld (runs_marked f) (held (paired s (pair_list s) f))
+  unfolding paired
+  held-paired f h = subst (AreHeld (runs_marked f)) (sym (held-assembled (words f (pair_list s (runs_of s f)) 0))) (held-words f 0 (pair_list s (runs_of s f)) 0 h)
+
+-- Merging.
+
+held-data_onto : (cs : List Code) (f : Forest) → held (data_onto cs f) ≡ marked true cs ++ held f
+held-data_onto cs (leaf_then Name.Data None more rest) = ap (λ x. x ++ held rest) (marked-append true cs more) ∙ append_assoc (marked true cs) (marked true more) (held rest)
+held-data_onto cs rest = refl
+
+held-merged : (f : Forest) → held (merged f) ≡ held f
+unfolding merged
+held-merged empty = refl
+held-merged (leaf_then Name.Data None cs rest) = held-data_onto cs (merged rest) ∙ ap (λ x. marked true cs ++ x) (held-merged rest)
+held-merged (leaf_then name link cs rest) = ap (λ x. marked (may_hold_marker name) cs ++ x) (held-merged rest)
+held-merged (group_then name enter exit inside rest) = λ i. held-merged inside i ++ held-merged rest i
+
+-- Trimming.
+
+abbrev AreBlankOrMarked : Marked → Type 0
+AreBlankOrMarked [] = Unit {0}
+AreBlankOrMarked (x ∷ xs) = (is_blank x.1 ≡ false → x.0 ≡ true) × AreBlankOrMarked xs
+
+abbrev codes_in : Marked → List Code
+codes_in xs = map (λ x. x.1) xs
+
+codes-marked : (b : Bool) (cs : List Code) → codes_in (marked b cs) ≡ cs
+codes-marked b [] = refl
+codes-marked b (c ∷ cs) = ap (λ x. c ∷ x) (codes-marked b cs)
+
+codes-held : (f : Forest) → codes_in (held f) ≡ leaf_codes f
+codes-held empty = refl
+codes-held (leaf_then name link cs rest) = map-append (λ x. x.1) (marked (may_hold_marker name) cs) (held rest) ∙ (λ i. codes-marked (may_hold_marker name) cs i ++ codes-held rest i)
+codes-held (group_then name enter exit inside rest) = map-append (λ x. x.1) (held inside) (held rest) ∙ (λ i. codes-held inside i ++ codes-held rest i)
+
+-- marked codes, and codes marked where they are not blank
+kept-any : (xs ys : Marked) → codes_in xs ≡ codes_in ys → AreBlankOrMarked ys → AreKept xs ys
+kept-any [] [] e h = tt
+kept-any [] (y ∷ ys) e h = cc
+kept-any (x ∷ xs) [] e h = cc
+kept-any (x ∷ xs) (y ∷ ys) e h = (head-is x.1 y.1 (codes_in xs) (codes_in ys) e, (λ f g. h.0 g), kept-any xs ys (tail-is x.1 y.1 (codes_in xs) (codes_in ys) e) h.1)
+  where
+    head-is : (a b : Code) (cs ds : List Code) → a ∷ cs ≡ b ∷ ds → a ≡ b
+    head-is a b cs ds k = cc
+
+    tail-is : (a b : Code) (cs ds : List Code) → a ∷ cs ≡ b ∷ ds → cs ≡ ds
+    tail-is a b cs ds k = cc
+
+either-append : (xs ys : Marked) → AreBlankOrMarked xs → AreBlankOrMarked ys → AreBlankOrMarked (xs ++ ys)
+either-append [] ys h k = k
+either-append (x ∷ xs) ys h k = (h.0, either-append xs ys h.1 k)
+
+either-marked : (cs : List Code) → AreBlankOrMarked (marked true cs)
+either-marked [] = tt
+either-marked (c ∷ cs) = ((λ e. refl), either-marked cs)
+
+either-blank : (b : Bool) (cs : List Code) → list_all is_blank cs ≡ true → AreBlankOrMarked (marked b cs)
+either-blank b [] h = tt
+either-blank b (c ∷ cs) h =
+    let p = and_parts (is_blank c) (list_all is_blank cs) h in
+    ((λ e. absurd (both_ways (is_blank c) e p.0)), either-blank b cs p.1)
+
+blank-reverse : (cs : List Code) → list_all is_blank cs ≡ true → list_all is_blank (reverse cs) ≡ true
+blank-reverse [] h = refl
+blank-reverse (c ∷ cs) h =
+    let p = and_parts (is_blank c) (list_all is_blank cs) h in
+    ap (list_all is_blank) (reverse-append (c ∷ []) cs) ∙ list_all-append is_blank (reverse cs) (c ∷ []) ∙ (λ i. blank-reverse cs p.1 i && (p.0 i && true))
+
+either-data : (front back hard : Bool) (cs : List Code) → AreBlankOrMarked (held (trimmed_data front back hard cs))
+either-data front back hard cs = three Name.SpaceOrTab (blank_name hard (reverse cut.0)) lead.0 lead.1 (reverse cut.0) (lead-blank front (reverse cut.1)) (blank-reverse cut.0 (cut-blank back cs))
+  where
+    cut : List Code × List Code
+    cut = elim back [ true ↦ span is_blank (reverse cs) | false ↦ ([], reverse cs) ]
+
+    lead : List Code × List Code
+    lead = elim front [ true ↦ span is_blank (reverse cut.1) | false ↦ ([], reverse cut.1) ]
+
+    lead-blank : (b : Bool) (ds : List Code) → list_all is_blank (elim b as (λ _. List Code × List Code) [ true ↦ span is_blank ds | false ↦ ([], ds) ]).0 ≡ true
+    lead-blank true ds = span-all is_blank ds
+    lead-blank false ds = refl
+
+    cut-blank : (b : Bool) (ds : List Code) → list_all is_blank (elim b as (λ _. List Code × List Code) [ true ↦ span is_blank (reverse ds) | false ↦ ([], reverse ds) ]).0 ≡ true
+    cut-blank true ds = span-all is_blank (reverse ds)
+    cut-blank false ds = refl
+
+    three : (a c : Name) (xs ys zs : List Code) → list_all is_blank xs ≡ true → list_all is_blank zs ≡ true → AreBlankOrMarked (held (leaf a xs ⊕ leaf Name.Data ys ⊕ leaf c zs))
+    three a c xs ys zs h k =
+        subst AreBlankOrMarked
+        (sym
+        (by-join may_hold_marker (leaf a xs) (leaf Name.Data ys ⊕ leaf c zs)
+        ∙ (λ i. by-leaf may_hold_marker a xs i ++ (by-join may_hold_marker (leaf Name.Data ys) (leaf c zs) ∙ (λ j. by-leaf may_hold_marker Name.Data ys j ++ by-leaf may_hold_marker c zs j)) i)))
+        (either-append (marked (may_hold_marker a) xs) (marked true ys ++ marked (may_hold_marker c) zs) (either-blank (may_hold_marker a) xs h)
+        (either-append (marked true ys) (marked (may_hold_marker c) zs) (either-marked ys) (either-blank (may_hold_marker c) zs k)))
+
+kept-data : (front back hard : Bool) (cs : List Code) → AreKept (marked true cs) (held (trimmed_data front back hard cs))
+kept-data front back hard cs =
+    kept-any (marked true cs) (held (trimmed_data front back hard cs)) (codes-marked true cs ∙ sym (codes-trimmed_data front back hard cs) ∙ sym (codes-held (trimmed_data front back hard cs))) (either-data front back hard cs)
+
+kept-trimmed : (hard front whole : Bool) (f : Forest) → AreKept (held f) (held (trimmed hard front whole f))
+unfolding trimmed
+kept-trimmed hard front whole empty = tt
+kept-trimmed hard front whole (leaf_then Name.Data None cs rest) =
+    let back : Bool = begins_line_ending rest || (whole && is_nothing rest) in
+    subst (AreKept (marked true cs ++ held rest)) (sym (by-join may_hold_marker (trimmed_data front back (hard && begins_line_ending rest) cs) (trimmed hard false whole rest)))
+    (kept-append (marked true cs) (held (trimmed_data front back (hard && begins_line_ending rest) cs)) (held rest) (held (trimmed hard false whole rest))
+    (kept-data front back (hard && begins_line_ending rest) cs) (kept-trimmed hard false whole rest))
+kept-trimmed hard front whole (leaf_then Name.LineEnding link cs rest) =
+    kept-append (marked false cs) (marked false cs) (held rest) (held (trimmed hard true whole rest)) (kept-same (marked false cs)) (kept-trimmed hard true whole rest)
+kept-trimmed hard front whole (leaf_then name link cs rest) =
+    kept-append (marked (may_hold_marker name) cs) (marked (may_hold_marker name) cs) (held rest) (held (trimmed hard false whole rest)) (kept-same (marked (may_hold_marker name) cs)) (kept-trimmed hard false whole rest)
+kept-trimmed hard front whole (group_then name enter exit inside rest) =
+    kept-append (held inside) (held (trimmed hard false false inside)) (held rest) (held (trimmed hard false whole rest)) (kept-trimmed hard false false inside) (kept-trimmed hard false whole rest)
+
+-- Emails.
+
+email-held : (name : Name) → is_email name ≡ true → may_hold_marker name ≡ true
+email-held Name.GfmAutolinkLiteralEmail h = refl
+email-held Name.GfmAutolinkLiteralMailto h = refl
+email-held Name.GfmAutolinkLiteralXmpp h = refl
+email-held name h = cc
+
+either-emails : (n : ℕ) (before cs : List Code) → AreBlankOrMarked (held (email_leaves n before cs))
+unfolding email_leaves
+either-emails n before [] = subst AreBlankOrMarked (sym (by-leaf may_hold_marker Name.Data (reverse before))) (either-marked (reverse before))
+either-emails zero before (c ∷ cs) = subst AreBlankOrMarked (sym (by-leaf may_hold_marker Name.Data (reverse before ++ c ∷ cs))) (either-marked (reverse before ++ c ∷ cs))
+either-emails (suc n) before (c ∷ cs) = by_answer (email_at before c cs) (answer-email before c cs) (either-emails n)
+  where
+    by_answer : (r : Option (List Code × Forest × List Code)) → AnswerIsEmail r → ((front ds : List Code) → AreBlankOrMarked (held (email_leaves n front ds)))
+        → AreBlankOrMarked (held (elim r as (λ _. Forest) [ None ↦ email_leaves n (c ∷ before) cs | Some x ↦ leaf Name.Data x.0 ⊕ x.1 ⊕ email_leaves n [] x.2 ]))
+    by_answer None h more = more (c ∷ before) cs
+    by_answer (Some x) h more =
+        subst AreBlankOrMarked
+        (sym
+        (by-join may_hold_marker (leaf Name.Data x.0) (x.1 ⊕ email_leaves n [] x.2)
+        ∙ (λ i. by-leaf may_hold_marker Name.Data x.0 i ++ by-join may_hold_marker x.1 (email_leaves n [] x.2) i)))
+        (either-append (marked true x.0) (held x.1 ++ held (email_leaves n [] x.2)) (either-marked x.0)
+        (either-append (held x.1) (held (email_leaves n [] x.2))
+        (subst (λ t. AreBlankOrMarked (held t)) (sym h.is) (subst (λ b. AreBlankOrMarked (marked b (h.first ∷ h.more) ++ [])) (sym (email-held h.name h.named)) (either-append (marked true (h.first ∷ h.more)) [] (either-marked (h.first ∷ h.more)) tt)))
+        (more [] x.2)))
+
+either-with : (cs : List Code) → AreBlankOrMarked (held (with_emails cs))
+unfolding with_emails
+either-with cs = either-emails (length cs) [] cs
+
+kept-mailed : (f : Forest) → AreKept (held f) (held (mailed f))
+unfolding mailed
+kept-mailed empty = tt
+kept-mailed (leaf_then Name.Data None cs rest) =
+    subst (AreKept (marked true cs ++ held rest)) (sym (by-join may_hold_marker (with_emails cs) (mailed rest)))
+    (kept-append (marked true cs) (held (with_emails cs)) (held rest) (held (mailed rest))
+    (kept-any (marked true cs) (held (with_emails cs)) (codes-marked true cs ∙ sym (codes-with_emails cs) ∙ sym (codes-held (with_emails cs))) (either-with cs)) (kept-mailed rest))
+kept-mailed (leaf_then name link cs rest) =
+    kept-append (marked (may_hold_marker name) cs) (marked (may_hold_marker name) cs) (held rest) (held (mailed rest)) (kept-same (marked (may_hold_marker name) cs)) (kept-mailed rest)
+kept-mailed (group_then Name.Link enter exit inside rest) = kept-append (held inside) (held inside) (held rest) (held (mailed rest)) (kept-same (held inside)) (kept-mailed rest)
+kept-mailed (group_then name enter exit inside rest) = kept-append (held inside) (held (mailed inside)) (held rest) (held (mailed rest)) (kept-mailed inside) (kept-mailed rest)
+
+pub each_marker_is_held : EachMarkerIsHeld
+unfolding text_tree finished_text raw_tree label_tree
+each_marker_is_held s cs = by_test s.options.constructs.gfm_autolink_literal
+  where
+    labels : Forest
+    labels = labels_of (elements_of s cs)
+
+    pairs : Forest
+    pairs = paired s (pair_list s) labels
+
+    done : Forest
+    done = trimmed s.options.constructs.hard_break_trailing true true (merged pairs)
+
+    kept : AreHeld (runs_marked labels) (held done)
+    kept =
+        held-kept (runs_marked labels) (held pairs) (held done) (held-paired s labels (apart-text-labels s cs))
+        (subst (λ x. AreKept x (held done)) (held-merged pairs) (kept-trimmed s.options.constructs.hard_break_trailing true true (merged pairs)))
+
+    also : (f : Forest) → AreHeld (runs_marked labels) (held f) → AreAlso (by_code is_run labels) (by_code may_hold_marker f)
+    also f h = subst (λ x. AreAlso (by_code is_run labels) x) (by-code may_hold_marker f) (subst (λ x. AreAlso x (map (λ y. y.0) (held f))) (by-code is_run labels) (marks-held (runs_marked labels) (held f) h))
+
+    by_test : (b : Bool) → AreAlso (by_code is_run labels) (by_code may_hold_marker (elim b as (λ _. Forest) [ true ↦ mailed done | false ↦ done ]))
+    by_test true = also (mailed done) (held-kept (runs_marked labels) (held done) (held (mailed done)) kept (kept-mailed done))
+    by_test false = also done kept
