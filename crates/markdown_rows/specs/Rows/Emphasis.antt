@@ -303,5 +303,13 @@ row_74 = looks_answer (default) (codes "*a [*b*](c) d*") (piece 0 0 14 0 ∷ [])
 abbrev pub row_75 : Type 0
 row_75 = text_answer (record default { lengths = true }) (codes "***a***b") (piece 0 0 8 0 ∷ []) ≡ (enter Name.Emphasis 1 1 0 0 ∷ enter Name.EmphasisSequence 1 1 0 0 ∷ exit Name.EmphasisSequence 1 2 1 0 ∷ enter Name.EmphasisText 1 2 1 0 ∷ enter Name.Strong 1 2 1 0 ∷ enter Name.StrongSequence 1 2 1 0 ∷ exit Name.StrongSequence 1 4 3 0 ∷ enter Name.StrongText 1 4 3 0 ∷ enter Name.Data 1 4 3 0 ∷ exit Name.Data 1 5 4 0 ∷ exit Name.StrongText 1 5 4 0 ∷ enter Name.StrongSequence 1 5 4 0 ∷ exit Name.StrongSequence 1 7 6 0 ∷ exit Name.Strong 1 7 6 0 ∷ exit Name.EmphasisText 1 7 6 0 ∷ enter Name.EmphasisSequence 1 7 6 0 ∷ exit Name.EmphasisSequence 1 8 7 0 ∷ exit Name.Emphasis 1 8 7 0 ∷ enter Name.Data 1 8 7 0 ∷ exit Name.Data 1 9 8 0 ∷ [])
 
+-- looks «*a *b»: 2 0 12
+abbrev pub row_76 : Type 0
+row_76 = looks_answer (default) (codes "*a *b") (piece 0 0 5 0 ∷ []) ≡ (2 ∷ 0 ∷ 12 ∷ [])
+
+-- looks «a* b*»: 0 2 2
+abbrev pub row_77 : Type 0
+row_77 = looks_answer (default) (codes "a* b*") (piece 0 0 5 0 ∷ []) ≡ (0 ∷ 2 ∷ 2 ∷ [])
+
 abbrev pub Rows : Type 0
-Rows = row_1 × row_2 × row_3 × row_4 × row_5 × row_6 × row_7 × row_8 × row_9 × row_10 × row_11 × row_12 × row_13 × row_14 × row_15 × row_16 × row_17 × row_18 × row_19 × row_20 × row_21 × row_22 × row_23 × row_24 × row_25 × row_26 × row_27 × row_28 × row_29 × row_30 × row_31 × row_32 × row_33 × row_34 × row_35 × row_36 × row_37 × row_38 × row_39 × row_40 × row_41 × row_42 × row_43 × row_44 × row_45 × row_46 × row_47 × row_48 × row_49 × row_50 × row_51 × row_52 × row_53 × row_54 × row_55 × row_56 × row_57 × row_58 × row_59 × row_60 × row_61 × row_62 × row_63 × row_64 × row_65 × row_66 × row_67 × row_68 × row_69 × row_70 × row_71 × row_72 × row_73 × row_74 × row_75
+Rows = row_1 × row_2 × row_3 × row_4 × row_5 × row_6 × row_7 × row_8 × row_9 × row_10 × row_11 × row_12 × row_13 × row_14 × row_15 × row_16 × row_17 × row_18 × row_19 × row_20 × row_21 × row_22 × row_23 × row_24 × row_25 × row_26 × row_27 × row_28 × row_29 × row_30 × row_31 × row_32 × row_33 × row_34 × row_35 × row_36 × row_37 × row_38 × row_39 × row_40 × row_41 × row_42 × row_43 × row_44 × row_45 × row_46 × row_47 × row_48 × row_49 × row_50 × row_51 × row_52 × row_53 × row_54 × row_55 × row_56 × row_57 × row_58 × row_59 × row_60 × row_61 × row_62 × row_63 × row_64 × row_65 × row_66 × row_67 × row_68 × row_69 × row_70 × row_71 × row_72 × row_73 × row_74 × row_75 × row_76 × row_77

@@ -371,5 +371,17 @@ row_91 = text_answer (record default { gfm_autolink_literal = true; gfm_label_st
 abbrev pub row_92 : Type 0
 row_92 = text_answer (record default { gfm_autolink_literal = true; gfm_label_start_footnote = true; gfm_strikethrough = true; gfm_task_list_item = true }) (codes "http://a/b*c*") (piece 0 0 13 0 ∷ []) ≡ (enter Name.GfmAutolinkLiteralProtocol 1 1 0 0 ∷ exit Name.GfmAutolinkLiteralProtocol 1 13 12 0 ∷ enter Name.Data 1 13 12 0 ∷ exit Name.Data 1 14 13 0 ∷ [])
 
+-- text gfm outer «\*www.a.b»: CharacterEscape 0-2, GfmAutolinkLiteralWww 2-9
+abbrev pub row_93 : Type 0
+row_93 = text_outline (record default { gfm_autolink_literal = true; gfm_label_start_footnote = true; gfm_strikethrough = true; gfm_task_list_item = true }) (codes "\\*www.a.b") (piece 0 0 9 0 ∷ []) ≡ (enter Name.CharacterEscape 1 1 0 0 ∷ exit Name.CharacterEscape 1 3 2 0 ∷ enter Name.GfmAutolinkLiteralWww 1 3 2 0 ∷ exit Name.GfmAutolinkLiteralWww 1 10 9 0 ∷ [])
+
+-- text gfm outer «http://aÿ/b»: GfmAutolinkLiteralProtocol 0-12
+abbrev pub row_94 : Type 0
+row_94 = text_outline (record default { gfm_autolink_literal = true; gfm_label_start_footnote = true; gfm_strikethrough = true; gfm_task_list_item = true }) (104 ∷ 116 ∷ 116 ∷ 112 ∷ 58 ∷ 47 ∷ 47 ∷ 97 ∷ 195 ∷ 191 ∷ 47 ∷ 98 ∷ []) (piece 0 0 12 0 ∷ []) ≡ (enter Name.GfmAutolinkLiteralProtocol 1 1 0 0 ∷ exit Name.GfmAutolinkLiteralProtocol 1 13 12 0 ∷ [])
+
+-- text gfm outer «http://a_b.c-.d.e»: GfmAutolinkLiteralProtocol 0-17
+abbrev pub row_95 : Type 0
+row_95 = text_outline (record default { gfm_autolink_literal = true; gfm_label_start_footnote = true; gfm_strikethrough = true; gfm_task_list_item = true }) (codes "http://a_b.c-.d.e") (piece 0 0 17 0 ∷ []) ≡ (enter Name.GfmAutolinkLiteralProtocol 1 1 0 0 ∷ exit Name.GfmAutolinkLiteralProtocol 1 18 17 0 ∷ [])
+
 abbrev pub Rows : Type 0
-Rows = row_1 × row_2 × row_3 × row_4 × row_5 × row_6 × row_7 × row_8 × row_9 × row_10 × row_11 × row_12 × row_13 × row_14 × row_15 × row_16 × row_17 × row_18 × row_19 × row_20 × row_21 × row_22 × row_23 × row_24 × row_25 × row_26 × row_27 × row_28 × row_29 × row_30 × row_31 × row_32 × row_33 × row_34 × row_35 × row_36 × row_37 × row_38 × row_39 × row_40 × row_41 × row_42 × row_43 × row_44 × row_45 × row_46 × row_47 × row_48 × row_49 × row_50 × row_51 × row_52 × row_53 × row_54 × row_55 × row_56 × row_57 × row_58 × row_59 × row_60 × row_61 × row_62 × row_63 × row_64 × row_65 × row_66 × row_67 × row_68 × row_69 × row_70 × row_71 × row_72 × row_73 × row_74 × row_75 × row_76 × row_77 × row_78 × row_79 × row_80 × row_81 × row_82 × row_83 × row_84 × row_85 × row_86 × row_87 × row_88 × row_89 × row_90 × row_91 × row_92
+Rows = row_1 × row_2 × row_3 × row_4 × row_5 × row_6 × row_7 × row_8 × row_9 × row_10 × row_11 × row_12 × row_13 × row_14 × row_15 × row_16 × row_17 × row_18 × row_19 × row_20 × row_21 × row_22 × row_23 × row_24 × row_25 × row_26 × row_27 × row_28 × row_29 × row_30 × row_31 × row_32 × row_33 × row_34 × row_35 × row_36 × row_37 × row_38 × row_39 × row_40 × row_41 × row_42 × row_43 × row_44 × row_45 × row_46 × row_47 × row_48 × row_49 × row_50 × row_51 × row_52 × row_53 × row_54 × row_55 × row_56 × row_57 × row_58 × row_59 × row_60 × row_61 × row_62 × row_63 × row_64 × row_65 × row_66 × row_67 × row_68 × row_69 × row_70 × row_71 × row_72 × row_73 × row_74 × row_75 × row_76 × row_77 × row_78 × row_79 × row_80 × row_81 × row_82 × row_83 × row_84 × row_85 × row_86 × row_87 × row_88 × row_89 × row_90 × row_91 × row_92 × row_93 × row_94 × row_95

@@ -1,7 +1,7 @@
 -- Worked rows, written by tools/rows.py from tools/rows.txt.
 use Rattle.std.proofs.Common.{refl}
 use Rattle.markdown_rows.proofs.Computed.{computed}
-use Rattle.markdown_rows.specs.Rows.Literals.{row_1, row_2, row_3, row_4, row_5, row_6, row_7, row_8, row_9, row_10, row_11, row_12, row_13, row_14, row_15, row_16, row_17, row_18, row_19, row_20, row_21, row_22, row_23, row_24, row_25, row_26, row_27, row_28, row_29, row_30, row_31, row_32, row_33, row_34, row_35, row_36, row_37, row_38, row_39, row_40, row_41, row_42, row_43, row_44, row_45, row_46, row_47, row_48, row_49, row_50, row_51, row_52, row_53, row_54, row_55, row_56, row_57, row_58, row_59, row_60, row_61, row_62, row_63, row_64, row_65, row_66, row_67, row_68, row_69, row_70, row_71, row_72, row_73, row_74, row_75, row_76, row_77, row_78, row_79, row_80, row_81, row_82, row_83, row_84, row_85, row_86, row_87, row_88, row_89, row_90, row_91, row_92}
+use Rattle.markdown_rows.specs.Rows.Literals.{row_1, row_2, row_3, row_4, row_5, row_6, row_7, row_8, row_9, row_10, row_11, row_12, row_13, row_14, row_15, row_16, row_17, row_18, row_19, row_20, row_21, row_22, row_23, row_24, row_25, row_26, row_27, row_28, row_29, row_30, row_31, row_32, row_33, row_34, row_35, row_36, row_37, row_38, row_39, row_40, row_41, row_42, row_43, row_44, row_45, row_46, row_47, row_48, row_49, row_50, row_51, row_52, row_53, row_54, row_55, row_56, row_57, row_58, row_59, row_60, row_61, row_62, row_63, row_64, row_65, row_66, row_67, row_68, row_69, row_70, row_71, row_72, row_73, row_74, row_75, row_76, row_77, row_78, row_79, row_80, row_81, row_82, row_83, row_84, row_85, row_86, row_87, row_88, row_89, row_90, row_91, row_92, row_93, row_94, row_95}
 use Rattle.markdown_rows.proofs.rows.literals.Goals as goal
 
 holds_row_1 : row_1
@@ -372,5 +372,17 @@ holds_row_92 : row_92
 unfolding computed
 holds_row_92 = refl
 
+holds_row_93 : row_93
+unfolding computed
+holds_row_93 = refl
+
+holds_row_94 : row_94
+unfolding computed
+holds_row_94 = refl
+
+holds_row_95 : row_95
+unfolding computed
+holds_row_95 = refl
+
 pub returns : goal.returns
-returns c = (holds_row_1, holds_row_2, holds_row_3, holds_row_4, holds_row_5, holds_row_6, holds_row_7, holds_row_8, holds_row_9, holds_row_10, holds_row_11, holds_row_12, holds_row_13, holds_row_14, holds_row_15, holds_row_16, holds_row_17, holds_row_18, holds_row_19, holds_row_20, holds_row_21, holds_row_22, holds_row_23, holds_row_24, holds_row_25, holds_row_26, holds_row_27, holds_row_28, holds_row_29, holds_row_30, holds_row_31, holds_row_32, holds_row_33, holds_row_34, holds_row_35, holds_row_36, holds_row_37, holds_row_38, holds_row_39, holds_row_40, holds_row_41, holds_row_42, holds_row_43, holds_row_44, holds_row_45, holds_row_46, holds_row_47, holds_row_48, holds_row_49, holds_row_50, holds_row_51, holds_row_52, holds_row_53, holds_row_54, holds_row_55, holds_row_56, holds_row_57, holds_row_58, holds_row_59, holds_row_60, holds_row_61, holds_row_62, holds_row_63, holds_row_64, holds_row_65, holds_row_66, holds_row_67, holds_row_68, holds_row_69, holds_row_70, holds_row_71, holds_row_72, holds_row_73, holds_row_74, holds_row_75, holds_row_76, holds_row_77, holds_row_78, holds_row_79, holds_row_80, holds_row_81, holds_row_82, holds_row_83, holds_row_84, holds_row_85, holds_row_86, holds_row_87, holds_row_88, holds_row_89, holds_row_90, holds_row_91, holds_row_92)
+returns c = (holds_row_1, holds_row_2, holds_row_3, holds_row_4, holds_row_5, holds_row_6, holds_row_7, holds_row_8, holds_row_9, holds_row_10, holds_row_11, holds_row_12, holds_row_13, holds_row_14, holds_row_15, holds_row_16, holds_row_17, holds_row_18, holds_row_19, holds_row_20, holds_row_21, holds_row_22, holds_row_23, holds_row_24, holds_row_25, holds_row_26, holds_row_27, holds_row_28, holds_row_29, holds_row_30, holds_row_31, holds_row_32, holds_row_33, holds_row_34, holds_row_35, holds_row_36, holds_row_37, holds_row_38, holds_row_39, holds_row_40, holds_row_41, holds_row_42, holds_row_43, holds_row_44, holds_row_45, holds_row_46, holds_row_47, holds_row_48, holds_row_49, holds_row_50, holds_row_51, holds_row_52, holds_row_53, holds_row_54, holds_row_55, holds_row_56, holds_row_57, holds_row_58, holds_row_59, holds_row_60, holds_row_61, holds_row_62, holds_row_63, holds_row_64, holds_row_65, holds_row_66, holds_row_67, holds_row_68, holds_row_69, holds_row_70, holds_row_71, holds_row_72, holds_row_73, holds_row_74, holds_row_75, holds_row_76, holds_row_77, holds_row_78, holds_row_79, holds_row_80, holds_row_81, holds_row_82, holds_row_83, holds_row_84, holds_row_85, holds_row_86, holds_row_87, holds_row_88, holds_row_89, holds_row_90, holds_row_91, holds_row_92, holds_row_93, holds_row_94, holds_row_95)
