@@ -67,9 +67,6 @@ module _ (P : List Code → List Code → Type 0) where
   right-joined [] h = (tt, tt)
   right-joined (f ∷ fs) h = let r = right-joined fs h.1 in (pairs-join f (joined fs) h.0.0 r.0, filled-join f (joined fs) h.0.1 r.1)
 
-  right-loose : (cs : List Code) → AllRight (loose cs)
-  right-loose cs = (right-leaf Name.Data cs, tt)
-
   right-group : (front : List Code) (inside : List Forest) (back : List Code) → 0 < length front → 0 < length back → P front back → is_nothing (joined inside) ≡ false → AllRight inside
       → AllRight (pair_group front inside back)
   right-group [] inside back h k l m r = absurd (omega (arith, h))

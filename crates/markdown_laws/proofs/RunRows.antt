@@ -100,10 +100,6 @@ apart-append : (p : ℕ) (fs gs : List Forest) → ListApart p fs → ListApart 
 apart-append p [] gs h k = k
 apart-append p (f ∷ fs) gs h k = (h.0, apart-append (last_run p f) fs gs h.1 k)
 
-last-append : (p : ℕ) (fs gs : List Forest) → list_last p (fs ++ gs) ≡ list_last (list_last p fs) gs
-last-append p [] gs = refl
-last-append p (f ∷ fs) gs = last-append (last_run p f) fs gs
-
 data-apart : (p : ℕ) (cs : List Code) → HasApartRuns p (leaf Name.Data cs)
 data-apart p [] = tt
 data-apart p (c ∷ cs) = tt
@@ -115,9 +111,6 @@ data-last p (c ∷ cs) h = refl
 caret-last : (cs : List Code) → last_run 0 (leaf Name.Data cs) ≡ 0
 caret-last [] = refl
 caret-last (c ∷ cs) = refl
-
-loose-apart : (p : ℕ) (cs : List Code) → ListApart p (loose cs)
-loose-apart p cs = (data-apart p cs, tt)
 
 -- data before a list of trees
 after-loose : (p : ℕ) (cs : List Code) (fs : List Forest) → IsSome cs → ListApart 0 fs → ListApart p (loose cs ++ fs)
