@@ -1,11 +1,18 @@
 //! Reads a row of each kind that takes memory, wherever memory is refused: each run answers the row's events, or the error, and where a tokenizer
-//! answered the error, each later call answers it at once. It ends with status 0 where each row had its answer, with 3 where some had the
-//! error and the others their answer, and with 1 where anything else came. Nothing is read or printed, so that no other request is made.
+//! answered the error, each later call answers it at once. The calls that take no memory are tried as well, and answer as ever. It ends with
+//! status 0 where each row had its answer, with 3 where some had the error and the others their answer, and with 1 where anything else came.
+//! Nothing is read or printed, so that no other request is made.
 #![tactic(auto)]
 
+mod ends;
+mod pairing;
+mod parts;
+mod passes;
 mod rows;
 mod runs;
 mod single;
+mod steady;
+mod values;
 
 use std::process::ExitCode;
 
@@ -38,7 +45,13 @@ impl Came {
 
 fn main(rt: HostRuntime) -> ExitCode {
     let alloc = rt.alloc();
-    match runs::all(alloc).and(single::all(alloc)) {
+    let came = values::all(alloc)
+        .and(runs::all(alloc))
+        .and(single::all(alloc))
+        .and(passes::all(alloc))
+        .and(pairing::all(alloc))
+        .and(steady::all(alloc));
+    match came {
         Came::Answer => ExitCode::SUCCESS,
         Came::Error => ExitCode::from(3),
         Came::Fault => ExitCode::FAILURE,

@@ -1,4 +1,4 @@
-// The rows: a text for each kind of what a run finds, with the names of what its events enter, in order. `b` is defined.
+// The rows: a text for each kind of what a run finds, with the names of what its events enter, in order. `b` is defined, and a footnote.
 use markdown_engine::event::Name;
 
 // A text, and the names in it.
@@ -91,7 +91,7 @@ pub(crate) const LEAVES: [Row; 9] = [
 ];
 
 // What holds others: emphasis, strikethrough, links, images and footnote calls.
-pub(crate) const GROUPS: [Row; 7] = [
+pub(crate) const GROUPS: [Row; 6] = [
     (
         "**a**",
         &[
@@ -157,20 +157,6 @@ pub(crate) const GROUPS: [Row; 7] = [
         ],
     ),
     (
-        "]]]]]]]]]]]]]]][b]",
-        &[
-            Name::Data,
-            Name::Link,
-            Name::Label,
-            Name::LabelLink,
-            Name::LabelMarker,
-            Name::LabelText,
-            Name::Data,
-            Name::LabelEnd,
-            Name::LabelMarker,
-        ],
-    ),
-    (
         "![b]",
         &[
             Name::Image,
@@ -199,3 +185,59 @@ pub(crate) const GROUPS: [Row; 7] = [
         ],
     ),
 ];
+
+// Texts with as many ends of labels as it takes to search what is defined by an index, where as many names are defined.
+pub(crate) const NAMED: [Row; 2] = [
+    (
+        "]]]]]]]]]]]]]]][b]",
+        &[
+            Name::Data,
+            Name::Link,
+            Name::Label,
+            Name::LabelLink,
+            Name::LabelMarker,
+            Name::LabelText,
+            Name::Data,
+            Name::LabelEnd,
+            Name::LabelMarker,
+        ],
+    ),
+    (
+        "]]]]]]]]]]]]]]][^b]",
+        &[
+            Name::Data,
+            Name::GfmFootnoteCall,
+            Name::Label,
+            Name::GfmFootnoteCallLabel,
+            Name::LabelMarker,
+            Name::GfmFootnoteCallMarker,
+            Name::LabelText,
+            Name::Data,
+            Name::LabelEnd,
+            Name::LabelMarker,
+        ],
+    ),
+];
+
+// A link over two lines of a quote, the mark of which belongs to neither line.
+pub(crate) const QUOTED: Row = (
+    "> [a\n> ](b)",
+    &[
+        Name::Link,
+        Name::Label,
+        Name::LabelLink,
+        Name::LabelMarker,
+        Name::LabelText,
+        Name::Data,
+        Name::LineEnding,
+        Name::LabelEnd,
+        Name::LabelMarker,
+        Name::Resource,
+        Name::ResourceMarker,
+        Name::ResourceDestination,
+        Name::ResourceDestinationRaw,
+        Name::ResourceDestinationString,
+        Name::Data,
+        Name::ResourceMarker,
+    ],
+);

@@ -1,6 +1,6 @@
-// Whole runs.
+// Whole runs, and the leaves of what they find.
 use crate::Came;
-use crate::rows::{GROUPS, LEAVES, Row, STRINGS};
+use crate::rows::{GROUPS, LEAVES, NAMED, QUOTED, Row, STRINGS};
 use markdown_engine::configuration::{Constructs, ParseOptions};
 use markdown_engine::event::{Event, Kind, Name};
 use markdown_engine::parser::ParseState;
@@ -8,7 +8,7 @@ use markdown_inline::run::{self, Piece};
 use std::alloc::{AllocError, Global};
 
 // All constructs.
-const OPTIONS: ParseOptions = ParseOptions {
+pub(crate) const OPTIONS: ParseOptions = ParseOptions {
     constructs: Constructs {
         attention: true,
         autolink: true,
@@ -33,6 +33,13 @@ const OPTIONS: ParseOptions = ParseOptions {
     label_shortcut_before_bracket: false,
 };
 
+// How a content is read, and what is defined, as definitions and as footnotes.
+#[derive(Clone, Copy)]
+struct Given {
+    mode: Mode,
+    defined: &'static [&'static str],
+}
+
 // How a content is read.
 #[derive(Clone, Copy, Debug, PartialEq, Eq)]
 enum Mode {
@@ -40,59 +47,115 @@ enum Mode {
     String,
 }
 
-// The identifier that is defined, as a definition and as a footnote's.
-fn defined(alloc: Global) -> Result<Vec<String>, AllocError> {
-    let mut identifiers = Vec::new(alloc);
-    identifiers.push(String::from_str(alloc, "b")?)?;
-    Ok(identifiers)
+const STRING: Given = Given {
+    mode: Mode::String,
+    defined: &["b"],
+};
+
+const TEXT: Given = Given {
+    mode: Mode::Text,
+    defined: &["b"],
+};
+
+// So many names that the search for one takes an index of them.
+const MANY: Given = Given {
+    mode: Mode::Text,
+    defined: &[
+        "a", "b", "c", "d", "e", "f", "g", "h", "i", "j", "k", "l", "m", "n", "o", "p",
+    ],
+};
+
+// Identifiers in a vector of their own.
+fn owned(alloc: Global, identifiers: &[&str]) -> Result<Vec<String>, AllocError> {
+    let mut all = Vec::new(alloc);
+    for identifier in identifiers {
+        all.push(String::from_str(alloc, identifier)?)?;
+    }
+    Ok(all)
+}
+
+// What a document is read with.
+pub(crate) fn state_of<'a>(
+    alloc: Global,
+    document: &'a str,
+    defined: &[&str],
+) -> Result<ParseState<'a>, AllocError> {
+    Ok(ParseState {
+        bytes: document.as_bytes(),
+        options: &OPTIONS,
+        definitions: owned(alloc, defined)?,
+        gfm_footnote_definitions: owned(alloc, defined)?,
+    })
+}
+
+// A piece from a byte to a byte.
+pub(crate) fn piece(start: usize, end: usize) -> Piece {
+    Piece {
+        start: (start, 0),
+        end: (end, 0),
+    }
 }
 
 // Whether the events enter these, in this order, and each Enter has its Exit.
-fn are(events: &[Event], names: &[Name]) -> bool {
+pub(crate) fn are(events: &[Event], names: &[Name]) -> bool {
     let enters = events.iter().filter(|event| event.kind == Kind::Enter);
     let is_whole = events.len() == names.len().saturating_mul(2);
     is_whole && enters.zip(names).all(|(event, name)| event.name == *name)
 }
 
-// What comes of a row: whether its events are those that are wanted.
-fn read(alloc: Global, mode: Mode, row: &Row) -> Result<bool, AllocError> {
-    let (text, names) = row;
-    let parse_state = ParseState {
-        bytes: text.as_bytes(),
-        options: &OPTIONS,
-        definitions: defined(alloc)?,
-        gfm_footnote_definitions: defined(alloc)?,
-    };
-    let pieces = [Piece {
-        start: (0, 0),
-        end: (text.len(), 0),
-    }];
-    if !run::is_text(parse_state.bytes, &pieces) || !run::is_content(parse_state.bytes, &pieces) {
-        return Ok(false);
+// How many bytes the pieces have.
+fn size_of(pieces: &[Piece]) -> usize {
+    let mut size = 0usize;
+    for piece in pieces {
+        size = size.saturating_add(piece.end.0.saturating_sub(piece.start.0));
     }
-    let found = match mode {
-        Mode::Text => run::text(alloc, &parse_state, &pieces, true)?,
-        Mode::String => run::string(alloc, &parse_state, &pieces)?,
-    };
-    Ok(are(found.events.as_slice(), names))
+    size
 }
 
-// What comes of rows.
-fn read_all(alloc: Global, mode: Mode, rows: &[Row]) -> Came {
+// What comes of a row in these pieces: whether its events are those that are wanted, and their leaves lend all bytes of the pieces. The leaves
+// take no memory, so that they come also where all later requests are refused.
+fn read(alloc: Global, given: Given, row: &Row, pieces: &[Piece]) -> Result<bool, AllocError> {
+    let (document, names) = row;
+    let parse_state = state_of(alloc, document, given.defined)?;
+    if !run::is_text(parse_state.bytes, pieces) || !run::is_content(parse_state.bytes, pieces) {
+        return Ok(false);
+    }
+    let found = match given.mode {
+        Mode::Text => run::text(alloc, &parse_state, pieces, true)?,
+        Mode::String => run::string(alloc, &parse_state, pieces)?,
+    };
+    let mut size = 0usize;
+    for leaf in run::leaves(parse_state.bytes, &found.events) {
+        size = size.saturating_add(leaf.slice.bytes.len());
+    }
+    Ok(are(found.events.as_slice(), names) && size == size_of(pieces))
+}
+
+// What comes of an answer.
+pub(crate) fn came_of(answer: Result<bool, AllocError>) -> Came {
+    match answer {
+        Ok(is_wanted) => Came::of(is_wanted),
+        Err(AllocError) => Came::Error,
+    }
+}
+
+// What comes of rows, each read as a whole.
+fn read_all(alloc: Global, given: Given, rows: &[Row]) -> Came {
     let mut came = Came::Answer;
     for row in rows {
-        came = came.and(match read(alloc, mode, row) {
-            Ok(is_wanted) => Came::of(is_wanted),
-            Err(AllocError) => Came::Error,
-        });
+        let pieces = [piece(0, row.0.len())];
+        came = came.and(came_of(read(alloc, given, row, &pieces)));
     }
     came
 }
 
 // What comes of all rows.
 pub(crate) fn all(alloc: Global) -> Came {
-    read_all(alloc, Mode::String, &STRINGS)
-        .and(read_all(alloc, Mode::Text, &STRINGS))
-        .and(read_all(alloc, Mode::Text, &LEAVES))
-        .and(read_all(alloc, Mode::Text, &GROUPS))
+    let lines = [piece(2, 5), piece(7, 11)];
+    read_all(alloc, STRING, &STRINGS)
+        .and(read_all(alloc, TEXT, &STRINGS))
+        .and(read_all(alloc, TEXT, &LEAVES))
+        .and(read_all(alloc, TEXT, &GROUPS))
+        .and(read_all(alloc, MANY, &NAMED))
+        .and(came_of(read(alloc, TEXT, &QUOTED, &lines)))
 }
