@@ -375,9 +375,9 @@ row_92 = text_answer (record default { gfm_autolink_literal = true; gfm_label_st
 abbrev pub row_93 : Type 0
 row_93 = text_outline (record default { gfm_autolink_literal = true; gfm_label_start_footnote = true; gfm_strikethrough = true; gfm_task_list_item = true }) (codes "\\*www.a.b") (piece 0 0 9 0 ∷ []) ≡ (enter Name.CharacterEscape 1 1 0 0 ∷ exit Name.CharacterEscape 1 3 2 0 ∷ enter Name.GfmAutolinkLiteralWww 1 3 2 0 ∷ exit Name.GfmAutolinkLiteralWww 1 10 9 0 ∷ [])
 
--- text gfm outer «http://aÿ/b»: GfmAutolinkLiteralProtocol 0-12
+-- text gfm outer «http://a_b.cÿ.d.e»: GfmAutolinkLiteralProtocol 0-18
 abbrev pub row_94 : Type 0
-row_94 = text_outline (record default { gfm_autolink_literal = true; gfm_label_start_footnote = true; gfm_strikethrough = true; gfm_task_list_item = true }) (104 ∷ 116 ∷ 116 ∷ 112 ∷ 58 ∷ 47 ∷ 47 ∷ 97 ∷ 195 ∷ 191 ∷ 47 ∷ 98 ∷ []) (piece 0 0 12 0 ∷ []) ≡ (enter Name.GfmAutolinkLiteralProtocol 1 1 0 0 ∷ exit Name.GfmAutolinkLiteralProtocol 1 13 12 0 ∷ [])
+row_94 = text_outline (record default { gfm_autolink_literal = true; gfm_label_start_footnote = true; gfm_strikethrough = true; gfm_task_list_item = true }) (104 ∷ 116 ∷ 116 ∷ 112 ∷ 58 ∷ 47 ∷ 47 ∷ 97 ∷ 95 ∷ 98 ∷ 46 ∷ 99 ∷ 195 ∷ 191 ∷ 46 ∷ 100 ∷ 46 ∷ 101 ∷ []) (piece 0 0 18 0 ∷ []) ≡ (enter Name.GfmAutolinkLiteralProtocol 1 1 0 0 ∷ exit Name.GfmAutolinkLiteralProtocol 1 19 18 0 ∷ [])
 
 -- text gfm outer «http://a_b.c-.d.e»: GfmAutolinkLiteralProtocol 0-17
 abbrev pub row_95 : Type 0

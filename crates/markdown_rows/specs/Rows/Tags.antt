@@ -183,5 +183,9 @@ row_44 = text_answer (default) (60 ∷ 97 ∷ 12 ∷ 98 ∷ 62 ∷ []) (piece 0 
 abbrev pub row_45 : Type 0
 row_45 = text_answer (default) (codes "<a b=\"<\">") (piece 0 0 9 0 ∷ []) ≡ (enter Name.HtmlText 1 1 0 0 ∷ enter Name.HtmlTextData 1 1 0 0 ∷ exit Name.HtmlTextData 1 10 9 0 ∷ exit Name.HtmlText 1 10 9 0 ∷ [])
 
+-- text «<a␊ b␊ c>»: HtmlText 0-9 [HtmlTextData 0-2, LineEnding 2-3, SpaceOrTab 3-4, HtmlTextData 4-5, LineEnding 5-6, SpaceOrTab 6-7, HtmlTextData 7-9]
+abbrev pub row_46 : Type 0
+row_46 = text_answer (default) (60 ∷ 97 ∷ 10 ∷ 32 ∷ 98 ∷ 10 ∷ 32 ∷ 99 ∷ 62 ∷ []) (piece 0 0 9 0 ∷ []) ≡ (enter Name.HtmlText 1 1 0 0 ∷ enter Name.HtmlTextData 1 1 0 0 ∷ exit Name.HtmlTextData 1 3 2 0 ∷ enter Name.LineEnding 1 3 2 0 ∷ exit Name.LineEnding 2 1 3 0 ∷ enter Name.SpaceOrTab 2 1 3 0 ∷ exit Name.SpaceOrTab 2 2 4 0 ∷ enter Name.HtmlTextData 2 2 4 0 ∷ exit Name.HtmlTextData 2 3 5 0 ∷ enter Name.LineEnding 2 3 5 0 ∷ exit Name.LineEnding 3 1 6 0 ∷ enter Name.SpaceOrTab 3 1 6 0 ∷ exit Name.SpaceOrTab 3 2 7 0 ∷ enter Name.HtmlTextData 3 2 7 0 ∷ exit Name.HtmlTextData 3 4 9 0 ∷ exit Name.HtmlText 3 4 9 0 ∷ [])
+
 abbrev pub Rows : Type 0
-Rows = row_1 × row_2 × row_3 × row_4 × row_5 × row_6 × row_7 × row_8 × row_9 × row_10 × row_11 × row_12 × row_13 × row_14 × row_15 × row_16 × row_17 × row_18 × row_19 × row_20 × row_21 × row_22 × row_23 × row_24 × row_25 × row_26 × row_27 × row_28 × row_29 × row_30 × row_31 × row_32 × row_33 × row_34 × row_35 × row_36 × row_37 × row_38 × row_39 × row_40 × row_41 × row_42 × row_43 × row_44 × row_45
+Rows = row_1 × row_2 × row_3 × row_4 × row_5 × row_6 × row_7 × row_8 × row_9 × row_10 × row_11 × row_12 × row_13 × row_14 × row_15 × row_16 × row_17 × row_18 × row_19 × row_20 × row_21 × row_22 × row_23 × row_24 × row_25 × row_26 × row_27 × row_28 × row_29 × row_30 × row_31 × row_32 × row_33 × row_34 × row_35 × row_36 × row_37 × row_38 × row_39 × row_40 × row_41 × row_42 × row_43 × row_44 × row_45 × row_46

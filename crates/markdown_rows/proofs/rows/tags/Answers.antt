@@ -1,7 +1,7 @@
 -- Worked rows, written by tools/rows.py from tools/rows.txt.
 use Rattle.std.proofs.Common.{refl}
 use Rattle.markdown_rows.proofs.Computed.{computed}
-use Rattle.markdown_rows.specs.Rows.Tags.{row_1, row_2, row_3, row_4, row_5, row_6, row_7, row_8, row_9, row_10, row_11, row_12, row_13, row_14, row_15, row_16, row_17, row_18, row_19, row_20, row_21, row_22, row_23, row_24, row_25, row_26, row_27, row_28, row_29, row_30, row_31, row_32, row_33, row_34, row_35, row_36, row_37, row_38, row_39, row_40, row_41, row_42, row_43, row_44, row_45}
+use Rattle.markdown_rows.specs.Rows.Tags.{row_1, row_2, row_3, row_4, row_5, row_6, row_7, row_8, row_9, row_10, row_11, row_12, row_13, row_14, row_15, row_16, row_17, row_18, row_19, row_20, row_21, row_22, row_23, row_24, row_25, row_26, row_27, row_28, row_29, row_30, row_31, row_32, row_33, row_34, row_35, row_36, row_37, row_38, row_39, row_40, row_41, row_42, row_43, row_44, row_45, row_46}
 use Rattle.markdown_rows.proofs.rows.tags.Goals as goal
 
 holds_row_1 : row_1
@@ -184,5 +184,9 @@ holds_row_45 : row_45
 unfolding computed
 holds_row_45 = refl
 
+holds_row_46 : row_46
+unfolding computed
+holds_row_46 = refl
+
 pub returns : goal.returns
-returns c = (holds_row_1, holds_row_2, holds_row_3, holds_row_4, holds_row_5, holds_row_6, holds_row_7, holds_row_8, holds_row_9, holds_row_10, holds_row_11, holds_row_12, holds_row_13, holds_row_14, holds_row_15, holds_row_16, holds_row_17, holds_row_18, holds_row_19, holds_row_20, holds_row_21, holds_row_22, holds_row_23, holds_row_24, holds_row_25, holds_row_26, holds_row_27, holds_row_28, holds_row_29, holds_row_30, holds_row_31, holds_row_32, holds_row_33, holds_row_34, holds_row_35, holds_row_36, holds_row_37, holds_row_38, holds_row_39, holds_row_40, holds_row_41, holds_row_42, holds_row_43, holds_row_44, holds_row_45)
+returns c = (holds_row_1, holds_row_2, holds_row_3, holds_row_4, holds_row_5, holds_row_6, holds_row_7, holds_row_8, holds_row_9, holds_row_10, holds_row_11, holds_row_12, holds_row_13, holds_row_14, holds_row_15, holds_row_16, holds_row_17, holds_row_18, holds_row_19, holds_row_20, holds_row_21, holds_row_22, holds_row_23, holds_row_24, holds_row_25, holds_row_26, holds_row_27, holds_row_28, holds_row_29, holds_row_30, holds_row_31, holds_row_32, holds_row_33, holds_row_34, holds_row_35, holds_row_36, holds_row_37, holds_row_38, holds_row_39, holds_row_40, holds_row_41, holds_row_42, holds_row_43, holds_row_44, holds_row_45, holds_row_46)
