@@ -23,7 +23,7 @@ use Rattle.markdown_model.specs.Setting.{Setting}
 use Rattle.markdown_attention.specs.Containers.{whole_shape, is_in, runs_in}
 use Rattle.markdown_attention.specs.Pairs.{row_of}
 use Rattle.markdown_attention.specs.Reading.{outermost, is_run, is_text, opens_run, is_beside_marker, is_flanking, may_act, sequence_at, where_after, first_run, runs_from}
-use Rattle.markdown_attention.specs.Rows.{HasRows, leaf_run, inner, tree_runs, texts_of, IsRun, has_run, HasRuns}
+use Rattle.markdown_attention.specs.Rows.{HasRows, leaf_run, inner, as_text, text_count, tree_runs, texts_of, IsRun, has_run, HasRuns}
 use Rattle.markdown_attention.specs.declared.attention.reading.Where.{Where}
 use Rattle.markdown_attention.specs.declared.attention.runs.Sequence.{Sequence}
 
@@ -38,13 +38,13 @@ module _ (tildes : Bool) (bytes : List ℕ) where
   no-first n i k e [] h = refl
   no-first n i k e (x ∷ es) h = rw h refl
 
-  passes : (n i : ℕ) (w : Where) (e : Event) (es : List Event) → opens_run e ≡ false → from n i w (e ∷ es) ≡ from n (i + 1) (where_after i e w) es
+  passes : (n i : ℕ) (w : Where) (e : Event) (es : List Event) → opens_run e ≡ false → from n i w (e ∷ es) ≡ from n (i + 1) (where_after e w) es
   passes n i w e es h =
-      ap (λ (f : List Sequence). f ++ from (n + length f) (suc i) (where_after i e w) es) (no-first n i w.container e es h)
-      ∙ (let a : n + 0 ≡ n = omega arith in let b : suc i ≡ i + 1 = omega arith in λ z. from (a z) (b z) (where_after i e w) es)
+      ap (λ (f : List Sequence). f ++ from (n + length f) (suc i) (where_after e w) es) (no-first n i w.container e es h)
+      ∙ (let a : n + 0 ≡ n = omega arith in let b : suc i ≡ i + 1 = omega arith in λ z. from (a z) (b z) (where_after e w) es)
 
-  stays : (i : ℕ) (e : Event) (w : Where) → is_text e.name ≡ false → where_after i e w ≡ w
-  stays i e w h = rw h refl
+  stays : (e : Event) (w : Where) → is_text e.name ≡ false → where_after e w ≡ w
+  stays e w h = rw h refl
 
   leaf-runs : (n i : ℕ) (w : Where) (name : Name) (p q : Point) (link : Option Link) (es : List Event) → is_text name ≡ false
       → from n i w (record { kind = Kind.Enter; name = name; point = p; link = link } ∷ event Kind.Exit name q ∷ es)
@@ -54,64 +54,78 @@ module _ (tildes : Bool) (bytes : List ℕ) where
       let x : Event = event Kind.Exit name q in
       let here : List Sequence = leaf_run tildes bytes n i w.container name p q in
       let m : ℕ = n + length here in
-      let next : from m (suc i) (where_after i e w) (x ∷ es) ≡ from m (i + 2) w es =
-      ap (λ v. from m (suc i) v (x ∷ es)) (stays i e w h) ∙ passes m (suc i) w x es refl
-      ∙ (let b : suc i + 1 ≡ i + 2 = omega arith in λ z. from m (b z) (stays (suc i) x w h z) es) in
+      let next : from m (suc i) (where_after e w) (x ∷ es) ≡ from m (i + 2) w es =
+      ap (λ v. from m (suc i) v (x ∷ es)) (stays e w h) ∙ passes m (suc i) w x es refl
+      ∙ (let b : suc i + 1 ≡ i + 2 = omega arith in λ z. from m (b z) (stays x w h z) es) in
       ap (λ xs. here ++ xs) next
 
+  -- with so many texts begun
+  abbrev counted : ℕ → Where → Where
+  counted m w = record { container = w.container; outer = w.outer; texts = m }
+
   -- runs, and those behind them
-  behind : (here more : List Sequence) (n j j' : ℕ) (w : Where) (es : List Event) → j ≡ j'
-      → here ++ (more ++ from (n + length here + length more) j w es) ≡ (here ++ more) ++ from (n + length (here ++ more)) j' w es
-  behind here more n j j' w es e =
+  behind : (here more : List Sequence) (n j j' m m' : ℕ) (w : Where) (es : List Event) → j ≡ j' → m ≡ m'
+      → here ++ (more ++ from (n + length here + length more) j (counted m w) es) ≡ (here ++ more) ++ from (n + length (here ++ more)) j' (counted m' w) es
+  behind here more n j j' m m' w es e u =
       let size : n + length here + length more ≡ n + length (here ++ more) = (let x = length-append here more in omega arith) in
-      sym (append_assoc here more _) ∙ (λ z. (here ++ more) ++ from (size z) (e z) w es)
+      sym (append_assoc here more _) ∙ (λ z. (here ++ more) ++ from (size z) (e z) (counted (u z) w) es)
 
-  within-is : (i : ℕ) (name : Name) (p : Point) (w : Where) → (where_after i (event Kind.Enter name p) w).container ≡ inner i w.container name
-  within-is i name p w = elim (cases_Bool (is_text name)) [ inl t ↦ rw t refl | inr f ↦ rw f refl ]
+  within-is : (name : Name) (p : Point) (w : Where) → (where_after (event Kind.Enter name p) w).container ≡ inner w.texts w.container name
+  within-is name p w = elim (cases_Bool (is_text name)) [ inl t ↦ rw t refl | inr f ↦ rw f refl ]
 
-  back-out : (i j : ℕ) (name : Name) (p q : Point) (w : Where) → where_after j (event Kind.Exit name q) (where_after i (event Kind.Enter name p) w) ≡ w
-  back-out i j name p q w = elim (cases_Bool (is_text name)) [ inl t ↦ rw t refl | inr f ↦ rw f refl ]
+  texts-within : (name : Name) (p : Point) (w : Where) → (where_after (event Kind.Enter name p) w).texts ≡ w.texts + as_text name
+  texts-within name p w = elim (cases_Bool (is_text name)) [ inl t ↦ rw t refl | inr f ↦ rw f (omega arith) ]
+
+  back-out : (m : ℕ) (name : Name) (p q : Point) (w : Where) → where_after (event Kind.Exit name q) (counted m (where_after (event Kind.Enter name p) w)) ≡ counted m w
+  back-out m name p q w = elim (cases_Bool (is_text name)) [ inl t ↦ rw t refl | inr f ↦ rw f refl ]
 
   pub tree-runs : (t : Forest) (n i : ℕ) (previous : Option ℕ) (w : Where) (es : List Event) → HasRuns bytes t
       → from n i w (appended_from i previous t ++ es)
-      ≡ tree_runs tildes bytes n i w.container t ++ from (n + length (tree_runs tildes bytes n i w.container t)) (i + event_count t) w es
-  tree-runs empty n i previous w es h = let a : n ≡ n + 0 = omega arith in let b : i ≡ i + 0 = omega arith in λ z. from (a z) (b z) w es
+      ≡ tree_runs tildes bytes n i w.texts w.container t ++ from (n + length (tree_runs tildes bytes n i w.texts w.container t)) (i + event_count t) (counted (w.texts + text_count t) w) es
+  tree-runs empty n i previous w es h =
+      let a : n ≡ n + 0 = omega arith in
+      let b : i ≡ i + 0 = omega arith in
+      let c : w.texts ≡ w.texts + 0 = omega arith in
+      λ z. from (a z) (b z) (counted (c z) w) es
   tree-runs (leaf_then name None cs rest) n i previous w es h =
       let here : List Sequence = leaf_run tildes bytes n i w.container name (start_of cs) (stop_of document_start cs) in
       leaf-runs n i w name (start_of cs) (stop_of document_start cs) None (appended_from (i + 2) previous rest ++ es) h.0.0
       ∙ ap (λ xs. here ++ xs) (tree-runs rest (n + length here) (i + 2) previous w es h.1)
-      ∙ behind here (tree_runs tildes bytes (n + length here) (i + 2) w.container rest) n (i + 2 + event_count rest) (i + (2 + event_count rest)) w es (omega arith)
+      ∙ behind here (tree_runs tildes bytes (n + length here) (i + 2) w.texts w.container rest) n (i + 2 + event_count rest) (i + (2 + event_count rest)) _ _ w es (omega arith) refl
   tree-runs (leaf_then name (Some c) cs rest) n i previous w es h =
       let here : List Sequence = leaf_run tildes bytes n i w.container name (start_of cs) (stop_of document_start cs) in
       leaf-runs n i w name (start_of cs) (stop_of document_start cs) (link_of previous (Some c)) (appended_from (i + 2) (Some i) rest ++ es) h.0.0
       ∙ ap (λ xs. here ++ xs) (tree-runs rest (n + length here) (i + 2) (Some i) w es h.1)
-      ∙ behind here (tree_runs tildes bytes (n + length here) (i + 2) w.container rest) n (i + 2 + event_count rest) (i + (2 + event_count rest)) w es (omega arith)
+      ∙ behind here (tree_runs tildes bytes (n + length here) (i + 2) w.texts w.container rest) n (i + 2 + event_count rest) (i + (2 + event_count rest)) _ _ w es (omega arith) refl
   tree-runs (group_then name enter exit inside rest) n i previous w es h =
       let a : Event = event Kind.Enter name enter in
       let c : Event = event Kind.Exit name exit in
-      let w' : Where = where_after i a w in
+      let w' : Where = where_after a w in
       let front : List Event = appended_from (i + 1) None inside in
       let back : List Event = appended_from (i + 2 + event_count inside) previous rest in
-      let of : Option ℕ → List Sequence = λ k. tree_runs tildes bytes n (i + 1) k inside in
-      let k : Option ℕ = inner i w.container name in
-      let m : ℕ = n + length (of k) in
+      let of : ℕ → Option ℕ → List Sequence = λ m k. tree_runs tildes bytes n (i + 1) m k inside in
+      let k : Option ℕ = inner w.texts w.container name in
+      let m : ℕ = w.texts + as_text name in
+      let past : ℕ = m + text_count inside in
+      let l : ℕ = n + length (of m k) in
       let j : ℕ = i + 1 + event_count inside in
+      let total : past + text_count rest ≡ w.texts + (as_text name + text_count inside + text_count rest) = omega arith in
       passes n i w a ((front ++ c ∷ back) ++ es) h.0.0
       ∙ ap (from n (i + 1) w') (append_assoc front (c ∷ back) es)
       ∙ tree-runs inside n (i + 1) None w' (c ∷ (back ++ es)) h.1.0
-      ∙ ap (λ x. of x ++ from (n + length (of x)) j w' (c ∷ (back ++ es))) (within-is i name enter w)
-      ∙ ap (λ xs. of k ++ xs) (
-      passes m j w' c (back ++ es) refl
-      ∙ (let e : j + 1 ≡ i + 2 + event_count inside = omega arith in λ z. from m (e z) (back-out i j name enter exit w z) (back ++ es))
-      ∙ tree-runs rest m (i + 2 + event_count inside) previous w es h.1.1)
-      ∙ behind (of k) (tree_runs tildes bytes m (i + 2 + event_count inside) w.container rest) n (i + 2 + event_count inside + event_count rest)
-      (i + (2 + event_count inside + event_count rest)) w es (omega arith)
+      ∙ (let y : ℕ → Option ℕ → List Sequence = λ m k. of m k ++ from (n + length (of m k)) j (counted (m + text_count inside) w') (c ∷ (back ++ es)) in λ z. y (texts-within name enter w z) (within-is name enter w z))
+      ∙ ap (λ xs. of m k ++ xs) (
+      passes l j (counted past w') c (back ++ es) refl
+      ∙ (let e : j + 1 ≡ i + 2 + event_count inside = omega arith in λ z. from l (e z) (back-out past name enter exit w z) (back ++ es))
+      ∙ tree-runs rest l (i + 2 + event_count inside) previous (counted past w) es h.1.1)
+      ∙ behind (of m k) (tree_runs tildes bytes l (i + 2 + event_count inside) past w.container rest) n (i + 2 + event_count inside + event_count rest)
+      (i + (2 + event_count inside + event_count rest)) _ _ w es (omega arith) total
 
 -- From the tree to its rows.
 
 module _ (s : Setting) (tildes : Bool) (bytes : List ℕ) (same : s.bytes ≡ bytes) (on : s.options.constructs.gfm_strikethrough ≡ tildes) where
-  abbrev runs : ℕ → ℕ → Option ℕ → Forest → List Sequence
-  runs n i k t = tree_runs tildes bytes n i k t
+  abbrev runs : ℕ → ℕ → ℕ → Option ℕ → Forest → List Sequence
+  runs n i m k t = tree_runs tildes bytes n i m k t
 
   abbrev Whole : Forest → List Sequence → Type 0
   Whole t list = map shape_of (runs_of s t) ≡ map whole_shape list
@@ -173,26 +187,28 @@ module _ (s : Setting) (tildes : Bool) (bytes : List ℕ) (same : s.bytes ≡ by
       elim (cases_Bool (is_run name)) [ inl is ↦ rw (is, ne_eqb (row_of k) r e) refl | inr off ↦ rw off refl ]
 
   -- the row of what stands inside a group
-  pub inner-row : (i : ℕ) (k : Option ℕ) (name : Name) → ((is_text name ≡ true) × (row_of (inner i k name) ≡ i + 1)) ⊎ ((is_text name ≡ false) × (inner i k name ≡ k))
-  inner-row i k name = elim (cases_Bool (is_text name)) [ inl is ↦ inl (is, rw is refl) | inr off ↦ inr (off, rw off refl) ]
+  pub inner-row : (m : ℕ) (k : Option ℕ) (name : Name)
+      → ((is_text name ≡ true) × ((row_of (inner m k name) ≡ m + 1) × (as_text name ≡ 1))) ⊎ ((is_text name ≡ false) × (inner m k name ≡ k))
+  inner-row m k name = elim (cases_Bool (is_text name)) [ inl is ↦ inl (is, (rw is refl, rw is refl)) | inr off ↦ inr (off, rw off refl) ]
 
-  -- no run of another row
-  pub others : (t : Forest) (n i : ℕ) (k : Option ℕ) (r : ℕ) → (row_of k ≡ r → ⊥) → (r ≤ i) ⊎ (i + event_count t < r) → runs_in r (runs n i k t) ≡ []
-  others empty n i k r ne far = refl
-  others (leaf_then name link cs rest) n i k r ne far =
+  -- texts have numbers of their own: no run of another row
+  pub others : (t : Forest) (n i m : ℕ) (k : Option ℕ) (r : ℕ) → (row_of k ≡ r → ⊥) → (r ≤ m) ⊎ (m + text_count t < r) → runs_in r (runs n i m k t) ≡ []
+  others empty n i m k r ne far = refl
+  others (leaf_then name link cs rest) n i m k r ne far =
       let here : List Sequence = leaf_run tildes bytes n i k name (start_of cs) (stop_of document_start cs) in
-      filters r here _ ∙ ap (λ xs. xs ++ runs_in r (runs (n + length here) (i + 2) k rest)) (leaf-out n i k r name (start_of cs) (stop_of document_start cs) ne)
-      ∙ others rest (n + length here) (i + 2) k r ne (elim far [ inl low ↦ inl (omega arith) | inr high ↦ inr (omega arith) ])
-  others (group_then name p q inside rest) n i k r ne far =
-      let front : List Sequence = runs n (i + 1) (inner i k name) inside in
-      let apart : row_of (inner i k name) ≡ r → ⊥ = λ e. elim (inner-row i k name) [
-        | inl x ↦ (let y = x.1 in elim far [ inl low ↦ omega arith | inr high ↦ omega arith ])
+      filters r here _ ∙ ap (λ xs. xs ++ runs_in r (runs (n + length here) (i + 2) m k rest)) (leaf-out n i k r name (start_of cs) (stop_of document_start cs) ne)
+      ∙ others rest (n + length here) (i + 2) m k r ne far
+  others (group_then name p q inside rest) n i m k r ne far =
+      let front : List Sequence = runs n (i + 1) (m + as_text name) (inner m k name) inside in
+      let past : ℕ = m + as_text name + text_count inside in
+      let apart : row_of (inner m k name) ≡ r → ⊥ = λ e. elim (inner-row m k name) [
+        | inl x ↦ (let y = x.1.0 in let one = x.1.1 in elim far [ inl low ↦ omega arith | inr high ↦ omega arith ])
         | inr x ↦ ne (ap row_of (sym x.1) ∙ e)
       ] in
       filters r front _
-      ∙ ap (λ xs. xs ++ runs_in r (runs (n + length front) (i + 2 + event_count inside) k rest))
-      (others inside n (i + 1) (inner i k name) r apart (elim far [ inl low ↦ inl (omega arith) | inr high ↦ inr (omega arith) ]))
-      ∙ others rest (n + length front) (i + 2 + event_count inside) k r ne (elim far [ inl low ↦ inl (omega arith) | inr high ↦ inr (omega arith) ])
+      ∙ ap (λ xs. xs ++ runs_in r (runs (n + length front) (i + 2 + event_count inside) past k rest))
+      (others inside n (i + 1) (m + as_text name) (inner m k name) r apart (elim far [ inl low ↦ inl (omega arith) | inr high ↦ inr (omega arith) ]))
+      ∙ others rest (n + length front) (i + 2 + event_count inside) past k r ne (elim far [ inl low ↦ inl (omega arith) | inr high ↦ inr (omega arith) ])
 
   leaf-row : (b : Bool) (r : Run) (x : Sequence) (rs : List Run) (xs : List Sequence) → (b ≡ true → shape_of r ≡ whole_shape x) → map shape_of rs ≡ map whole_shape xs
       → map shape_of (cond b (r ∷ rs) rs) ≡ map whole_shape (cond b (x ∷ []) [] ++ xs)
@@ -200,27 +216,29 @@ module _ (s : Setting) (tildes : Bool) (bytes : List ℕ) (same : s.bytes ≡ by
   leaf-row false r x rs xs h next = next
 
   -- the runs of a row, in its container
-  pub row-is : (t : Forest) (n i : ℕ) (k : Option ℕ) (r : ℕ) → HasRuns bytes t → row_of k ≡ r → r ≤ i → Whole t (runs_in r (runs n i k t))
+  pub row-is : (t : Forest) (n i m : ℕ) (k : Option ℕ) (r : ℕ) → HasRuns bytes t → row_of k ≡ r → r ≤ m → Whole t (runs_in r (runs n i m k t))
   unfolding runs_of
-  row-is empty n i k r h e low = refl
-  row-is (leaf_then name link cs rest) n i k r h e low =
+  row-is empty n i m k r h e low = refl
+  row-is (leaf_then name link cs rest) n i m k r h e low =
       let p : Point = start_of cs in
       let q : Point = stop_of document_start cs in
       let here : List Sequence = leaf_run tildes bytes n i k name p q in
-      let more : List Sequence = runs (n + length here) (i + 2) k rest in
-      let next : Whole rest (runs_in r more) = row-is rest (n + length here) (i + 2) k r h.1 e (omega arith) in
+      let more : List Sequence = runs (n + length here) (i + 2) m k rest in
+      let next : Whole rest (runs_in r more) = row-is rest (n + length here) (i + 2) m k r h.1 e low in
       let split : runs_in r (here ++ more) ≡ here ++ runs_in r more = filters r here more ∙ ap (λ xs. xs ++ runs_in r more) (leaf-in n i k r name p q e) in
       ap (map shape_of) (runs-leaf name link cs rest)
       ∙ leaf-row (is_run name) (run_of s cs) (sequence_at tildes bytes n i k p q) (runs_of s rest) (runs_in r more) (λ is. leaf-shape n i k cs (h.0.1 is)) next
       ∙ ap (map whole_shape) (sym split)
-  row-is (group_then name p q inside rest) n i k r h e low =
-      let front : List Sequence = runs n (i + 1) (inner i k name) inside in
-      let m : ℕ = n + length front in
-      let more : List Sequence = runs m (i + 2 + event_count inside) k rest in
-      let next : Whole rest (runs_in r more) = row-is rest m (i + 2 + event_count inside) k r h.1.1 e (omega arith) in
-      let none : map whole_shape (runs_in r front) ≡ [] = elim (inner-row i k name) [
-        | inl x ↦ ap (map whole_shape) (others inside n (i + 1) (inner i k name) r (λ y. let z = x.1 in omega arith) (inl (omega arith)))
-        | inr x ↦ sym (row-is inside n (i + 1) (inner i k name) r h.1.0 (ap row_of x.1 ∙ e) (omega arith)) ∙ ap (map shape_of) (none-in inside (h.0.1 x.0))
+  row-is (group_then name p q inside rest) n i m k r h e low =
+      let m' : ℕ = m + as_text name in
+      let front : List Sequence = runs n (i + 1) m' (inner m k name) inside in
+      let l : ℕ = n + length front in
+      let past : ℕ = m' + text_count inside in
+      let more : List Sequence = runs l (i + 2 + event_count inside) past k rest in
+      let next : Whole rest (runs_in r more) = row-is rest l (i + 2 + event_count inside) past k r h.1.1 e (omega arith) in
+      let none : map whole_shape (runs_in r front) ≡ [] = elim (inner-row m k name) [
+        | inl x ↦ ap (map whole_shape) (others inside n (i + 1) m' (inner m k name) r (λ y. let z = x.1.0 in omega arith) (inl (omega arith)))
+        | inr x ↦ sym (row-is inside n (i + 1) m' (inner m k name) r h.1.0 (ap row_of x.1 ∙ e) (omega arith)) ∙ ap (map shape_of) (none-in inside (h.0.1 x.0))
       ] in
       ap (map shape_of) (runs-group name p q inside rest) ∙ next
       ∙ ap (λ xs. xs ++ map whole_shape (runs_in r more)) (sym none)
@@ -250,60 +268,62 @@ module _ (s : Setting) (tildes : Bool) (bytes : List ℕ) (same : s.bytes ≡ by
   abbrev Texts : List Sequence → List (ℕ × Forest) → Type 0
   Texts list texts = All (IsText list) texts
 
-  texts-are : (t : Forest) (n i : ℕ) (k : Option ℕ) (front back : List Sequence) → HasRuns bytes t → row_of k ≤ i
-      → Lacks i (i + event_count t) front → Lacks i (i + event_count t) back → Texts (front ++ (runs n i k t ++ back)) (texts_of i t)
+  texts-are : (t : Forest) (n i m : ℕ) (k : Option ℕ) (front back : List Sequence) → HasRuns bytes t → row_of k ≤ m
+      → Lacks m (m + text_count t) front → Lacks m (m + text_count t) back → Texts (front ++ (runs n i m k t ++ back)) (texts_of m t)
   unfolding Lacks
-  texts-are empty n i k front back h low f b = All-nil (IsText (front ++ back))
-  texts-are (leaf_then name link cs rest) n i k front back h low f b =
+  texts-are empty n i m k front back h low f b = All-nil (IsText (front ++ back))
+  texts-are (leaf_then name link cs rest) n i m k front back h low f b =
       let p : Point = start_of cs in
       let q : Point = stop_of document_start cs in
       let here : List Sequence = leaf_run tildes bytes n i k name p q in
-      let more : List Sequence = runs (n + length here) (i + 2) k rest in
+      let more : List Sequence = runs (n + length here) (i + 2) m k rest in
       let apart : front ++ ((here ++ more) ++ back) ≡ (front ++ here) ++ (more ++ back) = ap (λ xs. front ++ xs) (append_assoc here more back) ∙ sym (append_assoc front here (more ++ back)) in
-      subst (λ xs. Texts xs (texts_of (i + 2) rest)) (sym apart)
-      (texts-are rest (n + length here) (i + 2) k (front ++ here) back h.1 (omega arith)
-      (λ r l u. filters r front here ∙ ap (λ zs. zs ++ runs_in r here) (f r (omega arith) (omega arith)) ∙ leaf-out n i k r name p q (λ e. omega arith))
-      (λ r l u. b r (omega arith) (omega arith)))
-  texts-are (group_then name p q inside rest) n i k front back h low f b =
-      let of : List Sequence = runs n (i + 1) (inner i k name) inside in
-      let m : ℕ = n + length of in
-      let more : List Sequence = runs m (i + 2 + event_count inside) k rest in
+      subst (λ xs. Texts xs (texts_of m rest)) (sym apart)
+      (texts-are rest (n + length here) (i + 2) m k (front ++ here) back h.1 low
+      (λ r l u. filters r front here ∙ ap (λ zs. zs ++ runs_in r here) (f r l u) ∙ leaf-out n i k r name p q (λ e. omega arith)) b)
+  texts-are (group_then name p q inside rest) n i m k front back h low f b =
+      let m' : ℕ = m + as_text name in
+      let of : List Sequence = runs n (i + 1) m' (inner m k name) inside in
+      let l : ℕ = n + length of in
+      let past : ℕ = m' + text_count inside in
+      let more : List Sequence = runs l (i + 2 + event_count inside) past k rest in
       let apart : front ++ ((of ++ more) ++ back) ≡ front ++ (of ++ (more ++ back)) = ap (λ xs. front ++ xs) (append_assoc of more back) in
-      let behind : (r : ℕ) → i < r → r ≤ i + 1 + event_count inside → runs_in r (more ++ back) ≡ [] =
-      λ r l u. filters r more back ∙ ap (λ zs. zs ++ runs_in r back) (others rest m (i + 2 + event_count inside) k r (λ e. omega arith) (inl (omega arith))) ∙ b r (omega arith) (omega arith) in
-      let first : Texts (front ++ (of ++ (more ++ back))) (cond (is_text name) ((i, inside) ∷ []) []) =
-      all-one (IsText (front ++ (of ++ (more ++ back)))) (i, inside) (is_text name) (λ is.
-      row-is inside n (i + 1) (inner i k name) (i + 1) h.1.0 (rw is refl) (omega arith)
-      ∙ ap (map whole_shape) (sym (between (i + 1) front of (more ++ back) (f (i + 1) (omega arith) (omega arith)) (behind (i + 1) (omega arith) (omega arith))))) in
-      let inner_low : row_of (inner i k name) ≤ i + 1 = elim (inner-row i k name) [ inl x ↦ (let y = x.1 in omega arith) | inr x ↦ (let y = ap row_of x.1 in omega arith) ] in
-      let middle : Texts (front ++ (of ++ (more ++ back))) (texts_of (i + 1) inside) =
-      texts-are inside n (i + 1) (inner i k name) front (more ++ back) h.1.0 inner_low
-      (λ r l u. f r (omega arith) (omega arith)) (λ r l u. behind r (omega arith) (omega arith)) in
-      let last : Texts ((front ++ of) ++ (more ++ back)) (texts_of (i + 2 + event_count inside) rest) =
-      texts-are rest m (i + 2 + event_count inside) k (front ++ of) back h.1.1 (omega arith)
-      (λ r l u. filters r front of ∙ ap (λ zs. zs ++ runs_in r of) (f r (omega arith) (omega arith))
-      ∙ others inside n (i + 1) (inner i k name) r (λ e. omega (arith, inner_low, e)) (inr (omega arith)))
-      (λ r l u. b r (omega arith) (omega arith)) in
-      let here : List (ℕ × Forest) = cond (is_text name) ((i, inside) ∷ []) [] in
-      let texts : List (ℕ × Forest) = texts_of (i + 1) inside in
-      let later : List (ℕ × Forest) = texts_of (i + 2 + event_count inside) rest in
+      let behind : (r : ℕ) → m < r → r ≤ past → runs_in r (more ++ back) ≡ [] =
+      λ r l' u. filters r more back ∙ ap (λ zs. zs ++ runs_in r back) (others rest l (i + 2 + event_count inside) past k r (λ e. omega arith) (inl u)) ∙ b r (omega arith) (omega arith) in
+      let first : Texts (front ++ (of ++ (more ++ back))) (cond (is_text name) ((m, inside) ∷ []) []) =
+      all-one (IsText (front ++ (of ++ (more ++ back)))) (m, inside) (is_text name) (λ is.
+      let one : as_text name ≡ 1 = rw is refl in
+      row-is inside n (i + 1) m' (inner m k name) (m + 1) h.1.0 (rw is refl) (omega arith)
+      ∙ ap (map whole_shape) (sym (between (m + 1) front of (more ++ back) (f (m + 1) (omega arith) (omega arith)) (behind (m + 1) (omega arith) (omega arith))))) in
+      let inner_low : row_of (inner m k name) ≤ m' = elim (inner-row m k name) [ inl x ↦ (let y = x.1.0 in let one = x.1.1 in omega arith) | inr x ↦ (let y = ap row_of x.1 in omega arith) ] in
+      let middle : Texts (front ++ (of ++ (more ++ back))) (texts_of m' inside) =
+      texts-are inside n (i + 1) m' (inner m k name) front (more ++ back) h.1.0 inner_low
+      (λ r l' u. f r (omega arith) (omega arith)) (λ r l' u. behind r (omega arith) u) in
+      let last : Texts ((front ++ of) ++ (more ++ back)) (texts_of past rest) =
+      texts-are rest l (i + 2 + event_count inside) past k (front ++ of) back h.1.1 (omega arith)
+      (λ r l' u. filters r front of ∙ ap (λ zs. zs ++ runs_in r of) (f r (omega arith) (omega arith))
+      ∙ others inside n (i + 1) m' (inner m k name) r (λ e. omega (arith, inner_low, e)) (inr l'))
+      (λ r l' u. b r (omega arith) (omega arith)) in
+      let here : List (ℕ × Forest) = cond (is_text name) ((m, inside) ∷ []) [] in
+      let texts : List (ℕ × Forest) = texts_of m' inside in
+      let later : List (ℕ × Forest) = texts_of past rest in
       let all : List Sequence = front ++ (of ++ (more ++ back)) in
       subst (λ xs. Texts xs (here ++ (texts ++ later))) (sym apart)
       (All-append (IsText all) here (texts ++ later) first
       (All-append (IsText all) texts later middle (subst (λ xs. Texts xs later) (append_assoc front of (more ++ back)) last)))
 
-  pub has-rows : (t : Forest) → HasRuns bytes t → HasRows s t (runs 0 0 None t)
+  pub has-rows : (t : Forest) → HasRuns bytes t → HasRows s t (runs 0 0 0 None t)
   unfolding Lacks
   has-rows t h = record {
-    whole = row-is t 0 0 None 0 h refl (omega arith);
-    texts = subst (λ xs. Texts xs (texts_of 0 t)) (append-nil (runs 0 0 None t)) (texts-are t 0 0 None [] [] h (omega arith) (λ r l u. refl) (λ r l u. refl));
+    whole = row-is t 0 0 0 None 0 h refl (omega arith);
+    texts = subst (λ xs. Texts xs (texts_of 0 t)) (append-nil (runs 0 0 0 None t)) (texts-are t 0 0 0 None [] [] h (omega arith) (λ r l u. refl) (λ r l u. refl));
   }
 
 -- the runs of a tree's events
 pub rows-of-events : (s : Setting) (tildes : Bool) (bytes : List ℕ) → s.bytes ≡ bytes → s.options.constructs.gfm_strikethrough ≡ tildes → (t : Forest) → HasRuns bytes t
     → (es : List Event) → es ≡ appended_from 0 None t → HasRows s t (runs_from tildes bytes 0 0 outermost es)
 rows-of-events s tildes bytes same on t h es e =
-    let runs : List Sequence = tree_runs tildes bytes 0 0 None t in
+    let runs : List Sequence = tree_runs tildes bytes 0 0 0 None t in
     let is : runs_from tildes bytes 0 0 outermost es ≡ runs =
     ap (runs_from tildes bytes 0 0 outermost) (e ∙ sym (append-nil _)) ∙ tree-runs tildes bytes t 0 0 None outermost [] h ∙ append-nil runs in
     subst (HasRows s t) (sym is) (has-rows s tildes bytes same on t h)

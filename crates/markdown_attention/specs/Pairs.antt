@@ -5,10 +5,10 @@ use Rattle.markdown_attention.specs.declared.attention.runs.Sequence.{Sequence}
 use Rattle.markdown_attention.specs.declared.attention.pairing.Pair.{Pair}
 use Rattle.markdown_engine.specs.declared.configuration.ParseOptions.{ParseOptions}
 
--- the row of a container: the first for the whole content, and one for each event for the texts of labels
+-- the row of a container: the first for the whole content, and one for each text of a label
 abbrev pub row_of : Option ℕ → ℕ
 row_of None = 0
-row_of (Some e) = e + 1
+row_of (Some text) = text + 1
 
 abbrev pub no_run : Sequence
 no_run = record { number = 0; event = 0; container = None; marker = 0; size = 0; remaining = 0; may_open = false; may_close = false }

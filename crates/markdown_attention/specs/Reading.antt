@@ -29,6 +29,9 @@ is_enter Kind.Exit = false
 abbrev pub opens_run : Event → Bool
 opens_run e = is_enter e.kind && is_run e.name
 
+abbrev pub opens_text : Event → Bool
+opens_text e = is_enter e.kind && is_text e.name
+
 -- What a run may do, by the characters beside it; the first argument is the switch of strikethrough.
 
 abbrev pub is_beside_marker : Bool → ℕ → Option ℕ → Bool
@@ -63,24 +66,29 @@ sequence_at tildes bytes n i container from to =
       may_close = may_act marker a right left;
     }
 
--- In which container events stand.
+-- In which container events stand. The texts of labels are counted from 0, in the order in which they begin.
 
 abbrev pub Around : Type 0
 Around = Where
 
 abbrev pub outermost : Where
-outermost = record { container = None; outer = [] }
+outermost = record { container = None; outer = []; texts = 0 }
 
 abbrev pub left_to : List (Option ℕ) → Option ℕ
 left_to [] = None
 left_to (k ∷ ks) = k
 
--- after event i
-abbrev pub where_after : ℕ → Event → Where → Where
-where_after i e w =
-    if is_text e.name
-    then (if is_enter e.kind then record { container = Some i; outer = w.container ∷ w.outer } else record { container = left_to w.outer; outer = rest_of w.outer })
-    else w
+-- after the Enter of a text
+abbrev pub into_text : Where → Where
+into_text w = record { container = Some w.texts; outer = w.container ∷ w.outer; texts = w.texts + 1 }
+
+-- after its Exit
+abbrev pub out_of_text : Where → Where
+out_of_text w = record { container = left_to w.outer; outer = rest_of w.outer; texts = w.texts }
+
+-- after an event
+abbrev pub where_after : Event → Where → Where
+where_after e w = if is_text e.name then (if is_enter e.kind then into_text w else out_of_text w) else w
 
 -- the run in this container that the first of these events, which is event i, begins
 abbrev pub first_run : Bool → List ℕ → ℕ → ℕ → Option ℕ → List Event → List Sequence
@@ -93,7 +101,7 @@ abbrev pub runs_from : Bool → List ℕ → ℕ → ℕ → Where → List Even
 runs_from tildes bytes n i w [] = []
 runs_from tildes bytes n i w (e ∷ es) =
     let first = first_run tildes bytes n i w.container (e ∷ es) in
-    first ++ runs_from tildes bytes (n + length first) (suc i) (where_after i e w) es
+    first ++ runs_from tildes bytes (n + length first) (suc i) (where_after e w) es
 
 -- Of which events this is said: behind the Enter of a run stands another event, and the two are between characters of the document, the
 -- first before a marker.

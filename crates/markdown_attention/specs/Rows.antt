@@ -16,25 +16,36 @@ use Rattle.markdown_attention.specs.declared.attention.runs.Sequence.{Sequence}
 abbrev pub leaf_run : Bool → List ℕ → ℕ → ℕ → Option ℕ → Name → Point → Point → List Sequence
 leaf_run tildes bytes n i k name from to = if is_run name then sequence_at tildes bytes n i k from to ∷ [] else []
 
+-- the container of what stands in a group, where m texts come before
 abbrev pub inner : ℕ → Option ℕ → Name → Option ℕ
-inner i k name = if is_text name then Some i else k
+inner m k name = if is_text name then Some m else k
 
--- the runs of a row that stands in this container, where n runs and i events come before
-abbrev pub tree_runs : Bool → List ℕ → ℕ → ℕ → Option ℕ → Forest → List Sequence
-tree_runs tildes bytes n i k empty = []
-tree_runs tildes bytes n i k (leaf_then name link cs rest) =
+-- 1 for the text of a label
+abbrev pub as_text : Name → ℕ
+as_text name = if is_text name then 1 else 0
+
+-- how many texts of labels a row has, at any depth
+abbrev pub text_count : Forest → ℕ
+text_count empty = 0
+text_count (leaf_then name link cs rest) = text_count rest
+text_count (group_then name enter exit inside rest) = as_text name + text_count inside + text_count rest
+
+-- the runs of a row that stands in this container, where n runs, i events and m texts come before
+abbrev pub tree_runs : Bool → List ℕ → ℕ → ℕ → ℕ → Option ℕ → Forest → List Sequence
+tree_runs tildes bytes n i m k empty = []
+tree_runs tildes bytes n i m k (leaf_then name link cs rest) =
     let here = leaf_run tildes bytes n i k name (start_of cs) (stop_of document_start cs) in
-    here ++ tree_runs tildes bytes (n + length here) (i + 2) k rest
-tree_runs tildes bytes n i k (group_then name enter exit inside rest) =
-    let front = tree_runs tildes bytes n (i + 1) (inner i k name) inside in
-    front ++ tree_runs tildes bytes (n + length front) (i + 2 + event_count inside) k rest
+    here ++ tree_runs tildes bytes (n + length here) (i + 2) m k rest
+tree_runs tildes bytes n i m k (group_then name enter exit inside rest) =
+    let front = tree_runs tildes bytes n (i + 1) (m + as_text name) (inner m k name) inside in
+    front ++ tree_runs tildes bytes (n + length front) (i + 2 + event_count inside) (m + as_text name + text_count inside) k rest
 
--- the text of each label, with the number of its Enter, where i events come before
+-- the text of each label with its number, where m texts come before
 abbrev pub texts_of : ℕ → Forest → List (ℕ × Forest)
-texts_of i empty = []
-texts_of i (leaf_then name link cs rest) = texts_of (i + 2) rest
-texts_of i (group_then name enter exit inside rest) =
-    (if is_text name then (i, inside) ∷ [] else []) ++ (texts_of (i + 1) inside ++ texts_of (i + 2 + event_count inside) rest)
+texts_of m empty = []
+texts_of m (leaf_then name link cs rest) = texts_of m rest
+texts_of m (group_then name enter exit inside rest) =
+    (if is_text name then (m, inside) ∷ [] else []) ++ (texts_of (m + as_text name) inside ++ texts_of (m + as_text name + text_count inside) rest)
 
 -- the codes of a run: as many bytes of the document, the first of which is its marker
 abbrev pub IsRun : List ℕ → List Code → Type 0

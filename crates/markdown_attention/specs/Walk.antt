@@ -1,18 +1,23 @@
 -- What the runs show of themselves during the scan.
-use Rattle.std.specs.Prelude.{◌≡◌, ℕ, ◌<◌, ◌^◌, List, length}
+use Rattle.std.specs.Prelude.{◌≡◌, ℕ, ◌<◌, ◌≤◌, ◌^◌, List, length}
 use Rattle.markdown_attention.specs.declared.attention.pairing.Pair.{Pair}
 use Rattle.markdown_attention.specs.declared.attention.runs.Sequence.{Sequence}
 use Rattle.markdown_attention.specs.Pairs.{row_of, run_at, left, pairs_in}
 
--- the runs as they stand, the number of the one in turn, and how many looks were taken
+-- the runs as they stand, how many texts of labels there are, the number of the run in turn, and how many looks were taken
 pub record Walk : Type 0 where
   pub list : List Sequence
+  pub texts : ℕ
   pub turn : ℕ
   pub probes : ℕ
 
 -- each run has its place as its number
 abbrev pub Numbered : List Sequence → Type 0
 Numbered list = (i : ℕ) → i < length list → (run_at list i).number ≡ i
+
+-- the container of each run is the whole content or one of so many texts
+abbrev pub StandIn : ℕ → List Sequence → Type 0
+StandIn texts list = (i : ℕ) → i < length list → row_of (run_at list i).container ≤ texts
 
 -- no pair has taken of a run
 abbrev pub Whole : List Sequence → Type 0

@@ -40,9 +40,9 @@ codes-tree s cs =
 
 -- the runs of a tree's events
 pub events-runs : (tildes : Bool) (bytes : List ℕ) (t : Forest) (es : List Event) → HasRuns bytes t → es ≡ appended_from 0 None t
-    → runs_from tildes bytes 0 0 outermost es ≡ tree_runs tildes bytes 0 0 None t
+    → runs_from tildes bytes 0 0 outermost es ≡ tree_runs tildes bytes 0 0 0 None t
 events-runs tildes bytes t es h e =
-    let runs : List Sequence = tree_runs tildes bytes 0 0 None t in
+    let runs : List Sequence = tree_runs tildes bytes 0 0 0 None t in
     ap (runs_from tildes bytes 0 0 outermost) (e ∙ sym (append-nil (appended_from 0 None t))) ∙ tree-runs tildes bytes t 0 0 None outermost [] h ∙ append-nil runs
 
 -- The runs of a content are few.
@@ -50,7 +50,7 @@ events-runs tildes bytes t es h e =
 pub tree-small : (tildes : Bool) (bytes : List ℕ) (t : Forest) (es : List Event) → HasRuns bytes t → es ≡ appended_from 0 None t → length (leaf_codes t) < 2 ^ 63
     → IsSmall (runs_from tildes bytes 0 0 outermost es)
 tree-small tildes bytes t es h e l =
-    let few = tree-few tildes bytes t 0 0 None h in
+    let few = tree-few tildes bytes t 0 0 0 None h in
     subst IsSmall (sym (events-runs tildes bytes t es h e)) (record { markers = omega (arith, few.0, l); count = omega (arith, few.1, l) })
 
 pub content-small : (s : Setting) (tildes : Bool) (bytes : List ℕ) (pieces : List Piece) (es : List Event) → IsContent bytes pieces → es ≡ appended_from 0 None (label_tree s (content_of bytes pieces))
@@ -72,7 +72,7 @@ module _ (s : Setting) (tildes : Bool) (bytes : List ℕ) (same : s.bytes ≡ by
 
   pub tree-probed : (after : List Event) (probes : ℕ) → IsGrouped options list es after probes → IsProbed s t probes
   tree-probed after probes g =
-      let is : list ≡ tree_runs tildes bytes 0 0 None t = events-runs tildes bytes t es h e in
+      let is : list ≡ tree_runs tildes bytes 0 0 0 None t = events-runs tildes bytes t es h e in
       let n : pair_count s t ≡ length g.pairs =
       pair-count s tildes bytes same on t h options given g.pairs (subst (λ (x : List Sequence). ArePairLists options x g.pairs) is g.lists) (subst (λ (x : List Sequence). AreWithin x g.pairs) is g.within) in
       let runs : run_count s t ≡ length list = run-count s tildes bytes same on t h ∙ ap length (sym is) in

@@ -15,7 +15,7 @@ use Rattle.markdown_model.specs.Setting.{Setting}
 use Rattle.markdown_attention.specs.Containers.{whole_shape}
 use Rattle.markdown_attention.specs.Pairs.{markers_left}
 use Rattle.markdown_attention.specs.Reading.{is_run, sequence_at}
-use Rattle.markdown_attention.specs.Rows.{leaf_run, inner, tree_runs, IsRun, HasRuns}
+use Rattle.markdown_attention.specs.Rows.{leaf_run, inner, as_text, text_count, tree_runs, IsRun, HasRuns}
 use Rattle.markdown_attention.specs.declared.attention.runs.Sequence.{Sequence}
 use Rattle.markdown_attention.proofs.RowLemmas.{leaf-shape}
 use Rattle.markdown_emphasis.proofs.RowWord.{runs-empty, runs-run, runs-leaf, runs-group, run-name}
@@ -64,8 +64,8 @@ rows-group s name a b inside rest = refl
 -- Codes and markers.
 
 module _ (tildes : Bool) (bytes : List ℕ) where
-  abbrev at : ℕ → ℕ → Option ℕ → Forest → List Sequence
-  at n i k t = tree_runs tildes bytes n i k t
+  abbrev at : ℕ → ℕ → ℕ → Option ℕ → Forest → List Sequence
+  at n i m k t = tree_runs tildes bytes n i m k t
 
   -- a run has as many markers as codes, and some
   leaf-few : (n i : ℕ) (k : Option ℕ) (cs : List Code) → IsRun bytes cs
@@ -73,12 +73,12 @@ module _ (tildes : Bool) (bytes : List ℕ) where
   leaf-few n i k [] h = absurd h
   leaf-few n i k (c ∷ cs) h = (omega (arith, h.1), omega arith)
 
-  pub tree-few : (t : Forest) (n i : ℕ) (k : Option ℕ) → HasRuns bytes t → (markers_left (at n i k t) ≤ length (leaf_codes t)) × (length (at n i k t) ≤ length (leaf_codes t))
-  tree-few empty n i k h = (omega arith, omega arith)
-  tree-few (leaf_then name link cs rest) n i k h =
+  pub tree-few : (t : Forest) (n i m : ℕ) (k : Option ℕ) → HasRuns bytes t → (markers_left (at n i m k t) ≤ length (leaf_codes t)) × (length (at n i m k t) ≤ length (leaf_codes t))
+  tree-few empty n i m k h = (omega arith, omega arith)
+  tree-few (leaf_then name link cs rest) n i m k h =
       let here : List Sequence = leaf_run tildes bytes n i k name (start_of cs) (stop_of document_start cs) in
-      let more : List Sequence = at (n + length here) (i + 2) k rest in
-      let r = tree-few rest (n + length here) (i + 2) k h.1 in
+      let more : List Sequence = at (n + length here) (i + 2) m k rest in
+      let r = tree-few rest (n + length here) (i + 2) m k h.1 in
       let codes : length (cs ++ leaf_codes rest) ≡ length cs + length (leaf_codes rest) = length-append cs (leaf_codes rest) in
       let sum : markers_left (here ++ more) ≡ markers_left here + markers_left more = sum_by-append (λ (q : Sequence). q.remaining) here more in
       let size : length (here ++ more) ≡ length here + length more = length-append here more in
@@ -97,11 +97,11 @@ module _ (tildes : Bool) (bytes : List ℕ) where
             (omega (arith, a), omega (arith, b))
       ] in
       (omega (arith, codes, sum, one.0, r.0), omega (arith, codes, size, one.1, r.1))
-  tree-few (group_then name a b inside rest) n i k h =
-      let front : List Sequence = at n (i + 1) (inner i k name) inside in
-      let back : List Sequence = at (n + length front) (i + 2 + event_count inside) k rest in
-      let x = tree-few inside n (i + 1) (inner i k name) h.1.0 in
-      let y = tree-few rest (n + length front) (i + 2 + event_count inside) k h.1.1 in
+  tree-few (group_then name a b inside rest) n i m k h =
+      let front : List Sequence = at n (i + 1) (m + as_text name) (inner m k name) inside in
+      let back : List Sequence = at (n + length front) (i + 2 + event_count inside) (m + as_text name + text_count inside) k rest in
+      let x = tree-few inside n (i + 1) (m + as_text name) (inner m k name) h.1.0 in
+      let y = tree-few rest (n + length front) (i + 2 + event_count inside) (m + as_text name + text_count inside) k h.1.1 in
       let codes : length (leaf_codes inside ++ leaf_codes rest) ≡ length (leaf_codes inside) + length (leaf_codes rest) = length-append (leaf_codes inside) (leaf_codes rest) in
       let sum : markers_left (front ++ back) ≡ markers_left front + markers_left back = sum_by-append (λ (q : Sequence). q.remaining) front back in
       let size : length (front ++ back) ≡ length front + length back = length-append front back in
@@ -114,15 +114,15 @@ module _ (s : Setting) (tildes : Bool) (bytes : List ℕ) (same : s.bytes ≡ by
   abbrev in_rows : Forest → ℕ
   in_rows t = F (runs_of s t) + sum_by F (rows_inside s t)
 
-  rows-counted : (t : Forest) (n i : ℕ) (k : Option ℕ) → HasRuns bytes t → in_rows t ≡ G (tree_runs tildes bytes n i k t)
-  rows-counted empty n i k h =
+  rows-counted : (t : Forest) (n i m : ℕ) (k : Option ℕ) → HasRuns bytes t → in_rows t ≡ G (tree_runs tildes bytes n i m k t)
+  rows-counted empty n i m k h =
       let a : F (runs_of s empty) ≡ 0 = ap F (runs-empty s) ∙ f.none in
       let b : sum_by F (rows_inside s empty) ≡ 0 = ap (λ x. sum_by F x) (rows-empty s) in
       omega (arith, a, b, g.none)
-  rows-counted (leaf_then name link cs rest) n i k h =
+  rows-counted (leaf_then name link cs rest) n i m k h =
       let here : List Sequence = leaf_run tildes bytes n i k name (start_of cs) (stop_of document_start cs) in
-      let more : List Sequence = tree_runs tildes bytes (n + length here) (i + 2) k rest in
-      let r : in_rows rest ≡ G more = rows-counted rest (n + length here) (i + 2) k h.1 in
+      let more : List Sequence = tree_runs tildes bytes (n + length here) (i + 2) m k rest in
+      let r : in_rows rest ≡ G more = rows-counted rest (n + length here) (i + 2) m k h.1 in
       let b : sum_by F (rows_inside s (leaf_then name link cs rest)) ≡ sum_by F (rows_inside s rest) = ap (λ x. sum_by F x) (rows-leaf s name link cs rest) in
       let sum : G (here ++ more) ≡ G here + G more = g.append here more in
       let first : F (runs_of s (leaf_then name link cs rest)) ≡ G here + F (runs_of s rest) = elim (true-or (is_run name)) [
@@ -139,11 +139,11 @@ module _ (s : Setting) (tildes : Bool) (bytes : List ℕ) (same : s.bytes ≡ by
             omega (arith, a, c)
       ] in
       omega (arith, r, b, sum, first)
-  rows-counted (group_then name a b inside rest) n i k h =
-      let front : List Sequence = tree_runs tildes bytes n (i + 1) (inner i k name) inside in
-      let back : List Sequence = tree_runs tildes bytes (n + length front) (i + 2 + event_count inside) k rest in
-      let x : in_rows inside ≡ G front = rows-counted inside n (i + 1) (inner i k name) h.1.0 in
-      let y : in_rows rest ≡ G back = rows-counted rest (n + length front) (i + 2 + event_count inside) k h.1.1 in
+  rows-counted (group_then name a b inside rest) n i m k h =
+      let front : List Sequence = tree_runs tildes bytes n (i + 1) (m + as_text name) (inner m k name) inside in
+      let back : List Sequence = tree_runs tildes bytes (n + length front) (i + 2 + event_count inside) (m + as_text name + text_count inside) k rest in
+      let x : in_rows inside ≡ G front = rows-counted inside n (i + 1) (m + as_text name) (inner m k name) h.1.0 in
+      let y : in_rows rest ≡ G back = rows-counted rest (n + length front) (i + 2 + event_count inside) (m + as_text name + text_count inside) k h.1.1 in
       let first : F (runs_of s (group_then name a b inside rest)) ≡ F (runs_of s rest) = ap F (runs-group s name a b inside rest) in
       let rows : sum_by F (rows_inside s (group_then name a b inside rest)) ≡ sum_by F (runs_of s inside ∷ rows_inside s inside) + sum_by F (rows_inside s rest) =
       ap (λ z. sum_by F z) (rows-group s name a b inside rest) ∙ sum_by-append F (runs_of s inside ∷ rows_inside s inside) (rows_inside s rest) in
@@ -151,9 +151,9 @@ module _ (s : Setting) (tildes : Bool) (bytes : List ℕ) (same : s.bytes ≡ by
       let sum : G (front ++ back) ≡ G front + G back = g.append front back in
       omega (arith, x, y, first, rows, own, sum)
 
-  pub containers-counted : (t : Forest) → HasRuns bytes t → sum_by F (containers_of s t) ≡ G (tree_runs tildes bytes 0 0 None t)
+  pub containers-counted : (t : Forest) → HasRuns bytes t → sum_by F (containers_of s t) ≡ G (tree_runs tildes bytes 0 0 0 None t)
   unfolding containers_of
-  containers-counted t h = sum_by-cons F (runs_of s t) (rows_inside s t) ∙ rows-counted t 0 0 None h
+  containers-counted t h = sum_by-cons F (runs_of s t) (rows_inside s t) ∙ rows-counted t 0 0 0 None h
 
 count-one : {A B : Type 0} (p : A → Bool) (q : B → Bool) (x : A) (y : B) → p x ≡ q y → count_by p (x ∷ []) ≡ count_by q (y ∷ [])
 count-one {A} {B} p q x y e = sym (length-filter p (x ∷ [])) ∙ by_tests (p x) (q y) e ∙ length-filter q (y ∷ [])
@@ -166,7 +166,7 @@ count-one {A} {B} p q x y e = sym (length-filter p (x ∷ [])) ∙ by_tests (p x
 
 module _ (s : Setting) (tildes : Bool) (bytes : List ℕ) (same : s.bytes ≡ bytes) (on : s.options.constructs.gfm_strikethrough ≡ tildes) (t : Forest) (h : HasRuns bytes t) where
   abbrev all_runs : List Sequence
-  all_runs = tree_runs tildes bytes 0 0 None t
+  all_runs = tree_runs tildes bytes 0 0 0 None t
 
   pub run-count : run_count s t ≡ length all_runs
   run-count = containers-counted s tildes bytes same on (λ xs. length xs) (λ xs. length xs) length-adds length-adds (λ r q e. refl) t h

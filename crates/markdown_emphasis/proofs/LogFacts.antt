@@ -111,13 +111,13 @@ module _ (comes : Sequence → List Event) where
     true-or false = inr refl
 
     abbrev rest_from : ℕ → ℕ → Around → Event → List Event → List Sequence
-    rest_from n i w e es = from (n + length (first_run tildes bytes n i w.container (e ∷ es))) (suc i) (where_after i e w) es
+    rest_from n i w e es = from (n + length (first_run tildes bytes n i w.container (e ∷ es))) (suc i) (where_after e w) es
 
     pub are-from : (es : List Event) (n i : ℕ) (w : Around) → HaveRunPlaces bytes es → AreFrom i (from n i w es)
     are-from [] n i w h = tt
     are-from (e ∷ es) n i w h =
         let rest : List Sequence = rest_from n i w e es in
-        let later : AreFrom (suc i) rest = are-from es (n + length (first_run tildes bytes n i w.container (e ∷ es))) (suc i) (where_after i e w) h.1 in
+        let later : AreFrom (suc i) rest = are-from es (n + length (first_run tildes bytes n i w.container (e ∷ es))) (suc i) (where_after e w) h.1 in
         elim (true-or (opens_run e)) [
           | inl o ↦
               let b = begun n i w.container e es h o in
@@ -132,7 +132,7 @@ module _ (comes : Sequence → List Event) where
     removed-place [] n i w k (suc j) e h = refl
     removed-place (x ∷ es) n i w k zero e h =
         let rest : List Sequence = rest_from n i w x es in
-        let later : AreFrom (suc i) rest = are-from es (n + length (first_run tildes bytes n i w.container (x ∷ es))) (suc i) (where_after i x w) h.1 in
+        let later : AreFrom (suc i) rest = are-from es (n + length (first_run tildes bytes n i w.container (x ∷ es))) (suc i) (where_after x w) h.1 in
         let none : removed_at k (edits rest) ≡ 0 = removed-below (suc i) k rest later (omega (arith, e)) in
         elim (true-or (opens_run x)) [
           | inl o ↦
@@ -146,7 +146,7 @@ module _ (comes : Sequence → List Event) where
     removed-place (x ∷ es) n i w k (suc j) e h =
         let rest : List Sequence = rest_from n i w x es in
         let ih : removed_at k (edits rest) ≡ (if begins_run (drop j es) then 2 else 0) =
-        removed-place es (n + length (first_run tildes bytes n i w.container (x ∷ es))) (suc i) (where_after i x w) k j (omega (arith, e)) h.1 in
+        removed-place es (n + length (first_run tildes bytes n i w.container (x ∷ es))) (suc i) (where_after x w) k j (omega (arith, e)) h.1 in
         elim (true-or (opens_run x)) [
           | inl o ↦
               let b = begun n i w.container x es h o in
@@ -161,12 +161,12 @@ module _ (comes : Sequence → List Event) where
     back-place [] n i w k j e h f = refl
     back-place (x ∷ es) n i w k zero e h f =
         let rest : List Sequence = rest_from n i w x es in
-        let later : AreFrom (suc i) rest = are-from es (n + length (first_run tildes bytes n i w.container (x ∷ es))) (suc i) (where_after i x w) h.1 in
+        let later : AreFrom (suc i) rest = are-from es (n + length (first_run tildes bytes n i w.container (x ∷ es))) (suc i) (where_after x w) h.1 in
         ap (λ xs. back_at k (edits (xs ++ rest))) (none-begun n i w.container x es f) ∙ back-below (suc i) k rest later (omega (arith, e))
     back-place (x ∷ es) n i w k (suc j) e h f =
         let rest : List Sequence = rest_from n i w x es in
         let ih : back_at k (edits rest) ≡ [] =
-        back-place es (n + length (first_run tildes bytes n i w.container (x ∷ es))) (suc i) (where_after i x w) k j (omega (arith, e)) h.1 f in
+        back-place es (n + length (first_run tildes bytes n i w.container (x ∷ es))) (suc i) (where_after x w) k j (omega (arith, e)) h.1 f in
         elim (true-or (opens_run x)) [
           | inl o ↦
               let b = begun n i w.container x es h o in
@@ -195,7 +195,7 @@ module _ (comes : Sequence → List Event) where
     numbered [] n i w g h l = absurd (omega (arith, l))
     numbered (e ∷ es) n i w g h l =
         let rest : List Sequence = rest_from n i w e es in
-        let ih = numbered es (n + length (first_run tildes bytes n i w.container (e ∷ es))) (suc i) (where_after i e w) in
+        let ih = numbered es (n + length (first_run tildes bytes n i w.container (e ∷ es))) (suc i) (where_after e w) in
         elim (true-or (opens_run e)) [
           | inl o ↦
               let b = begun n i w.container e es h o in

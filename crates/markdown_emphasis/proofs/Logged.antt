@@ -1,5 +1,5 @@
 -- What comes for each run of a tree are the events of its tokens.
-use Rattle.std.proofs.Common.{◌≡◌, ℕ, suc, ◌+◌, ◌-◌, ◌<◌, ◌≤◌, ◌||◌, Bool, true, false, cond, if◌then◌else◌, List, [], ◌∷◌, ◌++◌, length, map, reverse, Option, Some, None, refl, sym, ap, subst, ◌∙◌, arith, append_assoc, append-nil, length-append, inl, inr, ◌⊎◌, sum_by}
+use Rattle.std.proofs.Common.{◌≡◌, ℕ, suc, ◌+◌, ◌-◌, ◌<◌, ◌≤◌, ◌||◌, Bool, true, false, cond, if◌then◌else◌, List, [], ◌∷◌, ◌++◌, length, map, reverse, Option, None, refl, sym, ap, subst, ◌∙◌, arith, append_assoc, append-nil, length-append, inl, inr, ◌⊎◌, sum_by}
 use Rattle.std.proofs.lemmas.Bool.{eq-eqb}
 use Rattle.markdown_engine.specs.Codes.{Code, stop_of, document_start}
 use Rattle.markdown_engine.specs.Tree.{Forest, empty, leaf_then, group_then, event_count, start_of}
@@ -14,8 +14,8 @@ use Rattle.markdown_model.proofs.PairFacts.{pairs_are_sound}
 use Rattle.markdown_model.proofs.PairLaws.{some_pair_list, same_pair_list}
 use Rattle.markdown_attention.specs.Containers.{whole_shape, is_in, runs_in, place_in, pairs_of, AreWithin}
 use Rattle.markdown_attention.specs.Pairs.{row_of, run_at, left, pairs_in}
-use Rattle.markdown_attention.specs.Reading.{is_run, is_text, sequence_at}
-use Rattle.markdown_attention.specs.Rows.{IsRun, HasRuns, has_run, inner, leaf_run, tree_runs}
+use Rattle.markdown_attention.specs.Reading.{is_run, sequence_at}
+use Rattle.markdown_attention.specs.Rows.{IsRun, HasRuns, has_run, inner, as_text, text_count, leaf_run, tree_runs}
 use Rattle.markdown_attention.specs.declared.attention.pairing.Pair.{Pair}
 use Rattle.markdown_attention.specs.declared.attention.runs.Sequence.{Sequence}
 use Rattle.markdown_attention.proofs.Places.{Placed, place, same-shape}
@@ -139,8 +139,8 @@ module _ (s : Setting) (tildes : Bool) (bytes : List ℕ) (same : s.bytes ≡ by
     Lacks : ℕ → ℕ → List Sequence → Type 0
     Lacks low high xs = (r : ℕ) → low < r → r ≤ high → runs_in r xs ≡ []
 
-    abbrev runs : ℕ → ℕ → Option ℕ → Forest → List Sequence
-    runs m n k t = tree_runs tildes bytes m n k t
+    abbrev runs : ℕ → ℕ → ℕ → Option ℕ → Forest → List Sequence
+    runs g n m k t = tree_runs tildes bytes g n m k t
 
     abbrev Logged : ℕ → List Model.Pair → ℕ → Forest → Type 0
     Logged n ps i t = IsLogged s (Model.pair_list s) comes n ps i t
@@ -149,103 +149,104 @@ module _ (s : Setting) (tildes : Bool) (bytes : List ℕ) (same : s.bytes ≡ by
     split r xs ys = filters s tildes bytes same on r xs ys
 
     -- a run in front counts in its own container, other leaves do not
-    logged : (t : Forest) (n : ℕ) (k : Option ℕ) (R : List Run) (front back : List Sequence) → Shapes k R → HasRuns bytes t → HasStripes t → HavePoints at n t → row_of k ≤ n
-        → list ≡ front ++ (runs (length front) n k t ++ back) → Lacks n (n + event_count t) front → Lacks n (n + event_count t) back
+    logged : (t : Forest) (n m : ℕ) (k : Option ℕ) (R : List Run) (front back : List Sequence) → Shapes k R → HasRuns bytes t → HasStripes t → HavePoints at n t → row_of k ≤ m
+        → list ≡ front ++ (runs (length front) n m k t ++ back) → Lacks m (m + text_count t) front → Lacks m (m + text_count t) back
         → Logged n (own k) (length (runs_in (row_of k) front)) t
     unfolding Lacks
-    logged empty n k R front back shapes h st pt low whole f b = tt
-    logged (leaf_then name link cs rest) n k R front back shapes h st pt low whole f b = elim (true-or (is_run name)) [
+    logged empty n m k R front back shapes h st pt low whole f b = tt
+    logged (leaf_then name link cs rest) n m k R front back shapes h st pt low whole f b = elim (true-or (is_run name)) [
       | inr e ↦
           let here : leaf_run tildes bytes (length front) n k name (start_of cs) (stop_of document_start cs) ≡ [] = ap (λ (y : Bool). if y then sequence_at tildes bytes (length front) n k (start_of cs) (stop_of document_start cs) ∷ [] else []) e in
           let none : length front + 0 ≡ length front = omega arith in
-          let whole' : list ≡ front ++ (runs (length front) (n + 2) k rest ++ back) =
-          whole ∙ ap (λ xs. front ++ ((xs ++ runs (length front + length xs) (n + 2) k rest) ++ back)) here ∙ ap (λ m. front ++ (runs m (n + 2) k rest ++ back)) none in (
+          let whole' : list ≡ front ++ (runs (length front) (n + 2) m k rest ++ back) =
+          whole ∙ ap (λ xs. front ++ ((xs ++ runs (length front + length xs) (n + 2) m k rest) ++ back)) here ∙ ap (λ g. front ++ (runs g (n + 2) m k rest ++ back)) none in (
             (λ y. absurd (both (is_run name) y e)),
-            ((λ y. absurd (both (is_run name) y e)), λ y. logged rest (n + 2) k R front back shapes h.1 st.1 pt.1 (omega (arith, low)) whole' (λ j l u. f j (omega (arith, l)) (omega (arith, u))) (λ j l u. b j (omega (arith, l)) (omega (arith, u)))),
+            ((λ y. absurd (both (is_run name) y e)), λ y. logged rest (n + 2) m k R front back shapes h.1 st.1 pt.1 low whole' f b),
           )
       | inl e ↦
           let r : Sequence = sequence_at tildes bytes (length front) n k (start_of cs) (stop_of document_start cs) in
           let here : leaf_run tildes bytes (length front) n k name (start_of cs) (stop_of document_start cs) ≡ r ∷ [] = ap (λ (y : Bool). if y then r ∷ [] else []) e in
           let one : length (front ++ r ∷ []) ≡ length front + 1 = length-append front (r ∷ []) in
-          let more : List Sequence = runs (length front + 1) (n + 2) k rest in
-          let whole1 : list ≡ front ++ r ∷ (more ++ back) = whole ∙ ap (λ xs. front ++ ((xs ++ runs (length front + length xs) (n + 2) k rest) ++ back)) here in
-          let whole2 : list ≡ (front ++ r ∷ []) ++ (runs (length (front ++ r ∷ [])) (n + 2) k rest ++ back) =
-          whole1 ∙ sym (append_assoc front (r ∷ []) (more ++ back)) ∙ ap (λ m. (front ++ r ∷ []) ++ (runs m (n + 2) k rest ++ back)) (sym one) in
+          let more : List Sequence = runs (length front + 1) (n + 2) m k rest in
+          let whole1 : list ≡ front ++ r ∷ (more ++ back) = whole ∙ ap (λ xs. front ++ ((xs ++ runs (length front + length xs) (n + 2) m k rest) ++ back)) here in
+          let whole2 : list ≡ (front ++ r ∷ []) ++ (runs (length (front ++ r ∷ [])) (n + 2) m k rest ++ back) =
+          whole1 ∙ sym (append_assoc front (r ∷ []) (more ++ back)) ∙ ap (λ g. (front ++ r ∷ []) ++ (runs g (n + 2) m k rest ++ back)) (sym one) in
           let q : ℕ = row_of k in
           let mine : runs_in q (r ∷ []) ≡ r ∷ [] = ap (λ (y : Bool). cond y (r ∷ []) []) (eq-eqb q q refl) in
           let count : length (runs_in q (front ++ r ∷ [])) ≡ suc (length (runs_in q front)) =
           ap length (split q front (r ∷ []) ∙ ap (λ xs. runs_in q front ++ xs) mine) ∙ (let y = length-append (runs_in q front) (r ∷ []) in omega (arith, y)) in
-          let front' : Lacks (n + 2) (n + 2 + event_count rest) (front ++ r ∷ []) =
-          λ j l u. split j front (r ∷ []) ∙ ap (λ xs. xs ++ runs_in j (r ∷ [])) (f j (omega (arith, l)) (omega (arith, u)))
+          let front' : Lacks m (m + text_count rest) (front ++ r ∷ []) =
+          λ j l u. split j front (r ∷ []) ∙ ap (λ xs. xs ++ runs_in j (r ∷ [])) (f j l u)
           ∙ ap (λ xs. runs_in j xs) (sym here) ∙ leaf-out s tildes bytes same on (length front) n k j name (start_of cs) (stop_of document_start cs) (λ y. omega (arith, y, l, low)) in (
             (λ y. leaf-logged front (more ++ back) r k n cs R shapes whole1 refl (h.0.1 e) (st.0 e).1.1 (pt.0 e)),
             (
-              (λ y. subst (λ (j : ℕ). Logged (n + 2) (own k) j rest) count (logged rest (n + 2) k R (front ++ r ∷ []) back shapes h.1 st.1 pt.1 (omega (arith, low)) whole2 front' (λ j l u. b j (omega (arith, l)) (omega (arith, u))))),
+              (λ y. subst (λ (j : ℕ). Logged (n + 2) (own k) j rest) count (logged rest (n + 2) m k R (front ++ r ∷ []) back shapes h.1 st.1 pt.1 low whole2 front' b)),
               λ y. absurd (both (is_run name) e y),
             ),
           )
     ]
-    logged (group_then name a c inside rest) n k R front back shapes h st pt low whole f b =
-        let of : List Sequence = runs (length front) (n + 1) (inner n k name) inside in
-        let m : ℕ = length front + length of in
+    logged (group_then name a c inside rest) n m k R front back shapes h st pt low whole f b =
+        let m' : ℕ = m + as_text name in
+        let past : ℕ = m' + text_count inside in
+        let of : List Sequence = runs (length front) (n + 1) m' (inner m k name) inside in
+        let g : ℕ = length front + length of in
         let j : ℕ = n + 2 + event_count inside in
-        let more : List Sequence = runs m j k rest in
+        let more : List Sequence = runs g j past k rest in
         let q : ℕ = row_of k in
         let whole1 : list ≡ front ++ (of ++ (more ++ back)) = whole ∙ ap (λ xs. front ++ xs) (append_assoc of more back) in
-        let size : length (front ++ of) ≡ m = length-append front of in
-        let whole2 : list ≡ (front ++ of) ++ (runs (length (front ++ of)) j k rest ++ back) =
-        whole1 ∙ sym (append_assoc front of (more ++ back)) ∙ ap (λ x. (front ++ of) ++ (runs x j k rest ++ back)) (sym size) in
-        let behind : (r : ℕ) → n < r → r ≤ n + 1 + event_count inside → runs_in r (more ++ back) ≡ [] =
-        λ r l u. split r more back ∙ ap (λ zs. zs ++ runs_in r back) (others s tildes bytes same on rest m j k r (λ e. omega (arith, e, l, low)) (inl (omega (arith, u)))) ∙ b r (omega (arith, l)) (omega (arith, u)) in
-        let inner_low : row_of (inner n k name) ≤ n + 1 = elim (inner-row s tildes bytes same on n k name) [ inl x ↦ (let y = x.1 in omega (arith, y)) | inr x ↦ (let y = ap row_of x.1 in omega (arith, y, low)) ] in
-        let front_in : Lacks (n + 1) (n + 1 + event_count inside) front = λ r l u. f r (omega (arith, l)) (omega (arith, u)) in
-        let back_in : Lacks (n + 1) (n + 1 + event_count inside) (more ++ back) = λ r l u. behind r (omega (arith, l)) (omega (arith, u)) in
-        let none : runs_in q of ≡ [] = elim (inner-row s tildes bytes same on n k name) [
-          | inl x ↦ others s tildes bytes same on inside (length front) (n + 1) (inner n k name) q (λ y. let z = x.1 in omega (arith, y, z, low)) (inl (omega (arith, low)))
+        let size : length (front ++ of) ≡ g = length-append front of in
+        let whole2 : list ≡ (front ++ of) ++ (runs (length (front ++ of)) j past k rest ++ back) =
+        whole1 ∙ sym (append_assoc front of (more ++ back)) ∙ ap (λ x. (front ++ of) ++ (runs x j past k rest ++ back)) (sym size) in
+        let behind : (r : ℕ) → m < r → r ≤ past → runs_in r (more ++ back) ≡ [] =
+        λ r l u. split r more back ∙ ap (λ zs. zs ++ runs_in r back) (others s tildes bytes same on rest g j past k r (λ e. omega (arith, e, l, low)) (inl u)) ∙ b r l (omega (arith, u)) in
+        let inner_low : row_of (inner m k name) ≤ m' = elim (inner-row s tildes bytes same on m k name) [ inl x ↦ omega (arith, x.1.0, x.1.1) | inr x ↦ (let y = ap row_of x.1 in omega (arith, y, low)) ] in
+        let front_in : Lacks m' past front = λ r l u. f r (omega (arith, l)) (omega (arith, u)) in
+        let back_in : Lacks m' past (more ++ back) = λ r l u. behind r (omega (arith, l)) u in
+        let none : runs_in q of ≡ [] = elim (inner-row s tildes bytes same on m k name) [
+          | inl x ↦ others s tildes bytes same on inside (length front) (n + 1) m' (inner m k name) q (λ y. omega (arith, y, x.1.0, low)) (inl (omega (arith, low)))
           | inr x ↦
-              no-shapes (runs_in q of) (sym (row-is s tildes bytes same on inside (length front) (n + 1) (inner n k name) q h.1.0 (ap row_of x.1) (omega (arith, low)))
+              no-shapes (runs_in q of) (sym (row-is s tildes bytes same on inside (length front) (n + 1) m' (inner m k name) q h.1.0 (ap row_of x.1) (omega (arith, low)))
               ∙ ap (map shape_of) (none-in s tildes bytes same on inside (h.0.1 x.0)))
         ] in
         let count : length (runs_in q (front ++ of)) ≡ length (runs_in q front) = ap length (split q front of ∙ ap (λ xs. runs_in q front ++ xs) none ∙ append-nil (runs_in q front)) in
-        let front_after : Lacks j (j + event_count rest) (front ++ of) =
+        let front_after : Lacks past (past + text_count rest) (front ++ of) =
         λ r l u. split r front of ∙ ap (λ zs. zs ++ runs_in r of) (f r (omega (arith, l)) (omega (arith, u)))
-        ∙ others s tildes bytes same on inside (length front) (n + 1) (inner n k name) r (λ e. omega (arith, inner_low, e, l)) (inr (omega (arith, l))) in
-        let back_after : Lacks j (j + event_count rest) back = λ r l u. b r (omega (arith, l)) (omega (arith, u)) in
-        let first : Logged (n + 1) (Model.pair_list s (runs_of s inside)) 0 inside = elim (inner-row s tildes bytes same on n k name) [
+        ∙ others s tildes bytes same on inside (length front) (n + 1) m' (inner m k name) r (λ e. omega (arith, inner_low, e, l)) (inr l) in
+        let back_after : Lacks past (past + text_count rest) back = λ r l u. b r (omega (arith, l)) (omega (arith, u)) in
+        let first : Logged (n + 1) (Model.pair_list s (runs_of s inside)) 0 inside = elim (inner-row s tildes bytes same on m k name) [
           | inl x ↦
-              let text : is_text name ≡ true = x.0 in
-              let is : inner n k name ≡ Some n = ap (λ (y : Bool). if y then Some n else k) text in
-              let key : row_of (inner n k name) ≡ n + 1 = x.1 in
-              let none_front : runs_in (n + 1) front ≡ [] = f (n + 1) (omega arith) (omega arith) in
-              let middle : runs_in (n + 1) list ≡ runs_in (n + 1) of =
-              ap (runs_in (n + 1)) whole1
-              ∙ split (n + 1) front (of ++ (more ++ back)) ∙ ap (λ xs. xs ++ runs_in (n + 1) (of ++ (more ++ back))) none_front
-              ∙ split (n + 1) of (more ++ back) ∙ ap (λ xs. runs_in (n + 1) of ++ xs) (behind (n + 1) (omega arith) (omega arith)) ∙ append-nil (runs_in (n + 1) of) in
-              let shapes_in : Shapes (inner n k name) (runs_of s inside) =
-              row-is s tildes bytes same on inside (length front) (n + 1) (inner n k name) (n + 1) h.1.0 key (omega arith)
+              let key : row_of (inner m k name) ≡ m + 1 = x.1.0 in
+              let one : as_text name ≡ 1 = x.1.1 in
+              let none_front : runs_in (m + 1) front ≡ [] = f (m + 1) (omega arith) (omega (arith, one)) in
+              let middle : runs_in (m + 1) list ≡ runs_in (m + 1) of =
+              ap (runs_in (m + 1)) whole1
+              ∙ split (m + 1) front (of ++ (more ++ back)) ∙ ap (λ xs. xs ++ runs_in (m + 1) (of ++ (more ++ back))) none_front
+              ∙ split (m + 1) of (more ++ back) ∙ ap (λ xs. runs_in (m + 1) of ++ xs) (behind (m + 1) (omega arith) (omega (arith, one))) ∙ append-nil (runs_in (m + 1) of) in
+              let shapes_in : Shapes (inner m k name) (runs_of s inside) =
+              row-is s tildes bytes same on inside (length front) (n + 1) m' (inner m k name) (m + 1) h.1.0 key (omega (arith, one))
               ∙ ap (map whole_shape) (sym middle)
               ∙ ap (λ r. map whole_shape (runs_in r list)) (sym key) in
-              let pairs_are : own (inner n k name) ≡ Model.pair_list s (runs_of s inside) =
-              same_pair_list s (runs_of s inside) (own (inner n k name)) (Model.pair_list s (runs_of s inside)) (read.lists (inner n k name) (runs_of s inside) shapes_in) (some_pair_list s (runs_of s inside)) in
-              let start : length (runs_in (row_of (inner n k name)) front) ≡ 0 = ap (λ r. length (runs_in r front)) key ∙ ap length none_front in
-              let here : Logged (n + 1) (own (inner n k name)) (length (runs_in (row_of (inner n k name)) front)) inside =
-              logged inside (n + 1) (inner n k name) (runs_of s inside) front (more ++ back) shapes_in h.1.0 st.1.0 pt.0 inner_low whole1 front_in back_in in
+              let pairs_are : own (inner m k name) ≡ Model.pair_list s (runs_of s inside) =
+              same_pair_list s (runs_of s inside) (own (inner m k name)) (Model.pair_list s (runs_of s inside)) (read.lists (inner m k name) (runs_of s inside) shapes_in) (some_pair_list s (runs_of s inside)) in
+              let start : length (runs_in (row_of (inner m k name)) front) ≡ 0 = ap (λ r. length (runs_in r front)) key ∙ ap length none_front in
+              let here : Logged (n + 1) (own (inner m k name)) (length (runs_in (row_of (inner m k name)) front)) inside =
+              logged inside (n + 1) m' (inner m k name) (runs_of s inside) front (more ++ back) shapes_in h.1.0 st.1.0 pt.0 inner_low whole1 front_in back_in in
               subst (λ (i : ℕ). Logged (n + 1) (Model.pair_list s (runs_of s inside)) i inside) start
-              (subst (λ (ps : List Model.Pair). Logged (n + 1) ps (length (runs_in (row_of (inner n k name)) front)) inside) pairs_are here)
+              (subst (λ (ps : List Model.Pair). Logged (n + 1) ps (length (runs_in (row_of (inner m k name)) front)) inside) pairs_are here)
           | inr x ↦
-              let shapes_in : Shapes (inner n k name) R = shapes ∙ ap (λ o. map whole_shape (runs_in (row_of o) list)) (sym x.1) in
-              let here : Logged (n + 1) (own (inner n k name)) (length (runs_in (row_of (inner n k name)) front)) inside =
-              logged inside (n + 1) (inner n k name) R front (more ++ back) shapes_in h.1.0 st.1.0 pt.0 inner_low whole1 front_in back_in in
-              logged-any s comes inside (n + 1) (length (runs_in (row_of (inner n k name)) front)) 0 (own (inner n k name)) (Model.pair_list s (runs_of s inside)) (h.0.1 x.0) here
+              let shapes_in : Shapes (inner m k name) R = shapes ∙ ap (λ o. map whole_shape (runs_in (row_of o) list)) (sym x.1) in
+              let here : Logged (n + 1) (own (inner m k name)) (length (runs_in (row_of (inner m k name)) front)) inside =
+              logged inside (n + 1) m' (inner m k name) R front (more ++ back) shapes_in h.1.0 st.1.0 pt.0 inner_low whole1 front_in back_in in
+              logged-any s comes inside (n + 1) (length (runs_in (row_of (inner m k name)) front)) 0 (own (inner m k name)) (Model.pair_list s (runs_of s inside)) (h.0.1 x.0) here
         ] in
-        (first, subst (λ (i : ℕ). Logged j (own k) i rest) count (logged rest j k R (front ++ of) back shapes h.1.1 st.1.1 pt.1 (omega (arith, low)) whole2 front_after back_after))
+        (first, subst (λ (i : ℕ). Logged j (own k) i rest) count (logged rest j past k R (front ++ of) back shapes h.1.1 st.1.1 pt.1 (omega (arith, low)) whole2 front_after back_after))
 
     -- the whole tree
-    pub all-logged : (t : Forest) → HasRuns bytes t → HasStripes t → HavePoints at 0 t → list ≡ runs 0 0 None t → IsLogged s (Model.pair_list s) comes 0 (Model.pair_list s (runs_of s t)) 0 t
+    pub all-logged : (t : Forest) → HasRuns bytes t → HasStripes t → HavePoints at 0 t → list ≡ runs 0 0 0 None t → IsLogged s (Model.pair_list s) comes 0 (Model.pair_list s (runs_of s t)) 0 t
     unfolding Lacks
     all-logged t h st pt e =
-        let shapes : Shapes None (runs_of s t) = row-is s tildes bytes same on t 0 0 None 0 h refl (omega arith) ∙ ap (λ xs. map whole_shape (runs_in 0 xs)) (sym e) in
+        let shapes : Shapes None (runs_of s t) = row-is s tildes bytes same on t 0 0 0 None 0 h refl (omega arith) ∙ ap (λ xs. map whole_shape (runs_in 0 xs)) (sym e) in
         let pairs_are : own None ≡ Model.pair_list s (runs_of s t) =
         same_pair_list s (runs_of s t) (own None) (Model.pair_list s (runs_of s t)) (read.lists None (runs_of s t) shapes) (some_pair_list s (runs_of s t)) in
         subst (λ (ps : List Model.Pair). Logged 0 ps 0 t) pairs_are
-        (logged t 0 None (runs_of s t) [] [] shapes h st pt (omega arith) (e ∙ sym (append-nil (runs 0 0 None t))) (λ r l u. refl) (λ r l u. refl))
+        (logged t 0 0 None (runs_of s t) [] [] shapes h st pt (omega arith) (e ∙ sym (append-nil (runs 0 0 0 None t))) (λ r l u. refl) (λ r l u. refl))

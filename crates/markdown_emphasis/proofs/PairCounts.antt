@@ -21,7 +21,7 @@ use Rattle.markdown_model.proofs.PairLaws.{some_pair_list, same_pair_list}
 use Rattle.markdown_attention.specs.Containers.{whole_shape, runs_in, placed, pairs_of, ArePairLists, AreWithin}
 use Rattle.markdown_attention.specs.Pairs.{row_of, run_at, pairs_in}
 use Rattle.markdown_attention.specs.Reading.{is_run, is_text}
-use Rattle.markdown_attention.specs.Rows.{HasRows, leaf_run, inner, tree_runs, texts_of, HasRuns}
+use Rattle.markdown_attention.specs.Rows.{HasRows, leaf_run, inner, as_text, text_count, tree_runs, texts_of, HasRuns}
 use Rattle.markdown_attention.specs.declared.attention.pairing.Pair.{Pair}
 use Rattle.markdown_attention.specs.declared.attention.runs.Sequence.{Sequence}
 use Rattle.markdown_attention.proofs.RowLemmas.{none-in, has-rows}
@@ -89,51 +89,59 @@ sums-none f (x ∷ xs) h = omega (arith, h (x.0 + 1), sums-none f xs h)
 
 -- the text of a group itself
 abbrev own : ℕ → Name → Forest → Texts
-own i name inside = if is_text name then (i, inside) ∷ [] else []
+own m name inside = if is_text name then (m, inside) ∷ [] else []
 
-own-yes : (f : ℕ → ℕ) (i : ℕ) (name : Name) (inside : Forest) → is_text name ≡ true → sums f (own i name inside) ≡ f (i + 1) + 0
-own-yes f i name inside e = ap (λ (b : Bool). sums f (if b then (i, inside) ∷ [] else [])) e
+own-yes : (f : ℕ → ℕ) (m : ℕ) (name : Name) (inside : Forest) → is_text name ≡ true → sums f (own m name inside) ≡ f (m + 1) + 0
+own-yes f m name inside e = ap (λ (b : Bool). sums f (if b then (m, inside) ∷ [] else [])) e
 
-own-no : (f : ℕ → ℕ) (i : ℕ) (name : Name) (inside : Forest) → is_text name ≡ false → sums f (own i name inside) ≡ 0
-own-no f i name inside e = ap (λ (b : Bool). sums f (if b then (i, inside) ∷ [] else [])) e
+own-no : (f : ℕ → ℕ) (m : ℕ) (name : Name) (inside : Forest) → is_text name ≡ false → sums f (own m name inside) ≡ 0
+own-no f m name inside e = ap (λ (b : Bool). sums f (if b then (m, inside) ∷ [] else [])) e
 
-group-sums : (f : ℕ → ℕ) (i : ℕ) (name : Name) (a b : Point) (inside rest : Forest)
-    → sums f (texts_of i (group_then name a b inside rest)) ≡ sums f (own i name inside) + (sums f (texts_of (i + 1) inside) + sums f (texts_of (i + 2 + event_count inside) rest))
-group-sums f i name a b inside rest =
-    sums-append f (own i name inside) (texts_of (i + 1) inside ++ texts_of (i + 2 + event_count inside) rest)
-    ∙ ap (λ x. sums f (own i name inside) + x) (sums-append f (texts_of (i + 1) inside) (texts_of (i + 2 + event_count inside) rest))
+group-sums : (f : ℕ → ℕ) (m : ℕ) (name : Name) (a b : Point) (inside rest : Forest)
+    → sums f (texts_of m (group_then name a b inside rest))
+    ≡ sums f (own m name inside) + (sums f (texts_of (m + as_text name) inside) + sums f (texts_of (m + as_text name + text_count inside) rest))
+group-sums f m name a b inside rest =
+    sums-append f (own m name inside) (texts_of (m + as_text name) inside ++ texts_of (m + as_text name + text_count inside) rest)
+    ∙ ap (λ x. sums f (own m name inside) + x) (sums-append f (texts_of (m + as_text name) inside) (texts_of (m + as_text name + text_count inside) rest))
 
-own-out : (r i : ℕ) (name : Name) (inside : Forest) → (r ≡ i + 1 → ⊥) → hits r (own i name inside) ≡ 0
-own-out r i name inside ne = elim (true-or (is_text name)) [
-  | inl e ↦ let x : hits r (own i name inside) ≡ is_row r (i + 1) + 0 = own-yes (is_row r) i name inside e in omega (arith, x, row-no r (i + 1) ne)
-  | inr e ↦ own-no (is_row r) i name inside e
+-- its row is the next, if it is a text
+own-out : (r m : ℕ) (name : Name) (inside : Forest) → (r ≤ m) ⊎ (m + as_text name < r) → hits r (own m name inside) ≡ 0
+own-out r m name inside far = elim (true-or (is_text name)) [
+  | inl e ↦
+      let one : as_text name ≡ 1 = ap (λ (b : Bool). if b then 1 else 0) e in
+      let ne : r ≡ m + 1 → ⊥ = (λ k. elim far [ inl l ↦ omega (arith, l, k) | inr l ↦ omega (arith, l, k, one) ]) in
+      let x : hits r (own m name inside) ≡ is_row r (m + 1) + 0 = own-yes (is_row r) m name inside e in
+      omega (arith, x, row-no r (m + 1) ne)
+  | inr e ↦ own-no (is_row r) m name inside e
 ]
 
-own-few : (r i : ℕ) (name : Name) (inside : Forest) → hits r (own i name inside) ≤ 1
-own-few r i name inside = elim (true-or (is_text name)) [
-  | inl e ↦ let x : hits r (own i name inside) ≡ is_row r (i + 1) + 0 = own-yes (is_row r) i name inside e in omega (arith, x, row-few r (i + 1))
-  | inr e ↦ let x : hits r (own i name inside) ≡ 0 = own-no (is_row r) i name inside e in omega (arith, x)
+own-few : (r m : ℕ) (name : Name) (inside : Forest) → hits r (own m name inside) ≤ 1
+own-few r m name inside = elim (true-or (is_text name)) [
+  | inl e ↦ let x : hits r (own m name inside) ≡ is_row r (m + 1) + 0 = own-yes (is_row r) m name inside e in omega (arith, x, row-few r (m + 1))
+  | inr e ↦ let x : hits r (own m name inside) ≡ 0 = own-no (is_row r) m name inside e in omega (arith, x)
 ]
 
--- Rows of texts are different, and lie among the tree's events.
+-- Rows of texts are different: texts are counted.
 
-hits-low : (t : Forest) (i r : ℕ) → r ≤ i → hits r (texts_of i t) ≡ 0
-hits-low empty i r l = refl
-hits-low (leaf_then name link cs rest) i r l = hits-low rest (i + 2) r (omega (arith, l))
-hits-low (group_then name a b inside rest) i r l =
-    let x : hits r (own i name inside) ≡ 0 = own-out r i name inside (λ e. omega (arith, l, e)) in
-    let y : hits r (texts_of (i + 1) inside) ≡ 0 = hits-low inside (i + 1) r (omega (arith, l)) in
-    let z : hits r (texts_of (i + 2 + event_count inside) rest) ≡ 0 = hits-low rest (i + 2 + event_count inside) r (omega (arith, l)) in
-    omega (arith, group-sums (is_row r) i name a b inside rest, x, y, z)
+hits-low : (t : Forest) (m r : ℕ) → r ≤ m → hits r (texts_of m t) ≡ 0
+hits-low empty m r l = refl
+hits-low (leaf_then name link cs rest) m r l = hits-low rest m r l
+hits-low (group_then name a b inside rest) m r l =
+    let past : ℕ = m + as_text name + text_count inside in
+    let x : hits r (own m name inside) ≡ 0 = own-out r m name inside (inl l) in
+    let y : hits r (texts_of (m + as_text name) inside) ≡ 0 = hits-low inside (m + as_text name) r (omega (arith, l)) in
+    let z : hits r (texts_of past rest) ≡ 0 = hits-low rest past r (omega (arith, l)) in
+    omega (arith, group-sums (is_row r) m name a b inside rest, x, y, z)
 
-hits-high : (t : Forest) (i r : ℕ) → i + event_count t < r → hits r (texts_of i t) ≡ 0
-hits-high empty i r l = refl
-hits-high (leaf_then name link cs rest) i r l = hits-high rest (i + 2) r (omega (arith, l))
-hits-high (group_then name a b inside rest) i r l =
-    let x : hits r (own i name inside) ≡ 0 = own-out r i name inside (λ e. omega (arith, l, e)) in
-    let y : hits r (texts_of (i + 1) inside) ≡ 0 = hits-high inside (i + 1) r (omega (arith, l)) in
-    let z : hits r (texts_of (i + 2 + event_count inside) rest) ≡ 0 = hits-high rest (i + 2 + event_count inside) r (omega (arith, l)) in
-    omega (arith, group-sums (is_row r) i name a b inside rest, x, y, z)
+hits-high : (t : Forest) (m r : ℕ) → m + text_count t < r → hits r (texts_of m t) ≡ 0
+hits-high empty m r l = refl
+hits-high (leaf_then name link cs rest) m r l = hits-high rest m r l
+hits-high (group_then name a b inside rest) m r l =
+    let past : ℕ = m + as_text name + text_count inside in
+    let x : hits r (own m name inside) ≡ 0 = own-out r m name inside (inr (omega (arith, l))) in
+    let y : hits r (texts_of (m + as_text name) inside) ≡ 0 = hits-high inside (m + as_text name) r (omega (arith, l)) in
+    let z : hits r (texts_of past rest) ≡ 0 = hits-high rest past r (omega (arith, l)) in
+    omega (arith, group-sums (is_row r) m name a b inside rest, x, y, z)
 
 cases-le : (a b : ℕ) → (a ≤ b) ⊎ (b < a)
 cases-le a b = by_test (cases_lt b a)
@@ -142,25 +150,26 @@ cases-le a b = by_test (cases_lt b a)
     by_test (inl l) = inr l
     by_test (inr l) = inl l
 
-hits-once : (t : Forest) (i r : ℕ) → hits r (texts_of i t) ≤ 1
-hits-once empty i r = omega arith
-hits-once (leaf_then name link cs rest) i r = hits-once rest (i + 2) r
-hits-once (group_then name a b inside rest) i r =
-    let j : ℕ = i + 2 + event_count inside in
-    let parts = group-sums (is_row r) i name a b inside rest in
-    let in_own : hits r (own i name inside) ≤ 1 = own-few r i name inside in
-    let in_front : hits r (texts_of (i + 1) inside) ≤ 1 = hits-once inside (i + 1) r in
-    let in_back : hits r (texts_of j rest) ≤ 1 = hits-once rest j r in
-    elim (cases-le r (i + 1)) [
+hits-once : (t : Forest) (m r : ℕ) → hits r (texts_of m t) ≤ 1
+hits-once empty m r = omega arith
+hits-once (leaf_then name link cs rest) m r = hits-once rest m r
+hits-once (group_then name a b inside rest) m r =
+    let m' : ℕ = m + as_text name in
+    let past : ℕ = m' + text_count inside in
+    let parts = group-sums (is_row r) m name a b inside rest in
+    let in_own : hits r (own m name inside) ≤ 1 = own-few r m name inside in
+    let in_front : hits r (texts_of m' inside) ≤ 1 = hits-once inside m' r in
+    let in_back : hits r (texts_of past rest) ≤ 1 = hits-once rest past r in
+    elim (cases-le r m') [
       | inl l ↦
-          let y : hits r (texts_of (i + 1) inside) ≡ 0 = hits-low inside (i + 1) r l in
-          let z : hits r (texts_of j rest) ≡ 0 = hits-low rest j r (omega (arith, l)) in
+          let y : hits r (texts_of m' inside) ≡ 0 = hits-low inside m' r l in
+          let z : hits r (texts_of past rest) ≡ 0 = hits-low rest past r (omega (arith, l)) in
           omega (arith, parts, in_own, y, z)
       | inr l ↦
-          let x : hits r (own i name inside) ≡ 0 = own-out r i name inside (λ e. omega (arith, l, e)) in
-          elim (cases-le r j) [
-            | inl m ↦ let z : hits r (texts_of j rest) ≡ 0 = hits-low rest j r m in omega (arith, parts, in_front, x, z)
-            | inr m ↦ let y : hits r (texts_of (i + 1) inside) ≡ 0 = hits-high inside (i + 1) r (omega (arith, m)) in omega (arith, parts, in_back, x, y)
+          let x : hits r (own m name inside) ≡ 0 = own-out r m name inside (inr l) in
+          elim (cases-le r past) [
+            | inl u ↦ let z : hits r (texts_of past rest) ≡ 0 = hits-low rest past r u in omega (arith, parts, in_front, x, z)
+            | inr u ↦ let y : hits r (texts_of m' inside) ≡ 0 = hits-high inside m' r u in omega (arith, parts, in_back, x, y)
           ]
     ]
 
@@ -188,41 +197,43 @@ abbrev Stays : ℕ → Texts → Sequence → Type 0
 Stays r xs q = (row_of q.container ≡ r) ⊎ (1 ≤ hits (row_of q.container) xs)
 
 module _ (tildes : Bool) (bytes : List ℕ) where
-  stays-tree : (t : Forest) (n i : ℕ) (k : Option ℕ) → Every (Stays (row_of k) (texts_of i t)) (tree_runs tildes bytes n i k t)
-  stays-tree empty n i k = tt
-  stays-tree (leaf_then name link cs rest) n i k =
+  stays-tree : (t : Forest) (n i m : ℕ) (k : Option ℕ) → Every (Stays (row_of k) (texts_of m t)) (tree_runs tildes bytes n i m k t)
+  stays-tree empty n i m k = tt
+  stays-tree (leaf_then name link cs rest) n i m k =
       let here : List Sequence = leaf_run tildes bytes n i k name (start_of cs) (stop_of document_start cs) in
-      let P : Sequence → Type 0 = Stays (row_of k) (texts_of (i + 2) rest) in
+      let P : Sequence → Type 0 = Stays (row_of k) (texts_of m rest) in
       let one : Every P here = elim (true-or (is_run name)) [
         | inl e ↦ subst (λ (xs : List Sequence). Every P xs) (sym (leaf-run-yes tildes bytes n i k name (start_of cs) (stop_of document_start cs) e)) (inl refl, tt)
         | inr e ↦ subst (λ (xs : List Sequence). Every P xs) (sym (leaf-run-no tildes bytes n i k name (start_of cs) (stop_of document_start cs) e)) tt
       ] in
-      every-append P here (tree_runs tildes bytes (n + length here) (i + 2) k rest) one (stays-tree rest (n + length here) (i + 2) k)
-  stays-tree (group_then name a b inside rest) n i k =
+      every-append P here (tree_runs tildes bytes (n + length here) (i + 2) m k rest) one (stays-tree rest (n + length here) (i + 2) m k)
+  stays-tree (group_then name a b inside rest) n i m k =
       let j : ℕ = i + 2 + event_count inside in
-      let whole : Texts = texts_of i (group_then name a b inside rest) in
-      let front : List Sequence = tree_runs tildes bytes n (i + 1) (inner i k name) inside in
-      let back : List Sequence = tree_runs tildes bytes (n + length front) j k rest in
+      let m' : ℕ = m + as_text name in
+      let past : ℕ = m' + text_count inside in
+      let whole : Texts = texts_of m (group_then name a b inside rest) in
+      let front : List Sequence = tree_runs tildes bytes n (i + 1) m' (inner m k name) inside in
+      let back : List Sequence = tree_runs tildes bytes (n + length front) j past k rest in
       let P : Sequence → Type 0 = Stays (row_of k) whole in
-      let parts : (r : ℕ) → hits r whole ≡ hits r (own i name inside) + (hits r (texts_of (i + 1) inside) + hits r (texts_of j rest)) = λ r. group-sums (is_row r) i name a b inside rest in
-      let outer : (q : Sequence) → row_of q.container ≡ row_of (inner i k name) → P q = λ q e. elim (true-or (is_text name)) [
+      let parts : (r : ℕ) → hits r whole ≡ hits r (own m name inside) + (hits r (texts_of m' inside) + hits r (texts_of past rest)) = λ r. group-sums (is_row r) m name a b inside rest in
+      let outer : (q : Sequence) → row_of q.container ≡ row_of (inner m k name) → P q = λ q e. elim (true-or (is_text name)) [
         | inl x ↦
-            let at : row_of (inner i k name) ≡ i + 1 = ap (λ (b : Bool). row_of (if b then Some i else k)) x in
-            let one : hits (row_of q.container) (own i name inside) ≡ is_row (row_of q.container) (i + 1) + 0 = own-yes (is_row (row_of q.container)) i name inside x in
-            inr (omega (arith, parts (row_of q.container), one, row-yes (row_of q.container) (i + 1) (e ∙ at)))
-        | inr x ↦ inl (e ∙ ap (λ (b : Bool). row_of (if b then Some i else k)) x)
+            let at : row_of (inner m k name) ≡ m + 1 = ap (λ (b : Bool). row_of (if b then Some m else k)) x in
+            let one : hits (row_of q.container) (own m name inside) ≡ is_row (row_of q.container) (m + 1) + 0 = own-yes (is_row (row_of q.container)) m name inside x in
+            inr (omega (arith, parts (row_of q.container), one, row-yes (row_of q.container) (m + 1) (e ∙ at)))
+        | inr x ↦ inl (e ∙ ap (λ (b : Bool). row_of (if b then Some m else k)) x)
       ] in
-      let from_front : (q : Sequence) → Stays (row_of (inner i k name)) (texts_of (i + 1) inside) q → P q = λ q h. elim h [
+      let from_front : (q : Sequence) → Stays (row_of (inner m k name)) (texts_of m' inside) q → P q = λ q h. elim h [
         | inl e ↦ outer q e
         | inr l ↦ inr (omega (arith, parts (row_of q.container), l))
       ] in
-      let from_back : (q : Sequence) → Stays (row_of k) (texts_of j rest) q → P q = λ q h. elim h [
+      let from_back : (q : Sequence) → Stays (row_of k) (texts_of past rest) q → P q = λ q h. elim h [
         | inl e ↦ inl e
         | inr l ↦ inr (omega (arith, parts (row_of q.container), l))
       ] in
       every-append P front back
-      (every-map (Stays (row_of (inner i k name)) (texts_of (i + 1) inside)) P front from_front (stays-tree inside n (i + 1) (inner i k name)))
-      (every-map (Stays (row_of k) (texts_of j rest)) P back from_back (stays-tree rest (n + length front) j k))
+      (every-map (Stays (row_of (inner m k name)) (texts_of m' inside)) P front from_front (stays-tree inside n (i + 1) m' (inner m k name)))
+      (every-map (Stays (row_of k) (texts_of past rest)) P back from_back (stays-tree rest (n + length front) j past k))
 
 -- Pairs by rows.
 
@@ -276,32 +287,33 @@ module _ (s : Setting) (tildes : Bool) (bytes : List ℕ) (same : s.bytes ≡ by
   each-front [] ys h = (tt, h)
   each-front (x ∷ xs) ys h = let r = each-front xs ys h.1 in ((h.0, r.0), r.1)
 
-  rows-paired : (t : Forest) (i : ℕ) → HasRuns bytes t → EachText (texts_of i t) → sum_by count_of (rows_inside s t) ≡ sums of_row (texts_of i t)
-  rows-paired empty i h k = ap (λ x. sum_by count_of x) (rows-empty s)
-  rows-paired (leaf_then name link cs rest) i h k = ap (λ x. sum_by count_of x) (rows-leaf s name link cs rest) ∙ rows-paired rest (i + 2) h.1 k
-  rows-paired (group_then name a b inside rest) i h k =
-      let j : ℕ = i + 2 + event_count inside in
-      let x = each-front (own i name inside) (texts_of (i + 1) inside ++ texts_of j rest) k in
-      let y = each-front (texts_of (i + 1) inside) (texts_of j rest) x.1 in
-      let front : sum_by count_of (rows_inside s inside) ≡ sums of_row (texts_of (i + 1) inside) = rows-paired inside (i + 1) h.1.0 y.0 in
-      let back : sum_by count_of (rows_inside s rest) ≡ sums of_row (texts_of j rest) = rows-paired rest j h.1.1 y.1 in
+  rows-paired : (t : Forest) (m : ℕ) → HasRuns bytes t → EachText (texts_of m t) → sum_by count_of (rows_inside s t) ≡ sums of_row (texts_of m t)
+  rows-paired empty m h k = ap (λ x. sum_by count_of x) (rows-empty s)
+  rows-paired (leaf_then name link cs rest) m h k = ap (λ x. sum_by count_of x) (rows-leaf s name link cs rest) ∙ rows-paired rest m h.1 k
+  rows-paired (group_then name a b inside rest) m h k =
+      let m' : ℕ = m + as_text name in
+      let past : ℕ = m' + text_count inside in
+      let x = each-front (own m name inside) (texts_of m' inside ++ texts_of past rest) k in
+      let y = each-front (texts_of m' inside) (texts_of past rest) x.1 in
+      let front : sum_by count_of (rows_inside s inside) ≡ sums of_row (texts_of m' inside) = rows-paired inside m' h.1.0 y.0 in
+      let back : sum_by count_of (rows_inside s rest) ≡ sums of_row (texts_of past rest) = rows-paired rest past h.1.1 y.1 in
       let rows : sum_by count_of (rows_inside s (group_then name a b inside rest)) ≡ sum_by count_of (runs_of s inside ∷ rows_inside s inside) + sum_by count_of (rows_inside s rest) =
       ap (λ z. sum_by count_of z) (rows-group s name a b inside rest) ∙ sum_by-append count_of (runs_of s inside ∷ rows_inside s inside) (rows_inside s rest) in
       let first : sum_by count_of (runs_of s inside ∷ rows_inside s inside) ≡ count_of (runs_of s inside) + sum_by count_of (rows_inside s inside) = sum_by-cons count_of (runs_of s inside) (rows_inside s inside) in
-      let it : count_of (runs_of s inside) ≡ sums of_row (own i name inside) = elim (true-or (is_text name)) [
+      let it : count_of (runs_of s inside) ≡ sums of_row (own m name inside) = elim (true-or (is_text name)) [
         | inl e ↦
-            let z : EachText ((i, inside) ∷ []) = subst (λ (b : Bool). EachText (if b then (i, inside) ∷ [] else [])) e x.0 in
-            let w : sums of_row (own i name inside) ≡ of_row (i + 1) + 0 = own-yes of_row i name inside e in
+            let z : EachText ((m, inside) ∷ []) = subst (λ (b : Bool). EachText (if b then (m, inside) ∷ [] else [])) e x.0 in
+            let w : sums of_row (own m name inside) ≡ of_row (m + 1) + 0 = own-yes of_row m name inside e in
             omega (arith, z.0, w)
         | inr e ↦
-            ap (λ z. count_of z) (none-in s tildes bytes same on inside (h.0.1 e)) ∙ empty-list s ∙ sym (own-no of_row i name inside e)
+            ap (λ z. count_of z) (none-in s tildes bytes same on inside (h.0.1 e)) ∙ empty-list s ∙ sym (own-no of_row m name inside e)
       ] in
-      omega (arith, front, back, rows, first, it, group-sums of_row i name a b inside rest)
+      omega (arith, front, back, rows, first, it, group-sums of_row m name a b inside rest)
 
 module _ (s : Setting) (tildes : Bool) (bytes : List ℕ) (same : s.bytes ≡ bytes) (on : s.options.constructs.gfm_strikethrough ≡ tildes) (t : Forest) (h : HasRuns bytes t)
     (options : ParseOptions) (given : s.options ≡ options) (pairs : List Pair) where
   abbrev all_runs : List Sequence
-  all_runs = tree_runs tildes bytes 0 0 None t
+  all_runs = tree_runs tildes bytes 0 0 0 None t
 
   module _ (lists : ArePairLists options all_runs pairs) (within : AreWithin all_runs pairs) where
     counted : (k : Option ℕ) (rs : List Run) → map shape_of rs ≡ map whole_shape (runs_in (row_of k) all_runs) → length (pair_list s rs) ≡ length (pairs_in all_runs (row_of k) pairs)
@@ -321,7 +333,7 @@ module _ (s : Setting) (tildes : Bool) (bytes : List ℕ) (same : s.bytes ≡ by
     once-all (p ∷ ps) w =
         let r : ℕ = row_of (run_at all_runs p.closer).container in
         let few : hits r (texts_of 0 t) ≤ 1 = hits-once t 0 r in
-        let here : is_row r 0 + hits r (texts_of 0 t) ≡ 1 = elim (every-at (Stays 0 (texts_of 0 t)) all_runs p.closer w.0.within (stays-tree tildes bytes t 0 0 None)) [
+        let here : is_row r 0 + hits r (texts_of 0 t) ≡ 1 = elim (every-at (Stays 0 (texts_of 0 t)) all_runs p.closer w.0.within (stays-tree tildes bytes t 0 0 0 None)) [
           | inl e ↦
               let low : hits r (texts_of 0 t) ≡ 0 = hits-low t 0 r (omega (arith, e)) in
               omega (arith, row-yes r 0 e, low)

@@ -127,7 +127,7 @@ module _ (s : Setting) (tildes : Bool) (bytes : List ℕ) (same : s.bytes ≡ by
   pub group-events : (t : Forest) → HasRuns bytes t → IsStriped t → es ≡ appended_from 0 None t → edited (grouping es (runs_from tildes bytes 0 0 outermost es) pairs) es ≡ appended_from 0 None (paired s (pair_list s) t)
   group-events t h st e =
       let whole : es ≡ appended_from 0 None t ++ [] = e ∙ sym (append-nil (appended_from 0 None t)) in
-      let runs : List Sequence = tree_runs tildes bytes 0 0 None t in
+      let runs : List Sequence = tree_runs tildes bytes 0 0 0 None t in
       let is : runs_read ≡ runs = ap (runs_from tildes bytes 0 0 outermost) whole ∙ tree-runs tildes bytes t 0 0 None outermost [] h ∙ append-nil runs in
       paired-events es before (λ k. added_at k before) (pass-log comes_here tildes bytes es outermost places) s (pair_list s) t e (ready-row s t st.1) (flat-row s t st.1 st.0)
       (all-logged s tildes bytes same on (point_in es) pairs runs_read (λ k. added_at k before) read t h st.1 (have-points es t 0 None [] whole) is)

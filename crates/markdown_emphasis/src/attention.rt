@@ -7,10 +7,9 @@
 mod brackets;
 mod edits;
 
-ghost use Rattle.std.specs.Prelude.{◌≡◌, ◌+◌, ◌<◌, [], length, ℕ, IfOk, OnOk, OnErr, IsTrue, IsUtf8, None};
+ghost use Rattle.std.specs.Prelude.{◌≡◌, [], IfOk, OnOk, OnErr, IsTrue, IsUtf8, None};
 ghost use Rattle.markdown_attention.specs.Events.{runs_of_events};
 ghost use Rattle.markdown_attention.specs.Open.{HaveMarkers};
-ghost use Rattle.markdown_attention.specs.Pairs.{row_of, run_at};
 ghost use Rattle.markdown_attention.specs.Reading.{HaveRunPlaces};
 ghost use Rattle.markdown_attention.specs.Rows.{IsOf, HasRuns};
 ghost use Rattle.markdown_attention.specs.Walk.{Whole};
@@ -40,22 +39,16 @@ struct Pairing {
 }
 
 // Pairs the runs.
-fn paired_runs(
-    alloc: Global,
-    options: ParseOptions,
-    runs: Runs,
-    rows: usize,
-) -> Result<Pairing, AllocError>
+fn paired_runs(alloc: Global, options: ParseOptions, runs: Runs) -> Result<Pairing, AllocError>
     requires start { runs.turn ≡ 0 }
     requires unread { runs.probes ≡ 0 }
     requires whole { Whole runs.list }
     requires markers { HaveMarkers runs.list }
     requires small { IsSmall runs.list }
-    requires rows { (r : ℕ) → r < length runs.list → row_of (run_at runs.list r).container < rows }
     ensures { IfOk result (λ p. IsPairing options runs.list p.runs.items p.pairs.items p.probes) }
 {
     let mut runs = runs;
-    let pairs = pair_runs(alloc, options, &mut runs, rows)?;
+    let pairs = pair_runs(alloc, options, &mut runs)?;
     let probes = runs.probes();
     Ok(Pairing {
         runs: runs.finish(),
@@ -73,8 +66,7 @@ fn pair_and_group(tokenizer: &mut Tokenizer) -> Result<u128, AllocError>
     let alloc = tokenizer.alloc;
     let options = *tokenizer.parse_state.options;
     let runs = Runs::new(tokenizer)?;
-    let rows = tokenizer.events.len().checked_add(1).ok_or(AllocError)?;
-    let pairing = paired_runs(alloc, options, runs, rows)?;
+    let pairing = paired_runs(alloc, options, runs)?;
     group_runs(
         alloc,
         &mut tokenizer.events,

@@ -81,7 +81,7 @@ fn row_number(container: Option<usize>) -> usize
 {
     match container {
         None => 0,
-        Some(event) => event + 1,
+        Some(text) => text + 1,
     }
 }
 
@@ -260,6 +260,14 @@ fn list_end(heads: &mut Vec<Newest>, list: usize, closer: Sequence)
     }
 }
 
+// How many rows the tables have: one for the whole content, and one for the text of each label.
+fn row_count(runs: &Runs) -> Result<usize, AllocError>
+    ensures is { IfOk result (λ rows. rows ≡ runs.now.texts + 1) }
+    ensures within { IfOk result (λ rows. (r : ℕ) → r < length runs.now.list → row_of (run_at runs.now.list r).container < rows) }
+{
+    runs.texts().checked_add(1).ok_or(AllocError)
+}
+
 // Three empty lists for each row.
 fn empty_lists(alloc: Global, rows: usize) -> Result<Vec<Newest>, AllocError>
     ensures { IfOk result (λ table. table.items ≡ replicate (rows * 3) 0) }
@@ -277,13 +285,10 @@ fn zeros(alloc: Global, rows: usize, each: usize) -> Result<Vec<usize>, AllocErr
 }
 
 /// Pairs the runs of all containers in one scan.
-///
-/// Rows are the whole content and, one for each event, the texts of labels.
 pub fn pair_runs(
     alloc: Global,
     options: ParseOptions,
     runs: &mut Runs,
-    rows: usize,
 ) -> Result<Vec<Pair>, AllocError>
     requires start { runs.old.turn ≡ 0 }
     requires unread { runs.old.probes ≡ 0 }
@@ -291,7 +296,6 @@ pub fn pair_runs(
     requires markers { HaveMarkers runs.old.list }
     requires small { markers_left runs.old.list < 2 ^ 63 }
     requires count { length runs.old.list < 2 ^ 63 }
-    requires rows { (r : ℕ) → r < length runs.old.list → row_of (run_at runs.old.list r).container < rows }
     ensures lists { IfOk result (λ pairs. ArePairLists options runs.old.list pairs.items) }
     ensures within { IfOk result (λ pairs. AreWithin runs.old.list pairs.items) }
     ensures once { IfOk result (λ pairs. AreTakenOnce runs.old.list pairs.items) }
@@ -301,6 +305,7 @@ pub fn pair_runs(
     ensures scan { IfOk result (λ pairs. runs.new.probes ≤ (length runs.old.list + length pairs.items) * length runs.old.list) }
     ensures half { IfOk result (λ pairs. 2 * length pairs.items ≤ markers_left runs.old.list) }
 {
+    let rows = row_count(runs)?;
     let mut pairs = Vec::new(alloc);
     let mut heads = empty_lists(alloc, rows)?;
     let mut marks = zeros(alloc, rows, 18)?;

@@ -1,8 +1,8 @@
 //! Reading the runs of markers off the events.
 
-ghost use Rattle.std.specs.Prelude.{◌≡◌, ℕ, ◌+◌, ◌<◌, ◌^◌, ◌++◌, length, drop, IfOk, OnOk, IsUtf8, None, []};
+ghost use Rattle.std.specs.Prelude.{◌≡◌, ℕ, ◌+◌, ◌<◌, ◌^◌, ◌++◌, length, drop, count_by, IfOk, OnOk, IsUtf8, None, []};
 ghost use Rattle.std.specs.Str.{IsCharBoundary};
-ghost use Rattle.markdown_attention.specs.Reading.{is_run, is_text, opens_run, is_beside_marker, is_flanking, may_act, sequence_at, where_after, outermost, first_run, runs_from, IsRunPlace, FirstHasPlaces, HaveRunPlaces};
+ghost use Rattle.markdown_attention.specs.Reading.{is_run, is_text, opens_run, opens_text, is_beside_marker, is_flanking, may_act, sequence_at, where_after, outermost, first_run, runs_from, IsRunPlace, FirstHasPlaces, HaveRunPlaces};
 ghost use Rattle.markdown_attention.specs.Walk.{Numbered};
 ghost use Rattle.markdown_model.specs.Literal.{is_other};
 ghost use Rattle.markdown_util.specs.Neighbours.{class_of};
@@ -83,22 +83,26 @@ fn sequence_at(
     }
 }
 
-// In which container the next event stands, and in which the containers around it stand, the innermost on top.
+// In which container the next event stands, in which the containers around it stand, the innermost on top, and how many texts of labels
+// have begun.
 #[derive(Drop)]
 struct Where {
     container: Option<usize>,
     outer: Stack<Option<usize>>,
+    texts: usize,
 }
 
 impl Where {
     // Passes an event.
-    fn pass(&mut self, index: usize, event: Event) -> Result<(), AllocError>
-        ensures { OnOk result (self.new ≡ where_after index event self.old) }
+    fn pass(&mut self, event: Event) -> Result<(), AllocError>
+        requires { self.old.texts + 1 < 2 ^ 64 }
+        ensures { OnOk result (self.new ≡ where_after event self.old) }
     {
         match (event.name, event.kind) {
             (Name::LabelText, Kind::Enter) => {
                 self.outer.push(self.container)?;
-                self.container = Some(index);
+                self.container = Some(self.texts);
+                self.texts += 1;
             }
             (Name::LabelText, Kind::Exit) => self.container = self.outer.pop().flatten(),
             _ => {}
@@ -147,26 +151,38 @@ fn read_event(
     Ok(())
 }
 
-/// Answers the runs of the events, in order.
+/// The runs of the events, in order, and how many texts of labels there are.
+#[derive(Drop)]
+pub(crate) struct Found {
+    pub(crate) list: Vec<Sequence>,
+    pub(crate) texts: usize,
+}
+
+/// Reads the runs off the events.
 pub(crate) fn read(
     alloc: Global,
     bytes: &[u8],
     tildes: bool,
     events: &Events,
-) -> Result<Vec<Sequence>, AllocError>
+) -> Result<Found, AllocError>
     requires utf8 { IsUtf8 bytes.now }
     requires places { HaveRunPlaces bytes.now events.now }
-    ensures is { IfOk result (λ list. list.items ≡ runs_from tildes bytes.now 0 0 outermost events.now) }
-    ensures numbered { IfOk result (λ list. Numbered list.items) }
+    ensures is { IfOk result (λ found. found.list.items ≡ runs_from tildes bytes.now 0 0 outermost events.now) }
+    ensures numbered { IfOk result (λ found. Numbered found.list.items) }
+    ensures texts { IfOk result (λ found. found.texts ≡ count_by opens_text events.now) }
 {
     let mut list = Vec::new(alloc);
     let mut place = Where {
         container: None,
         outer: Stack::new(alloc),
+        texts: 0,
     };
     for index in 0..events.len() {
         read_event(bytes, tildes, events, index, place.container, &mut list)?;
-        place.pass(index, events.bare_at(index))?;
+        place.pass(events.bare_at(index))?;
     }
-    Ok(list)
+    Ok(Found {
+        list,
+        texts: place.texts,
+    })
 }

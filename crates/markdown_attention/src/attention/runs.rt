@@ -1,11 +1,11 @@
 //! The runs of markers of a content, and the one way to look at them.
 
-ghost use Rattle.std.specs.Prelude.{◌≡◌, ℕ, ◌+◌, ◌^◌, ◌<◌, ◌≤◌, ◌↔◌, length, IfSome, IsSome, IfOk, OnOk, OnErr, IsTrue, IsUtf8, None};
-ghost use Rattle.markdown_attention.specs.Pairs.{row_of, run_at, after_taking};
-ghost use Rattle.markdown_attention.specs.Reading.{HaveRunPlaces};
+ghost use Rattle.std.specs.Prelude.{◌≡◌, ℕ, ◌+◌, ◌^◌, ◌<◌, ◌≤◌, ◌↔◌, length, count_by, IfSome, IsSome, IfOk, OnOk, OnErr, IsTrue, IsUtf8, None};
+ghost use Rattle.markdown_attention.specs.Pairs.{run_at, after_taking};
+ghost use Rattle.markdown_attention.specs.Reading.{HaveRunPlaces, opens_text};
 ghost use Rattle.markdown_attention.specs.Events.{runs_of_events};
 ghost use Rattle.markdown_attention.specs.Open.{HaveMarkers};
-ghost use Rattle.markdown_attention.specs.Walk.{Whole};
+ghost use Rattle.markdown_attention.specs.Walk.{Whole, StandIn};
 ghost use Rattle.markdown_attention.specs.Rows.{IsOf, HasRuns, HasRows};
 ghost use Rattle.markdown_engine.specs.Past.{appended_from};
 ghost use Rattle.markdown_engine.specs.Tree.{Forest};
@@ -23,7 +23,8 @@ pub struct Sequence {
     pub number: usize,
     /// The number of its `Enter` event.
     pub event: usize,
-    /// Its container: the number of the `Enter` event of the `LabelText` that it stands in, none for the whole content.
+    /// Its container: which of the texts of labels it stands in, counted from 0 in the order in which they begin, none for the whole
+    /// content.
     pub container: Option<usize>,
     /// The byte that it repeats.
     pub marker: u8,
@@ -37,25 +38,27 @@ pub struct Sequence {
     pub may_close: bool,
 }
 
-/// The runs in order of place, one of them in turn, and the number of looks at earlier ones.
+/// The runs in order of place, one of them in turn, and the number of looks at earlier ones; beside them, how many texts of labels there
+/// are.
 ///
 /// A run is answered by `closer`, which answers the one in turn, by `look`, which counts, and at the end by `finish`.
 #[derive(Drop)]
 pub struct Runs {
     list: Vec<Sequence>,
+    texts: usize,
     turn: usize,
     probes: u128,
 }
 
 impl Model for Runs {
     ghost use Rattle.std.specs.Prelude.{◌≤◌, length};
-    ghost use Rattle.markdown_attention.specs.Walk.{Walk, Numbered};
+    ghost use Rattle.markdown_attention.specs.Walk.{Walk, Numbered, StandIn};
 
     ghost Value = { Walk };
 
-    ghost view = { λ r. record { list = r.list.items; turn = r.turn; probes = r.probes } };
+    ghost view = { λ r. record { list = r.list.items; texts = r.texts; turn = r.turn; probes = r.probes } };
 
-    ghost invariant = { λ r. (r.turn ≤ length r.list.items) × Numbered r.list.items };
+    ghost invariant = { λ r. (r.turn ≤ length r.list.items) × (Numbered r.list.items × StandIn r.texts r.list.items) };
 }
 
 impl Runs {
@@ -65,10 +68,10 @@ impl Runs {
     pub fn new(tokenizer: &mut Tokenizer) -> Result<Runs, AllocError>
         requires utf8 { IsUtf8 tokenizer.old.parse_state.now.bytes.now }
         requires places { HaveRunPlaces tokenizer.old.parse_state.now.bytes.now tokenizer.old.events }
-        ensures runs { IfOk result (λ runs. runs ≡ record { list = runs_of_events tokenizer.old; turn = 0; probes = 0 }) }
+        ensures runs { IfOk result (λ runs. runs ≡ record { list = runs_of_events tokenizer.old; texts = count_by opens_text tokenizer.old.events; turn = 0; probes = 0 }) }
         ensures whole { IfOk result (λ runs. Whole runs.list) }
         ensures markers { IfOk result (λ runs. HaveMarkers runs.list) }
-        ensures containers { IfOk result (λ runs. (r : ℕ) → r < length runs.list → row_of (run_at runs.list r).container < length tokenizer.old.events + 1) }
+        ensures containers { IfOk result (λ runs. StandIn (count_by opens_text tokenizer.old.events) runs.list) }
         ensures rows { (s : Setting) (t : Forest) → IsOf s tokenizer.old → HasRuns tokenizer.old.parse_state.now.bytes.now t → tokenizer.old.events ≡ appended_from 0 None t → IfOk result (λ runs. HasRows s t runs.list) }
         ensures same { OnOk result (tokenizer.new ≡ tokenizer.old) }
         ensures err { OnErr result (IsTrue tokenizer.new.failed) }
@@ -80,12 +83,21 @@ impl Runs {
                 tokenizer.fail();
                 Err(error)
             }
-            Ok(list) => Ok(Runs {
-                list,
+            Ok(found) => Ok(Runs {
+                list: found.list,
+                texts: found.texts,
                 turn: 0,
                 probes: 0,
             }),
         }
+    }
+
+    /// How many texts of labels there are: the container of each run is one of them, or the whole content.
+    pub fn texts(&self) -> usize
+        ensures is { result ≡ self.now.texts }
+        ensures containers { StandIn result self.now.list }
+    {
+        self.texts
     }
 
     /// The run in turn: at first the first, and none after the last.
@@ -149,6 +161,7 @@ impl Runs {
     {
         let Runs {
             list,
+            texts: _,
             turn: _,
             probes: _,
         } = self;

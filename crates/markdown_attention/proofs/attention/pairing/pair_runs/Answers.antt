@@ -17,9 +17,9 @@ loop-closer-init c =
     let ms = c.in_ok-marks.ensures in
     rw (hs, ms, c.new-older.ensures.items, c.new-pairs.ensures.items, c.requires.start, c.requires.unread)
     (record {
-      inv = inv_start c.args.options c.args.runs.now.list _ _ c.requires.whole (zeros (c.args.rows * 3)) (zeros (c.args.rows * 18));
-      heads_length = length-replicate (c.args.rows * 3) 0;
-      marks_length = length-replicate (c.args.rows * 18) 0;
+      inv = inv_start c.args.options c.args.runs.now.list _ _ c.requires.whole (zeros (c.in_ok-rows.rows * 3)) (zeros (c.in_ok-rows.rows * 18));
+      heads_length = length-replicate (c.in_ok-rows.rows * 3) 0;
+      marks_length = length-replicate (c.in_ok-rows.rows * 18) 0;
     })
 
 here : (c : After-row_known-1) → c.loop-closer.runs.turn < length c.args.runs.now.list
@@ -29,7 +29,7 @@ here c =
     omega (arith, e, w)
 
 keys : (c : After-row_known-1) → (r : ℕ) → r < length c.args.runs.now.list → list_of c.args.runs.now.list r < length c.loop-closer.heads.items
-keys c = some_key c.args.runs.now.list c.args.rows c.loop-closer.heads.items c.loop-closer.invariant.heads_length c.requires.rows
+keys c = some_key c.args.runs.now.list c.in_ok-rows.rows c.loop-closer.heads.items c.loop-closer.invariant.heads_length c.in_ok-rows.ensures.within
 
 marks_six : (c : After-row_known-1) → length c.loop-closer.marks.items ≡ length c.loop-closer.heads.items * 6
 marks_six c = let a = c.loop-closer.invariant.heads_length in let b = c.loop-closer.invariant.marks_length in omega arith

@@ -1,5 +1,5 @@
 use Rattle.std.proofs.Common.{◌<◌, ◌≤◌, length, arith}
-use Rattle.markdown_attention.proofs.ReadingLemmas.{reading-start, reading-more, reading-end, reading-first}
+use Rattle.markdown_attention.proofs.ReadingLemmas.{reading-start, reading-more, reading-end, reading-first, texts-end}
 use Rattle.markdown_attention.proofs.attention.reading.read.Goals as goal
 
 pub loop-index-init : goal.loop-index-init
@@ -20,4 +20,5 @@ returns c =
     record {
       is = reading-end c.args.tildes c.args.bytes.now c.args.events.now c.loop-index.index c.loop-index.list.items c.loop-index.place last c.loop-index.invariant;
       numbered = c.loop-index.invariant.numbered;
+      texts = texts-end c.args.tildes c.args.bytes.now c.args.events.now c.loop-index.index c.loop-index.list.items c.loop-index.place last c.loop-index.invariant;
     }

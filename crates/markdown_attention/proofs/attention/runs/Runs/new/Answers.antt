@@ -5,22 +5,34 @@ use Rattle.markdown_attention.proofs.ReadingLemmas.{all-read}
 use Rattle.std.proofs.Common.{arith}
 use Rattle.markdown_attention.proofs.attention.runs.Runs.new.Goals as goal
 
+pub invariant_of-result : goal.invariant_of-result
+invariant_of-result c =
+    let texts = c.in-Ok.ensures.texts in (
+      omega arith,
+      (
+        c.in-Ok.ensures.numbered,
+        λ i l.
+            let row =
+            (all-read c.args.tokenizer.now.parse_state.now.options.now.constructs.gfm_strikethrough c.args.tokenizer.now.parse_state.now.bytes.now c.args.tokenizer.now.events
+            c.in-Ok.found.list.items c.requires.places c.in-Ok.ensures.is i l).row in
+            omega (arith, row, texts),
+      ),
+    )
+
 pub returns-in-Ok-clause-whole : goal.returns-in-Ok-clause-whole
 returns-in-Ok-clause-whole c = λ i l.
     (all-read c.args.tokenizer.now.parse_state.now.options.now.constructs.gfm_strikethrough c.args.tokenizer.now.parse_state.now.bytes.now c.args.tokenizer.now.events
-    c.in-Ok.list.items c.requires.places c.in-Ok.ensures.is i l).whole
+    c.in-Ok.found.list.items c.requires.places c.in-Ok.ensures.is i l).whole
 
 pub returns-in-Ok-clause-markers : goal.returns-in-Ok-clause-markers
 returns-in-Ok-clause-markers c = λ i l.
     (all-read c.args.tokenizer.now.parse_state.now.options.now.constructs.gfm_strikethrough c.args.tokenizer.now.parse_state.now.bytes.now c.args.tokenizer.now.events
-    c.in-Ok.list.items c.requires.places c.in-Ok.ensures.is i l).marker
+    c.in-Ok.found.list.items c.requires.places c.in-Ok.ensures.is i l).marker
 
 pub returns-in-Ok-clause-containers : goal.returns-in-Ok-clause-containers
 returns-in-Ok-clause-containers c = λ i l.
-    let read = all-read c.args.tokenizer.now.parse_state.now.options.now.constructs.gfm_strikethrough c.args.tokenizer.now.parse_state.now.bytes.now c.args.tokenizer.now.events
-    c.in-Ok.list.items c.requires.places c.in-Ok.ensures.is i l in
-    let row = read.row in
-    omega (arith, row)
+    (all-read c.args.tokenizer.now.parse_state.now.options.now.constructs.gfm_strikethrough c.args.tokenizer.now.parse_state.now.bytes.now c.args.tokenizer.now.events
+    c.in-Ok.found.list.items c.requires.places c.in-Ok.ensures.is i l).row
 
 pub returns-in-Ok-clause-rows : goal.returns-in-Ok-clause-rows
 returns-in-Ok-clause-rows c = λ s t given has is.
