@@ -50,7 +50,7 @@ open_turn runs pairs turn up may some =
     open_from runs pairs turn (record {
       may_open = may;
       some_left = some;
-      unshut = not_shut_past turn (own runs pairs turn) (All-filter (λ p. eqb (row_of (run_at runs p.closer).container) (row_of (run_at runs turn).container)) (λ p. p.closer ≤ turn) pairs up);
+      unshut = not_shut_past turn (own runs pairs turn) (All-filter (λ p. eqb (row_of (run_at runs p.closer).text) (row_of (run_at runs turn).text)) (λ p. p.closer ≤ turn) pairs up);
     })
 
 -- the test on two runs as they stand
@@ -110,7 +110,7 @@ module _ (options : ParseOptions) (runs list : List Sequence) (turn : ℕ) (pair
 
   -- the end of a turn, with the marks as they are then
   pub next_with : (probes' : ℕ) (heads' marks' : List ℕ) → probes ≤ probes' → probes' ≤ probes + turn
-      → ((o : ℕ) → Eligible options runs (row_of (run_at runs turn).container) (own runs pairs turn) o turn → ⊥)
+      → ((o : ℕ) → Eligible options runs (row_of (run_at runs turn).text) (own runs pairs turn) o turn → ⊥)
       → length heads' ≡ length heads
       → ((i : ℕ) → i < length heads → (i ≡ k → ⊥) → get_or heads' i 0 ≡ get_or heads i 0)
       → (is_open runs pairs turn ≡ true → get_or heads' k 0 ≡ turn + 1)
@@ -287,13 +287,13 @@ module _ (options : ParseOptions) (runs list : List Sequence) (turn : ℕ) (pair
     some_left : 0 < left runs (own runs pairs turn) turn
     some_left = subst (λ x. 0 < x.remaining) (h.stands.stands turn here) some
 
-    eligible : Eligible options runs (row_of (run_at runs turn).container) (own runs pairs turn) o turn
+    eligible : Eligible options runs (row_of (run_at runs turn).text) (own runs pairs turn) o turn
     eligible =
         let before : o < turn = found.before in
         eligible_open options runs pairs o turn by before here found.listed found.is_open closes some_left
         (sym (standing_fit options runs list pairs o turn h.stands (omega arith) here) ∙ walk.fit)
 
-    is_next : IsNext options runs (row_of (run_at runs turn).container) (own runs pairs turn) turn q
+    is_next : IsNext options runs (row_of (run_at runs turn).text) (own runs pairs turn) turn q
     is_next =
         let before : o < turn = found.before in
         let c_is : run_at list turn ≡ standing runs pairs turn = h.stands.stands turn here in
@@ -320,12 +320,12 @@ module _ (options : ParseOptions) (runs list : List Sequence) (turn : ℕ) (pair
         fits_size (run_at list o).remaining (run_at list turn).remaining size a some is_size
 
     abbrev container : ℕ
-    container = (row_of (run_at runs turn).container)
+    container = (row_of (run_at runs turn).text)
 
-    in_container : (r i : ℕ) → list_of runs r ≡ i → container * 3 ≤ i → i < container * 3 + 3 → (row_of (run_at runs r).container) ≡ container
+    in_container : (r i : ℕ) → list_of runs r ≡ i → container * 3 ≤ i → i < container * 3 + 3 → (row_of (run_at runs r).text) ≡ container
     in_container r i e low high = let z = kinds (run_at runs r).marker in omega arith
 
-    not_in_container : (r i : ℕ) → list_of runs r ≡ i → (i < container * 3) ⊎ (container * 3 + 3 ≤ i) → (row_of (run_at runs r).container) ≡ container → ⊥
+    not_in_container : (r i : ℕ) → list_of runs r ≡ i → (i < container * 3) ⊎ (container * 3 + 3 ≤ i) → (row_of (run_at runs r).text) ≡ container → ⊥
     not_in_container r i e far c = let z = kinds (run_at runs r).marker in
         elim far [ inl below ↦ omega arith | inr above ↦ omega arith ]
 
@@ -340,7 +340,7 @@ module _ (options : ParseOptions) (runs list : List Sequence) (turn : ℕ) (pair
         → Inv options runs (after_taking list o turn size) turn (pairs ++ q ∷ []) (probes + looks) heads' older marks'
     inv_pair heads' marks' up same_length far cut cut_own used low_same high_same same_list =
         let before : o < turn = found.before in
-        let one : (row_of (run_at runs o).container) ≡ container = eligible.opener_in in
+        let one : (row_of (run_at runs o).text) ≡ container = eligible.opener_in in
         let n = length_push pairs q in
         let f = taking_fits in
         let fits : turn < length list = (let e' = h.stands.same_length in omega arith) in

@@ -178,14 +178,14 @@ module _ (s : Setting) (runs : List Sequence) (k : ℕ) (rs : List Run) (shapes 
 
   record Member (i : ℕ) : Type 0 where
     pub within : i < length runs
-    pub inside : row_of (run_at runs i).container ≡ k
+    pub inside : row_of (run_at runs i).text ≡ k
 
   record Both (p : Pair) : Type 0 where
     pub opener : Member p.opener
     pub closer : Member p.closer
 
   in-row : (i : ℕ) → Member i → is_in k (run_at runs i) ≡ true
-  in-row i a = eq-eqb (row_of (run_at runs i).container) k a.inside
+  in-row i a = eq-eqb (row_of (run_at runs i).text) k a.inside
 
   at-place : (i : ℕ) → Member i → Placed k runs i
   at-place i a = place k runs i a.within (in-row i a)
@@ -326,7 +326,7 @@ module _ (s : Setting) (runs : List Sequence) (k : ℕ) (rs : List Run) (shapes 
   source : (j : ℕ) → j < length rs → Source j
   source j l =
       let x = find k runs j (subst (λ n. j < n) (same-length rs (runs_in k runs) shapes) l) in
-      record { run = x.run; member = record { within = x.within; inside = eqb-true (row_of (run_at runs x.run).container) k x.inside }; is = x.is }
+      record { run = x.run; member = record { within = x.within; inside = eqb-true (row_of (run_at runs x.run).text) k x.inside }; is = x.is }
 
   record Back (done : List Pair) (o c : ℕ) : Type 0 where
     pub opener : Source o

@@ -33,7 +33,7 @@ pub by-marker : (runs : List Sequence) → HaveMarkers runs → ListsByMarker ru
 by-marker runs h i j l l' e = kind-decides (run_at runs i).marker (run_at runs j).marker (h i l) (h j l') e
 
 abbrev pub own : List Sequence → List Pair → ℕ → List Pair
-own runs pairs r = pairs_in runs (row_of (run_at runs r).container) pairs
+own runs pairs r = pairs_in runs (row_of (run_at runs r).text) pairs
 
 pub record Open (runs : List Sequence) (pairs : List Pair) (r : ℕ) : Type 0 where
   pub may_open : IsTrue (run_at runs r).may_open
@@ -63,7 +63,7 @@ kinds m =
       | inr a ↦ elim (cases_Bool (eqb m 95)) [ inl b ↦ rw (a, b) (omega arith) | inr b ↦ rw (a, b) (omega arith) ]
     ]
 
-pub same_container : (a b : Sequence) → key_of a ≡ key_of b → (row_of a.container) ≡ (row_of b.container)
+pub same_container : (a b : Sequence) → key_of a ≡ key_of b → (row_of a.text) ≡ (row_of b.text)
 same_container a b e = let k = kinds a.marker in let k' = kinds b.marker in omega arith
 
 same_kind : (a b : Sequence) → key_of a ≡ key_of b → kind_of a.marker ≡ kind_of b.marker
@@ -73,17 +73,17 @@ pub same_marker : (runs : List Sequence) (i j : ℕ) → ListsByMarker runs → 
     → key_of (run_at runs i) ≡ key_of (run_at runs j) → (run_at runs i).marker ≡ (run_at runs j).marker
 same_marker runs i j by l l' e = by i j l l' (same_kind (run_at runs i) (run_at runs j) e)
 
-pub same_key : (a b : Sequence) → (row_of a.container) ≡ (row_of b.container) → a.marker ≡ b.marker → key_of a ≡ key_of b
+pub same_key : (a b : Sequence) → (row_of a.text) ≡ (row_of b.text) → a.marker ≡ b.marker → key_of a ≡ key_of b
 same_key a b c m = rw (c, m) refl
 
 -- an open run of the closer's list that fits is eligible, and no other is
 pub eligible_open : (options : ParseOptions) (runs : List Sequence) (pairs : List Pair) (o c : ℕ) → ListsByMarker runs → o < c → c < length runs
     → key_of (run_at runs o) ≡ key_of (run_at runs c) → is_open runs pairs o ≡ true → IsTrue (run_at runs c).may_close → 0 < left runs (own runs pairs c) c
     → sizes_fit options (run_at runs o) (run_at runs c) (left runs (own runs pairs o) o) (left runs (own runs pairs c) c) ≡ true
-    → Eligible options runs (row_of (run_at runs c).container) (own runs pairs c) o c
+    → Eligible options runs (row_of (run_at runs c).text) (own runs pairs c) o c
 eligible_open options runs pairs o c by below inside key e closes some fit =
     let p = open_parts runs pairs o e in
-    let one : (row_of (run_at runs o).container) ≡ (row_of (run_at runs c).container) = same_container (run_at runs o) (run_at runs c) key in
+    let one : (row_of (run_at runs o).text) ≡ (row_of (run_at runs c).text) = same_container (run_at runs o) (run_at runs c) key in
     let same : own runs pairs o ≡ own runs pairs c = ap (λ k. pairs_in runs k pairs) one in
     record {
       before = below;
@@ -105,7 +105,7 @@ pub record OpenFit (options : ParseOptions) (runs : List Sequence) (pairs : List
   pub fit : sizes_fit options (run_at runs o) (run_at runs c) (left runs (own runs pairs o) o) (left runs (own runs pairs c) c) ≡ true
 
 pub open_eligible : (options : ParseOptions) (runs : List Sequence) (pairs : List Pair) (o c : ℕ)
-    → Eligible options runs (row_of (run_at runs c).container) (own runs pairs c) o c → OpenFit options runs pairs o c
+    → Eligible options runs (row_of (run_at runs c).text) (own runs pairs c) o c → OpenFit options runs pairs o c
 open_eligible options runs pairs o c e =
     let same : own runs pairs o ≡ own runs pairs c = ap (λ k. pairs_in runs k pairs) e.opener_in in
     record {
@@ -120,19 +120,19 @@ open_eligible options runs pairs o c e =
 
 -- what a pair changes
 module _ (runs : List Sequence) (turn : ℕ) (pairs : List Pair) (q : Pair) (at : q.closer ≡ turn) (below : q.opener < turn)
-    (one : (row_of (run_at runs q.opener).container) ≡ (row_of (run_at runs turn).container)) where
+    (one : (row_of (run_at runs q.opener).text) ≡ (row_of (run_at runs turn).text)) where
   abbrev pairs' : List Pair
   pairs' = pairs ++ q ∷ []
 
-  apart_same : (r : ℕ) → ((row_of (run_at runs r).container) ≡ (row_of (run_at runs turn).container) → ⊥) → own runs pairs' r ≡ own runs pairs r
-  apart_same r ne = in_other runs (row_of (run_at runs r).container) pairs q (λ e. ne (sym e ∙ ap (λ x. (row_of (run_at runs x).container)) at))
+  apart_same : (r : ℕ) → ((row_of (run_at runs r).text) ≡ (row_of (run_at runs turn).text) → ⊥) → own runs pairs' r ≡ own runs pairs r
+  apart_same r ne = in_other runs (row_of (run_at runs r).text) pairs q (λ e. ne (sym e ∙ ap (λ x. (row_of (run_at runs x).text)) at))
 
-  own_more : (r : ℕ) → (row_of (run_at runs r).container) ≡ (row_of (run_at runs turn).container) → own runs pairs' r ≡ own runs pairs r ++ q ∷ []
-  own_more r e = in_own runs (row_of (run_at runs r).container) pairs q (ap (λ x. (row_of (run_at runs x).container)) at ∙ sym e)
+  own_more : (r : ℕ) → (row_of (run_at runs r).text) ≡ (row_of (run_at runs turn).text) → own runs pairs' r ≡ own runs pairs r ++ q ∷ []
+  own_more r e = in_own runs (row_of (run_at runs r).text) pairs q (ap (λ x. (row_of (run_at runs x).text)) at ∙ sym e)
 
   pub left_kept : (r : ℕ) → (r ≡ q.opener → ⊥) → (r ≡ turn → ⊥) → left runs (own runs pairs' r) r ≡ left runs (own runs pairs r) r
   left_kept r a b =
-      elim (cases_eq (row_of (run_at runs r).container) (row_of (run_at runs turn).container)) [
+      elim (cases_eq (row_of (run_at runs r).text) (row_of (run_at runs turn).text)) [
         | inr ne ↦ ap (λ x. left runs x r) (apart_same r ne)
         | inl e ↦
             let t : taken (own runs pairs' r) r ≡ taken (own runs pairs r) r + 0 =
@@ -143,7 +143,7 @@ module _ (runs : List Sequence) (turn : ℕ) (pairs : List Pair) (q : Pair) (at 
 
   left_less : (r : ℕ) → left runs (own runs pairs' r) r ≤ left runs (own runs pairs r) r
   left_less r =
-      elim (cases_eq (row_of (run_at runs r).container) (row_of (run_at runs turn).container)) [
+      elim (cases_eq (row_of (run_at runs r).text) (row_of (run_at runs turn).text)) [
         | inr ne ↦ (let e = ap (λ x. left runs x r) (apart_same r ne) in omega arith)
         | inl e ↦
             let t : taken (own runs pairs' r) r ≡ taken (own runs pairs r) r + takes r q =
@@ -153,10 +153,10 @@ module _ (runs : List Sequence) (turn : ℕ) (pairs : List Pair) (q : Pair) (at 
 
   -- a run that is still open was, and in the pair's container it is not past the opener
   pub still_open : (r : ℕ) → r < turn → is_open runs pairs' r ≡ true
-      → (is_open runs pairs r ≡ true) × ((row_of (run_at runs r).container) ≡ (row_of (run_at runs turn).container) → r ≤ q.opener)
+      → (is_open runs pairs r ≡ true) × ((row_of (run_at runs r).text) ≡ (row_of (run_at runs turn).text) → r ≤ q.opener)
   still_open r l e =
       let p = open_parts runs pairs' r e in
-      elim (cases_eq (row_of (run_at runs r).container) (row_of (run_at runs turn).container)) [
+      elim (cases_eq (row_of (run_at runs r).text) (row_of (run_at runs turn).text)) [
         | inr ne ↦ (
           open_from runs pairs r (record {
             may_open = p.may_open;
@@ -183,10 +183,10 @@ module _ (runs : List Sequence) (turn : ℕ) (pairs : List Pair) (q : Pair) (at 
 
   -- an open run stays open in another container, or up to the opener while markers are left
   pub stays_open : (r : ℕ) → r < turn → is_open runs pairs r ≡ true
-      → ((row_of (run_at runs r).container) ≡ (row_of (run_at runs turn).container) → r ≤ q.opener) → 0 < left runs (own runs pairs' r) r → is_open runs pairs' r ≡ true
+      → ((row_of (run_at runs r).text) ≡ (row_of (run_at runs turn).text) → r ≤ q.opener) → 0 < left runs (own runs pairs' r) r → is_open runs pairs' r ≡ true
   stays_open r l e low some =
       let p = open_parts runs pairs r e in
-      elim (cases_eq (row_of (run_at runs r).container) (row_of (run_at runs turn).container)) [
+      elim (cases_eq (row_of (run_at runs r).text) (row_of (run_at runs turn).text)) [
         | inr ne ↦ open_from runs pairs' r (record {
           may_open = p.may_open;
           some_left = some;
@@ -201,7 +201,7 @@ module _ (runs : List Sequence) (turn : ℕ) (pairs : List Pair) (q : Pair) (at 
             })
       ]
 
-  lowered : (list : List Sequence) → Stands runs list pairs → (i : ℕ) → i < length runs → (row_of (run_at runs i).container) ≡ (row_of (run_at runs turn).container)
+  lowered : (list : List Sequence) → Stands runs list pairs → (i : ℕ) → i < length runs → (row_of (run_at runs i).text) ≡ (row_of (run_at runs turn).text)
       → takes i q ≡ q.size → lower (run_at list i) q.size ≡ standing runs pairs' i
   lowered list h i inside mine took =
       let more : taken (own runs pairs' i) i ≡ taken (own runs pairs i) i + q.size =
@@ -236,7 +236,7 @@ module _ (runs : List Sequence) (turn : ℕ) (pairs : List Pair) (q : Pair) (at 
 
   -- the lists after a pair: its container's are cut behind the opener, and a used-up opener leaves its own
   pub newest_other : (k h : ℕ) → Newest (list_of runs) (is_open runs pairs) k turn h
-      → ((r : ℕ) → r < turn → key_of (run_at runs r) ≡ k → (row_of (run_at runs r).container) ≡ (row_of (run_at runs turn).container) → ⊥)
+      → ((r : ℕ) → r < turn → key_of (run_at runs r) ≡ k → (row_of (run_at runs r).text) ≡ (row_of (run_at runs turn).text) → ⊥)
       → Newest (list_of runs) (is_open runs pairs') k turn h
   newest_other k h n apart =
       record {
@@ -254,7 +254,7 @@ module _ (runs : List Sequence) (turn : ℕ) (pairs : List Pair) (q : Pair) (at 
       }
 
   pub newest_cut : (k h : ℕ) → Newest (list_of runs) (is_open runs pairs) k (q.opener + 1) h
-      → ((r : ℕ) → r < turn → key_of (run_at runs r) ≡ k → (row_of (run_at runs r).container) ≡ (row_of (run_at runs turn).container))
+      → ((r : ℕ) → r < turn → key_of (run_at runs r) ≡ k → (row_of (run_at runs r).text) ≡ (row_of (run_at runs turn).text))
       → (h ≡ q.opener + 1 → 0 < left runs (own runs pairs' q.opener) q.opener)
       → Newest (list_of runs) (is_open runs pairs') k turn h
   newest_cut k h n in_it opener_left =
@@ -279,7 +279,7 @@ module _ (runs : List Sequence) (turn : ℕ) (pairs : List Pair) (q : Pair) (at 
       }
 
   pub newest_used : (k h : ℕ) → Newest (list_of runs) (is_open runs pairs) k q.opener h
-      → ((r : ℕ) → r < turn → key_of (run_at runs r) ≡ k → (row_of (run_at runs r).container) ≡ (row_of (run_at runs turn).container))
+      → ((r : ℕ) → r < turn → key_of (run_at runs r) ≡ k → (row_of (run_at runs r).text) ≡ (row_of (run_at runs turn).text))
       → left runs (own runs pairs' q.opener) q.opener ≡ 0
       → Newest (list_of runs) (is_open runs pairs') k turn h
   newest_used k h n in_it none =
@@ -314,8 +314,8 @@ module _ (runs : List Sequence) (turn : ℕ) (pairs : List Pair) (q : Pair) (at 
             let w = n.within some in
             let o = n.is_open some in
             let up = (still_open r l e).1 in
-            let same : row_of (run_at runs (h - 1)).container ≡ row_of (run_at runs r).container = same_container (run_at runs (h - 1)) (run_at runs r) (n.listed some) in
-            elim (cases_eq (row_of (run_at runs r).container) (row_of (run_at runs turn).container)) [
+            let same : row_of (run_at runs (h - 1)).text ≡ row_of (run_at runs r).text = same_container (run_at runs (h - 1)) (run_at runs r) (n.listed some) in
+            elim (cases_eq (row_of (run_at runs r).text) (row_of (run_at runs turn).text)) [
               | inl mine ↦
                   let u = up mine in
                   stays_open (h - 1) (omega arith) o (λ c. omega arith)

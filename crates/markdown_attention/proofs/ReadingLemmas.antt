@@ -1,5 +1,5 @@
 -- The runs of a list of events, event by event.
-use Rattle.std.proofs.Common.{cond, ◌≡◌, ℕ, zero, suc, ◌+◌, ◌<◌, ◌≤◌, ◌&&◌, Bool, true, false, List, [], ◌∷◌, ◌++◌, length, drop, get_or, Option, refl, sym, ap, subst, ◌∙◌, arith, add-one, append_assoc, append-nil, length-append, inl, inr}
+use Rattle.std.proofs.Common.{cond, ◌≡◌, ℕ, zero, suc, ◌+◌, ◌<◌, ◌≤◌, ◌&&◌, Bool, true, false, List, [], ◌∷◌, ◌++◌, length, drop, get_or, refl, sym, ap, subst, ◌∙◌, arith, add-one, append_assoc, append-nil, length-append, inl, inr}
 use Rattle.std.proofs.lemmas.Bool.{cases_Bool, cases_lt}
 use Rattle.std.proofs.lemmas.List.{drop_more, get_or_append_left, get_or_push}
 use Rattle.std.proofs.lemmas.List.{length-drop}
@@ -11,7 +11,7 @@ use Rattle.markdown_engine.specs.Lists.{rest_of}
 use Rattle.markdown_attention.specs.Open.{IsMarker}
 use Rattle.markdown_engine.specs.declared.event.Event.{Event}
 use Rattle.markdown_attention.specs.Pairs.{row_of, run_at, no_run}
-use Rattle.markdown_attention.specs.Reading.{is_text, is_enter, left_to, opens_run, opens_text, sequence_at, into_text, out_of_text, where_after, outermost, first_run, runs_from, IsRunPlace, EndsRun, FirstHasPlaces, HaveRunPlaces}
+use Rattle.markdown_attention.specs.Reading.{Container, row_around, is_text, is_enter, left_to, opens_run, opens_text, sequence_at, into_text, out_of_text, where_after, outermost, first_run, runs_from, IsRunPlace, EndsRun, FirstHasPlaces, HaveRunPlaces}
 use Rattle.markdown_attention.specs.Walk.{Numbered}
 use Rattle.markdown_attention.specs.declared.attention.reading.Where.{Where}
 use Rattle.markdown_attention.specs.declared.attention.runs.Sequence.{Sequence}
@@ -37,16 +37,16 @@ module _ (bytes : List ℕ) (events : List Event) (i : ℕ) (e : Event) (l : i <
     pub exit-place : IsRunPlace bytes e.point x.point
     exit-place = subst (EndsRun bytes e) (first-event events (i + 1) x exit-within k) behind
 
-    pub run-found : (tildes : Bool) (n : ℕ) (c : Option ℕ) → first_run tildes bytes n i c (drop i events) ≡ sequence_at tildes bytes n i c e.point x.point ∷ []
+    pub run-found : (tildes : Bool) (n : ℕ) (c : Container) → first_run tildes bytes n i c (drop i events) ≡ sequence_at tildes bytes n i c e.point x.point ∷ []
     run-found tildes n c =
         ap (first_run tildes bytes n i c) (first-event events i e l h ∙ ap (λ es. e ∷ es) (first-event events (i + 1) x exit-within k))
         ∙ rw opens refl
 
-none-first : (tildes : Bool) (bytes : List ℕ) (n i : ℕ) (c : Option ℕ) (e : Event) (es : List Event) → opens_run e ≡ false → first_run tildes bytes n i c (e ∷ es) ≡ []
+none-first : (tildes : Bool) (bytes : List ℕ) (n i : ℕ) (c : Container) (e : Event) (es : List Event) → opens_run e ≡ false → first_run tildes bytes n i c (e ∷ es) ≡ []
 none-first tildes bytes n i c e [] h = refl
 none-first tildes bytes n i c e (x ∷ es) h = rw h refl
 
-pub run-none : (tildes : Bool) (bytes : List ℕ) (n i : ℕ) (c : Option ℕ) (events : List Event) (e : Event) → i < length events → e ≡ get_or events i e → opens_run e ≡ false
+pub run-none : (tildes : Bool) (bytes : List ℕ) (n i : ℕ) (c : Container) (events : List Event) (e : Event) → i < length events → e ≡ get_or events i e → opens_run e ≡ false
     → first_run tildes bytes n i c (drop i events) ≡ []
 run-none tildes bytes n i c events e l h off = ap (first_run tildes bytes n i c) (first-event events i e l h) ∙ none-first tildes bytes n i c e (drop (i + 1) events) off
 
@@ -57,10 +57,10 @@ as_opened e = cond (opens_text e) 1 0
 texts-more : (e : Event) (es : List Event) → count_by opens_text (e ∷ es) ≡ as_opened e + count_by opens_text es
 texts-more e es = sum_by-cons as_opened e es
 
-texts-after : (e : Event) (w : Where) → (where_after e w).texts ≡ w.texts + as_opened e
-texts-after e w = by_test (is_text e.name) (is_enter e.kind)
+texts-after : (i : ℕ) (e : Event) (w : Where) → (where_after i e w).texts ≡ w.texts + as_opened e
+texts-after i e w = by_test (is_text e.name) (is_enter e.kind)
   where
-    by_test : (t b : Bool) → (cond t (cond b (into_text w) (out_of_text w)) w).texts ≡ w.texts + cond (b && t) 1 0
+    by_test : (t b : Bool) → (cond t (cond b (into_text i w) (out_of_text w)) w).texts ≡ w.texts + cond (b && t) 1 0
     by_test true true = refl
     by_test true false = omega arith
     by_test false true = omega arith
@@ -90,7 +90,7 @@ numbered-one list r h e i l =
           ap (λ j. (run_at (list ++ r ∷ []) j).number) at ∙ ap (λ (x : Sequence). x.number) (get_or_push list r no_run (length list) refl) ∙ e ∙ sym at
     ]
 
-numbered-more : (tildes : Bool) (bytes : List ℕ) (i : ℕ) (c : Option ℕ) (list : List Sequence) (es : List Event) → Numbered list
+numbered-more : (tildes : Bool) (bytes : List ℕ) (i : ℕ) (c : Container) (list : List Sequence) (es : List Event) → Numbered list
     → Numbered (list ++ first_run tildes bytes (length list) i c es)
 numbered-more tildes bytes i c list [] h = subst Numbered (sym (append-nil list)) h
 numbered-more tildes bytes i c list (e ∷ []) h = subst Numbered (sym (append-nil list)) h
@@ -101,7 +101,7 @@ numbered-more tildes bytes i c list (e ∷ x ∷ es) h =
     ]
 
 pub reading-more : (tildes : Bool) (bytes : List ℕ) (events : List Event) (i : ℕ) (list list' : List Sequence) (w w' : Where) (e : Event)
-    → i < length events → e ≡ get_or events i e → list' ≡ list ++ first_run tildes bytes (length list) i w.container (drop i events) → w' ≡ where_after e w
+    → i < length events → e ≡ get_or events i e → list' ≡ list ++ first_run tildes bytes (length list) i w.container (drop i events) → w' ≡ where_after i e w
     → Reading tildes bytes events i list w → Reading tildes bytes events (i + 1) list' w'
 reading-more tildes bytes events i list list' w w' e l h lists wheres r =
     let first : List Sequence = first_run tildes bytes (length list) i w.container (drop i events) in
@@ -111,9 +111,9 @@ reading-more tildes bytes events i list list' w w' e l h lists wheres r =
     let size : length list' ≡ length list + length first = ap length lists ∙ length-append list first in
     let rest : runs_from tildes bytes (length list) i w (drop i events) ≡ first ++ runs_from tildes bytes (length list') (i + 1) w' es =
     ap (runs_from tildes bytes (length list) i w) split
-    ∙ ap (λ (f : List Sequence). f ++ runs_from tildes bytes (length list + length f) (suc i) (where_after e w) es) (sym head)
+    ∙ ap (λ (f : List Sequence). f ++ runs_from tildes bytes (length list + length f) (suc i) (where_after i e w) es) (sym head)
     ∙ (λ z. first ++ runs_from tildes bytes (sym size z) (sym (add-one i) z) (sym wheres z) es) in
-    let more : w'.texts ≡ w.texts + as_opened e = ap (λ (x : Where). x.texts) wheres ∙ texts-after e w in
+    let more : w'.texts ≡ w.texts + as_opened e = ap (λ (x : Where). x.texts) wheres ∙ texts-after i e w in
     let front : count_by opens_text (drop i events) ≡ as_opened e + count_by opens_text es = ap (λ xs. count_by opens_text xs) split ∙ texts-more e es in
     let counted = r.counted in
     let few = r.few in
@@ -152,30 +152,30 @@ texts-end tildes bytes events i list w l r =
 pub record IsRead (high : ℕ) (r : Sequence) : Type 0 where
   pub whole : r.remaining ≡ r.size
   pub marker : IsMarker r.marker
-  pub row : row_of r.container ≤ high
+  pub row : row_of r.text ≤ high
 
 -- containers that are no later
 pub record AreBefore (high : ℕ) (w : Where) : Type 0 where
-  pub container : row_of w.container ≤ high
-  pub outer : All (λ k. row_of k ≤ high) w.outer
+  pub container : row_around w.container ≤ high
+  pub outer : All (λ k. row_around k ≤ high) w.outer
 
-left-before : (high : ℕ) (ks : List (Option ℕ)) → All (λ k. row_of k ≤ high) ks → row_of (left_to ks) ≤ high
+left-before : (high : ℕ) (ks : List Container) → All (λ k. row_around k ≤ high) ks → row_around (left_to ks) ≤ high
 left-before high [] h = omega arith
-left-before high (k ∷ ks) h = All-head (λ k. row_of k ≤ high) k ks h
+left-before high (k ∷ ks) h = All-head (λ k. row_around k ≤ high) k ks h
 
-rest-before : (high : ℕ) (ks : List (Option ℕ)) → All (λ k. row_of k ≤ high) ks → All (λ k. row_of k ≤ high) (rest_of ks)
+rest-before : (high : ℕ) (ks : List Container) → All (λ k. row_around k ≤ high) ks → All (λ k. row_around k ≤ high) (rest_of ks)
 rest-before high [] h = h
-rest-before high (k ∷ ks) h = All-tail (λ k. row_of k ≤ high) k ks h
+rest-before high (k ∷ ks) h = All-tail (λ k. row_around k ≤ high) k ks h
 
-before-after : (high : ℕ) (e : Event) (w : Where) → w.texts + as_opened e ≤ high → AreBefore high w → AreBefore high (where_after e w)
-before-after high e w = by_test (is_text e.name) (is_enter e.kind)
+before-after : (high i : ℕ) (e : Event) (w : Where) → w.texts + as_opened e ≤ high → AreBefore high w → AreBefore high (where_after i e w)
+before-after high i e w = by_test (is_text e.name) (is_enter e.kind)
   where
-    by_test : (t b : Bool) → w.texts + cond (b && t) 1 0 ≤ high → AreBefore high w → AreBefore high (cond t (cond b (into_text w) (out_of_text w)) w)
-    by_test true true l h = record { container = l; outer = All-cons (λ k. row_of k ≤ high) w.container w.outer h.container h.outer }
+    by_test : (t b : Bool) → w.texts + cond (b && t) 1 0 ≤ high → AreBefore high w → AreBefore high (cond t (cond b (into_text i w) (out_of_text w)) w)
+    by_test true true l h = record { container = l; outer = All-cons (λ k. row_around k ≤ high) w.container w.outer h.container h.outer }
     by_test true false l h = record { container = left-before high w.outer h.outer; outer = rest-before high w.outer h.outer }
     by_test false b l h = h
 
-first-read : (tildes : Bool) (bytes : List ℕ) (high n i : ℕ) (k : Option ℕ) (es : List Event) → FirstHasPlaces bytes es → row_of k ≤ high
+first-read : (tildes : Bool) (bytes : List ℕ) (high n i : ℕ) (k : Container) (es : List Event) → FirstHasPlaces bytes es → row_around k ≤ high
     → All (IsRead high) (first_run tildes bytes n i k es)
 first-read tildes bytes high n i k [] h l = All-nil (IsRead high)
 first-read tildes bytes high n i k (e ∷ []) h l = All-nil (IsRead high)
@@ -191,9 +191,9 @@ are-read tildes bytes high [] n i w h l b = All-nil (IsRead high)
 are-read tildes bytes high (e ∷ es) n i w h l b =
     let first : List Sequence = first_run tildes bytes n i w.container (e ∷ es) in
     let more = texts-more e es in
-    All-append (IsRead high) first (runs_from tildes bytes (n + length first) (suc i) (where_after e w) es)
+    All-append (IsRead high) first (runs_from tildes bytes (n + length first) (suc i) (where_after i e w) es)
     (first-read tildes bytes high n i w.container (e ∷ es) h.0 b.container)
-    (are-read tildes bytes high es (n + length first) (suc i) (where_after e w) h.1 (omega (arith, l, more, texts-after e w)) (before-after high e w (omega (arith, l, more)) b))
+    (are-read tildes bytes high es (n + length first) (suc i) (where_after i e w) h.1 (omega (arith, l, more, texts-after i e w)) (before-after high i e w (omega (arith, l, more)) b))
 
 -- of all runs
 pub all-read : (tildes : Bool) (bytes : List ℕ) (es : List Event) (list : List Sequence) → HaveRunPlaces bytes es → list ≡ runs_from tildes bytes 0 0 outermost es
@@ -202,5 +202,5 @@ all-read tildes bytes es list h e i l =
     let high : ℕ = count_by opens_text es in
     let read : All (IsRead high) list =
     subst (All (IsRead high)) (sym e)
-    (are-read tildes bytes high es 0 0 outermost h (omega arith) (record { container = omega arith; outer = All-nil (λ k. row_of k ≤ high) })) in
+    (are-read tildes bytes high es 0 0 outermost h (omega arith) (record { container = omega arith; outer = All-nil (λ k. row_around k ≤ high) })) in
     read i no_run l

@@ -21,8 +21,7 @@ use Rattle.markdown_util.specs.Neighbours.{class_of, before_index, after_index}
 use Rattle.markdown_engine.specs.declared.event.Content.{Content}
 use Rattle.markdown_model.specs.Setting.{Setting}
 use Rattle.markdown_attention.specs.Containers.{whole_shape, is_in, runs_in}
-use Rattle.markdown_attention.specs.Pairs.{row_of}
-use Rattle.markdown_attention.specs.Reading.{outermost, is_run, is_text, opens_run, is_beside_marker, is_flanking, may_act, sequence_at, where_after, first_run, runs_from}
+use Rattle.markdown_attention.specs.Reading.{Container, row_around, outermost, is_run, is_text, opens_run, is_beside_marker, is_flanking, may_act, sequence_at, where_after, first_run, runs_from}
 use Rattle.markdown_attention.specs.Rows.{HasRows, leaf_run, inner, as_text, text_count, tree_runs, texts_of, IsRun, has_run, HasRuns}
 use Rattle.markdown_attention.specs.declared.attention.reading.Where.{Where}
 use Rattle.markdown_attention.specs.declared.attention.runs.Sequence.{Sequence}
@@ -34,17 +33,17 @@ module _ (tildes : Bool) (bytes : List ℕ) where
   from n i w es = runs_from tildes bytes n i w es
 
   -- an event that begins no run
-  no-first : (n i : ℕ) (k : Option ℕ) (e : Event) (es : List Event) → opens_run e ≡ false → first_run tildes bytes n i k (e ∷ es) ≡ []
+  no-first : (n i : ℕ) (k : Container) (e : Event) (es : List Event) → opens_run e ≡ false → first_run tildes bytes n i k (e ∷ es) ≡ []
   no-first n i k e [] h = refl
   no-first n i k e (x ∷ es) h = rw h refl
 
-  passes : (n i : ℕ) (w : Where) (e : Event) (es : List Event) → opens_run e ≡ false → from n i w (e ∷ es) ≡ from n (i + 1) (where_after e w) es
+  passes : (n i : ℕ) (w : Where) (e : Event) (es : List Event) → opens_run e ≡ false → from n i w (e ∷ es) ≡ from n (i + 1) (where_after i e w) es
   passes n i w e es h =
-      ap (λ (f : List Sequence). f ++ from (n + length f) (suc i) (where_after e w) es) (no-first n i w.container e es h)
-      ∙ (let a : n + 0 ≡ n = omega arith in let b : suc i ≡ i + 1 = omega arith in λ z. from (a z) (b z) (where_after e w) es)
+      ap (λ (f : List Sequence). f ++ from (n + length f) (suc i) (where_after i e w) es) (no-first n i w.container e es h)
+      ∙ (let a : n + 0 ≡ n = omega arith in let b : suc i ≡ i + 1 = omega arith in λ z. from (a z) (b z) (where_after i e w) es)
 
-  stays : (e : Event) (w : Where) → is_text e.name ≡ false → where_after e w ≡ w
-  stays e w h = rw h refl
+  stays : (i : ℕ) (e : Event) (w : Where) → is_text e.name ≡ false → where_after i e w ≡ w
+  stays i e w h = rw h refl
 
   leaf-runs : (n i : ℕ) (w : Where) (name : Name) (p q : Point) (link : Option Link) (es : List Event) → is_text name ≡ false
       → from n i w (record { kind = Kind.Enter; name = name; point = p; link = link } ∷ event Kind.Exit name q ∷ es)
@@ -54,9 +53,9 @@ module _ (tildes : Bool) (bytes : List ℕ) where
       let x : Event = event Kind.Exit name q in
       let here : List Sequence = leaf_run tildes bytes n i w.container name p q in
       let m : ℕ = n + length here in
-      let next : from m (suc i) (where_after e w) (x ∷ es) ≡ from m (i + 2) w es =
-      ap (λ v. from m (suc i) v (x ∷ es)) (stays e w h) ∙ passes m (suc i) w x es refl
-      ∙ (let b : suc i + 1 ≡ i + 2 = omega arith in λ z. from m (b z) (stays x w h z) es) in
+      let next : from m (suc i) (where_after i e w) (x ∷ es) ≡ from m (i + 2) w es =
+      ap (λ v. from m (suc i) v (x ∷ es)) (stays i e w h) ∙ passes m (suc i) w x es refl
+      ∙ (let b : suc i + 1 ≡ i + 2 = omega arith in λ z. from m (b z) (stays (suc i) x w h z) es) in
       ap (λ xs. here ++ xs) next
 
   -- with so many texts begun
@@ -70,14 +69,14 @@ module _ (tildes : Bool) (bytes : List ℕ) where
       let size : n + length here + length more ≡ n + length (here ++ more) = (let x = length-append here more in omega arith) in
       sym (append_assoc here more _) ∙ (λ z. (here ++ more) ++ from (size z) (e z) (counted (u z) w) es)
 
-  within-is : (name : Name) (p : Point) (w : Where) → (where_after (event Kind.Enter name p) w).container ≡ inner w.texts w.container name
-  within-is name p w = elim (cases_Bool (is_text name)) [ inl t ↦ rw t refl | inr f ↦ rw f refl ]
+  within-is : (i : ℕ) (name : Name) (p : Point) (w : Where) → (where_after i (event Kind.Enter name p) w).container ≡ inner i w.texts w.container name
+  within-is i name p w = elim (cases_Bool (is_text name)) [ inl t ↦ rw t refl | inr f ↦ rw f refl ]
 
-  texts-within : (name : Name) (p : Point) (w : Where) → (where_after (event Kind.Enter name p) w).texts ≡ w.texts + as_text name
-  texts-within name p w = elim (cases_Bool (is_text name)) [ inl t ↦ rw t refl | inr f ↦ rw f (omega arith) ]
+  texts-within : (i : ℕ) (name : Name) (p : Point) (w : Where) → (where_after i (event Kind.Enter name p) w).texts ≡ w.texts + as_text name
+  texts-within i name p w = elim (cases_Bool (is_text name)) [ inl t ↦ rw t refl | inr f ↦ rw f (omega arith) ]
 
-  back-out : (m : ℕ) (name : Name) (p q : Point) (w : Where) → where_after (event Kind.Exit name q) (counted m (where_after (event Kind.Enter name p) w)) ≡ counted m w
-  back-out m name p q w = elim (cases_Bool (is_text name)) [ inl t ↦ rw t refl | inr f ↦ rw f refl ]
+  back-out : (i j m : ℕ) (name : Name) (p q : Point) (w : Where) → where_after j (event Kind.Exit name q) (counted m (where_after i (event Kind.Enter name p) w)) ≡ counted m w
+  back-out i j m name p q w = elim (cases_Bool (is_text name)) [ inl t ↦ rw t refl | inr f ↦ rw f refl ]
 
   pub tree-runs : (t : Forest) (n i : ℕ) (previous : Option ℕ) (w : Where) (es : List Event) → HasRuns bytes t
       → from n i w (appended_from i previous t ++ es)
@@ -100,11 +99,11 @@ module _ (tildes : Bool) (bytes : List ℕ) where
   tree-runs (group_then name enter exit inside rest) n i previous w es h =
       let a : Event = event Kind.Enter name enter in
       let c : Event = event Kind.Exit name exit in
-      let w' : Where = where_after a w in
+      let w' : Where = where_after i a w in
       let front : List Event = appended_from (i + 1) None inside in
       let back : List Event = appended_from (i + 2 + event_count inside) previous rest in
-      let of : ℕ → Option ℕ → List Sequence = λ m k. tree_runs tildes bytes n (i + 1) m k inside in
-      let k : Option ℕ = inner w.texts w.container name in
+      let of : ℕ → Container → List Sequence = λ m k. tree_runs tildes bytes n (i + 1) m k inside in
+      let k : Container = inner i w.texts w.container name in
       let m : ℕ = w.texts + as_text name in
       let past : ℕ = m + text_count inside in
       let l : ℕ = n + length (of m k) in
@@ -113,10 +112,10 @@ module _ (tildes : Bool) (bytes : List ℕ) where
       passes n i w a ((front ++ c ∷ back) ++ es) h.0.0
       ∙ ap (from n (i + 1) w') (append_assoc front (c ∷ back) es)
       ∙ tree-runs inside n (i + 1) None w' (c ∷ (back ++ es)) h.1.0
-      ∙ (let y : ℕ → Option ℕ → List Sequence = λ m k. of m k ++ from (n + length (of m k)) j (counted (m + text_count inside) w') (c ∷ (back ++ es)) in λ z. y (texts-within name enter w z) (within-is name enter w z))
+      ∙ (let y : ℕ → Container → List Sequence = λ m k. of m k ++ from (n + length (of m k)) j (counted (m + text_count inside) w') (c ∷ (back ++ es)) in λ z. y (texts-within i name enter w z) (within-is i name enter w z))
       ∙ ap (λ xs. of m k ++ xs) (
       passes l j (counted past w') c (back ++ es) refl
-      ∙ (let e : j + 1 ≡ i + 2 + event_count inside = omega arith in λ z. from l (e z) (back-out past name enter exit w z) (back ++ es))
+      ∙ (let e : j + 1 ≡ i + 2 + event_count inside = omega arith in λ z. from l (e z) (back-out i j past name enter exit w z) (back ++ es))
       ∙ tree-runs rest l (i + 2 + event_count inside) previous (counted past w) es h.1.1)
       ∙ behind (of m k) (tree_runs tildes bytes l (i + 2 + event_count inside) past w.container rest) n (i + 2 + event_count inside + event_count rest)
       (i + (2 + event_count inside + event_count rest)) _ _ w es (omega arith) total
@@ -124,7 +123,7 @@ module _ (tildes : Bool) (bytes : List ℕ) where
 -- From the tree to its rows.
 
 module _ (s : Setting) (tildes : Bool) (bytes : List ℕ) (same : s.bytes ≡ bytes) (on : s.options.constructs.gfm_strikethrough ≡ tildes) where
-  abbrev runs : ℕ → ℕ → ℕ → Option ℕ → Forest → List Sequence
+  abbrev runs : ℕ → ℕ → ℕ → Container → Forest → List Sequence
   runs n i m k t = tree_runs tildes bytes n i m k t
 
   abbrev Whole : Forest → List Sequence → Type 0
@@ -140,7 +139,7 @@ module _ (s : Setting) (tildes : Bool) (bytes : List ℕ) (same : s.bytes ≡ by
   flanking : (v : ℕ) (b a : Option ℕ) → is_flanking s.options.constructs.gfm_strikethrough v b a ≡ Runs.is_flanking s v b a
   flanking v b a = ap (λ x. (is_other (class_of a) || (Runs.is_punctuation_class (class_of a) && not (is_other (class_of b)))) || x) (beside v a)
 
-  pub leaf-shape : (n i : ℕ) (k : Option ℕ) (cs : List Code) → IsRun bytes cs → shape_of (run_of s cs) ≡ whole_shape (sequence_at tildes bytes n i k (start_of cs) (stop_of document_start cs))
+  pub leaf-shape : (n i : ℕ) (k : Container) (cs : List Code) → IsRun bytes cs → shape_of (run_of s cs) ≡ whole_shape (sequence_at tildes bytes n i k (start_of cs) (stop_of document_start cs))
   unfolding run_of
   leaf-shape n i k [] h = absurd h
   leaf-shape n i k (c ∷ cs) h =
@@ -178,36 +177,36 @@ module _ (s : Setting) (tildes : Bool) (bytes : List ℕ) (same : s.bytes ≡ by
   none-in (group_then name p q inside rest) h = none-in rest h
 
   -- a leaf's run, in a row and in others
-  pub leaf-in : (n i : ℕ) (k : Option ℕ) (r : ℕ) (name : Name) (p q : Point) → row_of k ≡ r → runs_in r (leaf_run tildes bytes n i k name p q) ≡ leaf_run tildes bytes n i k name p q
+  pub leaf-in : (n i : ℕ) (k : Container) (r : ℕ) (name : Name) (p q : Point) → row_around k ≡ r → runs_in r (leaf_run tildes bytes n i k name p q) ≡ leaf_run tildes bytes n i k name p q
   leaf-in n i k r name p q e =
-      elim (cases_Bool (is_run name)) [ inl is ↦ rw (is, eq-eqb (row_of k) r e) refl | inr off ↦ rw off refl ]
+      elim (cases_Bool (is_run name)) [ inl is ↦ rw (is, eq-eqb (row_around k) r e) refl | inr off ↦ rw off refl ]
 
-  pub leaf-out : (n i : ℕ) (k : Option ℕ) (r : ℕ) (name : Name) (p q : Point) → (row_of k ≡ r → ⊥) → runs_in r (leaf_run tildes bytes n i k name p q) ≡ []
+  pub leaf-out : (n i : ℕ) (k : Container) (r : ℕ) (name : Name) (p q : Point) → (row_around k ≡ r → ⊥) → runs_in r (leaf_run tildes bytes n i k name p q) ≡ []
   leaf-out n i k r name p q e =
-      elim (cases_Bool (is_run name)) [ inl is ↦ rw (is, ne_eqb (row_of k) r e) refl | inr off ↦ rw off refl ]
+      elim (cases_Bool (is_run name)) [ inl is ↦ rw (is, ne_eqb (row_around k) r e) refl | inr off ↦ rw off refl ]
 
   -- the row of what stands inside a group
-  pub inner-row : (m : ℕ) (k : Option ℕ) (name : Name)
-      → ((is_text name ≡ true) × ((row_of (inner m k name) ≡ m + 1) × (as_text name ≡ 1))) ⊎ ((is_text name ≡ false) × (inner m k name ≡ k))
-  inner-row m k name = elim (cases_Bool (is_text name)) [ inl is ↦ inl (is, (rw is refl, rw is refl)) | inr off ↦ inr (off, rw off refl) ]
+  pub inner-row : (i m : ℕ) (k : Container) (name : Name)
+      → ((is_text name ≡ true) × ((row_around (inner i m k name) ≡ m + 1) × (as_text name ≡ 1))) ⊎ ((is_text name ≡ false) × (inner i m k name ≡ k))
+  inner-row i m k name = elim (cases_Bool (is_text name)) [ inl is ↦ inl (is, (rw is refl, rw is refl)) | inr off ↦ inr (off, rw off refl) ]
 
   -- texts have numbers of their own: no run of another row
-  pub others : (t : Forest) (n i m : ℕ) (k : Option ℕ) (r : ℕ) → (row_of k ≡ r → ⊥) → (r ≤ m) ⊎ (m + text_count t < r) → runs_in r (runs n i m k t) ≡ []
+  pub others : (t : Forest) (n i m : ℕ) (k : Container) (r : ℕ) → (row_around k ≡ r → ⊥) → (r ≤ m) ⊎ (m + text_count t < r) → runs_in r (runs n i m k t) ≡ []
   others empty n i m k r ne far = refl
   others (leaf_then name link cs rest) n i m k r ne far =
       let here : List Sequence = leaf_run tildes bytes n i k name (start_of cs) (stop_of document_start cs) in
       filters r here _ ∙ ap (λ xs. xs ++ runs_in r (runs (n + length here) (i + 2) m k rest)) (leaf-out n i k r name (start_of cs) (stop_of document_start cs) ne)
       ∙ others rest (n + length here) (i + 2) m k r ne far
   others (group_then name p q inside rest) n i m k r ne far =
-      let front : List Sequence = runs n (i + 1) (m + as_text name) (inner m k name) inside in
+      let front : List Sequence = runs n (i + 1) (m + as_text name) (inner i m k name) inside in
       let past : ℕ = m + as_text name + text_count inside in
-      let apart : row_of (inner m k name) ≡ r → ⊥ = λ e. elim (inner-row m k name) [
+      let apart : row_around (inner i m k name) ≡ r → ⊥ = λ e. elim (inner-row i m k name) [
         | inl x ↦ (let y = x.1.0 in let one = x.1.1 in elim far [ inl low ↦ omega arith | inr high ↦ omega arith ])
-        | inr x ↦ ne (ap row_of (sym x.1) ∙ e)
+        | inr x ↦ ne (ap row_around (sym x.1) ∙ e)
       ] in
       filters r front _
       ∙ ap (λ xs. xs ++ runs_in r (runs (n + length front) (i + 2 + event_count inside) past k rest))
-      (others inside n (i + 1) (m + as_text name) (inner m k name) r apart (elim far [ inl low ↦ inl (omega arith) | inr high ↦ inr (omega arith) ]))
+      (others inside n (i + 1) (m + as_text name) (inner i m k name) r apart (elim far [ inl low ↦ inl (omega arith) | inr high ↦ inr (omega arith) ]))
       ∙ others rest (n + length front) (i + 2 + event_count inside) past k r ne (elim far [ inl low ↦ inl (omega arith) | inr high ↦ inr (omega arith) ])
 
   leaf-row : (b : Bool) (r : Run) (x : Sequence) (rs : List Run) (xs : List Sequence) → (b ≡ true → shape_of r ≡ whole_shape x) → map shape_of rs ≡ map whole_shape xs
@@ -216,7 +215,7 @@ module _ (s : Setting) (tildes : Bool) (bytes : List ℕ) (same : s.bytes ≡ by
   leaf-row false r x rs xs h next = next
 
   -- the runs of a row, in its container
-  pub row-is : (t : Forest) (n i m : ℕ) (k : Option ℕ) (r : ℕ) → HasRuns bytes t → row_of k ≡ r → r ≤ m → Whole t (runs_in r (runs n i m k t))
+  pub row-is : (t : Forest) (n i m : ℕ) (k : Container) (r : ℕ) → HasRuns bytes t → row_around k ≡ r → r ≤ m → Whole t (runs_in r (runs n i m k t))
   unfolding runs_of
   row-is empty n i m k r h e low = refl
   row-is (leaf_then name link cs rest) n i m k r h e low =
@@ -231,14 +230,14 @@ module _ (s : Setting) (tildes : Bool) (bytes : List ℕ) (same : s.bytes ≡ by
       ∙ ap (map whole_shape) (sym split)
   row-is (group_then name p q inside rest) n i m k r h e low =
       let m' : ℕ = m + as_text name in
-      let front : List Sequence = runs n (i + 1) m' (inner m k name) inside in
+      let front : List Sequence = runs n (i + 1) m' (inner i m k name) inside in
       let l : ℕ = n + length front in
       let past : ℕ = m' + text_count inside in
       let more : List Sequence = runs l (i + 2 + event_count inside) past k rest in
       let next : Whole rest (runs_in r more) = row-is rest l (i + 2 + event_count inside) past k r h.1.1 e (omega arith) in
-      let none : map whole_shape (runs_in r front) ≡ [] = elim (inner-row m k name) [
-        | inl x ↦ ap (map whole_shape) (others inside n (i + 1) m' (inner m k name) r (λ y. let z = x.1.0 in omega arith) (inl (omega arith)))
-        | inr x ↦ sym (row-is inside n (i + 1) m' (inner m k name) r h.1.0 (ap row_of x.1 ∙ e) (omega arith)) ∙ ap (map shape_of) (none-in inside (h.0.1 x.0))
+      let none : map whole_shape (runs_in r front) ≡ [] = elim (inner-row i m k name) [
+        | inl x ↦ ap (map whole_shape) (others inside n (i + 1) m' (inner i m k name) r (λ y. let z = x.1.0 in omega arith) (inl (omega arith)))
+        | inr x ↦ sym (row-is inside n (i + 1) m' (inner i m k name) r h.1.0 (ap row_around x.1 ∙ e) (omega arith)) ∙ ap (map shape_of) (none-in inside (h.0.1 x.0))
       ] in
       ap (map shape_of) (runs-group name p q inside rest) ∙ next
       ∙ ap (λ xs. xs ++ map whole_shape (runs_in r more)) (sym none)
@@ -268,7 +267,7 @@ module _ (s : Setting) (tildes : Bool) (bytes : List ℕ) (same : s.bytes ≡ by
   abbrev Texts : List Sequence → List (ℕ × Forest) → Type 0
   Texts list texts = All (IsText list) texts
 
-  texts-are : (t : Forest) (n i m : ℕ) (k : Option ℕ) (front back : List Sequence) → HasRuns bytes t → row_of k ≤ m
+  texts-are : (t : Forest) (n i m : ℕ) (k : Container) (front back : List Sequence) → HasRuns bytes t → row_around k ≤ m
       → Lacks m (m + text_count t) front → Lacks m (m + text_count t) back → Texts (front ++ (runs n i m k t ++ back)) (texts_of m t)
   unfolding Lacks
   texts-are empty n i m k front back h low f b = All-nil (IsText (front ++ back))
@@ -283,7 +282,7 @@ module _ (s : Setting) (tildes : Bool) (bytes : List ℕ) (same : s.bytes ≡ by
       (λ r l u. filters r front here ∙ ap (λ zs. zs ++ runs_in r here) (f r l u) ∙ leaf-out n i k r name p q (λ e. omega arith)) b)
   texts-are (group_then name p q inside rest) n i m k front back h low f b =
       let m' : ℕ = m + as_text name in
-      let of : List Sequence = runs n (i + 1) m' (inner m k name) inside in
+      let of : List Sequence = runs n (i + 1) m' (inner i m k name) inside in
       let l : ℕ = n + length of in
       let past : ℕ = m' + text_count inside in
       let more : List Sequence = runs l (i + 2 + event_count inside) past k rest in
@@ -293,16 +292,16 @@ module _ (s : Setting) (tildes : Bool) (bytes : List ℕ) (same : s.bytes ≡ by
       let first : Texts (front ++ (of ++ (more ++ back))) (cond (is_text name) ((m, inside) ∷ []) []) =
       all-one (IsText (front ++ (of ++ (more ++ back)))) (m, inside) (is_text name) (λ is.
       let one : as_text name ≡ 1 = rw is refl in
-      row-is inside n (i + 1) m' (inner m k name) (m + 1) h.1.0 (rw is refl) (omega arith)
+      row-is inside n (i + 1) m' (inner i m k name) (m + 1) h.1.0 (rw is refl) (omega arith)
       ∙ ap (map whole_shape) (sym (between (m + 1) front of (more ++ back) (f (m + 1) (omega arith) (omega arith)) (behind (m + 1) (omega arith) (omega arith))))) in
-      let inner_low : row_of (inner m k name) ≤ m' = elim (inner-row m k name) [ inl x ↦ (let y = x.1.0 in let one = x.1.1 in omega arith) | inr x ↦ (let y = ap row_of x.1 in omega arith) ] in
+      let inner_low : row_around (inner i m k name) ≤ m' = elim (inner-row i m k name) [ inl x ↦ (let y = x.1.0 in let one = x.1.1 in omega arith) | inr x ↦ (let y = ap row_around x.1 in omega arith) ] in
       let middle : Texts (front ++ (of ++ (more ++ back))) (texts_of m' inside) =
-      texts-are inside n (i + 1) m' (inner m k name) front (more ++ back) h.1.0 inner_low
+      texts-are inside n (i + 1) m' (inner i m k name) front (more ++ back) h.1.0 inner_low
       (λ r l' u. f r (omega arith) (omega arith)) (λ r l' u. behind r (omega arith) u) in
       let last : Texts ((front ++ of) ++ (more ++ back)) (texts_of past rest) =
       texts-are rest l (i + 2 + event_count inside) past k (front ++ of) back h.1.1 (omega arith)
       (λ r l' u. filters r front of ∙ ap (λ zs. zs ++ runs_in r of) (f r (omega arith) (omega arith))
-      ∙ others inside n (i + 1) m' (inner m k name) r (λ e. omega (arith, inner_low, e)) (inr l'))
+      ∙ others inside n (i + 1) m' (inner i m k name) r (λ e. omega (arith, inner_low, e)) (inr l'))
       (λ r l' u. b r (omega arith) (omega arith)) in
       let here : List (ℕ × Forest) = cond (is_text name) ((m, inside) ∷ []) [] in
       let texts : List (ℕ × Forest) = texts_of m' inside in

@@ -57,45 +57,45 @@ pub record Scanned (options : ParseOptions) (runs : List Sequence) (turn : ℕ) 
   pub closers : All (λ p. p.closer ≤ turn) pairs
 
 module _ (runs : List Sequence) where
-  pub in_other : (k : ℕ) (pairs : List Pair) (q : Pair) → ((row_of (run_at runs q.closer).container) ≡ k → ⊥)
+  pub in_other : (k : ℕ) (pairs : List Pair) (q : Pair) → ((row_of (run_at runs q.closer).text) ≡ k → ⊥)
       → pairs_in runs k (pairs ++ q ∷ []) ≡ pairs_in runs k pairs
   in_other k pairs q ne =
-      filter-append (λ p. eqb (row_of (run_at runs p.closer).container) k) pairs (q ∷ [])
-      ∙ rw (ne_eqb (row_of (run_at runs q.closer).container) k ne) (append-nil _)
+      filter-append (λ p. eqb (row_of (run_at runs p.closer).text) k) pairs (q ∷ [])
+      ∙ rw (ne_eqb (row_of (run_at runs q.closer).text) k ne) (append-nil _)
 
-  pub in_own : (k : ℕ) (pairs : List Pair) (q : Pair) → (row_of (run_at runs q.closer).container) ≡ k
+  pub in_own : (k : ℕ) (pairs : List Pair) (q : Pair) → (row_of (run_at runs q.closer).text) ≡ k
       → pairs_in runs k (pairs ++ q ∷ []) ≡ pairs_in runs k pairs ++ q ∷ []
   in_own k pairs q e =
-      filter-append (λ p. eqb (row_of (run_at runs p.closer).container) k) pairs (q ∷ [])
-      ∙ rw (eq-eqb (row_of (run_at runs q.closer).container) k e)
+      filter-append (λ p. eqb (row_of (run_at runs p.closer).text) k) pairs (q ∷ [])
+      ∙ rw (eq-eqb (row_of (run_at runs q.closer).text) k e)
 
 module _ (options : ParseOptions) (runs : List Sequence) where
   pub scanned_none : Scanned options runs 0 []
   scanned_none = record { lists = λ k o c low high e. absurd (omega arith); closers = All-nil (λ p. p.closer ≤ 0) }
 
   pub scanned_next : (turn : ℕ) (pairs : List Pair) → Scanned options runs turn pairs
-      → ((o : ℕ) → Eligible options runs (row_of (run_at runs turn).container) (pairs_in runs (row_of (run_at runs turn).container) pairs) o turn → ⊥)
+      → ((o : ℕ) → Eligible options runs (row_of (run_at runs turn).text) (pairs_in runs (row_of (run_at runs turn).text) pairs) o turn → ⊥)
       → Scanned options runs (turn + 1) pairs
   scanned_next turn pairs h none =
       record {
         lists = λ k. pairs_extend options runs k turn [] 0 (pairs_in runs k pairs) (h.lists k)
             (λ o e.
-            let own : (row_of (run_at runs turn).container) ≡ k = e.closer_in in
+            let own : (row_of (run_at runs turn).text) ≡ k = e.closer_in in
             none o (subst (λ x. Eligible options runs x (pairs_in runs x pairs) o turn) (sym own) e));
         closers = All-weaker (λ p. p.closer ≤ turn) (λ p. p.closer ≤ turn + 1) (λ p b. omega arith) pairs h.closers;
       }
 
   pub scanned_pair : (turn : ℕ) (pairs : List Pair) (q : Pair) → Scanned options runs turn pairs → q.closer ≡ turn
-      → IsNext options runs (row_of (run_at runs turn).container) (pairs_in runs (row_of (run_at runs turn).container) pairs) turn q
+      → IsNext options runs (row_of (run_at runs turn).text) (pairs_in runs (row_of (run_at runs turn).text) pairs) turn q
       → Scanned options runs turn (pairs ++ q ∷ [])
   scanned_pair turn pairs q h at next =
       record {
-        lists = λ k. elim (cases_eq (row_of (run_at runs q.closer).container) k) [
+        lists = λ k. elim (cases_eq (row_of (run_at runs q.closer).text) k) [
           | inl own ↦
-              let own' : (row_of (run_at runs turn).container) ≡ k = subst (λ x. (row_of (run_at runs x).container) ≡ k) at own in
+              let own' : (row_of (run_at runs turn).text) ≡ k = subst (λ x. (row_of (run_at runs x).text) ≡ k) at own in
               subst (λ x. PairsFrom options runs k turn [] 0 x) (sym (in_own runs k pairs q own))
               (pairs_push options runs k turn [] 0 (pairs_in runs k pairs) q (h.lists k) (omega arith)
-              (All-filter (λ p. eqb (row_of (run_at runs p.closer).container) k) (λ p. p.closer ≤ turn) pairs h.closers) at
+              (All-filter (λ p. eqb (row_of (run_at runs p.closer).text) k) (λ p. p.closer ≤ turn) pairs h.closers) at
               (subst (λ x. IsNext options runs x (pairs_in runs x pairs) turn q) own' next))
           | inr other ↦ subst (λ x. PairsFrom options runs k turn [] 0 x) (sym (in_other runs k pairs q other)) (h.lists k)
         ];
@@ -113,7 +113,7 @@ within-from options runs k end done last (p ∷ ps) h =
 within-each : (runs : List Sequence) (ps : List Pair) → ((k : ℕ) → AreWithin runs (pairs_in runs k ps)) → AreWithin runs ps
 within-each runs [] h = tt
 within-each runs (p ∷ ps) h =
-    let k : ℕ = row_of (run_at runs p.closer).container in (
+    let k : ℕ = row_of (run_at runs p.closer).text in (
       (subst (λ (b : Bool). AreWithin runs (cond b (p ∷ pairs_in runs k ps) (pairs_in runs k ps))) (eq-eqb k k refl) (h k)).0,
       within-each runs ps (λ j. rest j (eqb k j) (h j)),
     )
@@ -158,5 +158,5 @@ none-taken g n = omega arith
 
 pub all-once : (options : ParseOptions) (runs : List Sequence) (turn : ℕ) (pairs : List Pair) → Scanned options runs turn pairs → AreTakenOnce runs pairs
 all-once options runs turn pairs h g =
-    let k : ℕ = row_of (run_at runs g).container in
+    let k : ℕ = row_of (run_at runs g).text in
     once-from options runs k turn [] 0 (pairs_in runs k pairs) g (h.lists k) (none-taken g (run_at runs g).size)

@@ -121,16 +121,16 @@ module _ (options : ParseOptions) (runs list : List Sequence) (turn : ℕ) (pair
     fits = taking_fits options runs list turn pairs probes heads older marks h here by keys o (probes' - probes) size walk' closes some is_size'
 
     pub pair_turn : (heads' marks' : List ℕ) → probes ≤ probes' → probes' ≤ probes + turn → length heads' ≡ length heads
-        → ((i : ℕ) → (row_of closer.container) * 3 ≤ i → i < (row_of closer.container) * 3 + 3 → (i ≡ k → ⊥) → IsCut older o (get_or heads i 0) (get_or heads' i 0))
-        → (IsFalse (eqb opener.remaining size) → (row_of closer.container) * 3 ≤ k → k < (row_of closer.container) * 3 + 3 → IsCut older o (get_or heads k 0) (get_or heads' k 0))
+        → ((i : ℕ) → (row_of closer.text) * 3 ≤ i → i < (row_of closer.text) * 3 + 3 → (i ≡ k → ⊥) → IsCut older o (get_or heads i 0) (get_or heads' i 0))
+        → (IsFalse (eqb opener.remaining size) → (row_of closer.text) * 3 ≤ k → k < (row_of closer.text) * 3 + 3 → IsCut older o (get_or heads k 0) (get_or heads' k 0))
         → (IsTrue (eqb opener.remaining size) → get_or heads' k 0 ≡ get_or older o 0)
-        → ((i : ℕ) → (i < (row_of closer.container) * 3) ⊎ ((row_of closer.container) * 3 + 3 ≤ i) → (i ≡ k → ⊥) → get_or heads' i 0 ≡ get_or heads i 0)
+        → ((i : ℕ) → (i < (row_of closer.text) * 3) ⊎ ((row_of closer.text) * 3 + 3 ≤ i) → (i ≡ k → ⊥) → get_or heads' i 0 ≡ get_or heads i 0)
         → ((i : ℕ) → k * 6 ≤ i → i < k * 6 + 6 → get_or marks i 0 ≤ o → get_or marks' i 0 ≡ get_or marks i 0)
         → ((i : ℕ) → k * 6 ≤ i → i < k * 6 + 6 → o < get_or marks i 0 → get_or marks' i 0 ≡ o)
         → ((i : ℕ) → (i < k * 6) ⊎ (k * 6 + 6 ≤ i) → get_or marks' i 0 ≡ get_or marks i 0)
         → Inv options runs (after_taking list o turn size) turn (pairs ++ record { opener = o; closer = turn; size = size } ∷ []) probes' heads' older marks'
     pair_turn heads' marks' low high same cut own used others m_low m_high m_others =
-        let in_container : (row_of closer.container) ≡ (row_of (run_at runs turn).container) = ap (λ r. (row_of r.container)) closer_is in
+        let in_container : (row_of closer.text) ≡ (row_of (run_at runs turn).text) = ap (λ r. (row_of r.text)) closer_is in
         let z = kinds (run_at runs turn).marker in
         let f = fits in
         let rem : opener.remaining ≡ (run_at list o).remaining = ap (λ r. r.remaining) opener_is in
@@ -163,7 +163,7 @@ small_runs options runs list turn pairs probes heads older marks h whole small =
     let b : (run_at list i).remaining ≡ left runs (own runs pairs i) i = ap (λ r. r.remaining) is in
     (omega arith, omega arith)
 
-pub some_key : (runs : List Sequence) (n : ℕ) (heads : List ℕ) → length heads ≡ n * 3 → ((r : ℕ) → r < length runs → (row_of (run_at runs r).container) < n)
+pub some_key : (runs : List Sequence) (n : ℕ) (heads : List ℕ) → length heads ≡ n * 3 → ((r : ℕ) → r < length runs → (row_of (run_at runs r).text) < n)
     → (r : ℕ) → r < length runs → list_of runs r < length heads
 some_key runs n heads l h r inside = let a = h r inside in let z = kinds (run_at runs r).marker in omega arith
 

@@ -14,7 +14,7 @@ abbrev pub whole_shape : Sequence → Shape
 whole_shape r = record { marker = r.marker; size = r.size; may_open = r.may_open; may_close = r.may_close }
 
 abbrev pub is_in : ℕ → Sequence → Bool
-is_in k r = row_of r.container == k
+is_in k r = row_of r.text == k
 
 abbrev pub runs_in : ℕ → List Sequence → List Sequence
 runs_in k list = filter (is_in k) list
@@ -36,15 +36,15 @@ pairs_of k list pairs = map (placed k list) (pairs_in list k pairs)
 -- agree with those listed in marker, size, and in what they may do.
 abbrev pub ArePairLists : ParseOptions → List Sequence → List Pair → Type 0
 ArePairLists options list pairs =
-    (s : Setting) (container : Option ℕ) (runs : List Run)
-    → s.options ≡ options → map shape_of runs ≡ map whole_shape (runs_in (row_of container) list)
-    → Model.IsPairList s runs (pairs_of (row_of container) list pairs)
+    (s : Setting) (text : Option ℕ) (runs : List Run)
+    → s.options ≡ options → map shape_of runs ≡ map whole_shape (runs_in (row_of text) list)
+    → Model.IsPairList s runs (pairs_of (row_of text) list pairs)
 
 -- a pair of two runs of one container, in order
 pub record IsWithin (list : List Sequence) (p : Pair) : Type 0 where
   pub order : p.opener < p.closer
   pub within : p.closer < length list
-  pub row : row_of (run_at list p.opener).container ≡ row_of (run_at list p.closer).container
+  pub row : row_of (run_at list p.opener).text ≡ row_of (run_at list p.closer).text
 
 abbrev pub AreWithin : List Sequence → List Pair → Type 0
 AreWithin list [] = Unit {0}
@@ -52,4 +52,4 @@ AreWithin list (p ∷ ps) = IsWithin list p × AreWithin list ps
 
 -- of each run no more is taken than it has
 abbrev pub AreTakenOnce : List Sequence → List Pair → Type 0
-AreTakenOnce list pairs = (g : ℕ) → taken (pairs_in list (row_of (run_at list g).container) pairs) g ≤ (run_at list g).size
+AreTakenOnce list pairs = (g : ℕ) → taken (pairs_in list (row_of (run_at list g).text) pairs) g ≤ (run_at list g).size

@@ -11,7 +11,7 @@ kind_of marker = if marker == 42 then 0 else (if marker == 95 then 1 else 2)
 
 -- the list of a run
 abbrev pub key_of : Sequence → ℕ
-key_of r = row_of r.container * 3 + kind_of r.marker
+key_of r = row_of r.text * 3 + kind_of r.marker
 
 -- what of a closer, of which y markers are left, decides who may open it
 unfoldable pub class_of : ParseOptions → Sequence → ℕ → ℕ
@@ -61,8 +61,8 @@ pub record WalkEnded (options : ParseOptions) (list : List Sequence) (older : Li
 unfoldable pub is_open : List Sequence → List Pair → ℕ → Bool
 is_open runs pairs r =
     (run_at runs r).may_open
-    && (nat_lt 0 (left runs (pairs_in runs (row_of (run_at runs r).container) pairs) r)
-    && not (is_shut (pairs_in runs (row_of (run_at runs r).container) pairs) r))
+    && (nat_lt 0 (left runs (pairs_in runs (row_of (run_at runs r).text) pairs) r)
+    && not (is_shut (pairs_in runs (row_of (run_at runs r).text) pairs) r))
 
 -- a run, of which x markers are left, is no opener of a closer of this class
 abbrev pub Refuses : ParseOptions → Sequence → ℕ → ℕ → Type 0

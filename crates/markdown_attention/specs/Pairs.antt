@@ -5,13 +5,13 @@ use Rattle.markdown_attention.specs.declared.attention.runs.Sequence.{Sequence}
 use Rattle.markdown_attention.specs.declared.attention.pairing.Pair.{Pair}
 use Rattle.markdown_engine.specs.declared.configuration.ParseOptions.{ParseOptions}
 
--- the row of a container: the first for the whole content, and one for each text of a label
+-- the row of a container: the first for the whole content, and one for each text of a label, by its number among the texts
 abbrev pub row_of : Option ℕ → ℕ
 row_of None = 0
 row_of (Some text) = text + 1
 
 abbrev pub no_run : Sequence
-no_run = record { number = 0; event = 0; container = None; marker = 0; size = 0; remaining = 0; may_open = false; may_close = false }
+no_run = record { number = 0; event = 0; container = None; text = None; marker = 0; size = 0; remaining = 0; may_open = false; may_close = false }
 
 abbrev pub run_at : List Sequence → ℕ → Sequence
 run_at runs i = slice_index_or runs i no_run
@@ -60,8 +60,8 @@ size_of_pair x y = if nat_lt 1 x && nat_lt 1 y then 2 else 1
 pub record Eligible (options : ParseOptions) (runs : List Sequence) (container : ℕ) (done : List Pair) (o c : ℕ) : Type 0 where
   pub before : o < c
   pub within : c < length runs
-  pub opener_in : (row_of (run_at runs o).container) ≡ container
-  pub closer_in : (row_of (run_at runs c).container) ≡ container
+  pub opener_in : (row_of (run_at runs o).text) ≡ container
+  pub closer_in : (row_of (run_at runs c).text) ≡ container
   pub one_marker : (run_at runs o).marker ≡ (run_at runs c).marker
   pub may_open : IsTrue (run_at runs o).may_open
   pub may_close : IsTrue (run_at runs c).may_close
@@ -95,7 +95,7 @@ AreItsPairs options runs k pairs = PairsFrom options runs k (length runs) [] 0 p
 
 -- the pairs of one container, of the pairs of all
 abbrev pub pairs_in : List Sequence → ℕ → List Pair → List Pair
-pairs_in runs k pairs = filter (λ p. (row_of (run_at runs p.closer).container) == k) pairs
+pairs_in runs k pairs = filter (λ p. (row_of (run_at runs p.closer).text) == k) pairs
 
 -- Runs as they stand during the scan.
 

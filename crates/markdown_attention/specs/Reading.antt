@@ -11,6 +11,8 @@ use Rattle.markdown_model.specs.Literal.{is_other}
 use Rattle.markdown_model.specs.Runs.{is_punctuation_class}
 use Rattle.markdown_util.specs.Neighbours.{class_of, before_index, after_index}
 use Rattle.markdown_attention.specs.Open.{IsMarker}
+use Rattle.markdown_attention.specs.Pairs.{row_of}
+use Rattle.markdown_attention.specs.declared.attention.reading.Text.{Text}
 use Rattle.markdown_attention.specs.declared.attention.reading.Where.{Where}
 use Rattle.markdown_attention.specs.declared.attention.runs.Sequence.{Sequence}
 
@@ -47,9 +49,26 @@ is_flanking tildes marker b a =
 abbrev pub may_act : ℕ → Option ℕ → Bool → Bool → Bool
 may_act marker beside here there = here && (not (marker == 95) || (not (is_other (class_of beside)) || not there))
 
+-- A container: none for the whole content, or the text of a label, by the number of its Enter event and its number among the texts. These
+-- are counted from 0, in the order in which they begin.
+
+abbrev pub Container : Type 0
+Container = Option Text
+
+abbrev pub event_around : Container → Option ℕ
+event_around None = None
+event_around (Some text) = Some text.event
+
+abbrev pub text_around : Container → Option ℕ
+text_around None = None
+text_around (Some text) = Some text.number
+
+abbrev pub row_around : Container → ℕ
+row_around k = row_of (text_around k)
+
 -- the run from one place to another
-abbrev pub sequence_at : Bool → List ℕ → ℕ → ℕ → Option ℕ → Point → Point → Sequence
-sequence_at tildes bytes n i container from to =
+abbrev pub sequence_at : Bool → List ℕ → ℕ → ℕ → Container → Point → Point → Sequence
+sequence_at tildes bytes n i k from to =
     let marker = slice_index_or bytes from.index 0 in
     let b = before_index bytes from.index in
     let a = after_index bytes to.index in
@@ -58,7 +77,8 @@ sequence_at tildes bytes n i container from to =
     record {
       number = n;
       event = i;
-      container = container;
+      container = event_around k;
+      text = text_around k;
       marker = marker;
       size = to.index - from.index;
       remaining = to.index - from.index;
@@ -66,7 +86,7 @@ sequence_at tildes bytes n i container from to =
       may_close = may_act marker a right left;
     }
 
--- In which container events stand. The texts of labels are counted from 0, in the order in which they begin.
+-- In which container events stand.
 
 abbrev pub Around : Type 0
 Around = Where
@@ -74,24 +94,24 @@ Around = Where
 abbrev pub outermost : Where
 outermost = record { container = None; outer = []; texts = 0 }
 
-abbrev pub left_to : List (Option ℕ) → Option ℕ
+abbrev pub left_to : List Container → Container
 left_to [] = None
 left_to (k ∷ ks) = k
 
--- after the Enter of a text
-abbrev pub into_text : Where → Where
-into_text w = record { container = Some w.texts; outer = w.container ∷ w.outer; texts = w.texts + 1 }
+-- after the Enter of a text, which is event i
+abbrev pub into_text : ℕ → Where → Where
+into_text i w = record { container = Some (record { event = i; number = w.texts }); outer = w.container ∷ w.outer; texts = w.texts + 1 }
 
 -- after its Exit
 abbrev pub out_of_text : Where → Where
 out_of_text w = record { container = left_to w.outer; outer = rest_of w.outer; texts = w.texts }
 
--- after an event
-abbrev pub where_after : Event → Where → Where
-where_after e w = if is_text e.name then (if is_enter e.kind then into_text w else out_of_text w) else w
+-- after event i
+abbrev pub where_after : ℕ → Event → Where → Where
+where_after i e w = if is_text e.name then (if is_enter e.kind then into_text i w else out_of_text w) else w
 
 -- the run in this container that the first of these events, which is event i, begins
-abbrev pub first_run : Bool → List ℕ → ℕ → ℕ → Option ℕ → List Event → List Sequence
+abbrev pub first_run : Bool → List ℕ → ℕ → ℕ → Container → List Event → List Sequence
 first_run tildes bytes n i k [] = []
 first_run tildes bytes n i k (e ∷ []) = []
 first_run tildes bytes n i k (e ∷ x ∷ es) = if opens_run e then sequence_at tildes bytes n i k e.point x.point ∷ [] else []
@@ -101,7 +121,7 @@ abbrev pub runs_from : Bool → List ℕ → ℕ → ℕ → Where → List Even
 runs_from tildes bytes n i w [] = []
 runs_from tildes bytes n i w (e ∷ es) =
     let first = first_run tildes bytes n i w.container (e ∷ es) in
-    first ++ runs_from tildes bytes (n + length first) (suc i) (where_after e w) es
+    first ++ runs_from tildes bytes (n + length first) (suc i) (where_after i e w) es
 
 -- Of which events this is said: behind the Enter of a run stands another event, and the two are between characters of the document, the
 -- first before a marker.

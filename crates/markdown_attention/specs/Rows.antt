@@ -1,5 +1,5 @@
 -- The runs of a tree: those of the whole, and those of each label's text.
-use Rattle.std.specs.Prelude.{◌≡◌, ℕ, suc, ◌+◌, Bool, true, false, ◌||◌, if◌then◌else◌, List, [], ◌∷◌, ◌++◌, length, map, slice_index_or, Option, Some, All}
+use Rattle.std.specs.Prelude.{◌≡◌, ℕ, suc, ◌+◌, Bool, true, false, ◌||◌, if◌then◌else◌, List, [], ◌∷◌, ◌++◌, length, map, slice_index_or, Some, All}
 use Rattle.markdown_engine.specs.Codes.{Code, stop_of, document_start}
 use Rattle.markdown_engine.specs.Tree.{Forest, empty, leaf_then, group_then, event_count, start_of}
 use Rattle.markdown_engine.specs.declared.event.Name.{Name}
@@ -9,16 +9,16 @@ use Rattle.markdown_model.specs.Laws.{shape_of}
 use Rattle.markdown_model.specs.Runs.{runs_of}
 use Rattle.markdown_model.specs.Setting.{Setting}
 use Rattle.markdown_attention.specs.Containers.{whole_shape, runs_in}
-use Rattle.markdown_attention.specs.Reading.{is_run, is_text, sequence_at}
+use Rattle.markdown_attention.specs.Reading.{Container, is_run, is_text, sequence_at}
 use Rattle.markdown_attention.specs.declared.attention.runs.Sequence.{Sequence}
 
 -- the run of a leaf from one place to another
-abbrev pub leaf_run : Bool → List ℕ → ℕ → ℕ → Option ℕ → Name → Point → Point → List Sequence
+abbrev pub leaf_run : Bool → List ℕ → ℕ → ℕ → Container → Name → Point → Point → List Sequence
 leaf_run tildes bytes n i k name from to = if is_run name then sequence_at tildes bytes n i k from to ∷ [] else []
 
--- the container of what stands in a group, where m texts come before
-abbrev pub inner : ℕ → Option ℕ → Name → Option ℕ
-inner m k name = if is_text name then Some m else k
+-- the container of what stands in a group, where i events and m texts come before
+abbrev pub inner : ℕ → ℕ → Container → Name → Container
+inner i m k name = if is_text name then Some (record { event = i; number = m }) else k
 
 -- 1 for the text of a label
 abbrev pub as_text : Name → ℕ
@@ -31,13 +31,13 @@ text_count (leaf_then name link cs rest) = text_count rest
 text_count (group_then name enter exit inside rest) = as_text name + text_count inside + text_count rest
 
 -- the runs of a row that stands in this container, where n runs, i events and m texts come before
-abbrev pub tree_runs : Bool → List ℕ → ℕ → ℕ → ℕ → Option ℕ → Forest → List Sequence
+abbrev pub tree_runs : Bool → List ℕ → ℕ → ℕ → ℕ → Container → Forest → List Sequence
 tree_runs tildes bytes n i m k empty = []
 tree_runs tildes bytes n i m k (leaf_then name link cs rest) =
     let here = leaf_run tildes bytes n i k name (start_of cs) (stop_of document_start cs) in
     here ++ tree_runs tildes bytes (n + length here) (i + 2) m k rest
 tree_runs tildes bytes n i m k (group_then name enter exit inside rest) =
-    let front = tree_runs tildes bytes n (i + 1) (m + as_text name) (inner m k name) inside in
+    let front = tree_runs tildes bytes n (i + 1) (m + as_text name) (inner i m k name) inside in
     front ++ tree_runs tildes bytes (n + length front) (i + 2 + event_count inside) (m + as_text name + text_count inside) k rest
 
 -- the text of each label with its number, where m texts come before

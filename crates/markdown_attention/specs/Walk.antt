@@ -15,9 +15,9 @@ pub record Walk : Type 0 where
 abbrev pub Numbered : List Sequence → Type 0
 Numbered list = (i : ℕ) → i < length list → (run_at list i).number ≡ i
 
--- the container of each run is the whole content or one of so many texts
+-- each run stands in none of the texts, or in one of so many
 abbrev pub StandIn : ℕ → List Sequence → Type 0
-StandIn texts list = (i : ℕ) → i < length list → row_of (run_at list i).container ≤ texts
+StandIn texts list = (i : ℕ) → i < length list → row_of (run_at list i).text ≤ texts
 
 -- no pair has taken of a run
 abbrev pub Whole : List Sequence → Type 0
@@ -29,7 +29,7 @@ AreSmall list = (i : ℕ) → i < length list → ((run_at list i).size < 2 ^ 63
 
 -- of a run are left the markers that no pair of its container took
 abbrev pub standing : List Sequence → List Pair → ℕ → Sequence
-standing runs pairs i = record (run_at runs i) { remaining = left runs (pairs_in runs (row_of (run_at runs i).container) pairs) i }
+standing runs pairs i = record (run_at runs i) { remaining = left runs (pairs_in runs (row_of (run_at runs i).text) pairs) i }
 
 -- the runs as they stand after these pairs
 pub record Stands (runs list : List Sequence) (pairs : List Pair) : Type 0 where

@@ -54,8 +54,8 @@ module _ (comes : Sequence → List Event) (tildes : Bool) (bytes : List ℕ) wh
   within (e ∷ x ∷ es) n i w m l =
       let r : Sequence = sequence_at tildes bytes n i w.container e.point x.point in
       let first : List Sequence = first_run tildes bytes n i w.container (e ∷ x ∷ es) in
-      let rest : List Sequence = from (n + length first) (suc i) (where_after e w) (x ∷ es) in
-      let ih : Within m rest = within (x ∷ es) (n + length first) (suc i) (where_after e w) m (omega (arith, l)) in
+      let rest : List Sequence = from (n + length first) (suc i) (where_after i e w) (x ∷ es) in
+      let ih : Within m rest = within (x ∷ es) (n + length first) (suc i) (where_after i e w) m (omega (arith, l)) in
       elim (true-or (opens_run e)) [
         | inl o ↦
             let is : first ≡ r ∷ [] = ap (λ (b : Bool). if b then r ∷ [] else []) o in

@@ -14,7 +14,7 @@ use Rattle.markdown_model.specs.Runs.{Run, run_of, runs_of, rows_inside, contain
 use Rattle.markdown_model.specs.Setting.{Setting}
 use Rattle.markdown_attention.specs.Containers.{whole_shape}
 use Rattle.markdown_attention.specs.Pairs.{markers_left}
-use Rattle.markdown_attention.specs.Reading.{is_run, sequence_at}
+use Rattle.markdown_attention.specs.Reading.{Container, is_run, sequence_at}
 use Rattle.markdown_attention.specs.Rows.{leaf_run, inner, as_text, text_count, tree_runs, IsRun, HasRuns}
 use Rattle.markdown_attention.specs.declared.attention.runs.Sequence.{Sequence}
 use Rattle.markdown_attention.proofs.RowLemmas.{leaf-shape}
@@ -43,10 +43,10 @@ count-adds {A} p = record { none = sym (length-filter p []); append = both }
 pub sum-adds : {A : Type 0} (f : A → ℕ) → AddsUp (λ (xs : List A). sum_by f xs)
 sum-adds {A} f = record { none = refl; append = λ xs ys. sum_by-append f xs ys }
 
-pub leaf-run-yes : (tildes : Bool) (bytes : List ℕ) (n i : ℕ) (k : Option ℕ) (name : Name) (p q : Point) → is_run name ≡ true → leaf_run tildes bytes n i k name p q ≡ sequence_at tildes bytes n i k p q ∷ []
+pub leaf-run-yes : (tildes : Bool) (bytes : List ℕ) (n i : ℕ) (k : Container) (name : Name) (p q : Point) → is_run name ≡ true → leaf_run tildes bytes n i k name p q ≡ sequence_at tildes bytes n i k p q ∷ []
 leaf-run-yes tildes bytes n i k name p q e = rw e refl
 
-pub leaf-run-no : (tildes : Bool) (bytes : List ℕ) (n i : ℕ) (k : Option ℕ) (name : Name) (p q : Point) → is_run name ≡ false → leaf_run tildes bytes n i k name p q ≡ []
+pub leaf-run-no : (tildes : Bool) (bytes : List ℕ) (n i : ℕ) (k : Container) (name : Name) (p q : Point) → is_run name ≡ false → leaf_run tildes bytes n i k name p q ≡ []
 leaf-run-no tildes bytes n i k name p q e = rw e refl
 
 pub rows-empty : (s : Setting) → rows_inside s empty ≡ []
@@ -64,16 +64,16 @@ rows-group s name a b inside rest = refl
 -- Codes and markers.
 
 module _ (tildes : Bool) (bytes : List ℕ) where
-  abbrev at : ℕ → ℕ → ℕ → Option ℕ → Forest → List Sequence
+  abbrev at : ℕ → ℕ → ℕ → Container → Forest → List Sequence
   at n i m k t = tree_runs tildes bytes n i m k t
 
   -- a run has as many markers as codes, and some
-  leaf-few : (n i : ℕ) (k : Option ℕ) (cs : List Code) → IsRun bytes cs
+  leaf-few : (n i : ℕ) (k : Container) (cs : List Code) → IsRun bytes cs
       → let q : Sequence = sequence_at tildes bytes n i k (start_of cs) (stop_of document_start cs) in (q.remaining ≡ length cs) × (1 ≤ length cs)
   leaf-few n i k [] h = absurd h
   leaf-few n i k (c ∷ cs) h = (omega (arith, h.1), omega arith)
 
-  pub tree-few : (t : Forest) (n i m : ℕ) (k : Option ℕ) → HasRuns bytes t → (markers_left (at n i m k t) ≤ length (leaf_codes t)) × (length (at n i m k t) ≤ length (leaf_codes t))
+  pub tree-few : (t : Forest) (n i m : ℕ) (k : Container) → HasRuns bytes t → (markers_left (at n i m k t) ≤ length (leaf_codes t)) × (length (at n i m k t) ≤ length (leaf_codes t))
   tree-few empty n i m k h = (omega arith, omega arith)
   tree-few (leaf_then name link cs rest) n i m k h =
       let here : List Sequence = leaf_run tildes bytes n i k name (start_of cs) (stop_of document_start cs) in
@@ -98,9 +98,9 @@ module _ (tildes : Bool) (bytes : List ℕ) where
       ] in
       (omega (arith, codes, sum, one.0, r.0), omega (arith, codes, size, one.1, r.1))
   tree-few (group_then name a b inside rest) n i m k h =
-      let front : List Sequence = at n (i + 1) (m + as_text name) (inner m k name) inside in
+      let front : List Sequence = at n (i + 1) (m + as_text name) (inner i m k name) inside in
       let back : List Sequence = at (n + length front) (i + 2 + event_count inside) (m + as_text name + text_count inside) k rest in
-      let x = tree-few inside n (i + 1) (m + as_text name) (inner m k name) h.1.0 in
+      let x = tree-few inside n (i + 1) (m + as_text name) (inner i m k name) h.1.0 in
       let y = tree-few rest (n + length front) (i + 2 + event_count inside) (m + as_text name + text_count inside) k h.1.1 in
       let codes : length (leaf_codes inside ++ leaf_codes rest) ≡ length (leaf_codes inside) + length (leaf_codes rest) = length-append (leaf_codes inside) (leaf_codes rest) in
       let sum : markers_left (front ++ back) ≡ markers_left front + markers_left back = sum_by-append (λ (q : Sequence). q.remaining) front back in
@@ -114,7 +114,7 @@ module _ (s : Setting) (tildes : Bool) (bytes : List ℕ) (same : s.bytes ≡ by
   abbrev in_rows : Forest → ℕ
   in_rows t = F (runs_of s t) + sum_by F (rows_inside s t)
 
-  rows-counted : (t : Forest) (n i m : ℕ) (k : Option ℕ) → HasRuns bytes t → in_rows t ≡ G (tree_runs tildes bytes n i m k t)
+  rows-counted : (t : Forest) (n i m : ℕ) (k : Container) → HasRuns bytes t → in_rows t ≡ G (tree_runs tildes bytes n i m k t)
   rows-counted empty n i m k h =
       let a : F (runs_of s empty) ≡ 0 = ap F (runs-empty s) ∙ f.none in
       let b : sum_by F (rows_inside s empty) ≡ 0 = ap (λ x. sum_by F x) (rows-empty s) in
@@ -140,9 +140,9 @@ module _ (s : Setting) (tildes : Bool) (bytes : List ℕ) (same : s.bytes ≡ by
       ] in
       omega (arith, r, b, sum, first)
   rows-counted (group_then name a b inside rest) n i m k h =
-      let front : List Sequence = tree_runs tildes bytes n (i + 1) (m + as_text name) (inner m k name) inside in
+      let front : List Sequence = tree_runs tildes bytes n (i + 1) (m + as_text name) (inner i m k name) inside in
       let back : List Sequence = tree_runs tildes bytes (n + length front) (i + 2 + event_count inside) (m + as_text name + text_count inside) k rest in
-      let x : in_rows inside ≡ G front = rows-counted inside n (i + 1) (m + as_text name) (inner m k name) h.1.0 in
+      let x : in_rows inside ≡ G front = rows-counted inside n (i + 1) (m + as_text name) (inner i m k name) h.1.0 in
       let y : in_rows rest ≡ G back = rows-counted rest (n + length front) (i + 2 + event_count inside) (m + as_text name + text_count inside) k h.1.1 in
       let first : F (runs_of s (group_then name a b inside rest)) ≡ F (runs_of s rest) = ap F (runs-group s name a b inside rest) in
       let rows : sum_by F (rows_inside s (group_then name a b inside rest)) ≡ sum_by F (runs_of s inside ∷ rows_inside s inside) + sum_by F (rows_inside s rest) =

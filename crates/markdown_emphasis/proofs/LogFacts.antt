@@ -1,11 +1,11 @@
 -- What the edits of runs collect at each place.
-use Rattle.std.proofs.Common.{◌≡◌, ℕ, zero, suc, ◌+◌, ◌<◌, ◌≤◌, ◌==◌, ◌&&◌, Bool, true, false, if◌then◌else◌, List, [], ◌∷◌, ◌++◌, length, drop, Option, refl, sym, ap, subst, ◌∙◌, arith, append-nil, inl, inr, ◌⊎◌}
+use Rattle.std.proofs.Common.{◌≡◌, ℕ, zero, suc, ◌+◌, ◌<◌, ◌≤◌, ◌==◌, ◌&&◌, Bool, true, false, if◌then◌else◌, List, [], ◌∷◌, ◌++◌, length, drop, refl, sym, ap, subst, ◌∙◌, arith, append-nil, inl, inr, ◌⊎◌}
 use Rattle.std.proofs.lemmas.Bool.Decides.{nat_tests}
 use Rattle.markdown_engine.specs.Edits.{removed_at, front_at, back_at, added_at}
 use Rattle.markdown_engine.specs.declared.event.Event.{Event}
 use Rattle.markdown_engine.specs.declared.util.edit_map.Edit.{Edit}
 use Rattle.markdown_attention.specs.Pairs.{run_at}
-use Rattle.markdown_attention.specs.Reading.{opens_run, sequence_at, first_run, runs_from, Around, where_after, HaveRunPlaces}
+use Rattle.markdown_attention.specs.Reading.{Container, opens_run, sequence_at, first_run, runs_from, Around, where_after, HaveRunPlaces}
 use Rattle.markdown_attention.specs.declared.attention.runs.Sequence.{Sequence}
 use Rattle.markdown_emphasis.specs.RunEdits.{edits_by}
 use Rattle.markdown_emphasis.specs.Word.{begins_run, IsPassLog}
@@ -92,17 +92,17 @@ module _ (comes : Sequence → List Event) where
     from n i w es = runs_from tildes bytes n i w es
 
     -- the run that begins at the first event, or none
-    record Begun (n i : ℕ) (c : Option ℕ) (e : Event) (es : List Event) : Type 0 where
+    record Begun (n i : ℕ) (c : Container) (e : Event) (es : List Event) : Type 0 where
       run : Sequence
       event : run.event ≡ i
       number : run.number ≡ n
       is : first_run tildes bytes n i c (e ∷ es) ≡ run ∷ []
 
-    begun : (n i : ℕ) (c : Option ℕ) (e : Event) (es : List Event) → HaveRunPlaces bytes (e ∷ es) → opens_run e ≡ true → Begun n i c e es
+    begun : (n i : ℕ) (c : Container) (e : Event) (es : List Event) → HaveRunPlaces bytes (e ∷ es) → opens_run e ≡ true → Begun n i c e es
     begun n i c e [] h o = absurd (h.0 o)
     begun n i c e (x ∷ es) h o = record { run = sequence_at tildes bytes n i c e.point x.point; event = refl; number = refl; is = ap (λ b. if b then sequence_at tildes bytes n i c e.point x.point ∷ [] else []) o }
 
-    none-begun : (n i : ℕ) (c : Option ℕ) (e : Event) (es : List Event) → opens_run e ≡ false → first_run tildes bytes n i c (e ∷ es) ≡ []
+    none-begun : (n i : ℕ) (c : Container) (e : Event) (es : List Event) → opens_run e ≡ false → first_run tildes bytes n i c (e ∷ es) ≡ []
     none-begun n i c e [] o = refl
     none-begun n i c e (x ∷ es) o = ap (λ b. if b then sequence_at tildes bytes n i c e.point x.point ∷ [] else []) o
 
@@ -111,13 +111,13 @@ module _ (comes : Sequence → List Event) where
     true-or false = inr refl
 
     abbrev rest_from : ℕ → ℕ → Around → Event → List Event → List Sequence
-    rest_from n i w e es = from (n + length (first_run tildes bytes n i w.container (e ∷ es))) (suc i) (where_after e w) es
+    rest_from n i w e es = from (n + length (first_run tildes bytes n i w.container (e ∷ es))) (suc i) (where_after i e w) es
 
     pub are-from : (es : List Event) (n i : ℕ) (w : Around) → HaveRunPlaces bytes es → AreFrom i (from n i w es)
     are-from [] n i w h = tt
     are-from (e ∷ es) n i w h =
         let rest : List Sequence = rest_from n i w e es in
-        let later : AreFrom (suc i) rest = are-from es (n + length (first_run tildes bytes n i w.container (e ∷ es))) (suc i) (where_after e w) h.1 in
+        let later : AreFrom (suc i) rest = are-from es (n + length (first_run tildes bytes n i w.container (e ∷ es))) (suc i) (where_after i e w) h.1 in
         elim (true-or (opens_run e)) [
           | inl o ↦
               let b = begun n i w.container e es h o in
@@ -132,7 +132,7 @@ module _ (comes : Sequence → List Event) where
     removed-place [] n i w k (suc j) e h = refl
     removed-place (x ∷ es) n i w k zero e h =
         let rest : List Sequence = rest_from n i w x es in
-        let later : AreFrom (suc i) rest = are-from es (n + length (first_run tildes bytes n i w.container (x ∷ es))) (suc i) (where_after x w) h.1 in
+        let later : AreFrom (suc i) rest = are-from es (n + length (first_run tildes bytes n i w.container (x ∷ es))) (suc i) (where_after i x w) h.1 in
         let none : removed_at k (edits rest) ≡ 0 = removed-below (suc i) k rest later (omega (arith, e)) in
         elim (true-or (opens_run x)) [
           | inl o ↦
@@ -146,7 +146,7 @@ module _ (comes : Sequence → List Event) where
     removed-place (x ∷ es) n i w k (suc j) e h =
         let rest : List Sequence = rest_from n i w x es in
         let ih : removed_at k (edits rest) ≡ (if begins_run (drop j es) then 2 else 0) =
-        removed-place es (n + length (first_run tildes bytes n i w.container (x ∷ es))) (suc i) (where_after x w) k j (omega (arith, e)) h.1 in
+        removed-place es (n + length (first_run tildes bytes n i w.container (x ∷ es))) (suc i) (where_after i x w) k j (omega (arith, e)) h.1 in
         elim (true-or (opens_run x)) [
           | inl o ↦
               let b = begun n i w.container x es h o in
@@ -161,12 +161,12 @@ module _ (comes : Sequence → List Event) where
     back-place [] n i w k j e h f = refl
     back-place (x ∷ es) n i w k zero e h f =
         let rest : List Sequence = rest_from n i w x es in
-        let later : AreFrom (suc i) rest = are-from es (n + length (first_run tildes bytes n i w.container (x ∷ es))) (suc i) (where_after x w) h.1 in
+        let later : AreFrom (suc i) rest = are-from es (n + length (first_run tildes bytes n i w.container (x ∷ es))) (suc i) (where_after i x w) h.1 in
         ap (λ xs. back_at k (edits (xs ++ rest))) (none-begun n i w.container x es f) ∙ back-below (suc i) k rest later (omega (arith, e))
     back-place (x ∷ es) n i w k (suc j) e h f =
         let rest : List Sequence = rest_from n i w x es in
         let ih : back_at k (edits rest) ≡ [] =
-        back-place es (n + length (first_run tildes bytes n i w.container (x ∷ es))) (suc i) (where_after x w) k j (omega (arith, e)) h.1 f in
+        back-place es (n + length (first_run tildes bytes n i w.container (x ∷ es))) (suc i) (where_after i x w) k j (omega (arith, e)) h.1 f in
         elim (true-or (opens_run x)) [
           | inl o ↦
               let b = begun n i w.container x es h o in
@@ -195,7 +195,7 @@ module _ (comes : Sequence → List Event) where
     numbered [] n i w g h l = absurd (omega (arith, l))
     numbered (e ∷ es) n i w g h l =
         let rest : List Sequence = rest_from n i w e es in
-        let ih = numbered es (n + length (first_run tildes bytes n i w.container (e ∷ es))) (suc i) (where_after e w) in
+        let ih = numbered es (n + length (first_run tildes bytes n i w.container (e ∷ es))) (suc i) (where_after i e w) in
         elim (true-or (opens_run e)) [
           | inl o ↦
               let b = begun n i w.container e es h o in

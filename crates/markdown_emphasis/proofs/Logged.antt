@@ -14,7 +14,7 @@ use Rattle.markdown_model.proofs.PairFacts.{pairs_are_sound}
 use Rattle.markdown_model.proofs.PairLaws.{some_pair_list, same_pair_list}
 use Rattle.markdown_attention.specs.Containers.{whole_shape, is_in, runs_in, place_in, pairs_of, AreWithin}
 use Rattle.markdown_attention.specs.Pairs.{row_of, run_at, left, pairs_in}
-use Rattle.markdown_attention.specs.Reading.{is_run, sequence_at}
+use Rattle.markdown_attention.specs.Reading.{Container, text_around, row_around, is_run, sequence_at}
 use Rattle.markdown_attention.specs.Rows.{IsRun, HasRuns, has_run, inner, as_text, text_count, leaf_run, tree_runs}
 use Rattle.markdown_attention.specs.declared.attention.pairing.Pair.{Pair}
 use Rattle.markdown_attention.specs.declared.attention.runs.Sequence.{Sequence}
@@ -82,22 +82,22 @@ module _ (s : Setting) (tildes : Bool) (bytes : List ℕ) (same : s.bytes ≡ by
     pub lists : (k : Option ℕ) (runs : List Run) → map shape_of runs ≡ map whole_shape (runs_in (row_of k) list) → Model.IsPairList s runs (pairs_of (row_of k) list pairs)
     pub within : AreWithin list pairs
 
-  abbrev own : Option ℕ → List Model.Pair
-  own k = pairs_of (row_of k) list pairs
+  abbrev own : Container → List Model.Pair
+  own k = pairs_of (row_around k) list pairs
 
-  abbrev Shapes : Option ℕ → List Run → Type 0
-  Shapes k R = map shape_of R ≡ map whole_shape (runs_in (row_of k) list)
+  abbrev Shapes : Container → List Run → Type 0
+  Shapes k R = map shape_of R ≡ map whole_shape (runs_in (row_around k) list)
 
   module _ (read : AreRead) where
     -- one run
-    leaf-logged : (front back : List Sequence) (r : Sequence) (k : Option ℕ) (n : ℕ) (cs : List Code) (R : List Run) → Shapes k R → list ≡ front ++ r ∷ back
+    leaf-logged : (front back : List Sequence) (r : Sequence) (k : Container) (n : ℕ) (cs : List Code) (R : List Run) → Shapes k R → list ≡ front ++ r ∷ back
         → r ≡ sequence_at tildes bytes (length front) n k (start_of cs) (stop_of document_start cs) → IsRun bytes cs → IsStripe (marker_of cs) (start_of cs) cs → at n ≡ start_of cs
-        → comes n ≡ run_events (own k) (length (runs_in (row_of k) front)) cs
+        → comes n ≡ run_events (own k) (length (runs_in (row_around k) front)) cs
     unfolding run_events
     leaf-logged front back r k n [] R shapes whole is h stripe place_is = absurd h
     leaf-logged front back r k n (c ∷ ds) R shapes whole is h stripe place_is =
         let cs : List Code = c ∷ ds in
-        let q : ℕ = row_of k in
+        let q : ℕ = row_around k in
         let g : ℕ = length front in
         let here : run_at list g ≡ r = ap (λ xs. run_at xs g) whole ∙ at-behind front r back in
         let long : length list ≡ g + suc (length back) = ap length whole ∙ length-append front (r ∷ back) in
@@ -109,7 +109,7 @@ module _ (s : Setting) (tildes : Bool) (bytes : List ℕ) (same : s.bytes ≡ by
         let b : List ℕ = opened_sizes g pairs in
         let fronts : closing_sizes i (own k) ≡ f = closing-local q list g inside_list row pairs read.within in
         let backs : opening_sizes i (own k) ≡ b = opening-local q list g inside_list row pairs read.within in
-        let is_list : Model.IsPairList s R (own k) = read.lists k R shapes in
+        let is_list : Model.IsPairList s R (own k) = read.lists (text_around k) R shapes in
         let ranks = ranked s R (own k) is_list in
         let once : sum_by (Model.taken_by i) (own k) ≤ length (Model.run_at R i).codes = (pairs_are_sound s R (own k) is_list).taken_once i in
         let sum : total (closing_sizes i (own k)) + total (opening_sizes i (own k)) ≡ sum_by (Model.taken_by i) (own k) = total-taken R i (own k) ranks in
@@ -119,7 +119,7 @@ module _ (s : Setting) (tildes : Bool) (bytes : List ℕ) (same : s.bytes ≡ by
         let event_is : (run_at list g).event ≡ n = ap (λ (x : Sequence). x.event) (here ∙ is) in
         let marker_is : (run_at list g).marker ≡ marker_of cs = ap (λ (x : Sequence). x.marker) (here ∙ is) ∙ h.0 in
         let size_is : (run_at list g).size ≡ length cs = ap (λ (x : Sequence). x.size) (here ∙ is) ∙ (let e = h.1 in omega (arith, e)) in
-        let key_is : row_of (run_at list g).container ≡ q = ap (λ (x : Sequence). row_of x.container) (here ∙ is) in
+        let key_is : row_of (run_at list g).text ≡ q = ap (λ (x : Sequence). row_of x.text) (here ∙ is) in
         let left_is : left_of list pairs g ≡ (run_at list g).size - (total f + total b) =
         ap (λ j. left list (pairs_in list j pairs) g) key_is ∙ ap (λ j. (run_at list g).size - j) (taken-local q list g inside_list row pairs read.within) in
         let kept : ℕ = left_of list pairs g in
@@ -139,7 +139,7 @@ module _ (s : Setting) (tildes : Bool) (bytes : List ℕ) (same : s.bytes ≡ by
     Lacks : ℕ → ℕ → List Sequence → Type 0
     Lacks low high xs = (r : ℕ) → low < r → r ≤ high → runs_in r xs ≡ []
 
-    abbrev runs : ℕ → ℕ → ℕ → Option ℕ → Forest → List Sequence
+    abbrev runs : ℕ → ℕ → ℕ → Container → Forest → List Sequence
     runs g n m k t = tree_runs tildes bytes g n m k t
 
     abbrev Logged : ℕ → List Model.Pair → ℕ → Forest → Type 0
@@ -149,9 +149,9 @@ module _ (s : Setting) (tildes : Bool) (bytes : List ℕ) (same : s.bytes ≡ by
     split r xs ys = filters s tildes bytes same on r xs ys
 
     -- a run in front counts in its own container, other leaves do not
-    logged : (t : Forest) (n m : ℕ) (k : Option ℕ) (R : List Run) (front back : List Sequence) → Shapes k R → HasRuns bytes t → HasStripes t → HavePoints at n t → row_of k ≤ m
+    logged : (t : Forest) (n m : ℕ) (k : Container) (R : List Run) (front back : List Sequence) → Shapes k R → HasRuns bytes t → HasStripes t → HavePoints at n t → row_around k ≤ m
         → list ≡ front ++ (runs (length front) n m k t ++ back) → Lacks m (m + text_count t) front → Lacks m (m + text_count t) back
-        → Logged n (own k) (length (runs_in (row_of k) front)) t
+        → Logged n (own k) (length (runs_in (row_around k) front)) t
     unfolding Lacks
     logged empty n m k R front back shapes h st pt low whole f b = tt
     logged (leaf_then name link cs rest) n m k R front back shapes h st pt low whole f b = elim (true-or (is_run name)) [
@@ -171,7 +171,7 @@ module _ (s : Setting) (tildes : Bool) (bytes : List ℕ) (same : s.bytes ≡ by
           let whole1 : list ≡ front ++ r ∷ (more ++ back) = whole ∙ ap (λ xs. front ++ ((xs ++ runs (length front + length xs) (n + 2) m k rest) ++ back)) here in
           let whole2 : list ≡ (front ++ r ∷ []) ++ (runs (length (front ++ r ∷ [])) (n + 2) m k rest ++ back) =
           whole1 ∙ sym (append_assoc front (r ∷ []) (more ++ back)) ∙ ap (λ g. (front ++ r ∷ []) ++ (runs g (n + 2) m k rest ++ back)) (sym one) in
-          let q : ℕ = row_of k in
+          let q : ℕ = row_around k in
           let mine : runs_in q (r ∷ []) ≡ r ∷ [] = ap (λ (y : Bool). cond y (r ∷ []) []) (eq-eqb q q refl) in
           let count : length (runs_in q (front ++ r ∷ [])) ≡ suc (length (runs_in q front)) =
           ap length (split q front (r ∷ []) ∙ ap (λ xs. runs_in q front ++ xs) mine) ∙ (let y = length-append (runs_in q front) (r ∷ []) in omega (arith, y)) in
@@ -188,56 +188,56 @@ module _ (s : Setting) (tildes : Bool) (bytes : List ℕ) (same : s.bytes ≡ by
     logged (group_then name a c inside rest) n m k R front back shapes h st pt low whole f b =
         let m' : ℕ = m + as_text name in
         let past : ℕ = m' + text_count inside in
-        let of : List Sequence = runs (length front) (n + 1) m' (inner m k name) inside in
+        let of : List Sequence = runs (length front) (n + 1) m' (inner n m k name) inside in
         let g : ℕ = length front + length of in
         let j : ℕ = n + 2 + event_count inside in
         let more : List Sequence = runs g j past k rest in
-        let q : ℕ = row_of k in
+        let q : ℕ = row_around k in
         let whole1 : list ≡ front ++ (of ++ (more ++ back)) = whole ∙ ap (λ xs. front ++ xs) (append_assoc of more back) in
         let size : length (front ++ of) ≡ g = length-append front of in
         let whole2 : list ≡ (front ++ of) ++ (runs (length (front ++ of)) j past k rest ++ back) =
         whole1 ∙ sym (append_assoc front of (more ++ back)) ∙ ap (λ x. (front ++ of) ++ (runs x j past k rest ++ back)) (sym size) in
         let behind : (r : ℕ) → m < r → r ≤ past → runs_in r (more ++ back) ≡ [] =
         λ r l u. split r more back ∙ ap (λ zs. zs ++ runs_in r back) (others s tildes bytes same on rest g j past k r (λ e. omega (arith, e, l, low)) (inl u)) ∙ b r l (omega (arith, u)) in
-        let inner_low : row_of (inner m k name) ≤ m' = elim (inner-row s tildes bytes same on m k name) [ inl x ↦ omega (arith, x.1.0, x.1.1) | inr x ↦ (let y = ap row_of x.1 in omega (arith, y, low)) ] in
+        let inner_low : row_around (inner n m k name) ≤ m' = elim (inner-row s tildes bytes same on n m k name) [ inl x ↦ omega (arith, x.1.0, x.1.1) | inr x ↦ (let y = ap row_around x.1 in omega (arith, y, low)) ] in
         let front_in : Lacks m' past front = λ r l u. f r (omega (arith, l)) (omega (arith, u)) in
         let back_in : Lacks m' past (more ++ back) = λ r l u. behind r (omega (arith, l)) u in
-        let none : runs_in q of ≡ [] = elim (inner-row s tildes bytes same on m k name) [
-          | inl x ↦ others s tildes bytes same on inside (length front) (n + 1) m' (inner m k name) q (λ y. omega (arith, y, x.1.0, low)) (inl (omega (arith, low)))
+        let none : runs_in q of ≡ [] = elim (inner-row s tildes bytes same on n m k name) [
+          | inl x ↦ others s tildes bytes same on inside (length front) (n + 1) m' (inner n m k name) q (λ y. omega (arith, y, x.1.0, low)) (inl (omega (arith, low)))
           | inr x ↦
-              no-shapes (runs_in q of) (sym (row-is s tildes bytes same on inside (length front) (n + 1) m' (inner m k name) q h.1.0 (ap row_of x.1) (omega (arith, low)))
+              no-shapes (runs_in q of) (sym (row-is s tildes bytes same on inside (length front) (n + 1) m' (inner n m k name) q h.1.0 (ap row_around x.1) (omega (arith, low)))
               ∙ ap (map shape_of) (none-in s tildes bytes same on inside (h.0.1 x.0)))
         ] in
         let count : length (runs_in q (front ++ of)) ≡ length (runs_in q front) = ap length (split q front of ∙ ap (λ xs. runs_in q front ++ xs) none ∙ append-nil (runs_in q front)) in
         let front_after : Lacks past (past + text_count rest) (front ++ of) =
         λ r l u. split r front of ∙ ap (λ zs. zs ++ runs_in r of) (f r (omega (arith, l)) (omega (arith, u)))
-        ∙ others s tildes bytes same on inside (length front) (n + 1) m' (inner m k name) r (λ e. omega (arith, inner_low, e, l)) (inr l) in
+        ∙ others s tildes bytes same on inside (length front) (n + 1) m' (inner n m k name) r (λ e. omega (arith, inner_low, e, l)) (inr l) in
         let back_after : Lacks past (past + text_count rest) back = λ r l u. b r (omega (arith, l)) (omega (arith, u)) in
-        let first : Logged (n + 1) (Model.pair_list s (runs_of s inside)) 0 inside = elim (inner-row s tildes bytes same on m k name) [
+        let first : Logged (n + 1) (Model.pair_list s (runs_of s inside)) 0 inside = elim (inner-row s tildes bytes same on n m k name) [
           | inl x ↦
-              let key : row_of (inner m k name) ≡ m + 1 = x.1.0 in
+              let key : row_around (inner n m k name) ≡ m + 1 = x.1.0 in
               let one : as_text name ≡ 1 = x.1.1 in
               let none_front : runs_in (m + 1) front ≡ [] = f (m + 1) (omega arith) (omega (arith, one)) in
               let middle : runs_in (m + 1) list ≡ runs_in (m + 1) of =
               ap (runs_in (m + 1)) whole1
               ∙ split (m + 1) front (of ++ (more ++ back)) ∙ ap (λ xs. xs ++ runs_in (m + 1) (of ++ (more ++ back))) none_front
               ∙ split (m + 1) of (more ++ back) ∙ ap (λ xs. runs_in (m + 1) of ++ xs) (behind (m + 1) (omega arith) (omega (arith, one))) ∙ append-nil (runs_in (m + 1) of) in
-              let shapes_in : Shapes (inner m k name) (runs_of s inside) =
-              row-is s tildes bytes same on inside (length front) (n + 1) m' (inner m k name) (m + 1) h.1.0 key (omega (arith, one))
+              let shapes_in : Shapes (inner n m k name) (runs_of s inside) =
+              row-is s tildes bytes same on inside (length front) (n + 1) m' (inner n m k name) (m + 1) h.1.0 key (omega (arith, one))
               ∙ ap (map whole_shape) (sym middle)
               ∙ ap (λ r. map whole_shape (runs_in r list)) (sym key) in
-              let pairs_are : own (inner m k name) ≡ Model.pair_list s (runs_of s inside) =
-              same_pair_list s (runs_of s inside) (own (inner m k name)) (Model.pair_list s (runs_of s inside)) (read.lists (inner m k name) (runs_of s inside) shapes_in) (some_pair_list s (runs_of s inside)) in
-              let start : length (runs_in (row_of (inner m k name)) front) ≡ 0 = ap (λ r. length (runs_in r front)) key ∙ ap length none_front in
-              let here : Logged (n + 1) (own (inner m k name)) (length (runs_in (row_of (inner m k name)) front)) inside =
-              logged inside (n + 1) m' (inner m k name) (runs_of s inside) front (more ++ back) shapes_in h.1.0 st.1.0 pt.0 inner_low whole1 front_in back_in in
+              let pairs_are : own (inner n m k name) ≡ Model.pair_list s (runs_of s inside) =
+              same_pair_list s (runs_of s inside) (own (inner n m k name)) (Model.pair_list s (runs_of s inside)) (read.lists (text_around (inner n m k name)) (runs_of s inside) shapes_in) (some_pair_list s (runs_of s inside)) in
+              let start : length (runs_in (row_around (inner n m k name)) front) ≡ 0 = ap (λ r. length (runs_in r front)) key ∙ ap length none_front in
+              let here : Logged (n + 1) (own (inner n m k name)) (length (runs_in (row_around (inner n m k name)) front)) inside =
+              logged inside (n + 1) m' (inner n m k name) (runs_of s inside) front (more ++ back) shapes_in h.1.0 st.1.0 pt.0 inner_low whole1 front_in back_in in
               subst (λ (i : ℕ). Logged (n + 1) (Model.pair_list s (runs_of s inside)) i inside) start
-              (subst (λ (ps : List Model.Pair). Logged (n + 1) ps (length (runs_in (row_of (inner m k name)) front)) inside) pairs_are here)
+              (subst (λ (ps : List Model.Pair). Logged (n + 1) ps (length (runs_in (row_around (inner n m k name)) front)) inside) pairs_are here)
           | inr x ↦
-              let shapes_in : Shapes (inner m k name) R = shapes ∙ ap (λ o. map whole_shape (runs_in (row_of o) list)) (sym x.1) in
-              let here : Logged (n + 1) (own (inner m k name)) (length (runs_in (row_of (inner m k name)) front)) inside =
-              logged inside (n + 1) m' (inner m k name) R front (more ++ back) shapes_in h.1.0 st.1.0 pt.0 inner_low whole1 front_in back_in in
-              logged-any s comes inside (n + 1) (length (runs_in (row_of (inner m k name)) front)) 0 (own (inner m k name)) (Model.pair_list s (runs_of s inside)) (h.0.1 x.0) here
+              let shapes_in : Shapes (inner n m k name) R = shapes ∙ ap (λ o. map whole_shape (runs_in (row_around o) list)) (sym x.1) in
+              let here : Logged (n + 1) (own (inner n m k name)) (length (runs_in (row_around (inner n m k name)) front)) inside =
+              logged inside (n + 1) m' (inner n m k name) R front (more ++ back) shapes_in h.1.0 st.1.0 pt.0 inner_low whole1 front_in back_in in
+              logged-any s comes inside (n + 1) (length (runs_in (row_around (inner n m k name)) front)) 0 (own (inner n m k name)) (Model.pair_list s (runs_of s inside)) (h.0.1 x.0) here
         ] in
         (first, subst (λ (i : ℕ). Logged j (own k) i rest) count (logged rest j past k R (front ++ of) back shapes h.1.1 st.1.1 pt.1 (omega (arith, low)) whole2 front_after back_after))
 

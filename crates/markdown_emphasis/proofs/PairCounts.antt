@@ -20,7 +20,7 @@ use Rattle.markdown_model.proofs.PairFacts.{pairs_are_sound}
 use Rattle.markdown_model.proofs.PairLaws.{some_pair_list, same_pair_list}
 use Rattle.markdown_attention.specs.Containers.{whole_shape, runs_in, placed, pairs_of, ArePairLists, AreWithin}
 use Rattle.markdown_attention.specs.Pairs.{row_of, run_at, pairs_in}
-use Rattle.markdown_attention.specs.Reading.{is_run, is_text}
+use Rattle.markdown_attention.specs.Reading.{Container, row_around, is_run, is_text}
 use Rattle.markdown_attention.specs.Rows.{HasRows, leaf_run, inner, as_text, text_count, tree_runs, texts_of, HasRuns}
 use Rattle.markdown_attention.specs.declared.attention.pairing.Pair.{Pair}
 use Rattle.markdown_attention.specs.declared.attention.runs.Sequence.{Sequence}
@@ -194,14 +194,14 @@ every-at P (x ∷ xs) (suc i) l h = every-at P xs i (omega (arith, l)) h.1
 
 -- in this row, or in that of one of the texts
 abbrev Stays : ℕ → Texts → Sequence → Type 0
-Stays r xs q = (row_of q.container ≡ r) ⊎ (1 ≤ hits (row_of q.container) xs)
+Stays r xs q = (row_of q.text ≡ r) ⊎ (1 ≤ hits (row_of q.text) xs)
 
 module _ (tildes : Bool) (bytes : List ℕ) where
-  stays-tree : (t : Forest) (n i m : ℕ) (k : Option ℕ) → Every (Stays (row_of k) (texts_of m t)) (tree_runs tildes bytes n i m k t)
+  stays-tree : (t : Forest) (n i m : ℕ) (k : Container) → Every (Stays (row_around k) (texts_of m t)) (tree_runs tildes bytes n i m k t)
   stays-tree empty n i m k = tt
   stays-tree (leaf_then name link cs rest) n i m k =
       let here : List Sequence = leaf_run tildes bytes n i k name (start_of cs) (stop_of document_start cs) in
-      let P : Sequence → Type 0 = Stays (row_of k) (texts_of m rest) in
+      let P : Sequence → Type 0 = Stays (row_around k) (texts_of m rest) in
       let one : Every P here = elim (true-or (is_run name)) [
         | inl e ↦ subst (λ (xs : List Sequence). Every P xs) (sym (leaf-run-yes tildes bytes n i k name (start_of cs) (stop_of document_start cs) e)) (inl refl, tt)
         | inr e ↦ subst (λ (xs : List Sequence). Every P xs) (sym (leaf-run-no tildes bytes n i k name (start_of cs) (stop_of document_start cs) e)) tt
@@ -212,34 +212,34 @@ module _ (tildes : Bool) (bytes : List ℕ) where
       let m' : ℕ = m + as_text name in
       let past : ℕ = m' + text_count inside in
       let whole : Texts = texts_of m (group_then name a b inside rest) in
-      let front : List Sequence = tree_runs tildes bytes n (i + 1) m' (inner m k name) inside in
+      let front : List Sequence = tree_runs tildes bytes n (i + 1) m' (inner i m k name) inside in
       let back : List Sequence = tree_runs tildes bytes (n + length front) j past k rest in
-      let P : Sequence → Type 0 = Stays (row_of k) whole in
+      let P : Sequence → Type 0 = Stays (row_around k) whole in
       let parts : (r : ℕ) → hits r whole ≡ hits r (own m name inside) + (hits r (texts_of m' inside) + hits r (texts_of past rest)) = λ r. group-sums (is_row r) m name a b inside rest in
-      let outer : (q : Sequence) → row_of q.container ≡ row_of (inner m k name) → P q = λ q e. elim (true-or (is_text name)) [
+      let outer : (q : Sequence) → row_of q.text ≡ row_around (inner i m k name) → P q = λ q e. elim (true-or (is_text name)) [
         | inl x ↦
-            let at : row_of (inner m k name) ≡ m + 1 = ap (λ (b : Bool). row_of (if b then Some m else k)) x in
-            let one : hits (row_of q.container) (own m name inside) ≡ is_row (row_of q.container) (m + 1) + 0 = own-yes (is_row (row_of q.container)) m name inside x in
-            inr (omega (arith, parts (row_of q.container), one, row-yes (row_of q.container) (m + 1) (e ∙ at)))
-        | inr x ↦ inl (e ∙ ap (λ (b : Bool). row_of (if b then Some m else k)) x)
+            let at : row_around (inner i m k name) ≡ m + 1 = ap (λ (b : Bool). row_around (if b then Some (record { event = i; number = m }) else k)) x in
+            let one : hits (row_of q.text) (own m name inside) ≡ is_row (row_of q.text) (m + 1) + 0 = own-yes (is_row (row_of q.text)) m name inside x in
+            inr (omega (arith, parts (row_of q.text), one, row-yes (row_of q.text) (m + 1) (e ∙ at)))
+        | inr x ↦ inl (e ∙ ap (λ (b : Bool). row_around (if b then Some (record { event = i; number = m }) else k)) x)
       ] in
-      let from_front : (q : Sequence) → Stays (row_of (inner m k name)) (texts_of m' inside) q → P q = λ q h. elim h [
+      let from_front : (q : Sequence) → Stays (row_around (inner i m k name)) (texts_of m' inside) q → P q = λ q h. elim h [
         | inl e ↦ outer q e
-        | inr l ↦ inr (omega (arith, parts (row_of q.container), l))
+        | inr l ↦ inr (omega (arith, parts (row_of q.text), l))
       ] in
-      let from_back : (q : Sequence) → Stays (row_of k) (texts_of past rest) q → P q = λ q h. elim h [
+      let from_back : (q : Sequence) → Stays (row_around k) (texts_of past rest) q → P q = λ q h. elim h [
         | inl e ↦ inl e
-        | inr l ↦ inr (omega (arith, parts (row_of q.container), l))
+        | inr l ↦ inr (omega (arith, parts (row_of q.text), l))
       ] in
       every-append P front back
-      (every-map (Stays (row_of (inner m k name)) (texts_of m' inside)) P front from_front (stays-tree inside n (i + 1) m' (inner m k name)))
-      (every-map (Stays (row_of k) (texts_of past rest)) P back from_back (stays-tree rest (n + length front) j past k))
+      (every-map (Stays (row_around (inner i m k name)) (texts_of m' inside)) P front from_front (stays-tree inside n (i + 1) m' (inner i m k name)))
+      (every-map (Stays (row_around k) (texts_of past rest)) P back from_back (stays-tree rest (n + length front) j past k))
 
 -- Pairs by rows.
 
 module _ (list : List Sequence) (texts : Texts) where
   abbrev row_in : Pair → ℕ
-  row_in p = row_of (run_at list p.closer).container
+  row_in p = row_of (run_at list p.closer).text
 
   abbrev in_row : List Pair → ℕ → ℕ
   in_row ps m = length (pairs_in list m ps)
@@ -331,7 +331,7 @@ module _ (s : Setting) (tildes : Bool) (bytes : List ℕ) (same : s.bytes ≡ by
     once-all : (ps : List Pair) → AreWithin all_runs ps → AreOnce all_runs (texts_of 0 t) ps
     once-all [] w = tt
     once-all (p ∷ ps) w =
-        let r : ℕ = row_of (run_at all_runs p.closer).container in
+        let r : ℕ = row_of (run_at all_runs p.closer).text in
         let few : hits r (texts_of 0 t) ≤ 1 = hits-once t 0 r in
         let here : is_row r 0 + hits r (texts_of 0 t) ≡ 1 = elim (every-at (Stays 0 (texts_of 0 t)) all_runs p.closer w.0.within (stays-tree tildes bytes t 0 0 0 None)) [
           | inl e ↦

@@ -47,7 +47,7 @@ module _ (tildes : Bool) (bytes : List ℕ) where
       ]
     where
       next : Around
-      next = where_after e w
+      next = where_after i e w
 
       q : Sequence
       q = sequence_at tildes bytes n i w.container e.point x.point

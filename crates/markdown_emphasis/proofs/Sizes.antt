@@ -47,7 +47,7 @@ opened-by g p ps b e = ap (λ (x : Bool). if x then p.size ∷ opened_sizes g ps
 
 module _ (k : ℕ) (list : List Sequence) (g : ℕ) (within : g < length list) (inside : is_in k (run_at list g) ≡ true) where
   abbrev in_row : Pair → Bool
-  in_row p = row_of (run_at list p.closer).container == k
+  in_row p = row_of (run_at list p.closer).text == k
 
   abbrev local : List Pair → List Model.Pair
   local ps = map (placed k list) (pairs_in list k ps)
@@ -79,7 +79,7 @@ module _ (k : ℕ) (list : List Sequence) (g : ℕ) (within : g < length list) (
       elim (true-or (p.closer == g)) [
         | inl hit ↦
             let e : p.closer ≡ g = eqb-true p.closer g hit in
-            let row : in_row p ≡ true = ap (λ j. row_of (run_at list j).container == k) e ∙ inside in
+            let row : in_row p ≡ true = ap (λ j. row_of (run_at list j).text == k) e ∙ inside in
             ap (closing_sizes i) (local-yes p ps row)
             ∙ closing-yes i (placed k list p) (local ps) (same-test (place_in k list p.closer) i (ap (place_in k list) e))
             ∙ ap (λ xs. p.size ∷ xs) ih
@@ -106,7 +106,7 @@ module _ (k : ℕ) (list : List Sequence) (g : ℕ) (within : g < length list) (
       elim (true-or (p.opener == g)) [
         | inl hit ↦
             let e : p.opener ≡ g = eqb-true p.opener g hit in
-            let row : in_row p ≡ true = ap (λ r. r == k) (sym w.0.row) ∙ ap (λ j. row_of (run_at list j).container == k) e ∙ inside in
+            let row : in_row p ≡ true = ap (λ r. r == k) (sym w.0.row) ∙ ap (λ j. row_of (run_at list j).text == k) e ∙ inside in
             ap (opening_sizes i) (local-yes p ps row)
             ∙ opening-yes i (placed k list p) (local ps) (same-test (place_in k list p.opener) i (ap (place_in k list) e))
             ∙ ap (λ xs. p.size ∷ xs) ih
@@ -138,7 +138,7 @@ module _ (k : ℕ) (list : List Sequence) (g : ℕ) (within : g < length list) (
         | inl hit ↦
             let e : p.closer ≡ g = eqb-true p.closer g hit in
             let not_opener : (p.opener == g) ≡ false = other-test p.opener g (λ x. omega (arith, x, e, wo)) in
-            let a = in-yes (ap (λ j. row_of (run_at list j).container == k) e ∙ inside) in
+            let a = in-yes (ap (λ j. row_of (run_at list j).text == k) e ∙ inside) in
             let b = takes-by p false true not_opener hit in
             let c = ap total (closed-by g p ps true hit) in
             let d = ap total (opened-by g p ps false not_opener) in
@@ -146,7 +146,7 @@ module _ (k : ℕ) (list : List Sequence) (g : ℕ) (within : g < length list) (
         | inr miss ↦ elim (true-or (p.opener == g)) [
           | inl hit ↦
               let e : p.opener ≡ g = eqb-true p.opener g hit in
-              let a = in-yes (ap (λ r. r == k) (sym w.0.row) ∙ ap (λ j. row_of (run_at list j).container == k) e ∙ inside) in
+              let a = in-yes (ap (λ r. r == k) (sym w.0.row) ∙ ap (λ j. row_of (run_at list j).text == k) e ∙ inside) in
               let b = takes-by p true false hit miss in
               let c = ap total (closed-by g p ps false miss) in
               let d = ap total (opened-by g p ps true hit) in

@@ -136,7 +136,7 @@ module _ (s : Setting) (tildes : Bool) (bytes : List ℕ) (same : s.bytes ≡ by
 pub sizes-sum : (list : List Sequence) (pairs : List Pair) (g : ℕ) → g < length list → AreWithin list pairs → AreTakenOnce list pairs
     → total (closed_sizes g pairs) + left_of list pairs g + total (opened_sizes g pairs) ≡ (run_at list g).size
 sizes-sum list pairs g l w o =
-    let k : ℕ = row_of (run_at list g).container in
+    let k : ℕ = row_of (run_at list g).text in
     let t : taken (pairs_in list k pairs) g ≡ total (closed_sizes g pairs) + total (opened_sizes g pairs) = taken-local k list g l (eq-eqb k k refl) pairs w in
     let once : taken (pairs_in list k pairs) g ≤ (run_at list g).size = o g in
     omega (arith, t, once)

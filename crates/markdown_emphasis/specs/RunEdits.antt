@@ -22,7 +22,7 @@ opened_sizes g (p ∷ ps) = if p.opener == g then p.size ∷ opened_sizes g ps e
 
 -- what they leave of it
 abbrev pub left_of : List Sequence → List Pair → ℕ → ℕ
-left_of list pairs g = left list (pairs_in list (row_of (run_at list g).container) pairs) g
+left_of list pairs g = left list (pairs_in list (row_of (run_at list g).text) pairs) g
 
 -- an edit for each run: its two events go, and these come
 abbrev pub edits_by : (Sequence → List Event) → List Sequence → List Edit

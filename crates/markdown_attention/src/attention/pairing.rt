@@ -74,12 +74,12 @@ fn do_sizes_fit(options: ParseOptions, a: Sequence, b: Sequence) -> bool
     }
 }
 
-// The row of the tables that a container has.
-fn row_number(container: Option<usize>) -> usize
-    requires { row_of container < 2 ^ 64 }
-    ensures { result ≡ row_of container }
+// The row that the tables have for the text of a label, or for the whole content.
+fn row_number(text: Option<usize>) -> usize
+    requires { row_of text < 2 ^ 64 }
+    ensures { result ≡ row_of text }
 {
-    match container {
+    match text {
         None => 0,
         Some(text) => text + 1,
     }
@@ -102,7 +102,7 @@ fn list_of(run: Sequence) -> usize
     requires { key_of run < 2 ^ 64 }
     ensures { result ≡ key_of run }
 {
-    row_number(run.container) * 3 + kind_number(run.marker)
+    row_number(run.text) * 3 + kind_number(run.marker)
 }
 
 // What of a closer decides who refuses it.
@@ -263,7 +263,7 @@ fn list_end(heads: &mut Vec<Newest>, list: usize, closer: Sequence)
 // How many rows the tables have: one for the whole content, and one for the text of each label.
 fn row_count(runs: &Runs) -> Result<usize, AllocError>
     ensures is { IfOk result (λ rows. rows ≡ runs.now.texts + 1) }
-    ensures within { IfOk result (λ rows. (r : ℕ) → r < length runs.now.list → row_of (run_at runs.now.list r).container < rows) }
+    ensures within { IfOk result (λ rows. (r : ℕ) → r < length runs.now.list → row_of (run_at runs.now.list r).text < rows) }
 {
     runs.texts().checked_add(1).ok_or(AllocError)
 }
@@ -311,7 +311,7 @@ pub fn pair_runs(
     let mut marks = zeros(alloc, rows, 18)?;
     let mut older = Vec::new(alloc);
     while let Some(closer) = runs.closer() {
-        let row = row_number(closer.container);
+        let row = row_number(closer.text);
         let list = list_of(closer);
         let class = class_number(options, closer);
         let at = list * 6 + class;

@@ -51,13 +51,21 @@ fn may_act(marker: u8, beside: Option<char>, here: bool, there: bool) -> bool
     here && (marker != b'_' || !is_other(beside) || !there)
 }
 
+// The text of a label: the number of its Enter event, and its number among the texts, which are counted from 0 in the order in which they
+// begin.
+#[derive(Clone, Copy)]
+struct Text {
+    event: usize,
+    number: usize,
+}
+
 // The run from one place to another.
 fn sequence_at(
     tildes: bool,
     bytes: &[u8],
     number: usize,
     event: usize,
-    container: Option<usize>,
+    container: Option<Text>,
     from: Point,
     to: Point,
 ) -> Sequence
@@ -74,7 +82,8 @@ fn sequence_at(
     Sequence {
         number,
         event,
-        container,
+        container: container.map(|text| text.event),
+        text: container.map(|text| text.number),
         marker,
         size,
         remaining: size,
@@ -87,21 +96,24 @@ fn sequence_at(
 // have begun.
 #[derive(Drop)]
 struct Where {
-    container: Option<usize>,
-    outer: Stack<Option<usize>>,
+    container: Option<Text>,
+    outer: Stack<Option<Text>>,
     texts: usize,
 }
 
 impl Where {
     // Passes an event.
-    fn pass(&mut self, event: Event) -> Result<(), AllocError>
+    fn pass(&mut self, index: usize, event: Event) -> Result<(), AllocError>
         requires { self.old.texts + 1 < 2 ^ 64 }
-        ensures { OnOk result (self.new ≡ where_after event self.old) }
+        ensures { OnOk result (self.new ≡ where_after index event self.old) }
     {
         match (event.name, event.kind) {
             (Name::LabelText, Kind::Enter) => {
                 self.outer.push(self.container)?;
-                self.container = Some(self.texts);
+                self.container = Some(Text {
+                    event: index,
+                    number: self.texts,
+                });
                 self.texts += 1;
             }
             (Name::LabelText, Kind::Exit) => self.container = self.outer.pop().flatten(),
@@ -124,7 +136,7 @@ fn read_event(
     tildes: bool,
     events: &Events,
     index: usize,
-    container: Option<usize>,
+    container: Option<Text>,
     list: &mut Vec<Sequence>,
 ) -> Result<(), AllocError>
     requires utf8 { IsUtf8 bytes.now }
@@ -179,7 +191,7 @@ pub(crate) fn read(
     };
     for index in 0..events.len() {
         read_event(bytes, tildes, events, index, place.container, &mut list)?;
-        place.pass(events.bare_at(index))?;
+        place.pass(index, events.bare_at(index))?;
     }
     Ok(Found {
         list,

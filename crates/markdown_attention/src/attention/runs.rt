@@ -23,9 +23,11 @@ pub struct Sequence {
     pub number: usize,
     /// The number of its `Enter` event.
     pub event: usize,
-    /// Its container: which of the texts of labels it stands in, counted from 0 in the order in which they begin, none for the whole
-    /// content.
+    /// Its container: the number of the `Enter` event of the `LabelText` that it stands in, none for the whole content.
     pub container: Option<usize>,
+    /// The same container, counted: which of the texts of labels it is, from 0 in the order in which they begin, none for the whole content.
+    /// The tables of the pairing are laid out by it.
+    pub text: Option<usize>,
     /// The byte that it repeats.
     pub marker: u8,
     /// How many markers it began with.
@@ -92,7 +94,7 @@ impl Runs {
         }
     }
 
-    /// How many texts of labels there are: the container of each run is one of them, or the whole content.
+    /// How many texts of labels there are: each run stands in one of them, or in none.
     pub fn texts(&self) -> usize
         ensures is { result ≡ self.now.texts }
         ensures containers { StandIn result self.now.list }

@@ -171,7 +171,7 @@ loop-closer-preserved c =
     let hs' : List ℕ = c.cut_for_pair.new.heads.items in
     let ms : List ℕ = c.loop-closer.marks.items in
     let ms' : List ℕ = c.lower_marks.new.marks.items in
-    let row : ℕ = row_of c.in-Some.closer.container in
+    let row : ℕ = row_of c.in-Some.closer.text in
     let old : List ℕ = c.loop-closer.older.items in
     let cut : (i : ℕ) → row * 3 ≤ i → i < row * 3 + 3 → (i ≡ k → ⊥) → IsCut old o (get_or hs i 0) (get_or hs' i 0) =
     subst (λ f. (i : ℕ) → f * 3 ≤ i → i < f * 3 + 3 → (i ≡ k → ⊥) → IsCut old o (get_or hs i 0) (get_or hs' i 0)) c.row_number-row.ensures
