@@ -4,7 +4,7 @@ use markdown_engine::parser::Piece;
 
 // A document, pieces, and whether they are a content.
 #[rattlefmt::skip]
-const CONTENTS: [(&[u8], &[Piece], bool); 21] = [
+const CONTENTS: [(&[u8], &[Piece], bool); 22] = [
     (b"> [a\n> ](b)", &[], true),
     (b"> [a\n> ](b)", &[Piece { start: (2, 0), end: (2, 0) }], true),
     (b"> [a\n> ](b)", &[Piece { start: (2, 0), end: (5, 0) }, Piece { start: (7, 0), end: (11, 0) }], true),
@@ -27,7 +27,8 @@ const CONTENTS: [(&[u8], &[Piece], bool); 21] = [
     (b"ab", &[Piece { start: (1, 0), end: (0, 0) }], false),
     (b"a\n\nb", &[Piece { start: (0, 0), end: (2, 0) }, Piece { start: (3, 0), end: (4, 0) }], false),
     (b"a\nb", &[Piece { start: (0, 0), end: (2, 0) }, Piece { start: (2, 0), end: (2, 0) }, Piece { start: (2, 0), end: (3, 0) }], false),
-    // the last piece is empty, a line is blank
+    // one line, the last piece is empty, a line is blank
+    (b"a", &[Piece { start: (0, 0), end: (1, 0) }], true),
     (b"a\n> ", &[Piece { start: (0, 0), end: (2, 0) }, Piece { start: (4, 0), end: (4, 0) }], true),
     (b"a\n \nb", &[Piece { start: (0, 0), end: (5, 0) }], true),
 ];
