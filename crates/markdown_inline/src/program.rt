@@ -269,9 +269,9 @@ fn found_in(alloc: Global, words: &[String], bytes: &[u8]) -> Result<Run, Fault>
 }
 
 // Reads, runs, and makes the whole output.
-fn make_output<R: Read>(alloc: Global, words: &[String], reader: &mut R) -> Result<String, Fault>
+fn make_output<R: Read>(alloc: Global, words: &[String], reader: &mut R) -> Result<Vec<u8>, Fault>
     ensures usage { IsErrOf result Usage ↔ are_known words.now ≡ false }
-    ensures lines { IfOk result (λ text. IfSome (R.remaining reader.old) (λ xs. string_bytes text ≡ printed words.now xs)) }
+    ensures lines { IfOk result (λ text. IfSome (R.remaining reader.old) (λ xs. text.items ≡ printed words.now xs)) }
     ensures reads { IfOk result (λ _. IfSome (R.remaining reader.old) (λ xs. MayRead words.now (without_line_ending xs))) }
     ensures not_text { IfErr result (λ fault. fault ≡ NotText → IfSome (R.remaining reader.old) (λ xs. IsUtf8 (without_line_ending xs) → ⊥)) }
     ensures blank_line { IfErr result (λ fault. fault ≡ BlankLine → (reads_text words.now ≡ true) × IfSome (R.remaining reader.old) (λ xs. IsTextDocument (without_line_ending xs) → ⊥)) }
@@ -288,11 +288,11 @@ fn make_output<R: Read>(alloc: Global, words: &[String], reader: &mut R) -> Resu
 }
 
 // Writes all of a text, and hands it on.
-fn write_text<W: Write>(out: &mut W, text: &str) -> Result<(), Fault>
+fn write_text<W: Write>(out: &mut W, text: &[u8]) -> Result<(), Fault>
     ensures written { OnOk result (Appends (W.contents out.old) (W.contents out.new) text.now) }
     ensures faults { IfErr result (λ fault. (fault ≡ OutOfMemory) ⊎ (fault ≡ Write)) }
 {
-    let mut written = out.write_all(text.as_bytes());
+    let mut written = out.write_all(text);
     if written.is_ok() {
         written = out.flush();
     }
@@ -317,7 +317,7 @@ fn print_output<R: Read, W: Write>(
     ensures quiet { IfErr result (λ fault. (fault ≡ Usage) ⊎ ((fault ≡ NotText) ⊎ (fault ≡ BlankLine)) → out.new ≡ out.old) }
 {
     let text = make_output(alloc, words, reader)?;
-    write_text(out, text.as_str())
+    write_text(out, text.as_slice())
 }
 
 /// Runs the program: reads a document, and prints the events of its inline tree, a line an event. Answers the status that it ends with.

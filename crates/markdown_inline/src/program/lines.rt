@@ -1,8 +1,8 @@
 //! The printed lines of events.
-ghost use Rattle.std.specs.Prelude.{◌≡◌, ◌++◌, codes, decimal, IfOk, string_bytes};
+ghost use Rattle.std.specs.Prelude.{◌≡◌, ◌++◌, ◌+◌, ◌<◌, ◌≤◌, codes, decimal, drop, length, IfOk, Some};
 ghost use Rattle.markdown_inline.specs.Lines.{name_text, kind_text, content_text, number_text, point_text, link_text, line_of, lines_of};
 
-use itoa::Buffer;
+use itoa::{Buffer, write_digits};
 use markdown_engine::event::{Content, Event, Kind, Link, Name, Point};
 use std::alloc::{AllocError, Global};
 
@@ -83,12 +83,13 @@ fn name_text(name: Name) -> &'static str
     }
 }
 
-fn kind_text(kind: Kind) -> &'static str
-    ensures { result.now ≡ kind_text kind }
+// Whether an event begins or ends, and a space.
+fn kind_word(kind: Kind) -> &'static str
+    ensures { result.now ≡ kind_text kind ++ codes " " }
 {
     match kind {
-        Kind::Enter => "Enter",
-        Kind::Exit => "Exit",
+        Kind::Enter => "Enter ",
+        Kind::Exit => "Exit ",
     }
 }
 
@@ -101,70 +102,91 @@ fn content_text(content: Content) -> &'static str
     }
 }
 
+// Writes a space and a number, so that they end at an index of the buffer, and answers where they begin.
+fn write_number(number: usize, buffer: &mut [u8], end: usize) -> usize
+    requires { (20 < end) × (end ≤ length buffer.old) }
+    ensures short { (result ≤ end) × (end ≤ result + 21) }
+    ensures length { length buffer.new ≡ length buffer.old }
+    ensures written { drop result buffer.new ≡ codes " " ++ decimal number ++ drop end buffer.old }
+{
+    let at = write_digits(number as u64, buffer, end) - 1;
+    buffer[at] = b' ';
+    at
+}
+
+// Writes a place, so that it ends at an index of the buffer, and answers where it begins: line, column, byte, and the codes of a tab
+// before it.
+fn write_point(point: Point, buffer: &mut [u8], end: usize) -> usize
+    requires { (83 < end) × (end ≤ length buffer.old) }
+    ensures before { result ≤ end }
+    ensures length { length buffer.new ≡ length buffer.old }
+    ensures written { drop result buffer.new ≡ point_text point ++ drop end buffer.old }
+{
+    let at = write_number(point.vs, buffer, end);
+    let at = write_number(point.index, buffer, at);
+    let at = write_number(point.column, buffer, at);
+    write_number(point.line, buffer, at)
+}
+
 // Adds a number.
-fn push_number(text: &mut String, number: usize) -> Result<(), AllocError>
-    ensures { IfOk result (λ _. string_bytes text.new ≡ string_bytes text.old ++ decimal number) }
+fn push_number(text: &mut Vec<u8>, number: usize) -> Result<(), AllocError>
+    ensures { IfOk result (λ _. text.new.items ≡ text.old.items ++ decimal number) }
 {
     let mut digits = Buffer::new();
-    text.push_str(digits.format(number))
+    text.extend_from_slice(digits.format(number).as_bytes())
 }
 
 // Adds the number of an event, or `-` where there is none.
-fn push_event_number(text: &mut String, number: Option<usize>) -> Result<(), AllocError>
-    ensures { IfOk result (λ _. string_bytes text.new ≡ string_bytes text.old ++ number_text number) }
+fn push_event_number(text: &mut Vec<u8>, number: Option<usize>) -> Result<(), AllocError>
+    ensures { IfOk result (λ _. text.new.items ≡ text.old.items ++ number_text number) }
 {
     match number {
         Some(number) => push_number(text, number),
-        None => text.push_str("-"),
+        None => text.extend_from_slice(b"-"),
     }
 }
 
-// Adds a place: line, column, byte, and the codes of a tab before it.
-fn push_point(text: &mut String, point: Point) -> Result<(), AllocError>
-    ensures { IfOk result (λ _. string_bytes text.new ≡ string_bytes text.old ++ point_text point) }
-{
-    text.push_str(" ")?;
-    push_number(text, point.line)?;
-    text.push_str(" ")?;
-    push_number(text, point.column)?;
-    text.push_str(" ")?;
-    push_number(text, point.index)?;
-    text.push_str(" ")?;
-    push_number(text, point.vs)
-}
-
 // Adds the content of a link, and the numbers of the events before and after.
-fn push_link(text: &mut String, link: Option<Link>) -> Result<(), AllocError>
-    ensures { IfOk result (λ _. string_bytes text.new ≡ string_bytes text.old ++ link_text link) }
+fn push_link(text: &mut Vec<u8>, link: Link) -> Result<(), AllocError>
+    ensures { IfOk result (λ _. text.new.items ≡ text.old.items ++ link_text (Some link)) }
 {
-    let Some(link) = link else {
-        return Ok(());
-    };
-    text.push_str(" link ")?;
-    text.push_str(content_text(link.content))?;
-    text.push_str(" ")?;
+    text.extend_from_slice(b" link ")?;
+    text.extend_from_slice(content_text(link.content).as_bytes())?;
+    text.extend_from_slice(b" ")?;
     push_event_number(text, link.previous)?;
-    text.push_str(" ")?;
+    text.extend_from_slice(b" ")?;
     push_event_number(text, link.next)
 }
 
-// Adds an event, in a line of its own.
-fn push_event(text: &mut String, event: &Event) -> Result<(), AllocError>
-    ensures { IfOk result (λ _. string_bytes text.new ≡ string_bytes text.old ++ line_of event.now) }
+// Adds a place, the link if there is one, and a line ending.
+fn push_rest(text: &mut Vec<u8>, point: Point, link: Option<Link>) -> Result<(), AllocError>
+    ensures { IfOk result (λ _. text.new.items ≡ text.old.items ++ (point_text point ++ link_text link ++ codes "\n")) }
 {
-    text.push_str(kind_text(event.kind))?;
-    text.push_str(" ")?;
-    text.push_str(name_text(event.name))?;
-    push_point(text, event.point)?;
-    push_link(text, event.link)?;
-    text.push_str("\n")
+    // four numbers of at most 20 digits, each behind a space, and the line ending
+    let mut buffer = [b'\n'; 85];
+    let start = write_point(point, &mut buffer, 84);
+    let Some(link) = link else {
+        return text.extend_from_slice(&buffer[start..]);
+    };
+    text.extend_from_slice(&buffer[start..84])?;
+    push_link(text, link)?;
+    text.extend_from_slice(b"\n")
+}
+
+// Adds an event, in a line of its own.
+fn push_event(text: &mut Vec<u8>, event: &Event) -> Result<(), AllocError>
+    ensures { IfOk result (λ _. text.new.items ≡ text.old.items ++ line_of event.now) }
+{
+    text.extend_from_slice(kind_word(event.kind).as_bytes())?;
+    text.extend_from_slice(name_text(event.name).as_bytes())?;
+    push_rest(text, event.point, event.link)
 }
 
 /// The lines of all events, in order. The only error is that memory was refused.
-pub(crate) fn lines_of(alloc: Global, events: &[Event]) -> Result<String, AllocError>
-    ensures { IfOk result (λ text. string_bytes text ≡ lines_of events.now) }
+pub(crate) fn lines_of(alloc: Global, events: &[Event]) -> Result<Vec<u8>, AllocError>
+    ensures { IfOk result (λ text. text.items ≡ lines_of events.now) }
 {
-    let mut text = String::new(alloc);
+    let mut text = Vec::new(alloc);
     for event in events {
         push_event(&mut text, event)?;
     }

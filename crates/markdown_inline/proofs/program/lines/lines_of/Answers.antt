@@ -16,7 +16,7 @@ one-more es i d old new h pushed so_far =
 
 pub loop-event-init : goal.loop-event-init
 unfolding lines_of
-loop-event-init c = c.new-text.ensures.bytes
+loop-event-init c = c.new-text.ensures.items
 
 pub loop-event-preserved : goal.loop-event-preserved
 loop-event-preserved c =

@@ -1,15 +1,18 @@
-use Rattle.std.proofs.Common.{◌≡◌, List, ℕ, append_assoc, if◌then◌else◌, Result, Ok, Err}
-use Rattle.std.specs.Result.{IfOk, is_ok}
+use Rattle.std.proofs.Common.{◌≡◌, ◌∙◌, refl, ap, ℕ, List, ◌++◌, append_assoc, Result, Ok, Err}
+use Rattle.std.specs.Result.{IfOk}
 use Rattle.markdown_inline.specs.Lines.{line_of}
 use Rattle.markdown_inline.proofs.program.lines.push_event.Goals as goal
 
-where-ok : {A E : Type 0} (r : Result A E) (new done kept : List ℕ) → new ≡ (if is_ok r then done else kept) → IfOk r (λ _. new ≡ done)
-where-ok (Ok x) new done kept h = h
-where-ok (Err e) new done kept h = tt
+-- two words, and what is added behind them
+joined : {A E : Type 0} (r : Result A E) (new old first second word name point link end : List ℕ)
+    → first ≡ old ++ word → second ≡ first ++ name → IfOk r (λ _. new ≡ second ++ ((point ++ link) ++ end)) → IfOk r (λ _. new ≡ old ++ ((((word ++ name) ++ point) ++ link) ++ end))
+joined (Ok x) new old first second word name point link end f s h =
+    h ∙ ap (λ bs. bs ++ ((point ++ link) ++ end)) (s ∙ ap (λ bs. bs ++ name) f) ∙ simp append_assoc refl
+joined (Err x) new old first second word name point link end f s h = tt
 
 pub returns : goal.returns
 unfolding line_of
 returns c =
-    simp append_assoc
-    (where-ok c.push_str-4.result _ _ _
-    (simp (c.in_ok-push_link.ensures, c.in_ok-push_point.ensures, c.in_ok-push_str-3.ensures.bytes, c.name_text.ensures, c.in_ok-push_str-2.ensures.bytes, c.in_ok-push_str.ensures.bytes, c.kind_text.ensures, append_assoc) at c.push_str-4.ensures.bytes))
+    joined c.push_rest.result _ _ _ _ _ _ _ _ _
+    (c.in_ok-extend_from_slice.ensures.items ∙ ap (λ bs. c.args.text.now.items ++ bs) (c.as_bytes.ensures.value ∙ c.kind_word.ensures))
+    (c.in_ok-extend_from_slice-2.ensures.items ∙ ap (λ bs. c.extend_from_slice.new.self.items ++ bs) (c.as_bytes-2.ensures.value ∙ c.name_text.ensures)) c.push_rest.ensures
