@@ -22,3 +22,4 @@ pub mod PairCounts
 pub mod Room
 pub mod Caller
 pub mod Passing
+pub mod InOrder

@@ -100,7 +100,7 @@ module _ (bytes : List ℕ) (p : Point) (s : Stands bytes p) where
       outside : next_column p (p.index + 1) 0 ≡ shifted p 1
       outside = λ i. record { line = p.line; column = p.column + 1; index = p.index + 1; vs = sym none i }
 
-  marker-here : IsMarker (value_at bytes p) → (get_or bytes p.index 0 ≡ value_at bytes p) × (stop_at bytes p ≡ shifted p 1)
+  pub marker-here : IsMarker (value_at bytes p) → (get_or bytes p.index 0 ≡ value_at bytes p) × (stop_at bytes p ≡ shifted p 1)
   marker-here = by-tests (is_line_ending_byte (get_or bytes p.index 0)) (get_or bytes p.index 0 == tab_value) refl refl
 
 -- a marker is no column of a tab
@@ -164,7 +164,7 @@ IsPlaced bytes cs = IsUtf8 bytes → IsRunPlace bytes (start_of cs) (stop_of doc
 abbrev pub IsRunLeaf : List ℕ → List Code → Type 0
 IsRunLeaf bytes cs = ((cs ≢ []) × IsStripe (marker_of cs) (start_of cs) cs) × (IsRun bytes cs × IsPlaced bytes cs)
 
-marker-ascii : (n : ℕ) → IsMarker n → n < 128
+pub marker-ascii : (n : ℕ) → IsMarker n → n < 128
 marker-ascii n (inl e) = omega (arith, e)
 marker-ascii n (inr (inl e)) = omega (arith, e)
 marker-ascii n (inr (inr e)) = omega (arith, e)

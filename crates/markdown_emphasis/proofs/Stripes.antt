@@ -10,19 +10,19 @@ use Rattle.markdown_model.specs.Groups.{cut_front, pair_names}
 use Rattle.markdown_emphasis.specs.Marks.{shifted, total, closing_at, opening_at, closings_from, openings_from, data_at, marker_events, IsStripe, AreSome}
 use Rattle.markdown_emphasis.specs.Word.{names_of, closed_events, opened_events, closed_all, opened_all, left_over, cut_events, sized_events, HasMarker}
 
-shift-shift : (p : Point) (a b : ℕ) → shifted (shifted p a) b ≡ shifted p (a + b)
+pub shift-shift : (p : Point) (a b : ℕ) → shifted (shifted p a) b ≡ shifted p (a + b)
 shift-shift p a b =
     let c : p.column + a + b ≡ p.column + (a + b) = omega arith in
     let d : p.index + a + b ≡ p.index + (a + b) = omega arith in
     λ i. record p { column = c i; index = d i }
 
-shift-none : (p : Point) → shifted p 0 ≡ p
+pub shift-none : (p : Point) → shifted p 0 ≡ p
 shift-none p =
     let c : p.column + 0 ≡ p.column = omega arith in
     let d : p.index + 0 ≡ p.index = omega arith in
     λ i. record p { column = c i; index = d i }
 
-shift-same : (p : Point) (a b : ℕ) → a ≡ b → shifted p a ≡ shifted p b
+pub shift-same : (p : Point) (a b : ℕ) → a ≡ b → shifted p a ≡ shifted p b
 shift-same p a b e = ap (shifted p) e
 
 pub stripe-marker : (m : ℕ) (p : Point) (cs : List Code) → IsStripe m p cs → HasMarker m cs

@@ -4,3 +4,4 @@ pub mod Trees
 pub mod RunEdits
 pub mod Sides
 pub mod Pass
+pub mod InOrder

@@ -82,9 +82,10 @@ fn pair_and_group(tokenizer: &mut Tokenizer) -> Result<u128, AllocError>
 /// The events of a run give way to those of the brackets that its pairs make of its markers, and to data over the markers that no pair
 /// takes; nothing else changes, and links follow the events that they name. The `Enter` of a run stands between characters, before a
 /// marker, and behind it an event between characters, as many columns as bytes further on, at a place that can be counted; both carry no
-/// link. There are fewer than 2 ^ 63 markers, and the edits are empty before and after. `probes` becomes the number of looks at a run as a
-/// possible opener of one closer. The work is that of the events, the runs and the pairs. The error comes where memory is refused; then
-/// `failed` is true and `probes` as it was.
+/// link. There are fewer than 2 ^ 63 markers, and the edits are empty before and after. Runs over equal markers, in order and without links, meet
+/// all of this in every document that a content may be of (`HaveRunsInOrder`; the law is `markdown_laws::runs_in_order_may_pair`). `probes`
+/// becomes the number of looks at a run as a possible opener of one closer. The work is that of the events, the runs and the pairs. The error
+/// comes where memory is refused; then `failed` is true and `probes` as it was.
 pub fn resolve_counted(tokenizer: &mut Tokenizer, probes: &mut u128) -> Result<(), AllocError>
     requires map { tokenizer.old.map ≡ [] }
     requires utf8 { IsUtf8 tokenizer.old.parse_state.now.bytes.now }

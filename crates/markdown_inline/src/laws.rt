@@ -2,7 +2,8 @@
 
 pub use markdown_laws::{
     data_is_tight, each_marker_is_held, each_pair_is_a_group, emails_stand_in_data, escapes,
-    pairs_are_even, pairs_take_their_markers, probes_are_few, trees_are_filled,
+    pairs_are_even, pairs_take_their_markers, probes_are_few, runs_in_order_may_pair,
+    trees_are_filled,
 };
 pub use markdown_model::laws::{
     counts_suffice, ends_take_the_nearest, events_nest, labels_match, leaves_cover,

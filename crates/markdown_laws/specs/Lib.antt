@@ -6,3 +6,4 @@ pub mod Trimming
 pub mod Emails
 pub mod Filled
 pub mod Markers
+pub mod InOrder

@@ -12,6 +12,7 @@ ghost use Rattle.markdown_laws.specs.ProbeBounds.{ProbesAreFew};
 ghost use Rattle.markdown_laws.specs.Emails.{EmailsStandInData};
 ghost use Rattle.markdown_laws.specs.Trimming.{DataIsTight};
 ghost use Rattle.markdown_laws.specs.Filled.{TreesAreFilled};
+ghost use Rattle.markdown_laws.specs.InOrder.{RunsInOrderMayPair};
 
 /// A one-line text with a backslash before each ASCII punctuation character, read as a string with escapes on, is given
 /// back by what is lent for its data and for what its escapes stand for.
@@ -61,4 +62,11 @@ pub fn trees_are_filled()
 /// email literals are cut from data, by one of these.
 pub fn each_marker_is_held()
     ensures { EachMarkerIsHeld }
+{}
+
+/// Events whose runs stand in order over a document meet all that the pass of emphasis, `attention::resolve_counted`, asks for: behind the `Enter` of a run
+/// stands its `Exit`, both at places of the document and without a link, between them stand one or more equal markers, and no run begins before the
+/// runs in front of it have ended.
+pub fn runs_in_order_may_pair()
+    ensures { RunsInOrderMayPair }
 {}
