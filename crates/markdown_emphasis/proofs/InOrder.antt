@@ -24,7 +24,7 @@ use Rattle.markdown_attention.specs.Reading.{Around, opens_run, sequence_at, whe
 use Rattle.markdown_attention.specs.declared.attention.runs.Sequence.{Sequence}
 use Rattle.markdown_emphasis.specs.InOrder.{IsRunOver, HaveRunsInOrder}
 use Rattle.markdown_emphasis.specs.Marks.{shifted}
-use Rattle.markdown_emphasis.specs.Pass.{MayGroup}
+use Rattle.markdown_emphasis.specs.Pass.{MayPair}
 use Rattle.markdown_emphasis.specs.RunEdits.{point_in, HaveRunEnds, HaveRunRoom}
 use Rattle.markdown_emphasis.specs.Word.{HasMarker, begins_run}
 use Rattle.markdown_emphasis.proofs.Singles.{marker-here, marker-ascii}
@@ -188,9 +188,9 @@ module _ (bytes : List ℕ) (u : IsUtf8 bytes) where
       by_test : (t : Bool) → opens_run e ≡ t → first_run tildes bytes n i w.container (e ∷ x ∷ es) ≡ (if t then q ∷ [] else [])
       by_test t o = ap (λ (z : Bool). if z then q ∷ [] else []) o
 
-pub in-order-may_group : (T : Tokenizer) → T.map ≡ [] → IsUtf8 T.parse_state.now.bytes.now → length T.parse_state.now.bytes.now ≤ document_limit
-    → HaveRunsInOrder T.parse_state.now.bytes.now T.events → MayGroup T
-in-order-may_group T map u few h =
+pub in-order-may_pair : (T : Tokenizer) → T.map ≡ [] → IsUtf8 T.parse_state.now.bytes.now → length T.parse_state.now.bytes.now ≤ document_limit
+    → HaveRunsInOrder T.parse_state.now.bytes.now T.events → MayPair T
+in-order-may_pair T map u few h =
     let bytes : List ℕ = T.parse_state.now.bytes.now in
     let all = few-in bytes u T.parse_state.now.options.now.constructs.gfm_strikethrough T.events 0 0 outermost 0 h (λ j c. omega arith) (omega arith) in
     record {

@@ -9,14 +9,14 @@ use Rattle.markdown_attention.specs.Events.{runs_of_events}
 use Rattle.markdown_attention.specs.Pairs.{run_at}
 use Rattle.markdown_attention.specs.declared.attention.pairing.Pair.{Pair}
 use Rattle.markdown_attention.specs.declared.attention.runs.Sequence.{Sequence}
-use Rattle.markdown_emphasis.specs.Pass.{MayGroup, IsPairing, IsGrouped}
+use Rattle.markdown_emphasis.specs.Pass.{MayPair, IsPairing, IsGrouped}
 use Rattle.markdown_emphasis.specs.RunEdits.{run_edits, point_in}
 use Rattle.markdown_emphasis.specs.Sides.{side_of, HasRoomFor}
 use Rattle.markdown_emphasis.proofs.Room.{has-room, have-closers, have-openers}
 use Rattle.markdown_emphasis.proofs.Whole.{log-same, group-can}
 
 -- U is T; these runs and pairs are what pairing leaves of the runs of T
-module _ (T U : Tokenizer) (same : U ≡ T) (may : MayGroup T) (list fin runs : List Sequence) (found pairs : List Pair) (probes : ℕ) (read : list ≡ runs_of_events T)
+module _ (T U : Tokenizer) (same : U ≡ T) (may : MayPair T) (list fin runs : List Sequence) (found pairs : List Pair) (probes : ℕ) (read : list ≡ runs_of_events T)
     (left : IsPairing T.parse_state.now.options.now list fin found probes) (are : runs ≡ fin) (as_found : pairs ≡ found) where
   abbrev tildes : Bool
   tildes = T.parse_state.now.options.now.constructs.gfm_strikethrough

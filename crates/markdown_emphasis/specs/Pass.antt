@@ -25,8 +25,9 @@ pub record IsSmall (list : List Sequence) : Type 0 where
   pub markers : markers_left list < 2 ^ 63
   pub count : length list < 2 ^ 63
 
--- when the pass may be called: no edit is left, and the runs of the events are such as its edits ask for
-pub record MayGroup (T : Tokenizer) : Type 0 where
+-- when the pass may be called: no edit is left, and the runs of the events stand at places of the document, are few, and have room for what comes in
+-- their stead
+pub record MayPair (T : Tokenizer) : Type 0 where
   pub map : T.map ≡ []
   pub utf8 : IsUtf8 T.parse_state.now.bytes.now
   pub places : HaveRunPlaces T.parse_state.now.bytes.now T.events

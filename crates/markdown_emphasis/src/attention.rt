@@ -7,10 +7,9 @@
 mod brackets;
 mod edits;
 
-ghost use Rattle.std.specs.Prelude.{◌≡◌, [], IfOk, OnOk, OnErr, IsTrue, IsUtf8, None};
+ghost use Rattle.std.specs.Prelude.{◌≡◌, IfOk, OnOk, OnErr, IsTrue, None};
 ghost use Rattle.markdown_attention.specs.Events.{runs_of_events};
 ghost use Rattle.markdown_attention.specs.Open.{HaveMarkers};
-ghost use Rattle.markdown_attention.specs.Reading.{HaveRunPlaces};
 ghost use Rattle.markdown_attention.specs.Rows.{IsOf, HasRuns};
 ghost use Rattle.markdown_attention.specs.Walk.{Whole};
 ghost use Rattle.markdown_engine.specs.Past.{appended_from};
@@ -18,8 +17,7 @@ ghost use Rattle.markdown_engine.specs.Tree.{Forest};
 ghost use Rattle.markdown_model.specs.Groups.{paired};
 ghost use Rattle.markdown_model.specs.Pairs.{pair_list};
 ghost use Rattle.markdown_model.specs.Setting.{Setting};
-ghost use Rattle.markdown_emphasis.specs.Pass.{IsSmall, MayGroup, IsPairing, IsGrouped, IsProbed};
-ghost use Rattle.markdown_emphasis.specs.RunEdits.{HaveRunEnds, HaveRunRoom};
+ghost use Rattle.markdown_emphasis.specs.Pass.{IsSmall, MayPair, IsPairing, IsGrouped, IsProbed};
 ghost use Rattle.markdown_emphasis.specs.Trees.{IsStriped};
 
 use crate::attention::edits::group_runs;
@@ -59,7 +57,7 @@ fn paired_runs(alloc: Global, options: ParseOptions, runs: Runs) -> Result<Pairi
 
 // Pairs the runs of the events, makes groups of the pairs, and answers the number of looks.
 fn pair_and_group(tokenizer: &mut Tokenizer) -> Result<u128, AllocError>
-    requires { MayGroup tokenizer.old }
+    requires { MayPair tokenizer.old }
     ensures same { OnOk result (tokenizer.new ≡ record tokenizer.old { events = tokenizer.new.events }) }
     ensures grouped { IfOk result (λ probes. IsGrouped tokenizer.old.parse_state.now.options.now (runs_of_events tokenizer.old) tokenizer.old.events tokenizer.new.events probes) }
 {
@@ -87,12 +85,7 @@ fn pair_and_group(tokenizer: &mut Tokenizer) -> Result<u128, AllocError>
 /// becomes the number of looks at a run as a possible opener of one closer. The work is that of the events, the runs and the pairs. The error
 /// comes where memory is refused; then `failed` is true and `probes` as it was.
 pub fn resolve_counted(tokenizer: &mut Tokenizer, probes: &mut u128) -> Result<(), AllocError>
-    requires map { tokenizer.old.map ≡ [] }
-    requires utf8 { IsUtf8 tokenizer.old.parse_state.now.bytes.now }
-    requires places { HaveRunPlaces tokenizer.old.parse_state.now.bytes.now tokenizer.old.events }
-    requires ends { HaveRunEnds tokenizer.old.events }
-    requires room { HaveRunRoom tokenizer.old.events }
-    requires small { IsSmall (runs_of_events tokenizer.old) }
+    requires { MayPair tokenizer.old }
     ensures same { OnOk result (tokenizer.new ≡ record tokenizer.old { events = tokenizer.new.events }) }
     ensures grouped { OnOk result (IsGrouped tokenizer.old.parse_state.now.options.now (runs_of_events tokenizer.old) tokenizer.old.events tokenizer.new.events probes.new) }
     ensures paired { (s : Setting) (t : Forest) → IsOf s tokenizer.old → HasRuns tokenizer.old.parse_state.now.bytes.now t → IsStriped t → tokenizer.old.events ≡ appended_from 0 None t → OnOk result (tokenizer.new.events ≡ appended_from 0 None (paired s (pair_list s) t)) }
@@ -114,12 +107,7 @@ pub fn resolve_counted(tokenizer: &mut Tokenizer, probes: &mut u128) -> Result<(
 
 /// The same as a pass by its name: the number of looks is kept in the scratch field `probes`.
 pub fn resolve(tokenizer: &mut Tokenizer) -> Result<Option<Subresult>, AllocError>
-    requires map { tokenizer.old.map ≡ [] }
-    requires utf8 { IsUtf8 tokenizer.old.parse_state.now.bytes.now }
-    requires places { HaveRunPlaces tokenizer.old.parse_state.now.bytes.now tokenizer.old.events }
-    requires ends { HaveRunEnds tokenizer.old.events }
-    requires room { HaveRunRoom tokenizer.old.events }
-    requires small { IsSmall (runs_of_events tokenizer.old) }
+    requires { MayPair tokenizer.old }
     ensures none { IfOk result (λ r. r ≡ None) }
     ensures same { OnOk result (tokenizer.new ≡ record tokenizer.old { events = tokenizer.new.events; tokenize_state = record tokenizer.old.tokenize_state { probes = tokenizer.new.tokenize_state.probes } }) }
     ensures grouped { OnOk result (IsGrouped tokenizer.old.parse_state.now.options.now (runs_of_events tokenizer.old) tokenizer.old.events tokenizer.new.events tokenizer.new.tokenize_state.probes) }

@@ -3,7 +3,7 @@ use Rattle.std.specs.Prelude.{◌≡◌, ◌≤◌, [], length, IsUtf8}
 use Rattle.markdown_engine.specs.Content.{document_limit}
 use Rattle.markdown_engine.specs.declared.tokenizer.Tokenizer.{Tokenizer}
 use Rattle.markdown_emphasis.specs.InOrder.{HaveRunsInOrder}
-use Rattle.markdown_emphasis.specs.Pass.{MayGroup}
+use Rattle.markdown_emphasis.specs.Pass.{MayPair}
 
 -- where no edit is left, and the document is UTF-8 and no longer than a content's may be
 abbrev pub RunsInOrderMayPair : Type 0
@@ -11,4 +11,4 @@ RunsInOrderMayPair =
     (T : Tokenizer)
     → T.map ≡ [] → IsUtf8 T.parse_state.now.bytes.now → length T.parse_state.now.bytes.now ≤ document_limit
     → HaveRunsInOrder T.parse_state.now.bytes.now T.events
-    → MayGroup T
+    → MayPair T

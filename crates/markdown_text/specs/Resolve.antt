@@ -1,16 +1,14 @@
 -- The passes of inline content by name: when they may be called, and what they leave.
-use Rattle.std.specs.Prelude.{◌≡◌, ◌≤◌, Bool, true, false, [], length, None, IsUtf8}
+use Rattle.std.specs.Prelude.{◌≡◌, ◌≤◌, Bool, true, false, [], length, None}
 use Rattle.markdown_engine.specs.Content.{document_limit}
 use Rattle.markdown_engine.specs.Past.{appended_from}
 use Rattle.markdown_engine.specs.Tree.{Forest}
 use Rattle.markdown_engine.specs.declared.resolve.ResolveName.{ResolveName}
 use Rattle.markdown_engine.specs.declared.resolve.ResolveName.TheVariants as R
 use Rattle.markdown_engine.specs.declared.tokenizer.Tokenizer.{Tokenizer}
-use Rattle.markdown_attention.specs.Events.{runs_of_events}
-use Rattle.markdown_attention.specs.Reading.{HaveRunPlaces}
 use Rattle.markdown_attention.specs.Rows.{IsOf, HasRuns}
-use Rattle.markdown_emphasis.specs.Pass.{IsSmall, IsProbed}
-use Rattle.markdown_emphasis.specs.RunEdits.{HaveRunEnds, HaveRunRoom}
+pub use Rattle.markdown_emphasis.specs.Pass.{MayPair}
+use Rattle.markdown_emphasis.specs.Pass.{IsProbed}
 use Rattle.markdown_emphasis.specs.Trees.{IsStriped}
 use Rattle.markdown_label_pass.specs.Brackets.{Brackets, grouped}
 use Rattle.markdown_label_pass.specs.Handover.{HasBrackets, MayGroup, unlabelled}
@@ -57,15 +55,6 @@ pub record TrimsData (hard whole emails : Bool) (T U : Tokenizer) : Type 0 where
 -- U is T as the passes behind a text leave it
 abbrev pub FinishesText : Tokenizer → Tokenizer → Type 0
 FinishesText T U = let on = T.parse_state.now.options.now.constructs in TrimsData on.hard_break_trailing true on.gfm_autolink_literal T U
-
--- no edit is left, and runs of markers stand at places of the document, are few, and their events have room for what comes in their stead
-pub record MayPair (T : Tokenizer) : Type 0 where
-  pub map : T.map ≡ []
-  pub utf8 : IsUtf8 T.parse_state.now.bytes.now
-  pub places : HaveRunPlaces T.parse_state.now.bytes.now T.events
-  pub ends : HaveRunEnds T.events
-  pub room : HaveRunRoom T.events
-  pub small : IsSmall (runs_of_events T)
 
 -- U is T with other events, and with the number of looks that pairing took: where T has the events of a tree, those of the tree with the
 -- pairs of its containers grouped

@@ -1,5 +1,5 @@
-use Rattle.markdown_emphasis.proofs.InOrder.{in-order-may_group}
+use Rattle.markdown_emphasis.proofs.InOrder.{in-order-may_pair}
 use Rattle.markdown_laws.proofs.runs_in_order_may_pair.Goals as goal
 
 pub returns : goal.returns
-returns c = in-order-may_group
+returns c = in-order-may_pair
