@@ -15,3 +15,8 @@ pub mod PairSides
 pub mod TextPairs
 pub mod FilledLaws
 pub mod MarkerLaws
+pub mod EscapedTexts
+pub mod ReadBack
+pub mod LinkTexts
+pub mod RawDestinations
+pub mod Destinations

@@ -7,3 +7,4 @@ pub mod Emails
 pub mod Filled
 pub mod Markers
 pub mod InOrder
+pub mod LinkParts

@@ -13,6 +13,7 @@ ghost use Rattle.markdown_laws.specs.Emails.{EmailsStandInData};
 ghost use Rattle.markdown_laws.specs.Trimming.{DataIsTight};
 ghost use Rattle.markdown_laws.specs.Filled.{TreesAreFilled};
 ghost use Rattle.markdown_laws.specs.InOrder.{RunsInOrderMayPair};
+ghost use Rattle.markdown_laws.specs.LinkParts.{TitlesAreFound, LabelsAreFound, DestinationsAreFound};
 
 /// A one-line text with a backslash before each ASCII punctuation character, read as a string with escapes on, is given
 /// back by what is lent for its data and for what its escapes stand for.
@@ -69,4 +70,20 @@ pub fn each_marker_is_held()
 /// runs in front of it have ended.
 pub fn runs_in_order_may_pair()
     ensures { RunsInOrderMayPair }
+{}
+
+/// A title is found exactly where codes stand that are a link title: a marker, codes with no closing marker but escaped ones, and a closing marker.
+pub fn titles_are_found()
+    ensures { TitlesAreFound }
+{}
+
+/// A label is found exactly where codes stand that are a link label: brackets around codes with no bracket but escaped ones, some of them no
+/// whitespace, and at most 999 that count.
+pub fn labels_are_found()
+    ensures { LabelsAreFound }
+{}
+
+/// A destination is found exactly where codes stand that are a link destination: in angle brackets, or without them and with balanced parentheses.
+pub fn destinations_are_found()
+    ensures { DestinationsAreFound }
 {}
