@@ -1,16 +1,17 @@
 -- Destinations: where their reading holds.
-use Rattle.std.proofs.Common.{◌≡◌, inl, inr, ℕ, not, Bool, true, false, Option, Some, List, [], ◌∷◌, ◌++◌, refl, sym, ap, subst, ◌∙◌, arith}
+use Rattle.std.proofs.Common.{◌≡◌, inl, inr, ℕ, not, Bool, true, false, Some, List, [], ◌∷◌, ◌++◌, refl, sym, ap, subst, ◌∙◌, arith}
 use Rattle.markdown_engine.specs.Codes.{Code}
 use Rattle.markdown_engine.specs.Tree.{Forest, leaf_codes}
 use Rattle.markdown_model.specs.CodeTests.{is_value, is_empty, next_is}
-use Rattle.markdown_model.specs.Grammar.{gives, if_next}
+use Rattle.markdown_model.specs.Grammar.{gives}
 use Rattle.markdown_model.specs.Resource.{DestinationNames, destination, literal_destination, raw_destination, raw_from}
 use Rattle.markdown_model.proofs.Readings.{covers_destination, takes_raw, itself}
 use Rattle.markdown_model.proofs.ReadingLaws.{read-codes}
 use Rattle.markdown_model.proofs.ReadingSteps.{bind-some, after-some, provided-true}
 use Rattle.markdown_laws.specs.LinkParts.{opening, closing, IsEnclosed, IsRaw, Raw, enclosed_tree, raw_tree_of, IsDestination, DestinationsAreFound}
+use Rattle.markdown_string.proofs.BoolLemmas.{not-true}
 use Rattle.markdown_laws.proofs.EscapedTexts.{escapes-after}
-use Rattle.markdown_laws.proofs.ReadBack.{Went, bind-back, provided-back, gives-back}
+use Rattle.markdown_laws.proofs.ReadBack.{Went, bind-back, provided-back, gives-back, next-here, next-other}
 use Rattle.markdown_laws.proofs.LinkTexts.{enclosed-back, enclosed-found, marked-found}
 use Rattle.markdown_laws.proofs.RawDestinations.{bare_from, bare-from, EndsAt, RawFrom, raw-reads, raw-found}
 
@@ -37,10 +38,6 @@ of-raw max text rest i = record {
   balanced = omega (arith, opening-from text, closing-from text, i.balanced);
   ends = subst (λ s. EndsAt s rest) (escapes-after text) i.ends;
 }
-
-not-true : (b : Bool) → not b ≡ true → b ≡ false
-not-true true e = cc
-not-true false e = refl
 
 -- the next code of a text is that of the codes from it on
 next-first : (p : Code → Bool) (text rest : List Code) → is_empty text ≡ false → next_is p (text ++ rest) ≡ next_is p text
@@ -70,21 +67,25 @@ module _ (max : ℕ) (names : DestinationNames) where
       bind-some _ _ (text ++ rest) text rest _ (raw-found max text rest false 0 (of-raw max text rest i))
       (after-some _ _ rest [] rest _ (provided-true _ rest (ap not i.some)) refl)
 
-  here : (b : Bool) (cs : List Code) → next_is (is_value 60) cs ≡ b → destination max names cs ≡ elim b as (λ _. Option (Forest × List Code)) [ true ↦ literal_destination names cs | false ↦ raw_destination max names cs ]
-  unfolding destination if_next
-  here b cs e = ap (λ b. elim b as (λ _. Option (Forest × List Code)) [ true ↦ literal_destination names cs | false ↦ raw_destination max names cs ]) e
+  at-bracket : (cs : List Code) → next_is (is_value 60) cs ≡ true → destination max names cs ≡ literal_destination names cs
+  unfolding destination
+  at-bracket cs e = next-here (is_value 60) (literal_destination names) (raw_destination max names) cs e
 
-  destination-back : (cs : List Code) (tree : Forest) (rest : List Code) → destination max names cs ≡ Some (tree, rest) → IsDestination max names cs tree rest
+  at-other : (cs : List Code) → next_is (is_value 60) cs ≡ false → destination max names cs ≡ raw_destination max names cs
+  unfolding destination
+  at-other cs e = next-other (is_value 60) (literal_destination names) (raw_destination max names) cs e
+
+  pub destination-back : (cs : List Code) (tree : Forest) (rest : List Code) → destination max names cs ≡ Some (tree, rest) → IsDestination max names cs tree rest
   destination-back cs tree rest e = by_next (next_is (is_value 60) cs) refl
     where
       by_next : (b : Bool) → next_is (is_value 60) cs ≡ b → IsDestination max names cs tree rest
-      by_next true h = inl (enclosed-back names cs tree rest (sym (here true cs h) ∙ e))
-      by_next false h = inr (raw-back cs tree rest h (sym (here false cs h) ∙ e))
+      by_next true h = inl (enclosed-back names cs tree rest (sym (at-bracket cs h) ∙ e))
+      by_next false h = inr (raw-back cs tree rest h (sym (at-other cs h) ∙ e))
 
-  destination-found : (cs : List Code) (tree : Forest) (rest : List Code) → IsDestination max names cs tree rest → destination max names cs ≡ Some (tree, rest)
-  destination-found cs tree rest (inl m) = here true cs (ap (next_is (is_value 60)) m.stands ∙ m.is.opens) ∙ marked-found (literal_destination names) IsEnclosed (enclosed_tree names) (enclosed-found names) cs tree rest m
+  pub destination-found : (cs : List Code) (tree : Forest) (rest : List Code) → IsDestination max names cs tree rest → destination max names cs ≡ Some (tree, rest)
+  destination-found cs tree rest (inl m) = at-bracket cs (ap (next_is (is_value 60)) m.stands ∙ m.is.opens) ∙ marked-found (literal_destination names) IsEnclosed (enclosed_tree names) (enclosed-found names) cs tree rest m
   destination-found cs tree rest (inr r) =
-      here false cs (ap (next_is (is_value 60)) r.stands ∙ next-first (is_value 60) r.text rest r.is.some ∙ r.is.first)
+      at-other cs (ap (next_is (is_value 60)) r.stands ∙ next-first (is_value 60) r.text rest r.is.some ∙ r.is.first)
       ∙ ap (raw_destination max names) r.stands ∙ raw-some r.text rest r.is ∙ ap (λ t. Some (t, rest)) (sym r.tree_is)
 
 pub destinations_are_found : DestinationsAreFound

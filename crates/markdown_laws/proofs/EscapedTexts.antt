@@ -5,6 +5,7 @@ use Rattle.markdown_engine.specs.Codes.{Code}
 use Rattle.markdown_model.specs.CodeTests.{is_value, next_is}
 use Rattle.markdown_model.specs.Grammar.{with_first, escaped_from, span}
 use Rattle.markdown_string.proofs.EscapeReadings.{Behind, first-some, text-end, text-taken, text-stops, text-refused, text-next, text}
+use Rattle.markdown_string.proofs.BoolLemmas.{or-first, or-second}
 use Rattle.markdown_laws.specs.LinkParts.{is_odd, escapes_next}
 
 -- Whether a code is escaped, from the front: after a code, by whether that one was.
@@ -45,14 +46,6 @@ escapes-after cs = odd-span (reverse cs) ∙ sym (after-back (reverse cs)) ∙ a
 pub record Escaped (marks takes : Code → Bool) (slash : Bool) (text : List Code) : Type 0 where
   pub inside : (before after : List Code) (c : Code) → text ≡ before ++ (c ∷ after) → marks c ≡ true → slash_after slash before && takes c ≡ true
   pub behind : slash_after slash text ≡ false
-
-or-left : (a b : Bool) → a ≡ true → a || b ≡ true
-or-left true b e = refl
-or-left false b e = cc
-
-or-right : (a b : Bool) → b ≡ true → a || b ≡ true
-or-right true b e = refl
-or-right false b e = e
 
 -- an escaped code does not escape
 pub taken-turned : (takes : Code → Bool) (slash : Bool) (c : Code) → slash && takes c ≡ true → turned slash c ≡ false
@@ -131,8 +124,8 @@ module _ (stop takes refuses : Code → Bool) (slashes : (c : Code) → is_value
   found-by true y z slash c text rest e h k i f =
       text-taken stop takes refuses slash c (text ++ rest) e
       ∙ ap (with_first c) (f false (subst (λ s. Is s text) (taken-turned takes slash c e) (behind_first slash c text i)))
-  found-by false true z slash c text rest e h k i f = let no : slash && takes c ≡ true = i.inside [] text c refl (or-left (stop c) (refuses c) h) in cc
-  found-by false false true slash c text rest e h k i f = let no : slash && takes c ≡ true = i.inside [] text c refl (or-right (stop c) (refuses c) k) in cc
+  found-by false true z slash c text rest e h k i f = let no : slash && takes c ≡ true = i.inside [] text c refl (or-first (stop c) (refuses c) h) in cc
+  found-by false false true slash c text rest e h k i f = let no : slash && takes c ≡ true = i.inside [] text c refl (or-second (stop c) (refuses c) k) in cc
   found-by false false false slash c text rest e h k i f =
       text-next stop takes refuses slash c (text ++ rest) e h k
       ∙ ap (with_first c) (f (c.value == 92) (subst (λ s. Is s text) (next-turned takes slashes slash c e) (behind_first slash c text i)))

@@ -15,8 +15,12 @@ pub mod PairSides
 pub mod TextPairs
 pub mod FilledLaws
 pub mod MarkerLaws
+pub mod TestParts
 pub mod EscapedTexts
 pub mod ReadBack
 pub mod LinkTexts
 pub mod RawDestinations
 pub mod Destinations
+pub mod Spacings
+pub mod ResourceLaws
+pub mod AfterLabels

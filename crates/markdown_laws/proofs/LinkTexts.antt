@@ -1,5 +1,5 @@
 -- Titles, labels and destinations in angle brackets: where their readings hold.
-use Rattle.std.proofs.Common.{◌≡◌, ◌==◌, ◌⊎◌, inl, inr, ℕ, ◌≤◌, nat_le, ◌&&◌, ◌||◌, not, Bool, true, false, codes, Some, None, List, [], ◌∷◌, ◌++◌, refl, sym, ap, ◌∙◌, arith}
+use Rattle.std.proofs.Common.{◌≡◌, ◌==◌, inl, inr, ℕ, ◌≤◌, nat_le, ◌||◌, not, Bool, true, false, codes, Some, None, List, [], ◌∷◌, ◌++◌, refl, sym, ap, ◌∙◌, arith}
 use Rattle.std.proofs.lemmas.Bool.{eqb-true}
 use Rattle.std.proofs.lemmas.Grind.{common_steps}
 use Rattle.std.proofs.lemmas.Bool.Decides.{nat_tests}
@@ -13,8 +13,9 @@ use Rattle.markdown_model.specs.Resource.{StringNames, DestinationNames, between
 use Rattle.markdown_model.proofs.Readings.{covers_label, covers_title, takes_up_to, itself}
 use Rattle.markdown_model.proofs.ReadingLaws.{read-codes}
 use Rattle.markdown_model.proofs.ReadingSteps.{bind-some, bind-none, after-some, one-here, one-other, provided-true, either-some, either-second, and-left, and-right}
-use Rattle.markdown_string.proofs.EscapeReadings.{text}
 use Rattle.markdown_laws.specs.LinkParts.{IsEscapedIn, IsLabel, IsBetween, IsTitle, IsEnclosed, Marked, enclosed_tree, TitlesAreFound, LabelsAreFound}
+use Rattle.markdown_string.proofs.BoolLemmas.{or-first, or-second}
+use Rattle.markdown_laws.proofs.TestParts.{or-parts, or-last, or-none, neither, both-true, other}
 use Rattle.markdown_laws.proofs.EscapedTexts.{Escaped, escapes-after, read, found}
 use Rattle.markdown_laws.proofs.ReadBack.{Went, WentOne, bind-back, one-back, provided-back, gives-back, either-back}
 
@@ -51,33 +52,12 @@ escaped-in marks stops takes text more i = record {
   behind = escapes-after text ∙ i.behind;
 }
 
-both-true : (a b : Bool) → a ≡ true → b ≡ true → a && b ≡ true
-both-true true b e h = h
-both-true false b e h = cc
-
 escaped-of : (marks stops takes : Code → Bool) (text : List Code) → ((before after : List Code) (c : Code) → text ≡ before ++ (c ∷ after) → stops c ≡ true → (marks c ≡ true) × (takes c ≡ true))
     → IsEscapedIn marks text → Escaped stops takes false text
 escaped-of marks stops takes text less i = record {
   inside = λ before after c e h. both-true _ _ (sym (escapes-after before) ∙ i.inside before after c e (less before after c e h).0) (less before after c e h).1;
   behind = sym (escapes-after text) ∙ i.behind;
 }
-
--- Tests.
-
-or-first : (a b : Bool) → a ≡ true → a || b ≡ true
-or-first true b e = refl
-or-first false b e = cc
-
-or-second : (a b : Bool) → b ≡ true → a || b ≡ true
-or-second true b e = refl
-or-second false b e = e
-
-or-last : (a : Bool) → a || false ≡ true → a ≡ true
-or-last true e = refl
-or-last false e = e
-
-other : (n m : ℕ) (c : Code) → (n == m) ≡ false → is_value n c ≡ true → is_value m c ≡ false
-other n m c e h = ap (λ v. v == m) (eqb-true c.value n h) ∙ e
 
 -- Titles.
 
@@ -136,7 +116,7 @@ module _ (names : StringNames) where
       → Marked (IsBetween opener closer) (between_markers names) cs tree rest → Marked IsTitle (between_markers names) cs tree rest
   weaker opener closer cs tree rest f m = record { front = m.front; text = m.text; back = m.back; stands = m.stands; is = f m.front m.text m.back m.is; tree_is = m.tree_is }
 
-  title-back : (cs : List Code) (tree : Forest) (rest : List Code) → title names cs ≡ Some (tree, rest) → Marked IsTitle (between_markers names) cs tree rest
+  pub title-back : (cs : List Code) (tree : Forest) (rest : List Code) → title names cs ≡ Some (tree, rest) → Marked IsTitle (between_markers names) cs tree rest
   unfolding title
   title-back cs tree rest e =
       elim (either-back (title_between 34 34 names) (either (title_between 39 39 names) (title_between 40 41 names)) cs (tree, rest) e) [
@@ -147,7 +127,7 @@ module _ (names : StringNames) where
         ]
       ]
 
-  found-title : (front : Code) (text : List Code) (back : Code) (rest : List Code) → IsTitle front text back → title names (front ∷ (text ++ (back ∷ rest))) ≡ Some (between_markers names (front ∷ []) text (back ∷ []), rest)
+  pub found-title : (front : Code) (text : List Code) (back : Code) (rest : List Code) → IsTitle front text back → title names (front ∷ (text ++ (back ∷ rest))) ≡ Some (between_markers names (front ∷ []) text (back ∷ []), rest)
   unfolding title
   found-title front text back rest (inl i) = either-some _ _ (front ∷ (text ++ (back ∷ rest))) _ (between-found 34 34 names front text back rest i)
   found-title front text back rest (inr (inl i)) =
@@ -180,10 +160,6 @@ at_most n e = grind (arith, nat_tests, common_steps)
 is_at_most : (n : ℕ) → n ≤ 999 → nat_le n 999 ≡ true
 is_at_most n h = grind (arith, nat_tests, common_steps)
 
-or-parts : (a b : Bool) → a || b ≡ true → (a ≡ true) ⊎ (b ≡ true)
-or-parts true b e = inl refl
-or-parts false b e = inr e
-
 abbrev brackets : Code → Bool
 brackets c = is_among (codes "[]") c
 
@@ -212,7 +188,7 @@ module _ (names : StringNames) where
   abbrev some_filled : List Code → Bool
   some_filled text = list_any (λ c. not (is_whitespace_code c)) text
 
-  label-back : (cs : List Code) (tree : Forest) (rest : List Code) → label names cs ≡ Some (tree, rest) → Marked IsLabel (between_markers names) cs tree rest
+  pub label-back : (cs : List Code) (tree : Forest) (rest : List Code) → label names cs ≡ Some (tree, rest) → Marked IsLabel (between_markers names) cs tree rest
   unfolding label
   label-back cs tree rest e =
       let a : WentOne (is_value 91) _ cs (tree, rest) = one-back (is_value 91) _ cs (tree, rest) e in
@@ -238,7 +214,7 @@ module _ (names : StringNames) where
         tree_is = g.0;
       }
 
-  label-found : (front : Code) (text : List Code) (back : Code) (rest : List Code) → IsLabel front text back
+  pub label-found : (front : Code) (text : List Code) (back : Code) (rest : List Code) → IsLabel front text back
       → label names (front ∷ (text ++ (back ∷ rest))) ≡ Some (between_markers names (front ∷ []) text (back ∷ []), rest)
   unfolding label gives
   label-found front text back rest i =
@@ -282,13 +258,9 @@ to-angle : (c : Code) → angles c ≡ true → is_angle c ≡ true
 to-angle c h = elim (or-parts (c.value == 60) _ h) [ inl k ↦ or-second (c.value == 62) _ (or-first _ (is_line_ending c) k) | inr k ↦ or-first _ (angle_refuses c) (or-last _ k) ]
 
 -- a code of a list in which none passes does not pass
-none-passes : (p : Code → Bool) (before after : List Code) (c : Code) (text : List Code) → text ≡ before ++ (c ∷ after) → list_any p text ≡ false → p c ≡ false
+pub none-passes : (p : Code → Bool) (before after : List Code) (c : Code) (text : List Code) → text ≡ before ++ (c ∷ after) → list_any p text ≡ false → p c ≡ false
 none-passes p before after c text e h = here before (sym (ap (list_any p) e) ∙ h)
   where
-    or-none : (a b : Bool) → a || b ≡ false → (a ≡ false) × (b ≡ false)
-    or-none true b e = cc
-    or-none false b e = (refl, e)
-
     here : (xs : List Code) → list_any p (xs ++ (c ∷ after)) ≡ false → p c ≡ false
     here [] k = (or-none (p c) _ k).0
     here (x ∷ xs) k = here xs (or-none (p x) _ k).1
@@ -297,10 +269,6 @@ none-passes p before after c text e h = here before (sym (ap (list_any p) e) ∙
 none-of : (p : Code → Bool) (text : List Code) → ((before after : List Code) (c : Code) → text ≡ before ++ (c ∷ after) → p c ≡ false) → list_any p text ≡ false
 none-of p [] f = refl
 none-of p (c ∷ text) f = neither (p c) (list_any p text) (f [] text c refl) (none-of p text (λ before after d e. f (c ∷ before) after d (ap (λ xs. c ∷ xs) e)))
-  where
-    neither : (a b : Bool) → a ≡ false → b ≡ false → a || b ≡ false
-    neither true b e h = cc
-    neither false b e h = h
 
 from-angle : (c : Code) → is_line_ending c ≡ false → is_angle c ≡ true → (angles c ≡ true) × (angle_takes c ≡ true)
 from-angle c n h = elim (or-parts (c.value == 62) _ h) [

@@ -12,6 +12,8 @@ use Rattle.markdown_model.proofs.ReadingSteps.{and-left, and-right}
 use Rattle.markdown_string.proofs.DestinationReadings.{raw-end, raw-open-end, raw-taken, raw-bare, raw-stop, raw-space, raw-control, raw-open, raw-deep, raw-close, raw-next}
 use Rattle.markdown_string.proofs.EscapeReadings.{Behind, first-some}
 use Rattle.markdown_laws.specs.LinkParts.{bare_after}
+use Rattle.markdown_string.proofs.BoolLemmas.{or-first, or-second}
+use Rattle.markdown_laws.proofs.TestParts.{or-parts, or-last, or-none, neither, other}
 use Rattle.markdown_laws.proofs.EscapedTexts.{turned, slash_after, after-last, escapes-after, taken-turned, next-turned}
 
 abbrev one_if : Bool → ℕ
@@ -46,18 +48,6 @@ pub record RawFrom (max : ℕ) (slash : Bool) (depth : ℕ) (text rest : List Co
 
 -- Tests on values.
 
-or-parts : (a b : Bool) → a || b ≡ true → (a ≡ true) ⊎ (b ≡ true)
-or-parts true b e = inl refl
-or-parts false b e = inr e
-
-or-none : (a b : Bool) → a || b ≡ false → (a ≡ false) × (b ≡ false)
-or-none true b e = cc
-or-none false b e = (refl, e)
-
-neither : (a b : Bool) → a ≡ false → b ≡ false → a || b ≡ false
-neither true b e h = cc
-neither false b e h = h
-
 by-parens : (P : ℕ → Type 0) (c : Code) → parens c ≡ true → P 40 → P 41 → P 92 → P c.value
 by-parens P c h p q r =
     elim (or-parts (c.value == 40) _ h) [
@@ -67,19 +57,12 @@ by-parens P c h p q r =
         | inr l ↦ subst P (sym (eqb-true c.value 92 (or-last _ l))) r
       ]
     ]
-  where
-    or-last : (a : Bool) → a || false ≡ true → a ≡ true
-    or-last true e = refl
-    or-last false e = e
 
 is-paren : (c : Code) (n : ℕ) → is_value n c ≡ true → ((n == 40) || ((n == 41) || ((n == 92) || false))) ≡ true → parens c ≡ true
 is-paren c n h k = subst (λ v. ((v == 40) || ((v == 41) || ((v == 92) || false))) ≡ true) (sym (eqb-true c.value n h)) k
 
 slashes : (c : Code) → is_value 92 c ≡ true → parens c ≡ true
 slashes c h = is-paren c 92 h refl
-
-other : (n m : ℕ) (c : Code) → (n == m) ≡ false → is_value n c ≡ true → is_value m c ≡ false
-other n m c e h = ap (λ v. v == m) (eqb-true c.value n h) ∙ e
 
 paren-part : (c : Code) → parens c ≡ true → no_part c ≡ false
 paren-part c h = by-parens (λ v. (((v == 32 || v == 9) || v == 10) || ((nat_le 1 v && nat_le v 31) || v == 127)) ≡ false) c h refl refl refl
@@ -273,16 +256,8 @@ module _ (max : ℕ) where
       none_open : (depth == 0) ≡ true
       none_open = let e : depth ≡ 0 = omega (arith, r.balanced) in ap (λ m. m == 0) e
 
-      or-here : (a b : Bool) → a ≡ true → a || b ≡ true
-      or-here true b e = refl
-      or-here false b e = cc
-
-      or-there : (a b : Bool) → b ≡ true → a || b ≡ true
-      or-there true b e = refl
-      or-there false b e = e
-
       by_end : EndsAt slash (c ∷ cs) → raw_from max slash depth (c ∷ cs) ≡ Some ([], c ∷ cs)
       by_end (inl e) = cc
-      by_end (inr (inl w)) = plain-start slash depth c cs (and-none slash (parens c) (white-plain c w)) ∙ raw-stop max depth c cs (or-here _ _ w) none_open
-      by_end (inr (inr k)) = plain-start slash depth c cs (ap (λ s. s && parens c) k.1) ∙ raw-stop max depth c cs (or-there _ _ (λ i. k.0 i && none_open i)) none_open
+      by_end (inr (inl w)) = plain-start slash depth c cs (and-none slash (parens c) (white-plain c w)) ∙ raw-stop max depth c cs (or-first _ _ w) none_open
+      by_end (inr (inr k)) = plain-start slash depth c cs (ap (λ s. s && parens c) k.1) ∙ raw-stop max depth c cs (or-second _ _ (λ i. k.0 i && none_open i)) none_open
   raw-found (c ∷ text) rest slash depth r = by-parts (slash && parens c) (is_value 40 c) (is_value 41 c) slash depth c text rest r (raw-found text rest) refl refl refl

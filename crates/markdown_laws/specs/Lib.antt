@@ -8,3 +8,4 @@ pub mod Filled
 pub mod Markers
 pub mod InOrder
 pub mod LinkParts
+pub mod Resources

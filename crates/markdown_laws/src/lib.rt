@@ -14,6 +14,7 @@ ghost use Rattle.markdown_laws.specs.Trimming.{DataIsTight};
 ghost use Rattle.markdown_laws.specs.Filled.{TreesAreFilled};
 ghost use Rattle.markdown_laws.specs.InOrder.{RunsInOrderMayPair};
 ghost use Rattle.markdown_laws.specs.LinkParts.{TitlesAreFound, LabelsAreFound, DestinationsAreFound};
+ghost use Rattle.markdown_laws.specs.Resources.{ResourcesAreFound, WhatFollowsIsFound};
 
 /// A one-line text with a backslash before each ASCII punctuation character, read as a string with escapes on, is given
 /// back by what is lent for its data and for what its escapes stand for.
@@ -86,4 +87,16 @@ pub fn labels_are_found()
 /// A destination is found exactly where codes stand that are a link destination: in angle brackets, or without them and with balanced parentheses.
 pub fn destinations_are_found()
     ensures { DestinationsAreFound }
+{}
+
+/// A resource is found exactly where codes stand that are one: parentheses around whitespace, a destination, and a title apart from it, each of
+/// which may be absent.
+pub fn resources_are_found()
+    ensures { ResourcesAreFound }
+{}
+
+/// What follows a label is found exactly where codes stand that may follow it: a resource, the label of a full reference, the brackets of a collapsed one,
+/// or nothing.
+pub fn what_follows_is_found()
+    ensures { WhatFollowsIsFound }
 {}
