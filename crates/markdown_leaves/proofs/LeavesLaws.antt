@@ -98,7 +98,7 @@ law (leaf_then name link cs rest) n p es = leaf-first n p name link cs rest es (
 law (group_then name a b inside rest) n p es = group-law name a b inside rest (law inside) (law rest) n p es
 
 -- the innermost events of a tree's events
-innermost-leaves : (t : Forest) → innermost (events_of t) ≡ leaves_of t
+pub innermost-leaves : (t : Forest) → innermost (events_of t) ≡ leaves_of t
 innermost-leaves t = ap innermost (sym (append-nil (events_of t))) ∙ law t 0 None [] ∙ append-nil (leaves_of t)
 
 -- Leaves that are part of the document.

@@ -14,7 +14,7 @@ use Rattle.markdown_engine.specs.declared.event.Event.{Event}
 use Rattle.markdown_engine.specs.declared.event.Point.{Point}
 use Rattle.markdown_engine.specs.declared.parser.Piece.{Piece}
 use Rattle.markdown_leaves.specs.Leaves.{HasLeaves, IsInOrder, covered, innermost, lent}
-use Rattle.markdown_leaves.proofs.LeavesLaws.{leaves-in-order, lent-covers}
+use Rattle.markdown_leaves.proofs.LeavesLaws.{innermost-leaves, leaves-in-order, lent-covers}
 use Rattle.markdown_model.specs.Element.{elements_of, string_elements_of}
 use Rattle.markdown_model.specs.Groups.{paired}
 use Rattle.markdown_model.specs.Inline.{label_tree, raw_tree, finished_text, finished_string, text_tree, string_tree, text_events, string_events}
@@ -26,7 +26,8 @@ use Rattle.markdown_model.proofs.Coverage.{codes-paired}
 use Rattle.markdown_model.proofs.ElementLaws.{text_elements, string_elements}
 use Rattle.markdown_model.proofs.LabelCodes.{codes-labels_of}
 use Rattle.markdown_model.proofs.TreeLaws.{codes-finished_text, codes-finished_string, leaves_cover}
-use Rattle.markdown_stretch.specs.Laws.{LeavesAreStretches, EventsGiveContent}
+use Rattle.markdown_stretch.specs.Laws.{LeavesAreStretches, EventsGiveContent, FollowOn, filled}
+use Rattle.markdown_stretch.proofs.LeafOrder.{StandsStill, leaves-follow, leaves-still}
 use Rattle.markdown_stretch.specs.Lined.{IsLined, AtStart, Stands, IsApart}
 use Rattle.markdown_stretch.proofs.LinedElements.{text-lined, string-lined}
 use Rattle.markdown_stretch.proofs.LinedLabels.{apart-labels}
@@ -132,8 +133,29 @@ pub string-covers : (s : Setting) (pieces : List Piece) (es : List Event) → Is
 string-covers s pieces es content e =
     lent-covers s.bytes (string_tree s (content_of s.bytes pieces)) es (string-leaves s pieces content) e ∙ (leaves_cover s (content_of s.bytes pieces)).1
 
+-- what is said of the leaves of a tree is said of the innermost of its events
+text-order : (s : Setting) (pieces : List Piece) → IsContent s.bytes pieces → FollowOn (filled s.bytes (innermost (text_events s pieces)))
+text-order s pieces content =
+    let t : Forest = text_tree s (content_of s.bytes pieces) in
+    subst (λ ss. FollowOn (filled s.bytes ss)) (sym (innermost-leaves t)) (leaves-follow s.bytes pieces content.in_order t (text-leaves s pieces content) (leaves_cover s (content_of s.bytes pieces)).0)
+
+text-still : (s : Setting) (pieces : List Piece) → IsContent s.bytes pieces → All (StandsStill s.bytes) (innermost (text_events s pieces))
+text-still s pieces content =
+    let t : Forest = text_tree s (content_of s.bytes pieces) in
+    subst (All (StandsStill s.bytes)) (sym (innermost-leaves t)) (leaves-still s.bytes pieces content.in_order t (text-leaves s pieces content) (leaves_cover s (content_of s.bytes pieces)).0)
+
+string-order : (s : Setting) (pieces : List Piece) → IsContent s.bytes pieces → FollowOn (filled s.bytes (innermost (string_events s pieces)))
+string-order s pieces content =
+    let t : Forest = string_tree s (content_of s.bytes pieces) in
+    subst (λ ss. FollowOn (filled s.bytes ss)) (sym (innermost-leaves t)) (leaves-follow s.bytes pieces content.in_order t (string-leaves s pieces content) (leaves_cover s (content_of s.bytes pieces)).1)
+
+string-still : (s : Setting) (pieces : List Piece) → IsContent s.bytes pieces → All (StandsStill s.bytes) (innermost (string_events s pieces))
+string-still s pieces content =
+    let t : Forest = string_tree s (content_of s.bytes pieces) in
+    subst (All (StandsStill s.bytes)) (sym (innermost-leaves t)) (leaves-still s.bytes pieces content.in_order t (string-leaves s pieces content) (leaves_cover s (content_of s.bytes pieces)).1)
+
 pub events-give-content : EventsGiveContent
 events-give-content s pieces content = (
-  record { places = text-in-order s pieces (text_events s pieces) content refl; leaves = text-covers s pieces (text_events s pieces) content refl },
-  record { places = string-in-order s pieces (string_events s pieces) content refl; leaves = string-covers s pieces (string_events s pieces) content refl },
+  record { places = text-in-order s pieces (text_events s pieces) content refl; order = text-order s pieces content; empty = text-still s pieces content; leaves = text-covers s pieces (text_events s pieces) content refl },
+  record { places = string-in-order s pieces (string_events s pieces) content refl; order = string-order s pieces content; empty = string-still s pieces content; leaves = string-covers s pieces (string_events s pieces) content refl },
 )

@@ -12,4 +12,5 @@ pub mod LinedNodes
 pub mod SpacedCodes
 pub mod LinedLiterals
 pub mod LinedElements
+pub mod LeafOrder
 pub mod ContentLeaves

@@ -8,7 +8,8 @@ pub fn leaves_are_stretches()
 {}
 
 /// The innermost events of a content, read as text and read as a string, begin and end at places of the document, and the codes from where each
-/// begins to where it ends, one after another, are the content's.
+/// begins to where it ends, one after another, are the content's. Of those with a code each begins where one before has ended, or after it; one
+/// without begins where it ends.
 pub fn events_give_content()
     ensures { EventsGiveContent }
 {}
