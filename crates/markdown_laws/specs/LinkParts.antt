@@ -1,4 +1,4 @@
--- Where the parts of links stand, said of the codes of each (CommonMark 6.3).
+-- Where the parts of links stand, said of the codes of each.
 use Rattle.std.specs.Prelude.{◌≡◌, ◌↔◌, ◌⊎◌, ℕ, zero, suc, ◌+◌, ◌≤◌, Bool, true, false, ◌&&◌, ◌||◌, not, List, [], ◌∷◌, ◌++◌, length, reverse, codes, Some, if◌then◌else◌}
 use Rattle.std.specs.Str.{byte}
 use Rattle.std.specs.List.{list_any}
@@ -25,7 +25,7 @@ pub record IsEscapedIn (marks : Code → Bool) (text : List Code) : Type 0 where
   pub inside : (before after : List Code) (c : Code) → text ≡ before ++ (c ∷ after) → marks c ≡ true → escapes_next before ≡ true
   pub behind : escapes_next text ≡ false
 
--- Link labels: `[`, codes with no bracket but escaped ones, some of which is no whitespace and at most 999 of which
+-- Labels (CommonMark 6.3, link label): `[`, codes with no bracket but escaped ones, some of which is no whitespace and at most 999 of which
 -- count, and `]`, with no blank line.
 pub record IsLabel (front : Code) (text : List Code) (back : Code) : Type 0 where
   pub opens : is_value (byte "[") front ≡ true
@@ -42,12 +42,12 @@ pub record IsBetween (opener closer : ℕ) (front : Code) (text : List Code) (ba
   pub escaped : IsEscapedIn (is_value closer) text
   pub lines : has_no_blank_line true (text ++ (back ∷ [])) ≡ true
 
--- Link titles: between two `"`, between two `'`, or between `(` and `)`.
+-- Titles (CommonMark 6.3, link title): between two `"`, between two `'`, or between `(` and `)`.
 abbrev pub IsTitle : Code → List Code → Code → Type 0
 IsTitle front text back =
     IsBetween (byte "\"") (byte "\"") front text back ⊎ (IsBetween (byte "'") (byte "'") front text back ⊎ IsBetween (byte "(") (byte ")") front text back)
 
--- Link destinations in angle brackets: `<`, codes with no line ending and no angle bracket but escaped ones, and `>`.
+-- Destinations in angle brackets (CommonMark 6.3, link destination): `<`, codes with no line ending and no angle bracket but escaped ones, and `>`.
 pub record IsEnclosed (front : Code) (text : List Code) (back : Code) : Type 0 where
   pub opens : is_value (byte "<") front ≡ true
   pub closes : is_value (byte ">") back ≡ true
@@ -65,7 +65,7 @@ opening text = bare_after (byte "(") [] text
 abbrev pub closing : List Code → ℕ
 closing text = bare_after (byte ")") [] text
 
--- Link destinations without brackets: codes of which none is whitespace or a control and the first is no `<`, in which the
+-- Destinations without brackets (CommonMark 6.3, link destination): codes of which none is whitespace or a control and the first is no `<`, in which the
 -- parentheses that are not escaped are balanced and nest at most `max` deep. It goes on up to whitespace, the end, or a `)`
 -- that is not escaped.
 pub record IsRaw (max : ℕ) (text rest : List Code) : Type 0 where

@@ -1,4 +1,4 @@
--- Where resources stand, and what may follow a label, made of the parts of links (CommonMark 6.3).
+-- Where resources stand, and what may follow a label, made of the parts of links.
 use Rattle.std.specs.Prelude.{◌≡◌, ◌⊎◌, ℕ, ◌<◌, Bool, true, List, [], ◌∷◌, ◌++◌, length, None}
 use Rattle.std.specs.Str.{byte}
 use Rattle.std.specs.List.{list_all}
@@ -46,7 +46,7 @@ pub record Mark (name : Name) (value : ℕ) (cs : List Code) (tree : Forest) (re
   pub is : is_value value code ≡ true
   pub tree_is : tree ≡ leaf name (code ∷ [])
 
--- Spaces, tabs and up to one line ending.
+-- Spaces, tabs and up to one line ending (CommonMark 6.3, inline link).
 pub record Spacing (cs : List Code) (tree : Forest) (rest : List Code) : Type 0 where
   pub front : List Code
   pub ending : List Code
@@ -65,7 +65,7 @@ SomeSpacing cs tree rest = Spacing cs tree rest × (length rest < length cs)
 abbrev pub AfterDestination : Part
 AfterDestination = EitherOf (InTurn SomeSpacing (InTurn (Marked IsTitle (between_markers title_names)) Spacing)) Spacing
 
--- Resources: `(`, whitespace, a destination with what may stand behind it, or nothing, and `)`. Parentheses of the destination nest
+-- Resources (CommonMark 6.3, inline link): `(`, whitespace, a destination with what may stand behind it, or nothing, and `)`. Parentheses of the destination nest
 -- at most 32 deep.
 abbrev pub IsResource : Part
 IsResource =
@@ -83,16 +83,16 @@ NoneHere Is cs = (tree : Forest) (rest : List Code) → Is cs tree rest → ⊥
 abbrev pub ALabel : Part
 ALabel = Marked IsLabel (between_markers reference_names)
 
--- The label of a full reference: one whose identifier has a definition.
+-- The label of a full reference (CommonMark 6.3): one whose identifier has a definition.
 pub record IsFull (s : Setting) (cs : List Code) (tree : Forest) (rest : List Code) : Type 0 where
   pub is : ALabel cs tree rest
   pub defined : is_defined s.definitions (reference_identifier s tree) ≡ true
 
--- The `[]` of a collapsed reference.
+-- The `[]` of a collapsed reference (CommonMark 6.3).
 abbrev pub IsCollapsed : Part
 IsCollapsed = InGroup Name.Reference (InTurn (Mark Name.ReferenceMarker (byte "[")) (Mark Name.ReferenceMarker (byte "]")))
 
--- What follows a shortcut: nothing, where no resource stands; and before a `[` an option asks for it, and neither `[]` nor a label stands.
+-- What follows a shortcut reference (CommonMark 6.3): nothing, where no resource stands; and before a `[` an option asks for it, and neither `[]` nor a label stands.
 pub record IsShortcut (s : Setting) (cs : List Code) (tree : Forest) (rest : List Code) : Type 0 where
   pub is : Nothing cs tree rest
   pub no_resource : NoneHere IsResource cs
