@@ -139,25 +139,6 @@ data-within : Within data_states inline
 data-within DataStart = refl
 data-within _ = refl
 
-string-within : S.Within ready_of ends_of weight_of
-string-within = record {
-  escape_ready = λ T. tt;
-  escape_end = λ T ok U h. h;
-  escape_weight = λ T. refl;
-  reference_ready = λ T h. h;
-  reference_end = λ T ok U h. h;
-  reference_weight = λ T. refl;
-  data_ready = λ T. tt;
-  data_end = λ T ok U h. h;
-  data_weight = λ T. refl;
-  before_ready = λ T h. h;
-  before_end = λ T ok U h. h;
-  before_weight = λ T. refl;
-  before_data_ready = λ T h. h;
-  before_data_end = λ T ok U h. h;
-  before_data_weight = λ T. refl;
-}
-
 pub laws_of : Lawful ready_of step_of ends_of weight_of
 laws_of CharacterEscapeStart T alone r = E.start-law inline escape-within T alone r
 laws_of CharacterEscapeInside T alone r = E.inside-law inline T alone r
@@ -192,9 +173,9 @@ laws_of SpaceOrTabEolAfterMore T alone r = L.after_more-law inline T alone r
 laws_of DataStart T alone r = D.start-law inline data-within T alone r
 laws_of DataAtBreak T alone r = D.at_break-law inline data-within T alone r
 laws_of DataInside T alone r = D.inside-law inline data-within T alone r
-laws_of StringStart T alone r = S.start-law ready_of ends_of weight_of string-within T alone r
-laws_of StringBefore T alone r = S.before-law ready_of ends_of weight_of string-within T alone r
-laws_of StringBeforeData T alone r = S.before_data-law ready_of ends_of weight_of string-within T alone r
+laws_of StringStart T alone r = S.start-law T alone r
+laws_of StringBefore T alone r = S.before-law T alone r
+laws_of StringBeforeData T alone r = S.before_data-law T alone r
 laws_of GfmTaskListItemCheckStart T alone r = C.start-law inline check-within T alone r
 laws_of GfmTaskListItemCheckInside T alone r = C.inside-law inline check-within T alone r
 laws_of GfmTaskListItemCheckClose T alone r = C.close-law inline check-within T alone r

@@ -64,9 +64,9 @@ said_of SpaceOrTabEolAfterMore part = part L.after_more_words
 said_of DataStart part = part D.start_words
 said_of DataAtBreak part = part D.at_break_words
 said_of DataInside part = part D.inside_words
-said_of StringStart part = part (record { ready = S.StartReady; step = S.start_step; ends = S.start_ends; rank = 7 })
-said_of StringBefore part = part (record { ready = S.BeforeReady; step = S.before_step; ends = S.before_ends; rank = 6 })
-said_of StringBeforeData part = part (record { ready = S.BeforeDataReady; step = S.before_data_step; ends = S.before_ends; rank = 5 })
+said_of StringStart part = part S.start_words
+said_of StringBefore part = part S.before_words
+said_of StringBeforeData part = part S.before_data_words
 said_of GfmTaskListItemCheckStart part = part C.start_words
 said_of GfmTaskListItemCheckInside part = part C.inside_words
 said_of GfmTaskListItemCheckClose part = part C.close_words
@@ -140,12 +140,12 @@ said_of LabelEndReferenceFullMissing part = part LE.reference_full_missing_words
 said_of LabelEndReferenceNotFull part = part LE.reference_not_full_words
 said_of LabelEndReferenceCollapsed part = part LE.reference_collapsed_words
 said_of LabelEndReferenceCollapsedOpen part = part LE.reference_collapsed_open_words
-said_of TextStart part = part (record { ready = M.StartReady; step = M.start_step; ends = M.start_ends; rank = 9 })
-said_of TextBefore part = part (record { ready = M.BeforeReady; step = M.before_step; ends = M.before_ends; rank = 8 })
-said_of TextBeforeHtml part = part (record { ready = M.BeforeHtmlReady; step = M.before_html_step; ends = M.before_ends; rank = 6 })
-said_of TextBeforeHardBreakEscape part = part (record { ready = M.BeforeBreakReady; step = M.before_hard_break_escape_step; ends = M.before_ends; rank = 6 })
-said_of TextBeforeLabelStartLink part = part (record { ready = M.BeforeLinkReady; step = M.before_label_start_link_step; ends = M.before_ends; rank = 6 })
-said_of TextBeforeData part = part (record { ready = M.BeforeDataReady; step = M.before_data_step; ends = M.data_ends; rank = 5 })
+said_of TextStart part = part M.start_words
+said_of TextBefore part = part M.before_words
+said_of TextBeforeHtml part = part M.before_html_words
+said_of TextBeforeHardBreakEscape part = part M.before_hard_break_escape_words
+said_of TextBeforeLabelStartLink part = part M.before_label_start_link_words
+said_of TextBeforeData part = part M.before_data_words
 said_of AttentionStart part = part (record { ready = AT.StartReady; step = AT.start_step; ends = AT.start_ends; rank = 2 })
 said_of AttentionInside part = part (record { ready = AT.InsideReady; step = AT.inside_step; ends = AT.inside_ends; rank = 1 })
 said_of GfmAutolinkLiteralProtocolStart part = part G.protocol_start_words

@@ -1,1 +1,2 @@
 pub mod FinishTexts
+pub mod TableLemmas

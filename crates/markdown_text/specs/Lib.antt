@@ -1,4 +1,5 @@
 pub mod Settings
+pub mod Table
 pub mod StringSteps
 pub mod TextSteps
 pub mod Resolve

@@ -1,10 +1,12 @@
 -- What the states of a string do, and how runs from them end.
-use Rattle.std.specs.Prelude.{◌≡◌, ◌≢◌, ℕ, Bool, true, false, ◌==◌, if◌then◌else◌, List, [], ◌∷◌, Option, Some, None}
+use Rattle.std.specs.Prelude.{◌≡◌, ◌≢◌, ℕ, Bool, true, false, List, [], ◌∷◌, codes, Option, Some, None}
 use Rattle.markdown_engine.specs.Ops.{attempted, scratched, registered, current_of, ahead}
 use Rattle.markdown_engine.specs.Runs.{Stepped, stepped}
+use Rattle.markdown_engine.specs.StateWords.{StateWords}
 use Rattle.markdown_engine.specs.declared.configuration.Constructs.{Constructs}
 use Rattle.markdown_engine.specs.declared.resolve.ResolveName.TheVariants as R
 use Rattle.markdown_engine.specs.declared.state.State.TheVariants.{Next, Retry, Ok, Nok}
+use Rattle.markdown_engine.specs.declared.state.StateName.{StateName}
 use Rattle.markdown_engine.specs.declared.state.StateName.TheVariants.{CharacterEscapeStart, CharacterReferenceStart, DataStart, StringBefore, StringBeforeData}
 use Rattle.markdown_engine.specs.declared.tokenizer.Tokenizer.{Tokenizer}
 use Rattle.markdown_leaf.specs.CharacterEscape.{escape_here}
@@ -13,10 +15,15 @@ use Rattle.markdown_model.specs.Element.{Choice, string_choice}
 use Rattle.markdown_row.specs.Elements.{Finishes}
 use Rattle.markdown_row.specs.Row.{EndsRest}
 use Rattle.markdown_text.specs.Settings.{setting_of}
+use Rattle.markdown_text.specs.Table.{Table, codes_in, said_at}
 
--- the codes at which data stops: `&` and the backslash
+-- what is tried at which codes
+abbrev pub string_tries : Table StateName
+string_tries = (codes "&", CharacterReferenceStart) ∷ (codes "\\", CharacterEscapeStart) ∷ []
+
+-- the codes at which data stops: those at which something is tried
 abbrev pub string_markers : List ℕ
-string_markers = 38 ∷ 92 ∷ []
+string_markers = codes_in string_tries
 
 abbrev pub string_marked : Tokenizer → Tokenizer
 string_marked T = scratched (record T.tokenize_state { markers = string_markers }) T
@@ -28,15 +35,15 @@ start_step T = stepped (Retry StringBefore) (string_marked T)
 abbrev pub string_passed : Tokenizer → Tokenizer
 string_passed T = registered R.String (registered R.Data T)
 
+-- a construct is tried, and where it does not hold, data is read
+abbrev pub tries_at : Option StateName → Tokenizer → Stepped
+tries_at None T = stepped (Retry StringBeforeData) T
+tries_at (Some construct) T = stepped (Retry construct) (attempted false (Next StringBefore) (Next StringBeforeData) T)
+
 -- by the current code
 abbrev pub before_at : Option ℕ → Tokenizer → Stepped
 before_at None T = stepped Ok (string_passed T)
-before_at (Some c) T =
-    if c == 92
-    then stepped (Retry CharacterEscapeStart) (attempted false (Next StringBefore) (Next StringBeforeData) T)
-    else (if c == 38
-    then stepped (Retry CharacterReferenceStart) (attempted false (Next StringBefore) (Next StringBeforeData) T)
-    else stepped (Retry StringBeforeData) T)
+before_at (Some v) T = tries_at (said_at string_tries v) T
 
 abbrev pub before_step : Tokenizer → Stepped
 before_step T = before_at (current_of T) T
@@ -82,3 +89,14 @@ before_ends T false U = ⊥
 
 abbrev pub start_ends : Tokenizer → Bool → Tokenizer → Type 0
 start_ends T ok U = before_ends (string_marked T) ok U
+
+-- The states.
+
+abbrev pub start_words : StateWords
+start_words = record { ready = StartReady; step = start_step; ends = start_ends; rank = 7 }
+
+abbrev pub before_words : StateWords
+before_words = record { ready = BeforeReady; step = before_step; ends = before_ends; rank = 6 }
+
+abbrev pub before_data_words : StateWords
+before_data_words = record { ready = BeforeDataReady; step = before_data_step; ends = before_ends; rank = 5 }

@@ -1,11 +1,12 @@
 -- What the states of a text do, and how runs from them end.
-use Rattle.std.specs.Prelude.{◌≡◌, ◌≢◌, ℕ, Bool, true, false, nat_le, ◌==◌, ◌&&◌, ◌||◌, if◌then◌else◌, List, [], ◌∷◌, Option, Some, None, length, map, string_bytes}
+use Rattle.std.specs.Prelude.{◌≡◌, ◌≢◌, ℕ, Bool, true, false, nat_le, ◌&&◌, ◌||◌, if◌then◌else◌, List, [], ◌∷◌, Option, Some, None, length, map, codes, string_bytes}
 use Rattle.markdown_engine.specs.Codes.{Code, count_of, stop_of, document_start}
 use Rattle.markdown_engine.specs.NameIndex.{names_in_order}
 use Rattle.markdown_engine.specs.Ops.{attempted, scratched, registered, current_of, ahead}
 use Rattle.markdown_engine.specs.Place.{Place}
 use Rattle.markdown_engine.specs.RunIndex.{last_runs}
 use Rattle.markdown_engine.specs.Runs.{Stepped, stepped}
+use Rattle.markdown_engine.specs.StateWords.{StateWords}
 use Rattle.markdown_engine.specs.SequenceIndex.{last_begins}
 use Rattle.markdown_engine.specs.declared.name_index.Names.{Names}
 use Rattle.markdown_engine.specs.declared.parser.ParseState.{ParseState}
@@ -29,10 +30,30 @@ use Rattle.markdown_model.specs.Lines.{data_up_to}
 use Rattle.markdown_model.specs.Setting.{Setting}
 use Rattle.markdown_row.specs.Elements.{DataFinishes, Finishes, StandsAfter}
 use Rattle.markdown_text.specs.Settings.{text_setting_of}
+use Rattle.markdown_text.specs.Table.{Table, codes_in, said_at}
 
--- the codes at which data stops: those at which a construct may begin
+-- what is tried at which codes: the start of what is tried first, and the state to go on with where that does not hold
+abbrev pub text_tries : Table (StateName × StateName)
+text_tries =
+    (codes "!", (LabelStartImageStart, TextBeforeData))
+    ∷ (codes "$`", (RawTextStart, TextBeforeData))
+    ∷ (codes "&", (CharacterReferenceStart, TextBeforeData))
+    ∷ (codes "*_~", (AttentionStart, TextBeforeData))
+    ∷ (codes "<", (AutolinkStart, TextBeforeHtml))
+    ∷ (codes "Hh", (GfmAutolinkLiteralProtocolStart, TextBeforeData))
+    ∷ (codes "Ww", (GfmAutolinkLiteralWwwStart, TextBeforeData))
+    ∷ (codes "[", (GfmLabelStartFootnoteStart, TextBeforeLabelStartLink))
+    ∷ (codes "\\", (CharacterEscapeStart, TextBeforeHardBreakEscape))
+    ∷ (codes "]", (LabelEndStart, TextBeforeData))
+    ∷ []
+
+-- the codes at which data stops: those at which something is tried
 abbrev pub text_markers : List ℕ
-text_markers = 33 ∷ 36 ∷ 96 ∷ 38 ∷ 42 ∷ 95 ∷ 126 ∷ 60 ∷ 72 ∷ 104 ∷ 87 ∷ 119 ∷ 91 ∷ 92 ∷ 93 ∷ []
+text_markers = codes_in text_tries
+
+-- what is tried first at a code, if anything is
+abbrev pub first_try : ℕ → Option (StateName × StateName)
+first_try = said_at text_tries
 
 -- the codes whose runs close spans
 abbrev pub span_markers : List ℕ
@@ -64,20 +85,6 @@ start_step T = trying GfmTaskListItemCheckStart TextBefore (text_marked T)
 -- with the passes of a text registered
 abbrev pub text_passed : Tokenizer → Tokenizer
 text_passed T = registered R.Text (registered R.Data T)
-
--- what is tried first at a code, and the state to go on with where that does not hold
-abbrev pub first_try : ℕ → Option (StateName × StateName)
-first_try v =
-    if v == 33 then Some (LabelStartImageStart, TextBeforeData)
-    else (if v == 36 || v == 96 then Some (RawTextStart, TextBeforeData)
-    else (if v == 38 then Some (CharacterReferenceStart, TextBeforeData)
-    else (if v == 42 || (v == 95 || v == 126) then Some (AttentionStart, TextBeforeData)
-    else (if v == 60 then Some (AutolinkStart, TextBeforeHtml)
-    else (if v == 72 || v == 104 then Some (GfmAutolinkLiteralProtocolStart, TextBeforeData)
-    else (if v == 87 || v == 119 then Some (GfmAutolinkLiteralWwwStart, TextBeforeData)
-    else (if v == 91 then Some (GfmLabelStartFootnoteStart, TextBeforeLabelStartLink)
-    else (if v == 92 then Some (CharacterEscapeStart, TextBeforeHardBreakEscape)
-    else (if v == 93 then Some (LabelEndStart, TextBeforeData) else None)))))))))
 
 abbrev pub tries_at : Option (StateName × StateName) → Tokenizer → Stepped
 tries_at None T = stepped (Retry TextBeforeData) T
@@ -184,3 +191,23 @@ data_ends T false U = ⊥
 
 abbrev pub start_ends : Tokenizer → Bool → Tokenizer → Type 0
 start_ends T ok U = before_ends (text_marked T) ok U
+
+-- The states.
+
+abbrev pub start_words : StateWords
+start_words = record { ready = StartReady; step = start_step; ends = start_ends; rank = 9 }
+
+abbrev pub before_words : StateWords
+before_words = record { ready = BeforeReady; step = before_step; ends = before_ends; rank = 8 }
+
+abbrev pub before_html_words : StateWords
+before_html_words = record { ready = BeforeHtmlReady; step = before_html_step; ends = before_ends; rank = 6 }
+
+abbrev pub before_hard_break_escape_words : StateWords
+before_hard_break_escape_words = record { ready = BeforeBreakReady; step = before_hard_break_escape_step; ends = before_ends; rank = 6 }
+
+abbrev pub before_label_start_link_words : StateWords
+before_label_start_link_words = record { ready = BeforeLinkReady; step = before_label_start_link_step; ends = before_ends; rank = 6 }
+
+abbrev pub before_data_words : StateWords
+before_data_words = record { ready = BeforeDataReady; step = before_data_step; ends = data_ends; rank = 5 }

@@ -14,7 +14,7 @@ use markdown_engine::tokenizer::Tokenizer;
 use markdown_partial::partial_whitespace;
 use std::alloc::AllocError;
 
-// The bytes at which data of a string stops.
+// The bytes at which data of a string stops: those at which something is tried.
 fn markers() -> ByteSet
     ensures { result ≡ string_markers }
 {

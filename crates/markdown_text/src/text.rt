@@ -26,47 +26,55 @@ const SPAN_MARKERS: [u8; 2] = [b'`', b'$'];
 // Where so many names are defined, and so many labels may end, an order of the names pays.
 const MANY: usize = 16;
 
-// The bytes at which data of a text stops: those at which a construct may begin.
+// What is tried at which bytes: the start of what is tried first, and the state to go on with where that does not hold. The rows are
+// handed to the macro that is named, behind the words that come after its name.
+macro_rules! tries {
+    ($of_rows:ident $($more:tt)*) => {
+        $of_rows! {
+            $($more)*
+            [b'!'] LabelStartImageStart, TextBeforeData;
+            [b'$' b'`'] RawTextStart, TextBeforeData;
+            [b'&'] CharacterReferenceStart, TextBeforeData;
+            [b'*' b'_' b'~'] AttentionStart, TextBeforeData;
+            [b'<'] AutolinkStart, TextBeforeHtml;
+            [b'H' b'h'] GfmAutolinkLiteralProtocolStart, TextBeforeData;
+            [b'W' b'w'] GfmAutolinkLiteralWwwStart, TextBeforeData;
+            [b'['] GfmLabelStartFootnoteStart, TextBeforeLabelStartLink;
+            [b'\\'] CharacterEscapeStart, TextBeforeHardBreakEscape;
+            [b']'] LabelEndStart, TextBeforeData;
+        }
+    };
+}
+
+// The bytes of all rows.
+macro_rules! bytes_of {
+    ($([$($of_row:literal)*] $construct:ident, $otherwise:ident;)*) => {
+        byte_set!($($($of_row),*),*)
+    };
+}
+
+// What the row of a byte says, if it has one.
+macro_rules! row_of {
+    ($byte:ident $([$($of_row:literal)*] $construct:ident, $otherwise:ident;)*) => {
+        match $byte {
+            $($($of_row)|* => Some((StateName::$construct, StateName::$otherwise)),)*
+            _ => None,
+        }
+    };
+}
+
+// The bytes at which data of a text stops: those at which something is tried.
 fn markers() -> ByteSet
     ensures { result ≡ text_markers }
 {
-    byte_set!(
-        b'!', b'$', b'`', b'&', b'*', b'_', b'~', b'<', b'H', b'h', b'W', b'w', b'[', b'\\', b']'
-    )
+    tries!(bytes_of)
 }
 
 // Answers the start of what is tried first at this byte, and the state to go on with where that does not hold.
 fn first_try(byte: u8) -> Option<(StateName, StateName)>
     ensures { result ≡ first_try byte }
 {
-    match byte {
-        b'!' => Some((StateName::LabelStartImageStart, StateName::TextBeforeData)),
-        b'$' | b'`' => Some((StateName::RawTextStart, StateName::TextBeforeData)),
-        b'&' => Some((
-            StateName::CharacterReferenceStart,
-            StateName::TextBeforeData,
-        )),
-        b'*' | b'_' | b'~' => Some((StateName::AttentionStart, StateName::TextBeforeData)),
-        b'<' => Some((StateName::AutolinkStart, StateName::TextBeforeHtml)),
-        b'H' | b'h' => Some((
-            StateName::GfmAutolinkLiteralProtocolStart,
-            StateName::TextBeforeData,
-        )),
-        b'W' | b'w' => Some((
-            StateName::GfmAutolinkLiteralWwwStart,
-            StateName::TextBeforeData,
-        )),
-        b'[' => Some((
-            StateName::GfmLabelStartFootnoteStart,
-            StateName::TextBeforeLabelStartLink,
-        )),
-        b'\\' => Some((
-            StateName::CharacterEscapeStart,
-            StateName::TextBeforeHardBreakEscape,
-        )),
-        b']' => Some((StateName::LabelEndStart, StateName::TextBeforeData)),
-        _ => None,
-    }
+    tries!(row_of byte)
 }
 
 // Tries a construct from this state, and goes on with another where it does not hold.

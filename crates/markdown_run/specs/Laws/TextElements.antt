@@ -1,6 +1,6 @@
 -- Which element of a text stands at the codes at hand.
-use Rattle.std.proofs.Common.{◌≡◌, ℕ, Bool, true, false, not, ◌&&◌, ◌||◌, ◌==◌, List, [], ◌∷◌, Option, None, Some, refl, sym, ap, subst, ◌∙◌, inl, inr}
-use Rattle.std.specs.Prelude.{is_none, nat_lt}
+use Rattle.std.proofs.Common.{◌≡◌, ℕ, Bool, true, false, not, ◌&&◌, ◌||◌, ◌==◌, List, [], ◌∷◌, Option, None, Some, refl, sym, ap, ◌∙◌, inl, inr}
+use Rattle.std.specs.Prelude.{codes, is_none, nat_lt}
 use Rattle.std.specs.List.{list_any}
 use Rattle.std.proofs.lemmas.Bool.{or_parts, or_from, or_cases, eqb-true}
 use Rattle.markdown_engine.specs.Codes.{Code, is_line_ending}
@@ -21,7 +21,9 @@ use Rattle.markdown_model.specs.Leaf.{escape, reference, hard_break_escape, auto
 use Rattle.markdown_model.specs.Setting.{Setting}
 use Rattle.markdown_model.proofs.DataLaws.{code_leaf}
 use Rattle.markdown_row.specs.Elements.{StandsAfter}
+use Rattle.markdown_text.specs.Table.{codes_in}
 use Rattle.markdown_text.specs.TextSteps.{text_markers}
+use Rattle.markdown_text.proofs.TableLemmas.{one-of, none-of, not-in-row}
 use Rattle.markdown_model.proofs.ReadingSteps.{bind-some, bind-none, one-here, one-other, either-first, either-second, either-some, switched-on, switched-off}
 
 -- the element of what a construct reads here, or of the code by itself
@@ -64,56 +66,19 @@ unfolding plain_of
 plain-or-data row c cs None e k = either-second row data_code (c ∷ cs) k ∙ data-alone c cs e
 plain-or-data row c cs (Some r) e k = either-some row data_code (c ∷ cs) (plain r.0, r.1) k
 
--- Rows that have no code.
-
-abbrev IsPassedOver : Tries → ℕ → Type 0
-IsPassedOver [] v = Unit {0}
-IsPassedOver (row ∷ rows) v = (list_any (λ n. v == n) row.0 ≡ false) × IsPassedOver rows v
-
-tried-data : (rows : Tries) (v : ℕ) → IsPassedOver rows v → tried rows v ≡ data_code
+-- a code without a row is data
+tried-data : (rows : Tries) (v : ℕ) → list_any (λ n. v == n) (codes_in rows) ≡ false → tried rows v ≡ data_code
 unfolding tried
 tried-data [] v h = refl
-tried-data (row ∷ rows) v h = rw (h.0, tried) (tried-data rows v h.1)
-
--- each of these is another
-abbrev AreOther : List ℕ → ℕ → Type 0
-AreOther [] v = Unit {0}
-AreOther (n ∷ ns) v = ((v == n) ≡ false) × AreOther ns v
-
-are-other : (ns : List ℕ) (v : ℕ) → list_any (λ n. v == n) ns ≡ false → AreOther ns v
-are-other [] v e = tt
-are-other (n ∷ ns) v e = let k = or_parts (v == n) (list_any (λ m. v == m) ns) e in (k.0, are-other ns v k.1)
-
-from-other : (ns : List ℕ) (v : ℕ) → AreOther ns v → list_any (λ n. v == n) ns ≡ false
-from-other [] v h = refl
-from-other (n ∷ ns) v h = or_from (v == n) (list_any (λ m. v == m) ns) h.0 (from-other ns v h.1)
-
-skip-one : (v n : ℕ) → (v == n) ≡ false → ((v == n) || false) ≡ false
-skip-one v n e = ap (λ b. b || false) e
-
-skip-two : (v n m : ℕ) → (v == n) ≡ false → (v == m) ≡ false → ((v == n) || ((v == m) || false)) ≡ false
-skip-two v n m e f = λ i. e i || (f i || false)
+tried-data (row ∷ rows) v h = let k = not-in-row row rows v h in rw (k.0, tried) (tried-data rows v k.1)
 
 -- The markers of runs.
 
 abbrev pub run_markers : List ℕ
-run_markers = 42 ∷ 95 ∷ 126 ∷ []
+run_markers = codes "*_~"
 
 abbrev pub is_marker : ℕ → Bool
 is_marker v = list_any (λ n. v == n) run_markers
-
-abbrev pub EachOf : (ℕ → Type 0) → List ℕ → Type 0
-EachOf P [] = Unit {0}
-EachOf P (n ∷ ns) = P n × EachOf P ns
-
--- what holds of each of these holds of one that is among them
-pub one-of : (P : ℕ → Type 0) (ns : List ℕ) (v : ℕ) → EachOf P ns → list_any (λ n. v == n) ns ≡ true → P v
-one-of P [] v h e = cc
-one-of P (n ∷ ns) v h e = by_test (v == n) refl e (one-of P ns v h.1)
-  where
-    by_test : (b : Bool) → (v == n) ≡ b → (b || list_any (λ m. v == m) ns) ≡ true → (list_any (λ m. v == m) ns ≡ true → P v) → P v
-    by_test true k f more = subst P (sym (eqb-true v n k)) h.0
-    by_test false k f more = more f
 
 -- Spans of both kinds.
 
@@ -361,51 +326,10 @@ module _ (s : Setting) (end : ℕ) (earlier : List Element) (previous : Option C
 
   -- Codes that begin no construct.
 
-  plain-tried : (v : ℕ) → (v == 10) ≡ false → AreOther text_markers v → tried (tries s end earlier previous) v ≡ data_code
+  -- the codes of the definition's rows are line endings, and those at which something is tried
+  plain-tried : (v : ℕ) → (v == 10) ≡ false → list_any (λ n. v == n) text_markers ≡ false → tried (tries s end earlier previous) v ≡ data_code
   unfolding tries
-  plain-tried v e h = tried-data (tries s end earlier previous) v (
-    skip-one v 10 e,
-    (
-      skip-one v 33 h.0,
-      (
-        skip-one v 36 h.1.0,
-        (
-          skip-one v 96 h.1.1.0,
-          (
-            skip-one v 38 h.1.1.1.0,
-            (
-              skip-one v 42 h.1.1.1.1.0,
-              (
-                skip-one v 95 h.1.1.1.1.1.0,
-                (
-                  skip-one v 126 h.1.1.1.1.1.1.0,
-                  (
-                    skip-one v 60 h.1.1.1.1.1.1.1.0,
-                    (
-                      skip-two v 72 104 h.1.1.1.1.1.1.1.1.0 h.1.1.1.1.1.1.1.1.1.0,
-                      (
-                        skip-two v 87 119 h.1.1.1.1.1.1.1.1.1.1.0 h.1.1.1.1.1.1.1.1.1.1.1.0,
-                        (
-                          skip-one v 91 h.1.1.1.1.1.1.1.1.1.1.1.1.0,
-                          (
-                            skip-one v 92 h.1.1.1.1.1.1.1.1.1.1.1.1.1.0,
-                            (
-                              skip-one v 93 h.1.1.1.1.1.1.1.1.1.1.1.1.1.1.0,
-                              tt,
-                            ),
-                          ),
-                        ),
-                      ),
-                    ),
-                  ),
-                ),
-              ),
-            ),
-          ),
-        ),
-      ),
-    ),
-  )
+  plain-tried v e h = tried-data (tries s end earlier previous) v (or_from (v == 10) (list_any (λ n. v == n) text_markers) e h)
 
   ending-at : (c : Code) (cs : List Code) → is_line_ending c ≡ true → text_element s end earlier previous (c ∷ cs) ≡ Some (plain (code_leaf c), cs)
   unfolding tries tried
@@ -413,7 +337,7 @@ module _ (s : Setting) (end : ℕ) (earlier : List Element) (previous : Option C
 
   data-at : (c : Code) (cs : List Code) → is_line_ending c ≡ false → is_among text_markers c ≡ false → text_element s end earlier previous (c ∷ cs) ≡ Some (plain (code_leaf c), cs)
   data-at c cs e h =
-      text-at data_code c cs (no-check c cs (are-other text_markers c.value h).1.1.1.1.1.1.1.1.1.1.1.1.0) (plain-tried c.value e (are-other text_markers c.value h)) ∙ either-some data_code data_code (c ∷ cs) (plain (code_leaf c), cs) (data-alone c cs e)
+      text-at data_code c cs (no-check c cs (none-of text_markers c.value 91 h refl)) (plain-tried c.value e h) ∙ either-some data_code data_code (c ∷ cs) (plain (code_leaf c), cs) (data-alone c cs e)
 
   pub other-element : (c : Code) (cs : List Code) → is_among text_markers c ≡ false → text_element s end earlier previous (c ∷ cs) ≡ Some (plain (code_leaf c), cs)
   other-element c cs h = by_ending (is_line_ending c) refl

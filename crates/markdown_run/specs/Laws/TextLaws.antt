@@ -3,7 +3,7 @@ use Rattle.markdown_model.specs.Leaf.{task_check}
 use Rattle.markdown_model.specs.CodeTests.{is_value, last_code, next_is}
 use Rattle.std.proofs.Common.{◌≡◌, ◌≢◌, ℕ, ◌+◌, ◌*◌, ◌<◌, ◌≤◌, ◌==◌, ◌||◌, Bool, true, false, if◌then◌else◌, Option, Some, None, List, [], ◌∷◌, refl, sym, ap, subst, ◌∙◌, arith, length, length-append, is_none, ◌&&◌, ◌++◌, append-nil}
 use Rattle.std.specs.List.{list_any}
-use Rattle.std.proofs.lemmas.Bool.{eqb-true}
+use Rattle.std.specs.Prelude.{codes}
 use Rattle.markdown_engine.specs.Codes.{Code, stop_of, document_start}
 use Rattle.markdown_engine.specs.NameIndex.{names_in_order}
 use Rattle.markdown_engine.specs.declared.name_index.Names.{Names}
@@ -59,7 +59,8 @@ use Rattle.markdown_row.specs.Row.{EndsRest, Row, loses, row_end, row_then, past
 use Rattle.markdown_row.proofs.LabelElements.{empty-part, mark-alone}
 use Rattle.markdown_row.proofs.RowFields.{relisted, row-cursor, row-input, row-text, row-fields, tree-within, made-within, lost-within}
 use Rattle.markdown_text.specs.StringSteps.{is_on}
-use Rattle.markdown_text.specs.TextSteps.{text_markers, order_pays, marked_fields, text_marked, text_passed, trying, start_step, first_try, tries_at, before_at, before_step, before_html_step, before_hard_break_escape_step, before_label_start_link_step, before_data_step, text_choice_of, EndsWithCodes, StartReady, IsMarked, BeforeReady, BeforeHtmlReady, BeforeDataReady, BeforeBreakReady, BeforeLinkReady, StandsAlone, before_ends, data_ends, start_ends}
+use Rattle.markdown_text.specs.TextSteps.{text_tries, text_markers, order_pays, marked_fields, text_marked, text_passed, trying, start_step, first_try, tries_at, before_at, before_step, before_html_step, before_hard_break_escape_step, before_label_start_link_step, before_data_step, text_choice_of, EndsWithCodes, StartReady, IsMarked, BeforeReady, BeforeHtmlReady, BeforeDataReady, BeforeBreakReady, BeforeLinkReady, StandsAlone, before_ends, data_ends, start_ends}
+use Rattle.markdown_text.proofs.TableLemmas.{EachOf, by-row}
 use Rattle.markdown_row.proofs.NodeLemmas.{protocol-node, www-node, check-node, html-node, escape-node, reference-node, break-node, autolink-node, span-node}
 use Rattle.markdown_run.specs.Laws.TextElements.{is_marker}
 use Rattle.markdown_run.specs.Laws.TextTries.{ReadsNodes, ReadsElements, none-valued, check-reads, no-check-at-end, reference-reads, reference-alone, autolink-reads, html-reads, html-alone, escape-reads, break-reads, break-alone, span-reads, span-alone, run-reads, run-alone, run-leaf, protocol-reads, protocol-alone, www-reads, www-alone, other-alone, other-data}
@@ -237,36 +238,6 @@ to-data rank T v l ready e alone =
     let some : current_of T ≢ None = some-none (current_of T) v e in
     record { goes_on = record { marked = ready.marked; some_code = some }; falls = omega (arith, l); closed = λ ok V h. alone-ends T some alone ok V h }
 
--- Which codes are which.
-
-or-last : (a b c : Bool) → (a || (b || c)) ≡ true → (a || (b || (c || false))) ≡ true
-or-last true b c e = refl
-or-last false true c e = refl
-or-last false false true e = refl
-or-last false false false e = cc
-
-as-marker : (v : ℕ) → (v == 42 || (v == 95 || v == 126)) ≡ true → is_marker v ≡ true
-as-marker v h = or-last (v == 42) (v == 95) (v == 126) h
-
-neither : (a b : Bool) → a ≡ false → b ≡ false → (a || b) ≡ false
-neither true b e f = cc
-neither false b e f = f
-
-both-false : (a b : Bool) → (a || b) ≡ false → (a ≡ false) × (b ≡ false)
-both-false true b e = cc
-both-false false b e = (refl, e)
-
--- a code at which nothing is tried is no marker
-unmarked : (v : ℕ) → (v == 33) ≡ false → (v == 36 || v == 96) ≡ false → (v == 38) ≡ false → (v == 42 || (v == 95 || v == 126)) ≡ false → (v == 60) ≡ false → (v == 72 || v == 104) ≡ false → (v == 87 || v == 119) ≡ false → (v == 91) ≡ false → (v == 92) ≡ false → (v == 93) ≡ false → list_any (λ n. v == n) text_markers ≡ false
-unmarked v a b c d f g i j k l =
-    let spans = both-false (v == 36) (v == 96) b in
-    let runs = both-false (v == 42) (v == 95 || v == 126) d in
-    let more = both-false (v == 95) (v == 126) runs.1 in
-    let protocols = both-false (v == 72) (v == 104) g in
-    let hosts = both-false (v == 87) (v == 119) i in
-    neither _ _ a (neither _ _ spans.0 (neither _ _ spans.1 (neither _ _ c (neither _ _ runs.0 (neither _ _ more.0 (neither _ _ more.1 (neither _ _ f
-    (neither _ _ protocols.0 (neither _ _ protocols.1 (neither _ _ hosts.0 (neither _ _ hosts.1 (neither _ _ j (neither _ _ k (neither _ _ l refl))))))))))))))
-
 -- The laws.
 
 weight-marked : (T : Tokenizer) → weight_at 9 (text_marked T) ≡ weight_at 9 T
@@ -284,14 +255,6 @@ passed-attempts T alone = attempts-registered P.Text (registered P.Data T) ∙ a
 at-end : (T : Tokenizer) → current_of T ≡ None → (ok : Bool) (U : Tokenizer) → (ok ≡ true) × (U ≡ text_passed T) → before_ends T ok U
 at-end T e true U k = finishes-end (text_choice_of T) text_passed T U e k.1
 at-end T e false U k = cc
-
--- by a test
-if-choice : {A : Type 0} (P : A → Type 0) (b : Bool) (x y : A) → (b ≡ true → P x) → (b ≡ false → P y) → P (if b then x else y)
-if-choice P true x y p q = p refl
-if-choice P false x y p q = q refl
-
-value-is : (T : Tokenizer) (v n : ℕ) → current_of T ≡ Some v → (v == n) ≡ true → current_of T ≡ Some n
-value-is T v n e h = e ∙ ap (λ x. Some x) (eqb-true v n h)
 
 -- Ends of labels.
 
@@ -432,20 +395,28 @@ module _ (T : Tokenizer) (alone : T.attempts ≡ []) (ready : BeforeReady T) whe
       let f = to-data 8 T v (omega arith) ready e (other-alone T v e h) in
       Goes-plain ready_of ends_of weight_of (weight_at 8 T) (before_ends T) (Retry TextBeforeData) T alone f.goes_on f.falls f.closed
 
+  -- By the rows of the table.
+
+  abbrev IsTried : StateName → StateName → ℕ → Type 0
+  IsTried construct otherwise v = current_of T ≡ Some v → Before (trying construct otherwise T)
+
+  at-spans : EachOf (IsTried RawTextStart TextBeforeData) (codes "$`")
+  at-spans = (λ e. tries-span 36 e refl, (λ e. tries-span 96 e refl, tt))
+
+  at-runs : EachOf (IsTried AttentionStart TextBeforeData) (codes "*_~")
+  at-runs = (λ e. tries-run 42 e refl, (λ e. tries-run 95 e refl, (λ e. tries-run 126 e refl, tt)))
+
+  at-protocols : EachOf (IsTried GfmAutolinkLiteralProtocolStart TextBeforeData) (codes "Hh")
+  at-protocols = (λ e. tries-protocol 72 e refl, (λ e. tries-protocol 104 e refl, tt))
+
+  at-www : EachOf (IsTried GfmAutolinkLiteralWwwStart TextBeforeData) (codes "Ww")
+  at-www = (λ e. tries-www 87 e refl, (λ e. tries-www 119 e refl, tt))
+
   tries : (v : ℕ) → current_of T ≡ Some v → Before (tries_at (first_try v) T)
-  tries v e =
-      let Q : Option (StateName × StateName) → Type 0 = λ o. Before (tries_at o T) in
-      if-choice Q (v == 33) _ _ (λ h. tries-image (value-is T v 33 e h))
-      (λ a. if-choice Q (v == 36 || v == 96) _ _ (λ h. tries-span v e h)
-      (λ b. if-choice Q (v == 38) _ _ (λ h. tries-reference (value-is T v 38 e h))
-      (λ c. if-choice Q (v == 42 || (v == 95 || v == 126)) _ _ (λ h. tries-run v e (as-marker v h))
-      (λ d. if-choice Q (v == 60) _ _ (λ h. tries-autolink (value-is T v 60 e h))
-      (λ f. if-choice Q (v == 72 || v == 104) _ _ (λ h. tries-protocol v e h)
-      (λ g. if-choice Q (v == 87 || v == 119) _ _ (λ h. tries-www v e h)
-      (λ i. if-choice Q (v == 91) _ _ (λ h. tries-footnote (value-is T v 91 e h))
-      (λ j. if-choice Q (v == 92) _ _ (λ h. tries-escape (value-is T v 92 e h))
-      (λ k. if-choice Q (v == 93) _ _ (λ h. tries-end (value-is T v 93 e h))
-      (λ l. tries-none v e (unmarked v a b c d f g i j k l)))))))))))
+  tries v =
+      by-row (λ (n : ℕ) (o : Option (StateName × StateName)). current_of T ≡ Some n → Before (tries_at o T)) text_tries v
+      ((tries-image, tt), (at-spans, ((tries-reference, tt), (at-runs, ((tries-autolink, tt), (at-protocols, (at-www, ((tries-footnote, tt), ((tries-escape, tt), ((tries-end, tt), tt))))))))))
+      (λ h e. tries-none v e h)
 
   pub before-law : GoesOn ready_of ends_of weight_of (weight_at 8 T) (before_ends T) (before_step T)
   before-law =

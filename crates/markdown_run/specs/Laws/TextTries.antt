@@ -28,12 +28,13 @@ use Rattle.markdown_model.specs.LabelEnd.{Element, plain}
 use Rattle.markdown_model.specs.Setting.{Setting}
 use Rattle.markdown_row.specs.Elements.{StandsAfter}
 use Rattle.markdown_row.specs.Trees.{IsNode, IsRunLeaf}
+use Rattle.markdown_text.proofs.TableLemmas.{one-of}
 use Rattle.markdown_text.specs.TextSteps.{text_markers, text_setting, text_choice_of, EndsWithCodes, StandsAlone}
 use Rattle.markdown_attention.specs.Attention.{begins_run, switches_of, run_at_code, plain_tree, run_tree}
 use Rattle.markdown_attention.proofs.AttentionLaws.{run-some, run-none}
 use Rattle.markdown_model.specs.Element.{switched, attention_run}
 use Rattle.markdown_row.proofs.NodeLemmas.{run-node}
-use Rattle.markdown_run.specs.Laws.TextElements.{is_marker, run_markers, one-of, run-element, run-off, plain_of, plain-switched, off-or-none, check-element, span-element, reference-element, autolink-element, html-element, escape-element, break-element, other-element, protocol-element, www-element}
+use Rattle.markdown_run.specs.Laws.TextElements.{is_marker, run_markers, run-element, run-off, plain_of, plain-switched, off-or-none, check-element, span-element, reference-element, autolink-element, html-element, escape-element, break-element, other-element, protocol-element, www-element}
 use Rattle.markdown_model.proofs.ReadingSteps.{bind-none}
 
 -- what a construct reads is a tree that stands by itself
