@@ -13,17 +13,18 @@ use Rattle.markdown_engine.specs.Past.{past, moved_by, EndsAs, Reads, Refuses, T
 use Rattle.markdown_engine.specs.Place.{Place, moved, code_before, last_of, value_of}
 use Rattle.markdown_engine.specs.RunIndex.{LastRuns, last_runs}
 use Rattle.markdown_engine.specs.SequenceIndex.{last_begins}
-use Rattle.markdown_engine.specs.Runs.{Stepped, stepped, GoesOn}
+use Rattle.markdown_engine.specs.Runs.{Stepped, stepped}
+use Rattle.markdown_engine.specs.StateWords.{GoesIn, Law, weight_in}
 use Rattle.markdown_engine.specs.Tree.{Forest, empty, leaf_codes}
 use Rattle.markdown_engine.specs.Weights.{codes_left, weight_at}
 use Rattle.markdown_engine.specs.declared.resolve.ResolveName.TheVariants as P
-use Rattle.markdown_engine.specs.declared.state.State.TheVariants.{Next, Retry, Ok, Nok}
+use Rattle.markdown_engine.specs.declared.state.State.TheVariants.{Next, Retry, Nok}
 use Rattle.markdown_engine.specs.declared.state.StateName.{StateName}
 use Rattle.markdown_engine.specs.declared.state.StateName.TheVariants.{AttentionStart, AutolinkStart, CharacterEscapeStart, CharacterReferenceStart, DataStart, GfmAutolinkLiteralProtocolStart, GfmAutolinkLiteralWwwStart, GfmLabelStartFootnoteStart, GfmTaskListItemCheckStart, HardBreakEscapeStart, HtmlTextStart, LabelEndStart, LabelStartImageStart, LabelStartLinkStart, RawTextStart, TextBefore, TextBeforeData, TextBeforeHardBreakEscape, TextBeforeHtml, TextBeforeLabelStartLink}
 use Rattle.markdown_engine.specs.declared.tokenizer.TokenizeState.{TokenizeState}
 use Rattle.markdown_engine.specs.declared.tokenizer.Tokenizer.{Tokenizer}
 use Rattle.markdown_engine.proofs.EndsLemmas.{scratched-same}
-use Rattle.markdown_engine.proofs.Laws.{Follows, Goes-plain, Goes-attempt, code-step, restored-fails}
+use Rattle.markdown_engine.proofs.Laws.{code-step, restored-fails}
 use Rattle.markdown_engine.proofs.SequenceIndexLemmas.{right-made}
 use Rattle.markdown_engine.proofs.OpRules.{Begins, ahead-some, attempts-registered, attempts-scratched, left-scratched, left-ahead}
 use Rattle.markdown_gfm.specs.GfmAutolinkLiteral as G
@@ -33,6 +34,7 @@ use Rattle.markdown_attention.specs.Attention as AT
 use Rattle.markdown_attention.specs.Attention.{ReadsRun, run_tree}
 use Rattle.markdown_partial.specs.SpaceSteps as W
 use Rattle.markdown_construct.specs.Characters.{bytes_of, ReadsText}
+use Rattle.markdown_construct.proofs.StateLaws.{FollowsIn, Goes-plain, Goes-end, Goes-attempt}
 use Rattle.markdown_construct.proofs.TextPasses.{text-scratched}
 use Rattle.markdown_label.specs.LabelEnd as E
 use Rattle.markdown_label.specs.LabelEnd.{AreWithin}
@@ -54,12 +56,12 @@ use Rattle.markdown_model.specs.Element.{text_choice}
 use Rattle.markdown_model.specs.Lines.{data_up_to}
 use Rattle.markdown_util.specs.Reference.{html_5_rows}
 use Rattle.markdown_row.specs.Elements.{Advances, DataFinishes, Finishes}
-use Rattle.markdown_run.specs.Layer.{ready_of, ends_of, weight_of}
+use Rattle.markdown_run.specs.Layer.{inline}
 use Rattle.markdown_row.specs.Row.{EndsRest, Row, loses, row_end, row_then, past_mark, past_row, row_codes, kinds_of, IsRowAt}
 use Rattle.markdown_row.proofs.LabelElements.{empty-part, mark-alone}
 use Rattle.markdown_row.proofs.RowFields.{relisted, row-cursor, row-input, row-text, row-fields, tree-within, made-within, lost-within}
 use Rattle.markdown_text.specs.StringSteps.{is_on}
-use Rattle.markdown_text.specs.TextSteps.{text_tries, text_markers, order_pays, marked_fields, text_marked, text_passed, trying, start_step, first_try, tries_at, before_at, before_step, before_html_step, before_hard_break_escape_step, before_label_start_link_step, before_data_step, text_choice_of, EndsWithCodes, StartReady, IsMarked, BeforeReady, BeforeHtmlReady, BeforeDataReady, BeforeBreakReady, BeforeLinkReady, StandsAlone, before_ends, data_ends, start_ends}
+use Rattle.markdown_text.specs.TextSteps.{text_tries, text_markers, order_pays, marked_fields, text_marked, text_passed, trying, start_step, first_try, tries_at, before_at, before_step, text_choice_of, EndsWithCodes, StartReady, IsMarked, BeforeReady, StandsAlone, before_ends, data_ends, start_words, before_words, before_html_words, before_hard_break_escape_words, before_label_start_link_words, before_data_words}
 use Rattle.markdown_text.proofs.TableLemmas.{EachOf, by-row}
 use Rattle.markdown_row.proofs.NodeLemmas.{protocol-node, www-node, check-node, html-node, escape-node, reference-node, break-node, autolink-node, span-node}
 use Rattle.markdown_run.specs.Laws.TextElements.{is_marker}
@@ -171,7 +173,7 @@ advances-ends T U e a true V k = advances-finishes (text_choice_of T) text_passe
 advances-ends T U e a false V k = k
 
 -- past an element the run goes on before the next
-on-before : (n : ℕ) (T U : Tokenizer) → codes_left T * 256 < n → IsMarked T → AreWithin U U.tokenize_state.label_starts → Advances (text_choice_of T) T U → Follows ready_of ends_of weight_of n (before_ends T) (Next TextBefore) U
+on-before : (n : ℕ) (T U : Tokenizer) → codes_left T * 256 < n → IsMarked T → AreWithin U U.tokenize_state.label_starts → Advances (text_choice_of T) T U → FollowsIn inline n (before_ends T) (Next TextBefore) U
 on-before n T U room r within a =
     let e : IsSame T U = same-row a.row T U a.left a.is_row r.ends in
     record {
@@ -214,11 +216,11 @@ made-kept T U r k = subst (λ (x : Tokenizer). AreWithin x x.tokenize_state.labe
 
 -- how a construct that is tried ends
 abbrev EndsOf : StateName → TreeReading → Tokenizer → Type 0
-EndsOf construct reading T = (ok : Bool) (U : Tokenizer) → ends_of construct T ok U → EndsAs reading None T.tokenize_state T ok U
+EndsOf construct reading T = (ok : Bool) (U : Tokenizer) → inline.ends construct T ok U → EndsAs reading None T.tokenize_state T ok U
 
-try-law : (rank : ℕ) (T : Tokenizer) (construct otherwise : StateName) (reading : TreeReading) → T.attempts ≡ [] → ready_of construct T → weight_of construct T < weight_at rank T → IsMarked T → EndsOf construct reading T → ReadsNodes reading T → ReadsElements reading T → (reading (ahead T) ≡ None → Follows ready_of ends_of weight_of (weight_at rank T) (before_ends T) (Next otherwise) T) → GoesOn ready_of ends_of weight_of (weight_at rank T) (before_ends T) (trying construct otherwise T)
+try-law : (rank : ℕ) (T : Tokenizer) (construct otherwise : StateName) (reading : TreeReading) → T.attempts ≡ [] → inline.ready construct T → weight_in inline construct T < weight_at rank T → IsMarked T → EndsOf construct reading T → ReadsNodes reading T → ReadsElements reading T → (reading (ahead T) ≡ None → FollowsIn inline (weight_at rank T) (before_ends T) (Next otherwise) T) → GoesIn inline (weight_at rank T) (before_ends T) (trying construct otherwise T)
 try-law rank T construct otherwise reading alone on falls ready ends nodes elements fails =
-    Goes-attempt ready_of ends_of weight_of (weight_at rank T) (before_ends T) (Retry construct) (Next TextBefore) (Next otherwise) T alone on falls
+    Goes-attempt inline (weight_at rank T) (before_ends T) (Retry construct) refl (Next TextBefore) (Next otherwise) T alone on falls
     (λ U now h.
     let k : Reads reading None T.tokenize_state T U = ends true U h in
     let node = nodes k.tree k.rest k.holds in
@@ -233,7 +235,7 @@ try-law rank T construct otherwise reading alone on falls ready ends nodes eleme
 some-none : (o : Option ℕ) (v : ℕ) → o ≡ Some v → o ≢ None
 some-none o v e = λ h. cc
 
-to-data : (rank : ℕ) (T : Tokenizer) (v : ℕ) → 5 < rank → BeforeReady T → current_of T ≡ Some v → StandsAlone T → Follows ready_of ends_of weight_of (weight_at rank T) (before_ends T) (Next TextBeforeData) T
+to-data : (rank : ℕ) (T : Tokenizer) (v : ℕ) → 5 < rank → BeforeReady T → current_of T ≡ Some v → StandsAlone T → FollowsIn inline (weight_at rank T) (before_ends T) (Next TextBeforeData) T
 to-data rank T v l ready e alone =
     let some : current_of T ≢ None = some-none (current_of T) v e in
     record { goes_on = record { marked = ready.marked; some_code = some }; falls = omega (arith, l); closed = λ ok V h. alone-ends T some alone ok V h }
@@ -296,7 +298,7 @@ same-lost T r =
 
 module _ (T : Tokenizer) (alone : T.attempts ≡ []) (ready : BeforeReady T) where
   abbrev Before : Stepped → Type 0
-  Before r = GoesOn ready_of ends_of weight_of (weight_at 8 T) (before_ends T) r
+  Before r = GoesIn inline (weight_at 8 T) (before_ends T) r
 
   tries-span : (v : ℕ) → current_of T ≡ Some v → (v == 36 || v == 96) ≡ true → Before (trying RawTextStart TextBeforeData T)
   tries-span v e h =
@@ -319,7 +321,7 @@ module _ (T : Tokenizer) (alone : T.attempts ≡ []) (ready : BeforeReady T) whe
   -- a run of markers, past which its pass is registered
   tries-run : (v : ℕ) → current_of T ≡ Some v → is_marker v ≡ true → Before (trying AttentionStart TextBeforeData T)
   tries-run v e h =
-      Goes-attempt ready_of ends_of weight_of (weight_at 8 T) (before_ends T) (Retry AttentionStart) (Next TextBefore) (Next TextBeforeData) T alone (run-ready T ready.marked) (omega arith)
+      Goes-attempt inline (weight_at 8 T) (before_ends T) (Retry AttentionStart) refl (Next TextBefore) (Next TextBeforeData) T alone (run-ready T ready.marked) (omega arith)
       (λ U now k. let r : ReadsRun T U = k in
       on-before (weight_at 8 T) T U (omega arith) ready.marked
       (registered-kept T U r.there r.reads.tree (r.reads.left ∙ ap (past None r.reads.tree) (scratched-same T)) r.left ready.marked.ends.within)
@@ -341,7 +343,7 @@ module _ (T : Tokenizer) (alone : T.attempts ≡ []) (ready : BeforeReady T) whe
 
   tries-image : current_of T ≡ Some 33 → Before (trying LabelStartImageStart TextBeforeData T)
   tries-image d =
-      Goes-attempt ready_of ends_of weight_of (weight_at 8 T) (before_ends T) (Retry LabelStartImageStart) (Next TextBefore) (Next TextBeforeData) T alone tt (omega arith)
+      Goes-attempt inline (weight_at 8 T) (before_ends T) (Retry LabelStartImageStart) refl (Next TextBefore) (Next TextBeforeData) T alone tt (omega arith)
       (λ U now k. let r : image_ends T true U = k in
       on-before (weight_at 8 T) T U (omega arith) ready.marked
       (subst (λ (x : Tokenizer). AreWithin x x.tokenize_state.label_starts) (sym r.left) (image-within T ready.marked.ends.text ready.marked.ends.within r.holds)) (image-advances T U r))
@@ -350,7 +352,7 @@ module _ (T : Tokenizer) (alone : T.attempts ≡ []) (ready : BeforeReady T) whe
 
   tries-footnote : current_of T ≡ Some 91 → Before (trying GfmLabelStartFootnoteStart TextBeforeLabelStartLink T)
   tries-footnote d =
-      Goes-attempt ready_of ends_of weight_of (weight_at 8 T) (before_ends T) (Retry GfmLabelStartFootnoteStart) (Next TextBefore) (Next TextBeforeLabelStartLink) T alone tt (omega arith)
+      Goes-attempt inline (weight_at 8 T) (before_ends T) (Retry GfmLabelStartFootnoteStart) refl (Next TextBefore) (Next TextBeforeLabelStartLink) T alone tt (omega arith)
       (λ U now k. let r : footnote_ends T true U = k in
       on-before (weight_at 8 T) T U (omega arith) ready.marked
       (subst (λ (x : Tokenizer). AreWithin x x.tokenize_state.label_starts) (sym r.left) (footnote-within T ready.marked.ends.text ready.marked.ends.within r.holds)) (footnote-advances T U ready.unchecked r))
@@ -359,7 +361,7 @@ module _ (T : Tokenizer) (alone : T.attempts ≡ []) (ready : BeforeReady T) whe
       (record { goes_on = record { before = ready; bracket = d; no_footnote = r.refused }; falls = omega arith; closed = λ ok V h. h }))
 
   -- an end that makes no label uses up its start, and its `]` begins data
-  to-lost : current_of T ≡ Some 93 → E.is_on T ≡ true → E.end_reading T (ahead T) ≡ None → (let F : Tokenizer = past_mark loses T in Follows ready_of ends_of weight_of (weight_at 8 T) (before_ends T) (Next TextBeforeData) F)
+  to-lost : current_of T ≡ Some 93 → E.is_on T ≡ true → E.end_reading T (ahead T) ≡ None → (let F : Tokenizer = past_mark loses T in FollowsIn inline (weight_at 8 T) (before_ends T) (Next TextBeforeData) F)
   to-lost d on none =
       let F : Tokenizer = past_mark loses T in
       let e : IsSame T F = same-lost T ready.marked.ends in
@@ -378,22 +380,22 @@ module _ (T : Tokenizer) (alone : T.attempts ≡ []) (ready : BeforeReady T) whe
 
   tries-end : current_of T ≡ Some 93 → Before (trying LabelEndStart TextBeforeData T)
   tries-end d =
-      Goes-attempt ready_of ends_of weight_of (weight_at 8 T) (before_ends T) (Retry LabelEndStart) (Next TextBefore) (Next TextBeforeData) T alone ready.marked.ends (omega arith)
+      Goes-attempt inline (weight_at 8 T) (before_ends T) (Retry LabelEndStart) refl (Next TextBefore) (Next TextBeforeData) T alone ready.marked.ends (omega arith)
       (λ U now k. let r : E.Ends T U = k in
       on-before (weight_at 8 T) T U (omega arith) ready.marked (made-kept T U r ready.marked.ends.within) (made-advances T d (ends-on T U r) U r))
       (λ U now k. let r : E.EndFails T U = k in
-      subst (λ (x : Tokenizer). Follows ready_of ends_of weight_of (weight_at 8 T) (before_ends T) (Next TextBeforeData) x) (sym (restored-fails false (Next TextBefore) (Next TextBeforeData) (E.lost_fields T) T U r.fails))
+      subst (λ (x : Tokenizer). FollowsIn inline (weight_at 8 T) (before_ends T) (Next TextBeforeData) x) (sym (restored-fails false (Next TextBefore) (Next TextBeforeData) (E.lost_fields T) T U r.fails))
       (by_switch (E.is_on T) refl r.refused))
     where
-      by_switch : (b : Bool) → E.is_on T ≡ b → E.end_reading T (ahead T) ≡ None → Follows ready_of ends_of weight_of (weight_at 8 T) (before_ends T) (Next TextBeforeData) (scratched (E.lost_fields T) T)
-      by_switch true on none = subst (λ (x : Tokenizer). Follows ready_of ends_of weight_of (weight_at 8 T) (before_ends T) (Next TextBeforeData) x) (sym (lost-there T d on)) (to-lost d on none)
+      by_switch : (b : Bool) → E.is_on T ≡ b → E.end_reading T (ahead T) ≡ None → FollowsIn inline (weight_at 8 T) (before_ends T) (Next TextBeforeData) (scratched (E.lost_fields T) T)
+      by_switch true on none = subst (λ (x : Tokenizer). FollowsIn inline (weight_at 8 T) (before_ends T) (Next TextBeforeData) x) (sym (lost-there T d on)) (to-lost d on none)
       by_switch false off none =
-          subst (λ (x : Tokenizer). Follows ready_of ends_of weight_of (weight_at 8 T) (before_ends T) (Next TextBeforeData) x) (sym (not-lost T off)) (to-data 8 T 93 (omega arith) ready d (end-alone T d off))
+          subst (λ (x : Tokenizer). FollowsIn inline (weight_at 8 T) (before_ends T) (Next TextBeforeData) x) (sym (not-lost T off)) (to-data 8 T 93 (omega arith) ready d (end-alone T d off))
 
   tries-none : (v : ℕ) → current_of T ≡ Some v → list_any (λ n. v == n) text_markers ≡ false → Before (stepped (Retry TextBeforeData) T)
   tries-none v e h =
       let f = to-data 8 T v (omega arith) ready e (other-alone T v e h) in
-      Goes-plain ready_of ends_of weight_of (weight_at 8 T) (before_ends T) (Retry TextBeforeData) T alone f.goes_on f.falls f.closed
+      Goes-plain inline (weight_at 8 T) (before_ends T) (Retry TextBeforeData) refl T alone f.goes_on f.falls f.closed
 
   -- By the rows of the table.
 
@@ -418,11 +420,14 @@ module _ (T : Tokenizer) (alone : T.attempts ≡ []) (ready : BeforeReady T) whe
       ((tries-image, tt), (at-spans, ((tries-reference, tt), (at-runs, ((tries-autolink, tt), (at-protocols, (at-www, ((tries-footnote, tt), ((tries-escape, tt), ((tries-end, tt), tt))))))))))
       (λ h e. tries-none v e h)
 
-  pub before-law : GoesOn ready_of ends_of weight_of (weight_at 8 T) (before_ends T) (before_step T)
-  before-law =
+  before-goes : GoesIn inline (weight_at 8 T) (before_ends T) (before_step T)
+  before-goes =
       code-step Before (current_of T) (λ o. before_at o T)
-      (λ e. Goes-plain ready_of ends_of weight_of (weight_at 8 T) (before_ends T) Ok (text_passed T) (passed-attempts T alone) tt (omega arith) (at-end T e))
+      (λ e. Goes-end inline (weight_at 8 T) (before_ends T) true (text_passed T) (passed-attempts T alone) (omega arith) (at-end T e))
       (λ v e. tries v e)
+
+pub before-law : Law inline before_words
+before-law T alone ready = before-goes T alone ready
 
 html-ready : (T : Tokenizer) → IsMarked T → H.StartReady T
 html-ready T r = record { spaces = record { resting = r.look.resting; short = r.look.short }; indexed = r.ends.part.indexed; rest = sym (html-rest T r) }
@@ -430,14 +435,14 @@ html-ready T r = record { spaces = record { resting = r.look.resting; short = r.
     html-rest : (T : Tokenizer) → IsMarked T → T.tokenize_state ≡ H.rested T.tokenize_state
     html-rest T r = r.spans.rest ∙ ap H.rested (sym r.spans.rest)
 
-pub before_html-law : (T : Tokenizer) → T.attempts ≡ [] → BeforeHtmlReady T → GoesOn ready_of ends_of weight_of (weight_at 6 T) (before_ends T) (before_html_step T)
+pub before_html-law : Law inline before_html_words
 before_html-law T alone r =
     try-law 6 T HtmlTextStart TextBeforeData (H.html_here T) alone (html-ready T r.before.marked) (omega arith) r.before.marked (λ ok U g. g) (λ t rest g. html-node (is_on T).html_text (ahead T) t rest g) (html-reads T r.angle r.no_autolink)
     (λ none. to-data 6 T 60 (omega arith) r.before r.angle (html-alone T r.angle r.no_autolink none))
 
-pub before_label_start_link-law : (T : Tokenizer) → T.attempts ≡ [] → BeforeLinkReady T → GoesOn ready_of ends_of weight_of (weight_at 6 T) (before_ends T) (before_label_start_link_step T)
+pub before_label_start_link-law : Law inline before_label_start_link_words
 before_label_start_link-law T alone r =
-    Goes-attempt ready_of ends_of weight_of (weight_at 6 T) (before_ends T) (Retry LabelStartLinkStart) (Next TextBefore) (Next TextBeforeData) T alone tt (omega arith)
+    Goes-attempt inline (weight_at 6 T) (before_ends T) (Retry LabelStartLinkStart) refl (Next TextBefore) (Next TextBeforeData) T alone tt (omega arith)
     (λ U now k. let h : link_ends T true U = k in
     on-before (weight_at 6 T) T U (omega arith) r.before.marked
     (subst (λ (x : Tokenizer). AreWithin x x.tokenize_state.label_starts) (sym h.left) (link-within T r.before.marked.ends.text r.before.marked.ends.within h.holds)) (link-advances T U r.before.unchecked r.no_footnote h))
@@ -445,7 +450,7 @@ before_label_start_link-law T alone r =
     rw (restored-fails false (Next TextBefore) (Next TextBeforeData) T.tokenize_state T U (record { grown = h.grown; scratch = h.scratch }), scratched-same T)
     (to-data 6 T 91 (omega arith) r.before r.bracket (bracket-alone T r.before.unchecked r.bracket r.no_footnote h.refused)))
 
-pub before_hard_break_escape-law : (T : Tokenizer) → T.attempts ≡ [] → BeforeBreakReady T → GoesOn ready_of ends_of weight_of (weight_at 6 T) (before_ends T) (before_hard_break_escape_step T)
+pub before_hard_break_escape-law : Law inline before_hard_break_escape_words
 before_hard_break_escape-law T alone r =
     try-law 6 T HardBreakEscapeStart TextBeforeData (break_here T) alone tt (omega arith) r.before.marked (λ ok U g. g) (λ t rest g. break-node (is_on T).hard_break_escape (ahead T) t rest g) (break-reads T r.slash r.no_escape)
     (λ none. to-data 6 T 92 (omega arith) r.before r.slash (break-alone T r.slash r.no_escape none))
@@ -456,10 +461,10 @@ unfolding data_up_to
 data-holds markers [] e = cc
 data-holds markers (c ∷ cs) e = cc
 
-pub before_data-law : (T : Tokenizer) → T.attempts ≡ [] → BeforeDataReady T → GoesOn ready_of ends_of weight_of (weight_at 5 T) (data_ends T) (before_data_step T)
+pub before_data-law : Law inline before_data_words
 before_data-law T alone r =
     let a = some-ahead T (ahead T) refl r.some_code in
-    Goes-attempt ready_of ends_of weight_of (weight_at 5 T) (data_ends T) (Retry DataStart) (Next TextBefore) Nok T alone tt (omega arith)
+    Goes-attempt inline (weight_at 5 T) (data_ends T) (Retry DataStart) refl (Next TextBefore) Nok T alone tt (omega arith)
     (λ U now k.
     let read : Reads (data_up_to text_markers) None T.tokenize_state T U = subst (λ ns. Reads (data_up_to ns) None T.tokenize_state T U) r.marked.markers k in
     let d : DataRead text_markers T U a.0 a.1.0 = data-read text_markers T U a.0 a.1.0 a.1.1 read in
@@ -527,12 +532,12 @@ check-elements : (T : Tokenizer) (o : Option ℕ) → current_of T ≡ o → Rea
 check-elements T None e = no-check-at-end T e
 check-elements T (Some v) e = check-reads T v e
 
-pub start-law : (T : Tokenizer) → T.attempts ≡ [] → StartReady T → GoesOn ready_of ends_of weight_of (weight_at 9 T) (start_ends T) (start_step T)
+pub start-law : Law inline start_words
 start-law T alone r =
     let M : Tokenizer = text_marked T in
     let s : TokenizeState = marked_fields T.cursor.codes T.parse_state.now T.tokenize_state in
     let marked : IsMarked M = marked-start T r in
-    subst (λ n. GoesOn ready_of ends_of weight_of n (before_ends M) (start_step T)) (weight-marked T)
+    subst (λ n. GoesIn inline n (before_ends M) (start_step T)) (weight-marked T)
     (try-law 9 M GfmTaskListItemCheckStart TextBefore (C.check_here M) (attempts-scratched s T ∙ alone) marked.look (omega arith) marked (λ ok U g. g)
     (λ t rest g. check-node (C.may_begin M) (ahead M) t rest g) (check-elements M (current_of M) refl)
     (λ none. record { goes_on = record { marked = marked; unchecked = none }; falls = omega arith; closed = λ ok V h. h }))
