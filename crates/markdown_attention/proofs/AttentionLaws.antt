@@ -5,33 +5,31 @@ use Rattle.markdown_engine.specs.Codes.{Code}
 use Rattle.markdown_engine.specs.Lists.{rest_of}
 use Rattle.markdown_engine.specs.Ops.{Enter, Exit, Consume, ahead, applied, current_of, done, entered, exited, registered, scratched}
 use Rattle.markdown_engine.specs.Past.{past, passed}
-use Rattle.markdown_engine.specs.Runs.{GoesOn, Stepped}
+use Rattle.markdown_engine.specs.Runs.{Stepped}
+use Rattle.markdown_engine.specs.StateWords.{Words, GoesIn, Law}
 use Rattle.markdown_engine.specs.Tree.{Forest, leaf, leaf_codes}
 use Rattle.markdown_engine.specs.Weights.{codes_left, weight_at}
 use Rattle.markdown_model.specs.CodeTests.{is_empty, is_value}
 use Rattle.markdown_model.specs.Element.{attention_run, switched}
 use Rattle.markdown_model.specs.Grammar.{◌>>◌, ◌>>=◌, provided, gives, some, span}
 use Rattle.markdown_model.specs.LabelEnd.{Element, plain}
-use Rattle.markdown_attention.specs.Attention.{begins_run, switches_of, with_marker, start_at, start_step, left_run, leaving, inside_at, inside_step, StartReady, InsideReady, run_at_code, plain_tree, run_tree, ReadsRun, start_ends, markers_ahead, inside_ends}
+use Rattle.markdown_attention.specs.Attention.{begins_run, switches_of, with_marker, start_at, left_run, leaving, inside_at, StartReady, InsideReady, run_at_code, plain_tree, run_tree, ReadsRun, start_ends, markers_ahead, inside_ends, start_words, inside_words, states}
 use Rattle.markdown_engine.specs.declared.event.Name.TheVariants as N
 use Rattle.markdown_engine.specs.declared.resolve.ResolveName.TheVariants as R
-use Rattle.markdown_engine.specs.declared.state.State.TheVariants.{Next, Retry, Nok}
-use Rattle.markdown_engine.specs.declared.state.State.TheVariants as State
-use Rattle.markdown_engine.specs.declared.state.StateName.{StateName}
+use Rattle.markdown_engine.specs.declared.state.State.TheVariants.{Next, Retry}
 use Rattle.markdown_engine.specs.declared.state.StateName.TheVariants.{AttentionInside}
 use Rattle.markdown_engine.specs.declared.tokenizer.TokenizeState.{TokenizeState}
 use Rattle.markdown_engine.specs.declared.tokenizer.Tokenizer.{Tokenizer}
 use Rattle.markdown_engine.proofs.EndsLemmas.{Refuses-done}
-use Rattle.markdown_engine.proofs.Laws.{Goes-plain, if-step, code-step}
+use Rattle.markdown_engine.proofs.Laws.{if-step, code-step}
 use Rattle.markdown_engine.proofs.OpRules.{Begins, ahead-none, ahead-some, attempts-applied, attempts-scratched, attempts-registered}
-use Rattle.markdown_engine.proofs.OpsLemmas.{Goes-ops, ahead-done, left-done}
+use Rattle.markdown_engine.proofs.OpsLemmas.{ahead-done, left-done}
 use Rattle.markdown_engine.proofs.TreeLemmas.{leaf-past, ahead-past}
-
--- what the layer says of these states
-pub record Within (ready : StateName → Tokenizer → Type 0) (ends : StateName → Tokenizer → Bool → Tokenizer → Type 0) (weight : StateName → Tokenizer → ℕ) : Type 0 where
-  pub inside_ready : (T : Tokenizer) → InsideReady T → ready AttentionInside T
-  pub inside_end : (T : Tokenizer) (ok : Bool) (U : Tokenizer) → ends AttentionInside T ok U → inside_ends T ok U
-  pub inside_weight : (T : Tokenizer) → weight AttentionInside T ≡ weight_at 1 T
+use Rattle.markdown_construct.specs.Within.{Within}
+use Rattle.markdown_construct.proofs.PassedLemmas.{passed-none, passed-one}
+use Rattle.markdown_construct.proofs.PlanLemmas.{ahead-scratched}
+use Rattle.markdown_construct.proofs.StateLaws.{Goes-plain, Goes-end, Goes-ops}
+use Rattle.markdown_model.proofs.ReadingSteps.{span-takes, span-none}
 
 -- The reading.
 
@@ -43,12 +41,6 @@ span-parts p (c ∷ cs) = parts (p c) c cs (span p cs) (span-parts p cs)
         → (let r : List Code × List Code = elim b [ true ↦ (c ∷ s.0, s.1) | false ↦ ([], c ∷ cs) ] in r.0 ++ r.1) ≡ c ∷ cs
     parts true c cs s e = ap (λ xs. c ∷ xs) e
     parts false c cs s e = refl
-
-span-takes : (p : Code → Bool) (c : Code) (cs : List Code) → p c ≡ true → span p (c ∷ cs) ≡ (c ∷ (span p cs).0, (span p cs).1)
-span-takes p c cs e = ap (λ (b : Bool). let r : List Code × List Code = elim b [ true ↦ (c ∷ (span p cs).0, (span p cs).1) | false ↦ ([], c ∷ cs) ] in r) e
-
-span-stops : (p : Code → Bool) (c : Code) (cs : List Code) → p c ≡ false → span p (c ∷ cs) ≡ ([], c ∷ cs)
-span-stops p c cs e = ap (λ (b : Bool). let r : List Code × List Code = elim b [ true ↦ (c ∷ (span p cs).0, (span p cs).1) | false ↦ ([], c ∷ cs) ] in r) e
 
 -- a run of this marker, and the codes after it
 abbrev run_of_parts : List Code × List Code → Option (Element × List Code)
@@ -106,14 +98,6 @@ run-none m false cs e = run-off m cs
 one-ahead : (T : Tokenizer) (v : ℕ) → current_of T ≡ Some v → 1 ≤ length (ahead T)
 one-ahead T v e = omega (arith, ap length (ahead-some T v e).whole)
 
-past-none : (T : Tokenizer) → passed [] T ≡ T
-unfolding passed
-past-none T = refl
-
-past-one : (c : Code) (cs : List Code) (T : Tokenizer) → passed (c ∷ cs) T ≡ passed cs (done (Consume ∷ []) T)
-unfolding passed applied
-past-one c cs T = refl
-
 scratch-consumed : (T : Tokenizer) → (done (Consume ∷ []) T).tokenize_state ≡ T.tokenize_state
 unfolding applied
 scratch-consumed T = refl
@@ -151,10 +135,6 @@ begun-past c ms T rest = ap (λ (q : TokenizeState). scratched q (exited N.Atten
 scratched-past : (tree : Forest) (s : TokenizeState) (T : Tokenizer) → scratched s (past None tree T) ≡ past None tree (scratched s T)
 unfolding scratched past
 scratched-past tree s T = refl
-
-ahead-scratched : (s : TokenizeState) (T : Tokenizer) → ahead (scratched s T) ≡ ahead T
-unfolding scratched
-ahead-scratched s T = refl
 
 -- The states.
 
@@ -199,19 +179,16 @@ run-begun T c e on rest false U k = absurd k
 no-run : (T : Tokenizer) → run_tree T (ahead T) ≡ None → (ok : Bool) (U : Tokenizer) → (ok ≡ false) × (U ≡ T) → start_ends T ok U
 no-run T none ok U x = subst (λ b. start_ends T b U) (sym x.0) (Refuses-done (run_tree T) [] T U refl none x.1)
 
-pub start-law : (ready : StateName → Tokenizer → Type 0) (ends : StateName → Tokenizer → Bool → Tokenizer → Type 0) (weight : StateName → Tokenizer → ℕ) → Within ready ends weight → (T : Tokenizer) → T.attempts ≡ [] → StartReady T → GoesOn ready ends weight (weight_at 2 T) (start_ends T) (start_step T)
-start-law ready ends weight within T alone rest =
+pub start-law : (W : Words) → Within states W → Law W start_words
+start-law W within T alone rest =
     let n : ℕ = weight_at 2 T in
-    let P : Stepped → Type 0 = GoesOn ready ends weight n (start_ends T) in
+    let P : Stepped → Type 0 = GoesIn W n (start_ends T) in
     code-step P (current_of T) (λ o. start_at o T)
-    (λ e. Goes-plain ready ends weight n (start_ends T) Nok T alone tt (omega arith)
-    (no-run T (ap (λ o. plain_tree (run_at_code (switches_of T) o (ahead T))) e)))
+    (λ e. Goes-end W n (start_ends T) false T alone (omega arith) (no-run T (ap (λ o. plain_tree (run_at_code (switches_of T) o (ahead T))) e)))
     (λ c e. if-step P (begins_run (switches_of T) c) _ _
     (λ on. let X : Tokenizer = begun c T in
-    Goes-plain ready ends weight n (start_ends T) (Retry AttentionInside) X (begun-attempts c T ∙ alone) (within.inside_ready X (begun-ready c T))
-    (rw within.inside_weight (omega (arith, begun-left c T)))
-    (λ ok U k. run-begun T c e on rest ok U (within.inside_end X ok U k)))
-    (λ off. Goes-plain ready ends weight n (start_ends T) Nok T alone tt (omega arith)
+    Goes-plain W n (start_ends T) (Retry AttentionInside) (within AttentionInside) X (begun-attempts c T ∙ alone) (begun-ready c T) (omega (arith, begun-left c T)) (run-begun T c e on rest))
+    (λ off. Goes-end W n (start_ends T) false T alone (omega arith)
     (no-run T (ap (λ o. plain_tree (run_at_code (switches_of T) o (ahead T))) e ∙ ap (λ b. plain_tree (switched b (attention_run c) (ahead T))) off ∙ ap plain_tree (run-off c (ahead T))))))
 
 -- In a run.
@@ -228,34 +205,31 @@ run-goes T v e h true U k =
     ap (λ cs. (span (is_value m) cs).0) b.whole
     ∙ ap (λ (s : List Code × List Code). s.0) (span-takes (is_value m) b.code (rest_of (ahead T)) (ap (λ x. x == m) b.value ∙ h))
     ∙ ap (λ cs. b.code ∷ cs) (sym next) in
-    k ∙ ap left_run (sym (past-one b.code (markers_ahead X) T) ∙ ap (λ cs. passed cs T) (sym here))
+    k ∙ ap left_run (sym (passed-one b.code (markers_ahead X) T) ∙ ap (λ cs. passed cs T) (sym here))
 
 run-stops : (T : Tokenizer) (v : ℕ) → current_of T ≡ Some v → (v == T.tokenize_state.marker) ≡ false → markers_ahead T ≡ []
 run-stops T v e h =
     let b : Begins v (ahead T) = ahead-some T v e in
     let m : ℕ = T.tokenize_state.marker in
-    ap (λ cs. (span (is_value m) cs).0) b.whole ∙ ap (λ (s : List Code × List Code). s.0) (span-stops (is_value m) b.code (rest_of (ahead T)) (ap (λ x. x == m) b.value ∙ h))
+    ap (λ cs. (span (is_value m) cs).0) b.whole ∙ ap (λ (s : List Code × List Code). s.0) (span-none (is_value m) (b.code ∷ rest_of (ahead T)) (ap (λ x. x == m) b.value ∙ h))
 
 run-left : (T : Tokenizer) → markers_ahead T ≡ [] → (ok : Bool) (U : Tokenizer) → (ok ≡ true) × (U ≡ left_run T) → inside_ends T ok U
 run-left T e ok U x =
-    subst (λ b. inside_ends T b U) (sym x.0) (x.1 ∙ ap left_run (sym (past-none T) ∙ ap (λ cs. passed cs T) (sym e)))
+    subst (λ b. inside_ends T b U) (sym x.0) (x.1 ∙ ap left_run (sym (passed-none T) ∙ ap (λ cs. passed cs T) (sym e)))
 
 left-attempts : (T : Tokenizer) → (left_run T).attempts ≡ T.attempts
 left-attempts T =
     attempts-registered R.Attention (scratched (with_marker 0 T.tokenize_state) (exited N.AttentionSequence T))
     ∙ attempts-scratched (with_marker 0 T.tokenize_state) (exited N.AttentionSequence T) ∙ attempts-applied (Exit N.AttentionSequence) T
 
-pub inside-law : (ready : StateName → Tokenizer → Type 0) (ends : StateName → Tokenizer → Bool → Tokenizer → Type 0) (weight : StateName → Tokenizer → ℕ) → Within ready ends weight → (T : Tokenizer) → T.attempts ≡ [] → InsideReady T → GoesOn ready ends weight (weight_at 1 T) (inside_ends T) (inside_step T)
-inside-law ready ends weight within T alone opened =
+pub inside-law : (W : Words) → Within states W → Law W inside_words
+inside-law W within T alone opened =
     let n : ℕ = weight_at 1 T in
-    let P : Stepped → Type 0 = GoesOn ready ends weight n (inside_ends T) in
-    let leave : markers_ahead T ≡ [] → P (leaving T) = λ h.
-    Goes-plain ready ends weight n (inside_ends T) State.Ok (left_run T) (left-attempts T ∙ alone) tt (omega arith) (run-left T h) in
+    let P : Stepped → Type 0 = GoesIn W n (inside_ends T) in
+    let leave : markers_ahead T ≡ [] → P (leaving T) = λ h. Goes-end W n (inside_ends T) true (left_run T) (left-attempts T ∙ alone) (omega arith) (run-left T h) in
     code-step P (current_of T) (λ o. inside_at o T)
     (λ e. leave (ap (λ cs. (span (is_value T.tokenize_state.marker) cs).0) (ahead-none T e)))
     (λ v e. if-step P (v == T.tokenize_state.marker) _ _
-    (λ h. let Y : Tokenizer = done (Consume ∷ []) T in
-    let less : codes_left Y + 1 ≡ codes_left T = left-done (Consume ∷ []) T (one-ahead T v e) in
-    Goes-ops ready ends weight n (inside_ends T) (Next AttentionInside) (Consume ∷ []) T alone (within.inside_ready Y (stack-consumed T opened)) (rw within.inside_weight (omega (arith, less)))
-    (λ ok U k. run-goes T v e h ok U (within.inside_end Y ok U k)))
+    (λ h. let less : codes_left (done (Consume ∷ []) T) + 1 ≡ codes_left T = left-done (Consume ∷ []) T (one-ahead T v e) in
+    Goes-ops W n (inside_ends T) (Next AttentionInside) (within AttentionInside) (Consume ∷ []) T alone (stack-consumed T opened) (omega (arith, less)) (run-goes T v e h))
     (λ h. leave (run-stops T v e h)))

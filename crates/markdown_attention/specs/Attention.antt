@@ -4,6 +4,7 @@ use Rattle.markdown_engine.specs.Codes.{Code}
 use Rattle.markdown_engine.specs.Ops.{Enter, Consume, IsOpen, ahead, current_of, done, exited, registered, scratched}
 use Rattle.markdown_engine.specs.Past.{Reads, Refuses, TreeReading, passed}
 use Rattle.markdown_engine.specs.Runs.{Stepped, stepped}
+use Rattle.markdown_engine.specs.StateWords.{StateWords}
 use Rattle.markdown_engine.specs.Tree.{Forest}
 use Rattle.markdown_model.specs.CodeTests.{is_value}
 use Rattle.markdown_model.specs.Element.{attention_run, switched}
@@ -14,6 +15,7 @@ use Rattle.markdown_engine.specs.declared.event.Name.TheVariants as N
 use Rattle.markdown_engine.specs.declared.resolve.ResolveName.TheVariants as R
 use Rattle.markdown_engine.specs.declared.state.State.TheVariants.{Next, Retry, Nok}
 use Rattle.markdown_engine.specs.declared.state.State.TheVariants as State
+use Rattle.markdown_engine.specs.declared.state.StateName.{StateName}
 use Rattle.markdown_engine.specs.declared.state.StateName.TheVariants.{AttentionInside}
 use Rattle.markdown_engine.specs.declared.tokenizer.TokenizeState.{TokenizeState}
 use Rattle.markdown_engine.specs.declared.tokenizer.Tokenizer.{Tokenizer}
@@ -106,3 +108,16 @@ markers_ahead T = (span (is_value T.tokenize_state.marker) (ahead T)).0
 abbrev pub inside_ends : Tokenizer → Bool → Tokenizer → Type 0
 inside_ends T true U = U ≡ left_run (passed (markers_ahead T) T)
 inside_ends T false U = ⊥
+
+-- The states.
+
+abbrev pub start_words : StateWords
+start_words = record { ready = StartReady; step = start_step; ends = start_ends; rank = 2 }
+
+abbrev pub inside_words : StateWords
+inside_words = record { ready = InsideReady; step = inside_step; ends = inside_ends; rank = 1 }
+
+-- the state with which another goes on, as it is said, and any other as it is given
+abbrev pub states : (StateName → StateWords) → StateName → StateWords
+states other AttentionInside = inside_words
+states other s = other s

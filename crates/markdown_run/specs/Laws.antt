@@ -49,6 +49,7 @@ use Rattle.markdown_construct.specs.Within.{Within}
 use Rattle.markdown_leaf.specs.CharacterReference.{states as reference_states}
 use Rattle.markdown_leaf.specs.HardBreakEscape.{states as break_states}
 use Rattle.markdown_leaf.specs.Autolink.{states as autolink_states}
+use Rattle.markdown_attention.specs.Attention.{states as attention_states}
 use Rattle.markdown_leaf.specs.RawText.{states as raw_text_states}
 use Rattle.markdown_partial.specs.SpaceSteps.{states as space_states}
 use Rattle.markdown_partial.specs.EolSteps.{states as eol_states}
@@ -80,8 +81,9 @@ autolink-within : Within autolink_states inline
 autolink-within AutolinkStart = refl
 autolink-within _ = refl
 
-attention-within : AT.Within ready_of ends_of weight_of
-attention-within = record { inside_ready = λ T h. h; inside_end = λ T ok U h. h; inside_weight = λ T. refl }
+attention-within : Within attention_states inline
+attention-within AttentionInside = refl
+attention-within _ = refl
 
 raw_text-within : Within raw_text_states inline
 raw_text-within RawTextStart = refl
@@ -255,8 +257,8 @@ laws_of TextBeforeHtml T alone r = M.before_html-law T alone r
 laws_of TextBeforeHardBreakEscape T alone r = M.before_hard_break_escape-law T alone r
 laws_of TextBeforeLabelStartLink T alone r = M.before_label_start_link-law T alone r
 laws_of TextBeforeData T alone r = M.before_data-law T alone r
-laws_of AttentionStart T alone r = AT.start-law ready_of ends_of weight_of attention-within T alone r
-laws_of AttentionInside T alone r = AT.inside-law ready_of ends_of weight_of attention-within T alone r
+laws_of AttentionStart T alone r = AT.start-law inline attention-within T alone r
+laws_of AttentionInside T alone r = AT.inside-law inline attention-within T alone r
 laws_of GfmAutolinkLiteralProtocolStart T alone r = GP.protocol_start-law inline literal-within T alone r
 laws_of GfmAutolinkLiteralProtocolAfter T alone r = GP.protocol_after-law inline T alone r
 laws_of GfmAutolinkLiteralProtocolPrefixInside T alone r = GP.prefix-law inline literal-within T alone r

@@ -146,8 +146,8 @@ said_of TextBeforeHtml part = part M.before_html_words
 said_of TextBeforeHardBreakEscape part = part M.before_hard_break_escape_words
 said_of TextBeforeLabelStartLink part = part M.before_label_start_link_words
 said_of TextBeforeData part = part M.before_data_words
-said_of AttentionStart part = part (record { ready = AT.StartReady; step = AT.start_step; ends = AT.start_ends; rank = 2 })
-said_of AttentionInside part = part (record { ready = AT.InsideReady; step = AT.inside_step; ends = AT.inside_ends; rank = 1 })
+said_of AttentionStart part = part AT.start_words
+said_of AttentionInside part = part AT.inside_words
 said_of GfmAutolinkLiteralProtocolStart part = part G.protocol_start_words
 said_of GfmAutolinkLiteralProtocolAfter part = part G.protocol_after_words
 said_of GfmAutolinkLiteralProtocolPrefixInside part = part G.prefix_words
