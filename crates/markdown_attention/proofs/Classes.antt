@@ -3,7 +3,7 @@ use Rattle.std.proofs.Common.{◌≡◌, ℕ, ◌+◌, ◌%◌, ◌<◌, Bool, t
 use Rattle.std.proofs.lemmas.Bool.{cases_eq, cases_Bool, eq-eqb, ne_eqb, and_right}
 use Rattle.markdown_attention.specs.declared.attention.runs.Sequence.{Sequence}
 use Rattle.markdown_engine.specs.declared.configuration.ParseOptions.{ParseOptions}
-use Rattle.markdown_attention.specs.Pairs.{sizes_fit, read_size, tilde_allows}
+use Rattle.markdown_attention.specs.Pairs.{sizes_fit, ruled_size, tilde_allows}
 use Rattle.markdown_attention.specs.Open.{class_of}
 
 mod_same : (x y y' : ℕ) → y % 3 ≡ y' % 3 → (x + y) % 3 ≡ (x + y') % 3
@@ -73,11 +73,11 @@ class_decides options a b b' x y y' m e =
       | inr other ↦
           let t : eqb b.marker 126 ≡ false = ne_eqb b.marker 126 other in
           let t' : eqb b'.marker 126 ≡ false = ne_eqb b'.marker 126 (λ q. other (m ∙ q)) in
-          let r : ℕ = read_size options b.size y in
-          let r' : ℕ = read_size options b'.size y' in
+          let r : ℕ = ruled_size options b.size y in
+          let r' : ℕ = ruled_size options b'.size y' in
           let e' : r % 3 + cond b.may_open 3 0 ≡ r' % 3 + cond b'.may_open 3 0 = (let f = e in rw (t, t') at f) in
           let s = split_class (r % 3) (r' % 3) b.may_open b'.may_open (omega arith) (omega arith) e' in
-          let n = mod_same (read_size options a.size x) r r' s.0 in
+          let n = mod_same (ruled_size options a.size x) r r' s.0 in
           rw (t, t', s.0, s.1, n) refl
     ]
 
@@ -90,7 +90,7 @@ class_small options b y =
         | inr p ↦ elim (cases_Bool (eqb y 2)) [ inl s ↦ rw (t, p, s) (omega arith) | inr s ↦ rw (t, p, s) (omega arith) ]
       ]
       | inr t ↦ elim (cases_Bool b.may_open) [
-        | inl o ↦ rw (t, o) (let r : ℕ = read_size options b.size y in omega arith)
-        | inr o ↦ rw (t, o) (let r : ℕ = read_size options b.size y in omega arith)
+        | inl o ↦ rw (t, o) (let r : ℕ = ruled_size options b.size y in omega arith)
+        | inr o ↦ rw (t, o) (let r : ℕ = ruled_size options b.size y in omega arith)
       ]
     ]

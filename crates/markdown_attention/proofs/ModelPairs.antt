@@ -12,7 +12,7 @@ use Rattle.markdown_model.specs.Pairs as Model
 use Rattle.markdown_model.specs.Runs.{Run, marker_of}
 use Rattle.markdown_model.specs.Setting.{Setting}
 use Rattle.markdown_attention.specs.Containers.{whole_shape, is_in, runs_in, place_in, placed, ArePairLists}
-use Rattle.markdown_attention.specs.Pairs.{row_of, Eligible, IsNext, PairsFrom, left, run_at, taken, takes, is_shut, is_around, sizes_fit, read_size, size_of_pair, tilde_allows, three_refuses, AreItsPairs, pairs_in}
+use Rattle.markdown_attention.specs.Pairs.{row_of, Eligible, IsNext, PairsFrom, left, run_at, taken, takes, is_shut, is_around, sizes_fit, ruled_size, size_of_pair, tilde_allows, three_refuses, AreItsPairs, pairs_in}
 use Rattle.markdown_attention.specs.declared.attention.pairing.Pair.{Pair}
 use Rattle.markdown_attention.specs.declared.attention.runs.Sequence.{Sequence}
 use Rattle.markdown_attention.proofs.Standing.{taken_push, takes_opener, takes_closer, takes_other}
@@ -24,7 +24,7 @@ use Rattle.markdown_attention.proofs.Places.{Placed, place, find, place-order, s
 abbrev three : ParseOptions → Sequence → Sequence → ℕ → ℕ → Bool
 three options a b x y =
     (a.may_close || b.may_open)
-    && (not (eqb (read_size options b.size y % 3) 0) && eqb ((read_size options a.size x + read_size options b.size y) % 3) 0)
+    && (not (eqb (ruled_size options b.size y % 3) 0) && eqb ((ruled_size options a.size x + ruled_size options b.size y) % 3) 0)
 
 abbrev tilde : ParseOptions → ℕ → ℕ → ℕ → Bool
 tilde options marker x y = eqb marker 126 && not (eqb x y && (eqb x 2 || (eqb x 1 && options.gfm_strikethrough_single_tilde)))
@@ -53,7 +53,7 @@ abbrev IsTildeWhole : Sequence → ℕ → Type 0
 IsTildeWhole r x = r.marker ≡ 126 → 0 < x → x ≡ r.size
 
 -- the size read of a whole run
-read-whole : (options : ParseOptions) (size x : ℕ) → x ≡ size → read_size options size x ≡ x
+read-whole : (options : ParseOptions) (size x : ℕ) → x ≡ size → ruled_size options size x ≡ x
 read-whole options size x e = elim (cases_Bool options.attention_first_lengths) [ inl w ↦ rw w (sym e) | inr r ↦ rw r refl ]
 
 -- what sizes of tildes the rule for them allows
@@ -76,9 +76,9 @@ three-equal x y e (inr one) = λ z. omega arith
 three-tilde : (options : ParseOptions) (a b : Sequence) (x y : ℕ) → x ≡ a.size → y ≡ b.size → tilde_allows options x y ≡ true → three options a b x y ≡ false
 three-tilde options a b x y ea eb h =
     let t = tilde-sizes options x y h in
-    let none : eqb ((read_size options a.size x + read_size options b.size y) % 3) 0 ≡ false =
+    let none : eqb ((ruled_size options a.size x + ruled_size options b.size y) % 3) 0 ≡ false =
     rw (read-whole options a.size x ea, read-whole options b.size y eb) (ne_eqb ((x + y) % 3) 0 (three-equal x y t.0 t.1)) in
-    rw none (ap (λ z. (a.may_close || b.may_open) && z) (and-false (not (eqb (read_size options b.size y % 3) 0))) ∙ and-false (a.may_close || b.may_open))
+    rw none (ap (λ z. (a.may_close || b.may_open) && z) (and-false (not (eqb (ruled_size options b.size y % 3) 0))) ∙ and-false (a.may_close || b.may_open))
 
 tilde-same : (options : ParseOptions) (x y : ℕ) → (eqb x y && (eqb x 2 || (eqb x 1 && options.gfm_strikethrough_single_tilde))) ≡ tilde_allows options x y
 tilde-same options x y =
@@ -101,7 +101,7 @@ fit-rules options a b x y m lx ly wa wb h =
           )
       | inr other ↦
           let t : eqb b.marker 126 ≡ false = ne_eqb b.marker 126 other in
-          let open_to : not (three_refuses (a.may_close || b.may_open) (read_size options a.size x) (read_size options b.size y)) ≡ true = (let f = h in rw t at f) in (
+          let open_to : not (three_refuses (a.may_close || b.may_open) (ruled_size options a.size x) (ruled_size options b.size y)) ≡ true = (let f = h in rw t at f) in (
             sym (and-assoc (a.may_close || b.may_open) _ _) ∙ not-false _ open_to,
             rw (m, t) refl,
           )
@@ -258,7 +258,7 @@ module _ (s : Setting) (runs : List Sequence) (k : ℕ) (rs : List Run) (shapes 
   left_same : (done : List Pair) (i : ℕ) → Member i → All Both done → Model.remaining rs (moved done) (f i) ≡ left runs done i
   left_same done i a h = rw ((stands i a).size, taken_same done i a h) refl
 
-  ruled_same : (done : List Pair) (i : ℕ) → Member i → All Both done → Model.ruled_size s rs (moved done) (f i) ≡ read_size s.options (run_at runs i).size (left runs done i)
+  ruled_same : (done : List Pair) (i : ℕ) → Member i → All Both done → Model.ruled_size s rs (moved done) (f i) ≡ ruled_size s.options (run_at runs i).size (left runs done i)
   ruled_same done i a h = λ z. cond s.options.attention_first_lengths ((stands i a).size z) (left_same done i a h z)
 
   three_same : (done : List Pair) (o c : ℕ) → Member o → Member c → All Both done

@@ -3,7 +3,7 @@ use Rattle.std.specs.Prelude.{◌⊎◌, ◌≡◌, ℕ, zero, suc, ◌+◌, ◌
 use Rattle.markdown_attention.specs.declared.attention.runs.Sequence.{Sequence}
 use Rattle.markdown_attention.specs.declared.attention.pairing.Pair.{Pair}
 use Rattle.markdown_engine.specs.declared.configuration.ParseOptions.{ParseOptions}
-use Rattle.markdown_attention.specs.Pairs.{row_of, run_at, left, is_shut, pairs_in, sizes_fit, read_size}
+use Rattle.markdown_attention.specs.Pairs.{row_of, run_at, left, is_shut, pairs_in, sizes_fit, ruled_size}
 
 -- which list of its container a marker has
 abbrev pub kind_of : ℕ → ℕ
@@ -17,7 +17,7 @@ key_of r = row_of r.text * 3 + kind_of r.marker
 unfoldable pub class_of : ParseOptions → Sequence → ℕ → ℕ
 class_of options b y =
     if b.marker == 126 then (if y == 1 then 1 else (if y == 2 then 2 else 0))
-    else read_size options b.size y % 3 + (if b.may_open then 3 else 0)
+    else ruled_size options b.size y % 3 + (if b.may_open then 3 else 0)
 
 -- h is one more than the newest open run of list q below n, or 0 if there is none
 pub record Newest (key : ℕ → ℕ) (open_at : ℕ → Bool) (q n h : ℕ) : Type 0 where

@@ -35,8 +35,8 @@ unfoldable pub is_shut : List Pair → ℕ → Bool
 is_shut done i = list_any (is_around i) done
 
 -- the size that the rule of three reads
-abbrev pub read_size : ParseOptions → ℕ → ℕ → ℕ
-read_size options whole remaining = if options.attention_first_lengths then whole else remaining
+abbrev pub ruled_size : ParseOptions → ℕ → ℕ → ℕ
+ruled_size options whole remaining = if options.attention_first_lengths then whole else remaining
 
 -- one of the two may open and close, the closer's size is no multiple of 3 and the sum is
 abbrev pub three_refuses : Bool → ℕ → ℕ → Bool
@@ -50,7 +50,7 @@ tilde_allows options x y = (x == y) && ((y == 2) || (y == 1) && options.gfm_stri
 unfoldable pub sizes_fit : ParseOptions → Sequence → Sequence → ℕ → ℕ → Bool
 sizes_fit options a b x y =
     if b.marker == 126 then tilde_allows options x y
-    else not (three_refuses (a.may_close || b.may_open) (read_size options a.size x) (read_size options b.size y))
+    else not (three_refuses (a.may_close || b.may_open) (ruled_size options a.size x) (ruled_size options b.size y))
 
 -- two where both have two, else one
 abbrev pub size_of_pair : ℕ → ℕ → ℕ

@@ -62,19 +62,47 @@ pub struct Label {
 
 /// The scratch fields of the states: what one state leaves for another. Each is at rest between two constructs, but for the lists of
 /// labels, `markers`, `probes`, `runs`, `sequences`, `names` and `document_at_first_paragraph_of_list_item`.
+///
+/// Some of them mean one thing in one construct, and another in the next:
+///
+/// | Field | In | It is |
+/// |---|---|---|
+/// | `marker` | spans, runs of markers | their marker |
+/// | | references | their kind: `&`, `#` or `x` |
+/// | | titles, quoted values of HTML | the byte that is to end them |
+/// | | literals | in a domain `_`, where its last part has one; in a path what is known of trails |
+/// | `marker_b` | literals | `_`, where the part of the domain before the last has one |
+/// | `size` | spans | the markers of the opening run |
+/// | | references | the codes of the value so far |
+/// | | autolinks | the codes of the scheme, or of a label of the address, so far |
+/// | | HTML | the codes of `CDATA[` so far |
+/// | | literals | the codes of `www.` or of the protocol, and the slashes, so far; in a path the `(` so far |
+/// | | destinations | the parentheses that are open |
+/// | | labels of references | the codes so far that count to the limit |
+/// | `size_b` | spans | the markers so far of a run that may close |
+/// | | literals | in a path the `)` so far |
+/// | | destinations | how many parentheses may be open |
+/// | `end` | ends of labels | the number of events before the `]` |
+/// | `seen` | literals | whether the domain holds a character that is more than punctuation |
+/// | | labels of references | whether a code is not blank |
+/// | | ends of labels | whether a full reference was read whose label is not defined |
+/// | `connect` | titles, labels of references | whether their next data goes on with a chain |
+/// | `token_1` and on | spans | the names of the whole, its sequences and its data |
+/// | | destinations | of the whole, the one in brackets, its markers, the one without, and the text |
+/// | | titles, labels of references | of the whole, its markers and the text |
 #[derive(Drop)]
 pub struct TokenizeState {
-    /// The byte that a construct began with; 0 at rest.
+    /// A byte; 0 at rest.
     pub marker: u8,
-    /// The byte that is to end it; 0 at rest.
+    /// A second byte; 0 at rest.
     pub marker_b: u8,
     /// How many codes, bytes or markers were passed; 0 at rest.
     pub size: usize,
-    /// A second number; 0 at rest. For a destination its greatest depth of parentheses.
+    /// A second number; 0 at rest.
     pub size_b: usize,
-    /// The number of an event or a byte where something starts; 0 at rest.
+    /// The number of an event or a byte where something starts; 0 at rest. No construct here asks for it.
     pub start: usize,
-    /// Where it ends; 0 at rest.
+    /// The number of an event where something ends; 0 at rest.
     pub end: usize,
     /// Whether something was seen; false at rest.
     pub seen: bool,

@@ -4,7 +4,7 @@
 //! that fits it. A mark for each list and each class of closers says how far all open runs refuse the class, so that a walk stops there.
 
 ghost use Rattle.std.specs.Prelude.{◌≡◌, ℕ, ◌+◌, ◌-◌, ◌*◌, ◌^◌, ◌<◌, ◌≤◌, ◌⊎◌, ◌&&◌, length, slice_index, slice_set, nat_lt, if◌then◌else◌, IfSome, IfNone, IfOk, IsTrue, IsFalse, count_by, replicate};
-ghost use Rattle.markdown_attention.specs.Pairs.{run_at, markers_left, sizes_fit, read_size, three_refuses, tilde_allows, size_of_pair, row_of};
+ghost use Rattle.markdown_attention.specs.Pairs.{run_at, markers_left, sizes_fit, ruled_size, three_refuses, tilde_allows, size_of_pair, row_of};
 ghost use Rattle.markdown_attention.specs.Walk.{Stands, Whole, AreSmall};
 ghost use Rattle.markdown_attention.specs.Open.{key_of, kind_of, class_of, WalkFound, WalkEnded, IsCut, HaveMarkers, IsClosing};
 ghost use Rattle.markdown_attention.specs.Containers.{ArePairLists, AreWithin, AreTakenOnce};
@@ -33,8 +33,8 @@ fn pair_size(opener: usize, closer: usize) -> usize
 }
 
 // The size that the rule of three reads.
-fn size_read(options: ParseOptions, whole: usize, remaining: usize) -> usize
-    ensures { result ≡ read_size options whole remaining }
+fn ruled_size(options: ParseOptions, whole: usize, remaining: usize) -> usize
+    ensures { result ≡ ruled_size options whole remaining }
 {
     if options.attention_first_lengths {
         whole
@@ -65,8 +65,8 @@ fn do_sizes_fit(options: ParseOptions, a: Sequence, b: Sequence) -> bool
     requires rest { a.remaining + b.remaining < 2 ^ 64 }
     ensures { result ≡ sizes_fit options a b a.remaining b.remaining }
 {
-    let x = size_read(options, a.size, a.remaining);
-    let y = size_read(options, b.size, b.remaining);
+    let x = ruled_size(options, a.size, a.remaining);
+    let y = ruled_size(options, b.size, b.remaining);
     if b.marker == b'~' {
         is_tilde_pair(options, a.remaining, b.remaining)
     } else {
@@ -120,7 +120,7 @@ fn class_number(options: ParseOptions, closer: Sequence) -> usize
             0
         }
     } else {
-        let read = size_read(options, closer.size, closer.remaining);
+        let read = ruled_size(options, closer.size, closer.remaining);
         let more = if closer.may_open { 3 } else { 0 };
         read % 3 + more
     }
