@@ -10,6 +10,9 @@ use crate::event::Point;
 use crate::parser::Piece;
 use crate::walk::{DOCUMENT_START, code_from, past_code};
 
+/// The longest document, in bytes: an eighth of what a `usize` holds, so that the columns of its tabs can be counted.
+pub const DOCUMENT_LIMIT: usize = usize::MAX / 8;
+
 // A row of codes.
 #[derive(Clone, Copy)]
 struct Stretch {
@@ -138,7 +141,7 @@ fn are_between_characters(bytes: &[u8], pieces: &[Piece]) -> bool
 pub fn is_content(bytes: &[u8], pieces: &[Piece]) -> bool
     ensures { IsTrue result ↔ IsContent bytes.now pieces.now }
 {
-    bytes.len() <= usize::MAX / 8
+    bytes.len() <= DOCUMENT_LIMIT
         && str::from_utf8(bytes).is_ok()
         && are_between_characters(bytes, pieces)
         && are_pieces(bytes, pieces)

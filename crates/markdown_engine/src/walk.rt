@@ -7,7 +7,7 @@ ghost use Rattle.markdown_engine.specs.Walk.{IsPoint, next_point, value_from};
 use crate::event::Point;
 
 /// How many columns apart tab stops are.
-pub(crate) const TAB_SIZE: usize = 4;
+pub const TAB_SIZE: usize = 4;
 
 /// The place before all codes of a document.
 pub(crate) const DOCUMENT_START: Point = Point {

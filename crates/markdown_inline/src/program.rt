@@ -12,6 +12,7 @@ ghost use Rattle.std.specs.Io.KnownBytes.{Appends};
 
 use crate::program::lines::lines_of;
 use markdown_engine::configuration::{Constructs, ParseOptions};
+use markdown_engine::content::DOCUMENT_LIMIT;
 use markdown_engine::parser::{ParseState, Piece};
 use markdown_run::run::{self, Run};
 use markdown_util::util::normalize_identifier::normalize_identifier;
@@ -19,9 +20,6 @@ use std::alloc::{AllocError, Global};
 use std::io::{self, ErrorKind, Read, Write};
 
 mod lines;
-
-// The longest document, in bytes.
-const DOCUMENT_LIMIT: usize = usize::MAX / 8;
 
 /// Why a run of the program ends without its output, or without all of it.
 #[derive(Clone, Copy, Debug, PartialEq, Eq)]

@@ -15,11 +15,8 @@ use markdown_construct::bytes::{is_alphanumeric, is_letter};
 use markdown_engine::event::Name;
 use markdown_engine::state::{State, StateName};
 use markdown_engine::tokenizer::Tokenizer;
+use markdown_util::util::constant::{AUTOLINK_DOMAIN_SIZE_MAX, AUTOLINK_SCHEME_SIZE_MAX};
 use std::alloc::AllocError;
-
-const SCHEME_SIZE_MAX: usize = 32;
-
-const LABEL_SIZE_MAX: usize = 63;
 
 // The link does not hold.
 fn refuse(tokenizer: &mut Tokenizer) -> State
@@ -111,15 +108,15 @@ pub fn scheme_inside_or_email_atext(tokenizer: &mut Tokenizer) -> Result<State, 
     ensures ok { IfOk result (λ s. scheme_inside_step tokenizer.old ≡ record { state = s; left = tokenizer.new }) }
     ensures err { OnErr result (IsTrue tokenizer.new.failed) }
 {
+    let passed = tokenizer.tokenize_state.size;
     match tokenizer.current() {
         Some(b':') => {
             tokenizer.consume();
             Ok(State::Next(StateName::AutolinkUrlInside))
         }
-        Some(code) if is_scheme(code) && tokenizer.tokenize_state.size < SCHEME_SIZE_MAX => {
-            let passed = tokenizer.tokenize_state.size + 1;
+        Some(code) if is_scheme(code) && passed < AUTOLINK_SCHEME_SIZE_MAX => {
             tokenizer.consume();
-            tokenizer.tokenize_state.size = passed;
+            tokenizer.tokenize_state.size = passed + 1;
             Ok(State::Next(StateName::AutolinkSchemeInsideOrEmailAtext))
         }
         _ => Ok(State::Retry(StateName::AutolinkEmailAtext)),
@@ -190,12 +187,12 @@ fn in_label(tokenizer: &mut Tokenizer) -> State
 {
     let size = tokenizer.tokenize_state.size;
     match tokenizer.current() {
-        Some(code) if size < LABEL_SIZE_MAX && is_alphanumeric(code) => {
+        Some(code) if size < AUTOLINK_DOMAIN_SIZE_MAX && is_alphanumeric(code) => {
             tokenizer.consume();
             tokenizer.tokenize_state.size = size + 1;
             State::Next(StateName::AutolinkEmailLabel)
         }
-        Some(b'-') if size < LABEL_SIZE_MAX => {
+        Some(b'-') if size < AUTOLINK_DOMAIN_SIZE_MAX => {
             tokenizer.consume();
             tokenizer.tokenize_state.size = size + 1;
             State::Next(StateName::AutolinkEmailValue)

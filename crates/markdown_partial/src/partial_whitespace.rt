@@ -19,6 +19,7 @@ use markdown_engine::events::Events;
 use markdown_engine::tokenizer::Tokenizer;
 use markdown_engine::util::edit_map::EditMap;
 use markdown_engine::walk::{code_from, past_code};
+use markdown_util::util::constant::HARD_BREAK_PREFIX_SIZE_MIN;
 use std::alloc::{AllocError, Global};
 
 // Whether this is a space, a tab or a column of a tab.
@@ -92,7 +93,7 @@ fn is_hard_break(bytes: &[u8], from: Point, to: Point) -> bool
         point = past_code(bytes, point);
         spaces += 1;
     }
-    spaces >= 2
+    spaces >= HARD_BREAK_PREFIX_SIZE_MIN
 }
 
 // Answers the name of the blank codes at the back of data; `hard` says that they may be a hard break.
