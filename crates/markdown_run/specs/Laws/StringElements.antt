@@ -1,12 +1,11 @@
 -- Which element of a string stands where.
-use Rattle.std.proofs.Common.{◌≡◌, Bool, true, false, ◌&&◌, ◌||◌, List, [], ◌∷◌, Option, None, Some, refl, sym, ap, ◌∙◌}
+use Rattle.std.proofs.Common.{◌≡◌, Bool, true, false, ◌&&◌, ◌||◌, List, ◌∷◌, Option, None, Some, refl, ap, ◌∙◌}
 use Rattle.markdown_engine.specs.Codes.{Code, is_line_ending}
-use Rattle.markdown_engine.specs.Tree.{Forest, leaf}
-use Rattle.markdown_engine.specs.declared.event.Name.TheVariants as N
+use Rattle.markdown_engine.specs.Tree.{Forest}
 use Rattle.markdown_engine.specs.declared.parser.ParseState.{ParseState}
 use Rattle.markdown_model.specs.CodeTests.{is_value, is_among}
 use Rattle.markdown_model.specs.Element.{as_plain, switched, line_ending, data_code, string_element}
-use Rattle.markdown_model.specs.Grammar.{Reading, either, provided, ◌>>◌, ◌>>=◌, gives, one}
+use Rattle.markdown_model.specs.Grammar.{Reading, either, provided, ◌>>◌, one}
 use Rattle.markdown_model.specs.LabelEnd.{Element, plain}
 use Rattle.markdown_model.specs.Leaf.{escape, reference}
 use Rattle.markdown_model.specs.Setting.{Setting}
@@ -14,17 +13,10 @@ use Rattle.markdown_model.proofs.DataLaws.{code_leaf}
 use Rattle.markdown_util.specs.Reference.{html_5_rows}
 use Rattle.markdown_construct.specs.Plan.{tree_ops}
 use Rattle.markdown_leaf.proofs.CharacterReferenceReading.{no-reference}
-use Rattle.markdown_model.proofs.ReadingSteps.{and-false, bind-none, bind-some, one-here, one-other, switched-off, switched-on}
+use Rattle.markdown_model.proofs.ReadingSteps.{and-false, bind-none, either-second, either-some, one-other, switched-off, switched-on}
 use Rattle.markdown_text.specs.Settings.{setting_of}
 use Rattle.markdown_text.specs.StringSteps.{string_markers}
-
-plain-of : Option (Forest × List Code) → Option (Element × List Code)
-plain-of o = elim o [ None ↦ None | Some r ↦ Some (plain r.0, r.1) ]
-
-switched-plain : (a : Reading Forest) (on : Bool) (cs : List Code) → switched on (as_plain a) cs ≡ plain-of ((provided on >> a) cs)
-unfolding switched as_plain ◌>>◌ ◌>>=◌ provided gives plain-of
-switched-plain a true cs = refl
-switched-plain a false cs = refl
+use Rattle.markdown_run.specs.Laws.TextElements.{plain_of, plain-switched, data-alone, ending-alone}
 
 first-choice : (a b : Reading Element) (cs : List Code) (r : Option (Element × List Code)) → a cs ≡ r → either a b cs ≡ elim r [ None ↦ b cs | Some x ↦ Some x ]
 unfolding either
@@ -38,39 +30,27 @@ references s = switched s.options.constructs.character_reference (as_plain (refe
 
 -- an escape
 pub escaped-element : (s : Setting) (cs : List Code) (t : Forest) (rest : List Code) → (provided s.options.constructs.character_escape >> escape) cs ≡ Some (t, rest) → string_element s cs ≡ Some (plain t, rest)
-unfolding string_element plain-of
+unfolding string_element plain_of
 escaped-element s cs t rest e =
-    first-choice (escapes s) (either (references s) (either line_ending data_code)) cs (Some (plain t, rest)) (switched-plain escape s.options.constructs.character_escape cs ∙ ap plain-of e)
+    first-choice (escapes s) (either (references s) (either line_ending data_code)) cs (Some (plain t, rest)) (plain-switched s.options.constructs.character_escape escape cs ∙ ap plain_of e)
 
 -- where no escape is
 unescaped : (s : Setting) (cs : List Code) → (provided s.options.constructs.character_escape >> escape) cs ≡ None → string_element s cs ≡ either (references s) (either line_ending data_code) cs
-unfolding string_element plain-of
+unfolding string_element plain_of
 unescaped s cs e =
-    first-choice (escapes s) (either (references s) (either line_ending data_code)) cs None (switched-plain escape s.options.constructs.character_escape cs ∙ ap plain-of e)
+    first-choice (escapes s) (either (references s) (either line_ending data_code)) cs None (plain-switched s.options.constructs.character_escape escape cs ∙ ap plain_of e)
 
 -- a reference
 pub referenced-element : (s : Setting) (cs : List Code) (t : Forest) (rest : List Code) → (provided s.options.constructs.character_escape >> escape) cs ≡ None → (provided s.options.constructs.character_reference >> reference s.references) cs ≡ Some (t, rest) → string_element s cs ≡ Some (plain t, rest)
-unfolding plain-of
+unfolding plain_of
 referenced-element s cs t rest none e =
     unescaped s cs none
-    ∙ first-choice (references s) (either line_ending data_code) cs (Some (plain t, rest)) (switched-plain (reference s.references) s.options.constructs.character_reference cs ∙ ap plain-of e)
-
-code-at : (b : Bool) (c : Code) → is_line_ending c ≡ b → code_leaf c ≡ elim b as (λ _. Forest) [ true ↦ leaf N.LineEnding (c ∷ []) | false ↦ leaf N.Data (c ∷ []) ]
-code-at b c e = ap (λ x. elim x as (λ _. Forest) [ true ↦ leaf N.LineEnding (c ∷ []) | false ↦ leaf N.Data (c ∷ []) ]) e
-
-data-here : (c : Code) (cs : List Code) → data_code (c ∷ cs) ≡ Some (plain (leaf N.Data (c ∷ [])), cs)
-unfolding data_code ◌>>=◌ one gives
-data-here c cs = refl
+    ∙ first-choice (references s) (either line_ending data_code) cs (Some (plain t, rest)) (plain-switched s.options.constructs.character_reference (reference s.references) cs ∙ ap plain_of e)
 
 by-itself : (b : Bool) (c : Code) (cs : List Code) → is_line_ending c ≡ b → either line_ending data_code (c ∷ cs) ≡ Some (plain (code_leaf c), cs)
-unfolding line_ending gives
-by-itself true c cs e =
-    first-choice line_ending data_code (c ∷ cs) (Some (plain (leaf N.LineEnding (c ∷ [])), cs)) (bind-some (one is_line_ending) _ (c ∷ cs) (c ∷ []) cs (Some (plain (leaf N.LineEnding (c ∷ [])), cs)) (one-here is_line_ending c cs e) refl)
-    ∙ ap (λ x. Some (plain x, cs)) (sym (code-at true c e))
-by-itself false c cs e =
-    first-choice line_ending data_code (c ∷ cs) None (bind-none (one is_line_ending) _ (c ∷ cs) (one-other is_line_ending c cs e))
-    ∙ data-here c cs
-    ∙ ap (λ x. Some (plain x, cs)) (sym (code-at false c e))
+unfolding line_ending
+by-itself true c cs e = either-some line_ending data_code (c ∷ cs) (plain (code_leaf c), cs) (ending-alone c cs e)
+by-itself false c cs e = either-second line_ending data_code (c ∷ cs) (bind-none (one is_line_ending) _ (c ∷ cs) (one-other is_line_ending c cs e)) ∙ data-alone c cs e
 
 -- a code by itself: a line ending, or data
 pub code-element : (c : Code) (cs : List Code) → either line_ending data_code (c ∷ cs) ≡ Some (plain (code_leaf c), cs)
@@ -78,10 +58,10 @@ code-element c cs = by-itself (is_line_ending c) c cs refl
 
 -- where neither an escape nor a reference is
 pub single-element : (s : Setting) (c : Code) (cs : List Code) → (provided s.options.constructs.character_escape >> escape) (c ∷ cs) ≡ None → (provided s.options.constructs.character_reference >> reference s.references) (c ∷ cs) ≡ None → string_element s (c ∷ cs) ≡ Some (plain (code_leaf c), cs)
-unfolding plain-of
+unfolding plain_of
 single-element s c cs none e =
     unescaped s (c ∷ cs) none
-    ∙ first-choice (references s) (either line_ending data_code) (c ∷ cs) None (switched-plain (reference s.references) s.options.constructs.character_reference (c ∷ cs) ∙ ap plain-of e)
+    ∙ first-choice (references s) (either line_ending data_code) (c ∷ cs) None (plain-switched s.options.constructs.character_reference (reference s.references) (c ∷ cs) ∙ ap plain_of e)
     ∙ code-element c cs
 
 -- no escape begins at another code than the backslash

@@ -1,7 +1,6 @@
 -- The laws of the states of a string.
-use Rattle.std.proofs.Common.{◌≡◌, ◌≢◌, ℕ, ◌*◌, ◌<◌, ◌==◌, Bool, true, false, Option, Some, None, List, [], ◌∷◌, refl, ap, ◌∙◌, arith}
+use Rattle.std.proofs.Common.{◌≡◌, ◌≢◌, ℕ, ◌*◌, ◌<◌, ◌==◌, Bool, true, false, Option, Some, None, [], refl, ap, ◌∙◌, arith}
 use Rattle.std.specs.List.{list_any}
-use Rattle.markdown_engine.specs.Codes.{Code}
 use Rattle.markdown_engine.specs.Lists.{rest_of}
 use Rattle.markdown_engine.specs.Ops.{ahead, current_of, registered, scratched}
 use Rattle.markdown_engine.specs.Runs.{Stepped}
@@ -20,20 +19,14 @@ use Rattle.markdown_leaf.specs.CharacterEscape as E
 use Rattle.markdown_leaf.specs.CharacterEscape.{escape_here}
 use Rattle.markdown_leaf.specs.CharacterReference as R
 use Rattle.markdown_leaf.specs.CharacterReference.{reference_here}
-use Rattle.markdown_model.specs.Lines.{data_up_to}
 use Rattle.markdown_text.specs.StringSteps.{is_on, string_tries, string_markers, string_marked, string_passed, string_here, tries_at, before_at, StartReady, BeforeReady, before_ends, start_words, before_words, before_data_words}
 use Rattle.markdown_text.specs.Table.{said_at}
 use Rattle.markdown_text.proofs.TableLemmas.{by-row, none-of}
 use Rattle.markdown_row.proofs.ElementLemmas.{finishes-end}
 use Rattle.markdown_run.specs.Layer.{inline}
 use Rattle.markdown_run.specs.Laws.StringElements.{no-backslash, no-ampersand}
+use Rattle.markdown_run.specs.Laws.TextElements.{data-holds}
 use Rattle.markdown_run.specs.Laws.StringPasts.{Passes, passes-ready, passes-ends, escape-past, reference-past, data-past}
-
--- data holds everywhere
-data-holds : (markers : List ℕ) (cs : List Code) → data_up_to markers cs ≡ None → ⊥
-unfolding data_up_to
-data-holds markers [] e = cc
-data-holds markers (c ∷ cs) e = cc
 
 -- past an element the run goes on before the next
 on-before : (n : ℕ) (T U : Tokenizer) → codes_left T * 256 < n → BeforeReady T → Passes T U → FollowsIn inline n (before_ends T) (Next StringBefore) U

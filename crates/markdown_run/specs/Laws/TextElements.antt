@@ -16,6 +16,7 @@ use Rattle.markdown_model.specs.Element.{attention_run, as_plain, switched, line
 use Rattle.markdown_model.specs.Grammar.{Reading, ◌>>◌, ◌>>=◌, provided, either, gives, one}
 use Rattle.markdown_model.specs.Html.{html}
 use Rattle.markdown_model.specs.LabelEnd.{Element, plain, label_end}
+use Rattle.markdown_model.specs.Lines.{data_up_to}
 use Rattle.markdown_model.specs.Literal.{protocol_literal, www_literal}
 use Rattle.markdown_model.specs.Leaf.{escape, reference, hard_break_escape, autolink, task_check, span_here, code_names, math_names}
 use Rattle.markdown_model.specs.Setting.{Setting}
@@ -50,15 +51,21 @@ off-or-none false a cs e = switched-off a false cs refl
 leaf-by : (b : Bool) (c : Code) → is_line_ending c ≡ b → code_leaf c ≡ elim b as (λ _. Forest) [ true ↦ leaf N.LineEnding (c ∷ []) | false ↦ leaf N.Data (c ∷ []) ]
 leaf-by b c e = ap (λ x. elim x as (λ _. Forest) [ true ↦ leaf N.LineEnding (c ∷ []) | false ↦ leaf N.Data (c ∷ []) ]) e
 
-data-alone : (c : Code) (cs : List Code) → is_line_ending c ≡ false → data_code (c ∷ cs) ≡ Some (plain (code_leaf c), cs)
+pub data-alone : (c : Code) (cs : List Code) → is_line_ending c ≡ false → data_code (c ∷ cs) ≡ Some (plain (code_leaf c), cs)
 unfolding data_code ◌>>=◌ one gives
 data-alone c cs e = ap (λ t. Some (plain t, cs)) (sym (leaf-by false c e))
 
-ending-alone : (c : Code) (cs : List Code) → is_line_ending c ≡ true → line_ending (c ∷ cs) ≡ Some (plain (code_leaf c), cs)
+pub ending-alone : (c : Code) (cs : List Code) → is_line_ending c ≡ true → line_ending (c ∷ cs) ≡ Some (plain (code_leaf c), cs)
 unfolding line_ending gives
 ending-alone c cs e =
     bind-some (one is_line_ending) _ (c ∷ cs) (c ∷ []) cs (Some (plain (leaf N.LineEnding (c ∷ [])), cs)) (one-here is_line_ending c cs e) refl
     ∙ ap (λ t. Some (plain t, cs)) (sym (leaf-by true c e))
+
+-- data holds everywhere
+pub data-holds : (markers : List ℕ) (cs : List Code) → data_up_to markers cs ≡ None → ⊥
+unfolding data_up_to
+data-holds markers [] e = cc
+data-holds markers (c ∷ cs) e = cc
 
 -- a row and data behind it
 plain-or-data : (row : Reading Element) (c : Code) (cs : List Code) (o : Option (Forest × List Code)) → is_line_ending c ≡ false → row (c ∷ cs) ≡ plain_of o → either row data_code (c ∷ cs) ≡ element_here c cs o

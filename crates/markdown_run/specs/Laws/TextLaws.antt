@@ -64,7 +64,7 @@ use Rattle.markdown_text.specs.StringSteps.{is_on}
 use Rattle.markdown_text.specs.TextSteps.{text_tries, text_markers, order_pays, marked_fields, text_marked, text_passed, trying, start_step, first_try, tries_at, before_at, before_step, text_choice_of, EndsWithCodes, StartReady, IsMarked, BeforeReady, StandsAlone, before_ends, data_ends, start_words, before_words, before_html_words, before_hard_break_escape_words, before_label_start_link_words, before_data_words}
 use Rattle.markdown_text.proofs.TableLemmas.{EachOf, by-row}
 use Rattle.markdown_row.proofs.NodeLemmas.{protocol-node, www-node, check-node, html-node, escape-node, reference-node, break-node, autolink-node, span-node}
-use Rattle.markdown_run.specs.Laws.TextElements.{is_marker}
+use Rattle.markdown_run.specs.Laws.TextElements.{is_marker, data-holds}
 use Rattle.markdown_run.specs.Laws.TextTries.{ReadsNodes, ReadsElements, none-valued, check-reads, no-check-at-end, reference-reads, reference-alone, autolink-reads, html-reads, html-alone, escape-reads, break-reads, break-alone, span-reads, span-alone, run-reads, run-alone, run-leaf, protocol-reads, protocol-alone, www-reads, www-alone, other-alone, other-data}
 use Rattle.markdown_row.proofs.ElementLemmas.{DataRead, data-read, last-some, some-ahead, advances-finishes, finishes-end, node-advances, run-advances, data-advances}
 use Rattle.markdown_model.proofs.ReadingSteps.{if-true, if-false, switched-off}
@@ -454,12 +454,6 @@ pub before_hard_break_escape-law : Law inline before_hard_break_escape_words
 before_hard_break_escape-law T alone r =
     try-law 6 T HardBreakEscapeStart TextBeforeData (break_here T) alone tt (omega arith) r.before.marked (λ ok U g. g) (λ t rest g. break-node (is_on T).hard_break_escape (ahead T) t rest g) (break-reads T r.slash r.no_escape)
     (λ none. to-data 6 T 92 (omega arith) r.before r.slash (break-alone T r.slash r.no_escape none))
-
--- data holds everywhere
-data-holds : (markers : List ℕ) (cs : List Code) → data_up_to markers cs ≡ None → ⊥
-unfolding data_up_to
-data-holds markers [] e = cc
-data-holds markers (c ∷ cs) e = cc
 
 pub before_data-law : Law inline before_data_words
 before_data-law T alone r =
