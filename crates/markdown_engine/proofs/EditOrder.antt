@@ -1,19 +1,21 @@
 -- Edits in the order of their places, passed place by place.
-use Rattle.std.proofs.Common.{suc, zero, nat_lt, Option, ◌≡◌, ◌≢◌, ℕ, ◌+◌, ◌-◌, ◌^◌, ◌<◌, ◌≤◌, ◌==◌, ◌&&◌, not, ◌⊎◌, inl, inr, Bool, true, false, cond, min, max, List, [], ◌∷◌, ◌++◌, length, take, drop, map, get_or, refl, sym, ap, subst, ◌∙◌, arith, append_assoc, Bor}
+use Rattle.std.proofs.Common.{suc, zero, nat_lt, Option, ◌≡◌, ◌≢◌, ℕ, ◌+◌, ◌-◌, ◌^◌, ◌<◌, ◌≤◌, ◌==◌, ◌&&◌, not, ◌⊎◌, inl, inr, Bool, true, false, cond, min, max, List, [], ◌∷◌, ◌++◌, length, take, drop, map, get_or, refl, sym, ap, subst, ◌∙◌, arith, append_assoc}
 use Rattle.std.specs.List.{All, filter}
 use Rattle.std.specs.List.Sorted.{IsPermutation, IsNonDecreasingBy, IsStableByKey, ties}
 use Rattle.std.specs.Ordering.{is_lt, nat_cmp}
-use Rattle.std.proofs.lemmas.List.{get_or-map, get_or-drop, map_more, take-append-drop, append-nil, length-map, length-take, length-drop, take_more, take_all, drop-map, take-map, drop-drop}
-use Rattle.std.proofs.lemmas.List.Sorted.{All-permutation, IsPermutation-map, IsNonDecreasingBy-drop}
-use Rattle.std.proofs.lemmas.List.Elements.{All-drop, All-push, All-take}
+use Rattle.std.proofs.lemmas.List.{get_or-map, get_or-drop, get_or-take, get_or_default, map_more, take-append-drop, append-nil, length-append, length-map, length-take, length-drop, drop-take, take-take, map-append, take_more, take_all, drop-map, take-map, drop-drop}
+use Rattle.std.proofs.lemmas.List.Sorted.{All-permutation, IsPermutation-map, IsNonDecreasingBy-drop, IsNonDecreasingBy-push, IsNonDecreasingBy-short, IsNonDecreasingBy-take}
+use Rattle.std.proofs.Math.Seq.{take-append_seam, drop-append_seam}
+use Rattle.std.proofs.lemmas.List.Elements.{All-append, All-drop, All-map, All-push, All-take}
 use Rattle.std.proofs.lemmas.Bool.{ne_eqb}
 use Rattle.std.proofs.lemmas.Bool.Decides.{nat_tests}
 use Rattle.markdown_engine.specs.declared.event.Event.{Event}
 use Rattle.markdown_engine.specs.declared.util.edit_map.Edit.{Edit}
+use Rattle.markdown_engine.specs.declared.util.edit_map.Entry.{Entry}
 use Rattle.markdown_engine.specs.Chain.{previous_link, previous_of, IsUnlinked}
 use Rattle.std.specs.Option.{option_map}
 use Rattle.markdown_engine.specs.declared.event.Link.{Link}
-use Rattle.markdown_engine.specs.Edits.{removed_at, front_at, back_at, added_at, is_removed, moved_number, moved, edited_from, edited, lent, AddsUnlinked, IsRest}
+use Rattle.markdown_engine.specs.Edits.{removed_at, front_at, back_at, added_at, is_removed, moved_number, moved, edited_from, edited, edit_of, kept, AddsUnlinked, AreBrought, AreKept, IsRest}
 use Rattle.markdown_engine.proofs.EditLemmas.{back_push, removed_push, range_end, range-more, removed-test, EndsAt}
 use Rattle.markdown_engine.proofs.EditFacts.{added-none, removed-none, added-first, added-second, removed-first, removed-second, edited_until, edited-split}
 
@@ -64,13 +66,13 @@ module _ {X : Type 0} (n : X → ℕ) (xs ys : List X) (stable : IsStableByKey n
         ]
       ]
 
-filter-lent : (p : Edit → Bool) (es : List (Bor Edit)) → filter p (lent es) ≡ lent (filter (λ e. p e.now) es)
-filter-lent p [] = refl
-filter-lent p (e ∷ es) = lent-step p e es (p e.now) refl (filter-lent p es)
+filter-kept : (cs : List Event) (p : Edit → Bool) (es : List Entry) → filter p (kept cs es) ≡ kept cs (filter (λ e. p (edit_of cs e)) es)
+filter-kept cs p [] = refl
+filter-kept cs p (e ∷ es) = kept-step cs p e es (p (edit_of cs e)) refl (filter-kept cs p es)
   where
-    lent-step : (p : Edit → Bool) (e : Bor Edit) (es : List (Bor Edit)) (b : Bool) → p e.now ≡ b → filter p (lent es) ≡ lent (filter (λ e. p e.now) es) → filter p (lent (e ∷ es)) ≡ lent (filter (λ e. p e.now) (e ∷ es))
-    lent-step p e es true h g = rw h (ap (λ x. e.now ∷ x) g)
-    lent-step p e es false h g = rw h g
+    kept-step : (cs : List Event) (p : Edit → Bool) (e : Entry) (es : List Entry) (b : Bool) → p (edit_of cs e) ≡ b → filter p (kept cs es) ≡ kept cs (filter (λ e. p (edit_of cs e)) es) → filter p (kept cs (e ∷ es)) ≡ kept cs (filter (λ e. p (edit_of cs e)) (e ∷ es))
+    kept-step cs p e es true h g = rw h (ap (λ x. edit_of cs e ∷ x) g)
+    kept-step cs p e es false h g = rw h g
 
 back-there : (i : ℕ) (log : List Edit) → back_at i log ≡ back_at i (filter (stands_at i) log)
 back-there i [] = refl
@@ -98,17 +100,27 @@ rises-map f n (x ∷ xs) up = λ i j d l h.
     omega (arith, ap n (get_or-map f (x ∷ xs) i x d low), ap n (get_or-map f (x ∷ xs) j x d high))
 
 -- edits sorted by place collect what the log collects
-pub rest-sorted : (log : List Edit) (xs ys : List (Bor Edit)) → lent xs ≡ log → AddsUnlinked log → IsPermutation xs ys → IsNonDecreasingBy (λ e. e.now.at) ys → IsStableByKey (λ e. e.now.at) nat_cmp xs ys → IsRest 0 log (lent ys)
-rest-sorted log xs ys is plain moved up stable =
-    let P : List Edit → Type 0 = λ es. AddsUnlinked es in
-    let same = λ (i : ℕ). filter-lent (stands_at i) ys ∙ ap lent (stays_there (λ (e : Bor Edit). e.now.at) xs ys stable i) ∙ sym (filter-lent (stands_at i) xs) ∙ ap (filter (stands_at i)) is in
+pub rest-sorted : (cs : List Event) (xs ys : List Entry) → AddsUnlinked (kept cs xs) → IsPermutation xs ys → IsNonDecreasingBy (λ e. e.at) ys → IsStableByKey (λ e. e.at) nat_cmp xs ys → IsRest 0 (kept cs xs) (kept cs ys)
+rest-sorted cs xs ys plain moved up stable =
+    let log = kept cs xs in
+    let same = λ (i : ℕ). filter-kept cs (stands_at i) ys ∙ ap (kept cs) (stays_there (λ (e : Entry). e.at) xs ys stable i) ∙ sym (filter-kept cs (stands_at i) xs) in
     record {
       ahead = λ k d l. omega arith;
-      rises = rises-map (λ (e : Bor Edit). e.now) (λ (e : Edit). e.at) ys up;
-      plain = All-permutation (λ (e : Edit). All IsUnlinked e.events) (lent xs) (lent ys) (IsPermutation-map (λ (e : Bor Edit). e.now) xs ys moved) (subst P (sym is) plain);
-      added = λ i l. ap (λ x. x ++ back_at i (lent ys)) (front-there i (lent ys) ∙ ap (front_at i) (same i) ∙ sym (front-there i log)) ∙ ap (λ x. front_at i log ++ x) (back-there i (lent ys) ∙ ap (back_at i) (same i) ∙ sym (back-there i log));
-      removed = λ i l. removed-there i (lent ys) ∙ ap (removed_at i) (same i) ∙ sym (removed-there i log);
+      rises = rises-map (edit_of cs) (λ (e : Edit). e.at) ys up;
+      plain = All-permutation (λ (e : Edit). All IsUnlinked e.events) log (kept cs ys) (IsPermutation-map (edit_of cs) xs ys moved) plain;
+      added = λ i l. ap (λ x. x ++ back_at i (kept cs ys)) (front-there i (kept cs ys) ∙ ap (front_at i) (same i) ∙ sym (front-there i log)) ∙ ap (λ x. front_at i log ++ x) (back-there i (kept cs ys) ∙ ap (back_at i) (same i) ∙ sym (back-there i log));
+      removed = λ i l. removed-there i (kept cs ys) ∙ ap (removed_at i) (same i) ∙ sym (removed-there i log);
     }
+
+-- edits that are in order as they were added
+pub rest-added : (cs : List Event) (xs : List Entry) → AddsUnlinked (kept cs xs) → IsNonDecreasingBy (λ e. e.at) xs → IsRest 0 (kept cs xs) (kept cs xs)
+rest-added cs xs plain up = record {
+  ahead = λ k d l. omega arith;
+  rises = rises-map (edit_of cs) (λ (e : Edit). e.at) xs up;
+  plain = plain;
+  added = λ i l. refl;
+  removed = λ i l. refl;
+}
 
 -- The edits at one place, passed.
 
@@ -154,25 +166,29 @@ rest-trans n m log a b l r s = record {
   removed = λ i h. s.removed i h ∙ r.removed i (omega arith);
 }
 
--- Edits that are lent, read one by one.
+-- Edits that entries keep, read one by one.
 
-lent-read : (es : List (Bor Edit)) (k : ℕ) (r : Bor Edit) → k < length es → r ≡ get_or es k r → (e : Edit) → get_or (lent es) k e ≡ r.now
-lent-read es k r l h e = get_or-map (λ (x : Bor Edit). x.now) es k r e l ∙ ap (λ (x : Bor Edit). x.now) (sym h)
+abbrev pub none : Entry
+none = record { at = 0; remove = 0; from = 0; to = 0; before = false }
 
-lent-more : (es : List (Bor Edit)) (k : ℕ) (r : Bor Edit) → k < length es → r ≡ get_or es k r → lent (take (k + 1) es) ≡ lent (take k es) ++ r.now ∷ []
-lent-more es k r l h = map_more (λ (x : Bor Edit). x.now) es k r l ∙ ap (λ (x : Bor Edit). lent (take k es) ++ x.now ∷ []) (sym h)
+abbrev pub entry : List Entry → ℕ → Entry
+entry es k = get_or es k none
 
-pub plain-read : (es : List (Bor Edit)) (k : ℕ) (r : Bor Edit) (xs : List Event) → AddsUnlinked (lent es) → k < length es → r ≡ get_or es k r → xs ≡ r.now.events → All IsUnlinked xs
-plain-read es k r xs u l h g =
+kept-read : (cs : List Event) (es : List Entry) (k : ℕ) → k < length es → (e : Edit) → get_or (kept cs es) k e ≡ edit_of cs (entry es k)
+kept-read cs es k l e = get_or-map (edit_of cs) es k none e l
+
+kept-more : (cs : List Event) (es : List Entry) (k : ℕ) → k < length es → kept cs (take (k + 1) es) ≡ kept cs (take k es) ++ edit_of cs (entry es k) ∷ []
+kept-more cs es k l = map_more (edit_of cs) es k none l
+
+pub plain-read : (cs : List Event) (r : Entry) (xs : List Event) → All IsUnlinked cs → xs ≡ (edit_of cs r).events → All IsUnlinked xs
+plain-read cs r xs u h =
     let P : List Event → Type 0 = λ ys. All IsUnlinked ys in
-    let size = length-map es (λ (x : Bor Edit). x.now) in
-    subst P (sym (g ∙ ap (λ (e : Edit). e.events) (sym (lent-read es k r l h r.now)))) (u k r.now (omega arith))
+    subst P (sym h) (All-take IsUnlinked (r.to - r.from) (drop r.from cs) (All-drop IsUnlinked r.from cs u))
 
-pub here-more : (i : ℕ) (es : List (Bor Edit)) (k : ℕ) (r : Bor Edit) → k < length es → r ≡ get_or es k r → r.now.at ≡ i → All (λ e. e.at ≡ i) (take k (lent es)) → All (λ e. e.at ≡ i) (take (k + 1) (lent es))
-here-more i es k r l h at all =
-    let size = length-map es (λ (x : Bor Edit). x.now) in
-    let P : List Edit → Type 0 = λ ys. All (λ e. e.at ≡ i) ys in
-    subst P (sym (take_more (lent es) k r.now (omega arith) ∙ ap (λ x. take k (lent es) ++ x ∷ []) (lent-read es k r l h r.now))) (All-push (λ (e : Edit). e.at ≡ i) (take k (lent es)) r.now all at)
+pub here-more : (i : ℕ) (es : List Entry) (k : ℕ) → k < length es → (entry es k).at ≡ i → All (λ e. e.at ≡ i) (take k es) → All (λ e. e.at ≡ i) (take (k + 1) es)
+here-more i es k l at all =
+    let P : List Entry → Type 0 = λ ys. All (λ e. e.at ≡ i) ys in
+    subst P (sym (take_more es k none l)) (All-push (λ (e : Entry). e.at ≡ i) (take k es) (entry es k) all at)
 
 at-place : (a i n : ℕ) → a ≡ i → cond (a == i) n 0 ≡ n
 at-place a i n h = grind (arith, nat_tests)
@@ -180,15 +196,31 @@ at-place a i n h = grind (arith, nat_tests)
 at-other : (a i n : ℕ) → a ≢ i → cond (a == i) n 0 ≡ 0
 at-other a i n h = rw (ne_eqb a i h) refl
 
-pub removed-left : (i : ℕ) (es : List (Bor Edit)) (k : ℕ) (r : Bor Edit) (a : ℕ) → k < length es → r ≡ get_or es k r → a ≡ min (removed_at i (lent (take k es))) (2 ^ 64 - 1) → r.now.at ≢ i → a ≡ min (removed_at i (lent (take (k + 1) es))) (2 ^ 64 - 1)
-removed-left i es k r a l h g other = omega (arith, ap (removed_at i) (lent-more es k r l h), removed_push i (lent (take k es)) r.now, at-other r.now.at i r.now.remove other)
+pub removed-left : (cs : List Event) (i : ℕ) (es : List Entry) (k : ℕ) (a : ℕ) → k < length es → a ≡ min (removed_at i (kept cs (take k es))) (2 ^ 64 - 1) → (entry es k).at ≢ i → a ≡ min (removed_at i (kept cs (take (k + 1) es))) (2 ^ 64 - 1)
+removed-left cs i es k a l g other = omega (arith, ap (removed_at i) (kept-more cs es k l), removed_push i (kept cs (take k es)) (edit_of cs (entry es k)), at-other (entry es k).at i (entry es k).remove other)
 
-pub removed-more : (i : ℕ) (es : List (Bor Edit)) (k : ℕ) (r : Bor Edit) (a b : ℕ) → k < length es → r ≡ get_or es k r → a ≡ min (removed_at i (lent (take k es))) (2 ^ 64 - 1) → b ≡ min (a + r.now.remove) (2 ^ 64 - 1) → r.now.at ≡ i → b ≡ min (removed_at i (lent (take (k + 1) es))) (2 ^ 64 - 1)
-removed-more i es k r a b l h g m at = omega (arith, ap (removed_at i) (lent-more es k r l h), removed_push i (lent (take k es)) r.now, at-place r.now.at i r.now.remove at)
+pub removed-more : (cs : List Event) (i : ℕ) (es : List Entry) (k : ℕ) (a b : ℕ) → k < length es → a ≡ min (removed_at i (kept cs (take k es))) (2 ^ 64 - 1) → b ≡ min (a + (entry es k).remove) (2 ^ 64 - 1) → (entry es k).at ≡ i → b ≡ min (removed_at i (kept cs (take (k + 1) es))) (2 ^ 64 - 1)
+removed-more cs i es k a b l g m at = omega (arith, ap (removed_at i) (kept-more cs es k l), removed_push i (kept cs (take k es)) (edit_of cs (entry es k)), at-place (entry es k).at i (entry es k).remove at)
 
-pub backs-more : (i : ℕ) (es : List (Bor Edit)) (k : ℕ) (r : Bor Edit) (xs ys zs : List Event) → k < length es → r ≡ get_or es k r → ys ≡ xs ++ back_at i (lent (take k es)) → zs ≡ ys ++ cond (r.now.at == i && not r.now.before) r.now.events [] → zs ≡ xs ++ back_at i (lent (take (k + 1) es))
-backs-more i es k r xs ys zs l h g m =
-    m ∙ ap (λ x. x ++ cond (r.now.at == i && not r.now.before) r.now.events []) g ∙ append_assoc xs (back_at i (lent (take k es))) (cond (r.now.at == i && not r.now.before) r.now.events []) ∙ ap (λ x. xs ++ x) (sym (ap (back_at i) (lent-more es k r l h) ∙ back_push i (lent (take k es)) r.now))
+pub backs-more : (cs : List Event) (i : ℕ) (es : List Entry) (k : ℕ) (xs ys zs : List Event) → k < length es → ys ≡ xs ++ back_at i (kept cs (take k es)) → zs ≡ ys ++ cond ((entry es k).at == i && not (entry es k).before) (edit_of cs (entry es k)).events [] → zs ≡ xs ++ back_at i (kept cs (take (k + 1) es))
+backs-more cs i es k xs ys zs l g m =
+    m ∙ ap (λ x. x ++ cond ((entry es k).at == i && not (entry es k).before) (edit_of cs (entry es k)).events []) g ∙ append_assoc xs (back_at i (kept cs (take k es))) (cond ((entry es k).at == i && not (entry es k).before) (edit_of cs (entry es k)).events []) ∙ ap (λ x. xs ++ x) (sym (ap (back_at i) (kept-more cs es k l) ∙ back_push i (kept cs (take k es)) (edit_of cs (entry es k))))
+
+-- Edits in order, one by one.
+
+pub first-rises : (es : List Entry) → IsNonDecreasingBy (λ e. e.at) (take 1 es)
+first-rises es = IsNonDecreasingBy-short (λ (e : Entry). e.at) (take 1 es) (omega (arith, length-take 1 es))
+
+pub rises-more : (es : List Entry) (k : ℕ) → 1 ≤ k → k < length es → (entry es (k - 1)).at ≤ (entry es k).at → IsNonDecreasingBy (λ e. e.at) (take k es) → IsNonDecreasingBy (λ e. e.at) (take (k + 1) es)
+rises-more es k l h le up =
+    let size = length-take k es in
+    let last : length (take k es) - 1 ≡ k - 1 = omega arith in
+    let below : k - 1 < length es = omega arith in
+    let read = λ (d : Entry). ap (λ n. get_or (take k es) n d) last ∙ get_or-take k es (k - 1) d (omega arith) ∙ get_or_default es (k - 1) d none below in
+    subst (IsNonDecreasingBy (λ (e : Entry). e.at)) (sym (take_more es k none h)) (IsNonDecreasingBy-push (λ (e : Entry). e.at) (take k es) (entry es k) up (λ d m. omega (arith, ap (λ (e : Entry). e.at) (read d))))
+
+pub all-rise : (es : List Entry) (k : ℕ) → length es ≤ k → IsNonDecreasingBy (λ e. e.at) (take k es) → IsNonDecreasingBy (λ e. e.at) es
+all-rise es k l up = subst (IsNonDecreasingBy (λ (e : Entry). e.at)) (take_all k es l) up
 
 -- what an edit puts behind others at a place
 pub comes-behind : (r : Edit) (i : ℕ) (xs : List Event) → r.at ≡ i → r.before ≡ false → xs ≡ r.events → xs ≡ cond (r.at == i && not r.before) r.events []
@@ -207,92 +239,198 @@ none-behind r i ys b = none-part (r.at == i) r.before r.events ys b
 pub none-elsewhere : (r : Edit) (i : ℕ) (ys : List Event) → r.at ≢ i → ys ≡ ys ++ cond (r.at == i && not r.before) r.events []
 none-elsewhere r i ys other = rw (ne_eqb r.at i other) (sym (append-nil ys))
 
--- A part of the edits that are lent.
+-- edits that are kept bring no event with a link
+pub adds-unlinked : (cs : List Event) (es : List Entry) → All IsUnlinked cs → AddsUnlinked (kept cs es)
+adds-unlinked cs es u = All-map (λ (e : Edit). All IsUnlinked e.events) (edit_of cs) es (λ k d l. plain-read cs (get_or es k d) _ u refl)
 
-lent-tail : (es : List (Bor Edit)) (p : ℕ) → lent (take (length es - p) (drop p es)) ≡ drop p (lent es)
-lent-tail es p = ap lent (take_all (length es - p) (drop p es) (omega (arith, length-drop p es))) ∙ sym (drop-map (λ (e : Bor Edit). e.now) p es)
+-- A part of the edits that are kept.
+
+kept-tail : (cs : List Event) (es : List Entry) (p : ℕ) → kept cs (take (length es - p) (drop p es)) ≡ drop p (kept cs es)
+kept-tail cs es p = ap (kept cs) (take_all (length es - p) (drop p es) (omega (arith, length-drop p es))) ∙ sym (drop-map (edit_of cs) p es)
+
+kept-at : (cs : List Event) (i : ℕ) (es : List Entry) → All (λ e. e.at ≡ i) es → All (λ e. e.at ≡ i) (kept cs es)
+kept-at cs i es h = All-map (λ (e : Edit). e.at ≡ i) (edit_of cs) es h
+
+pub brought-sorted : (cs : List Event) (xs ys : List Entry) → IsPermutation xs ys → AreBrought cs xs → AreBrought cs ys
+brought-sorted cs xs ys moved b = record {
+  order = All-permutation (λ (e : Entry). e.from ≤ e.to) xs ys moved b.order;
+  within = All-permutation (λ (e : Entry). e.to ≤ length cs) xs ys moved b.within;
+  unlinked = b.unlinked;
+}
+
+-- Edits that are added and taken off.
+
+cut-events : (cs : List Event) (a b e : ℕ) → a ≤ b → b ≤ e → take (b - a) (drop a (take e cs)) ≡ take (b - a) (drop a cs)
+cut-events cs a b e l h =
+    let all : a + (e - a) ≡ e = omega arith in
+    ap (λ n. take (b - a) (drop a (take n cs))) (sym all) ∙ ap (take (b - a)) (drop-take a (e - a) cs) ∙ take-take (b - a) (e - a) (drop a cs) (omega arith)
+
+-- the first of the events are enough for edits that bring none of the others
+kept-cut : (cs : List Event) (e : ℕ) (es : List Entry) → All (λ x. x.from ≤ x.to) es → All (λ x. x.to ≤ e) es → kept (take e cs) es ≡ kept cs es
+kept-cut cs e [] o w = refl
+kept-cut cs e (x ∷ es) o w =
+    let first : edit_of (take e cs) x ≡ edit_of cs x = ap (λ (xs : List Event). record { at = x.at; remove = x.remove; events = xs; before = x.before }) (cut-events cs x.from x.to e (o 0 x (omega arith)) (w 0 x (omega arith))) in
+    ap (λ y. y ∷ kept (take e cs) es) first ∙ ap (λ ys. edit_of cs x ∷ ys) (kept-cut cs e es (λ k d l. o (suc k) d (omega arith)) (λ k d l. w (suc k) d (omega arith)))
+
+pub all-below : (es : List Entry) (n : ℕ) → 0 < n → n ≤ length es → IsNonDecreasingBy (λ e. e.to) es → All (λ e. e.to ≤ (entry es (n - 1)).to) (take n es)
+all-below es n p l up = λ k d h.
+    let size = length-take n es in
+    let low : k < n = omega arith in
+    let read = ap (λ (e : Entry). e.to) (get_or-take n es k d low ∙ get_or_default es k d none (omega arith)) in
+    let le = up k (n - 1) none (omega arith) (omega arith) in
+    omega (arith, read)
+
+-- the first edits, with the events that they bring
+module _ (cs : List Event) (es : List Entry) (n e : ℕ) (k : AreKept cs es) (below : All (λ x. x.to ≤ e) (take n es)) where
+  pub kept-first : kept (take e cs) (take n es) ≡ take n (kept cs es)
+  kept-first = kept-cut cs e (take n es) (All-take (λ (x : Entry). x.from ≤ x.to) n es k.brought.order) below ∙ sym (take-map (edit_of cs) n es)
+
+  pub are-first : AreKept (take e cs) (take n es)
+  are-first =
+      let size = length-take e cs in
+      let all = All-take (λ (x : Entry). x.to ≤ length cs) n es k.brought.within in
+      record {
+        brought = record {
+          order = All-take (λ (x : Entry). x.from ≤ x.to) n es k.brought.order;
+          within = λ j d l. let a = all j d l in let b = below j d l in omega arith;
+          unlinked = All-take IsUnlinked e cs k.brought.unlinked;
+        };
+        rises = IsNonDecreasingBy-take (λ (x : Entry). x.to) n es k.rises;
+      }
+
+pub first-seen : (cs ds : List Event) (es fs gs : List Entry) (n e : ℕ) → fs ≡ es → gs ≡ take n es → ds ≡ take e cs → AreKept cs es → (IsNonDecreasingBy (λ x. x.to) fs → All (λ x. x.to ≤ e) (take n fs)) → (kept ds gs ≡ take n (kept cs es)) × AreKept ds gs
+first-seen cs ds es fs gs n e seen cut short k low =
+    let below = subst (λ (xs : List Entry). IsNonDecreasingBy (λ x. x.to) xs → All (λ x. x.to ≤ e) (take n xs)) seen low k.rises in (
+      ap (λ xs. kept xs gs) short ∙ ap (kept (take e cs)) cut ∙ kept-first cs es n e k below,
+      subst (λ (xs : List Event). AreKept xs gs) (sym short) (subst (λ (xs : List Entry). AreKept (take e cs) xs) (sym cut) (are-first cs es n e k below)),
+    )
+
+-- one edit more, with the events that it brings
+module _ (cs xs : List Event) (es : List Entry) (k : AreKept cs es) (x : Entry) (from : x.from ≡ length cs) (to : x.to ≡ length (cs ++ xs)) where
+  before-same : kept (cs ++ xs) es ≡ kept cs es
+  before-same = sym (kept-cut (cs ++ xs) (length cs) es k.brought.order k.brought.within) ∙ ap (λ ys. kept ys es) (take-append_seam cs xs)
+
+  size-both : length (cs ++ xs) ≡ length cs + length xs
+  size-both = length-append cs xs
+
+  last-events : take (x.to - x.from) (drop x.from (cs ++ xs)) ≡ xs
+  last-events =
+      let size = size-both in
+      let count : x.to - x.from ≡ length xs = omega arith in
+      ap (λ m. take m (drop x.from (cs ++ xs))) count ∙ ap (λ m. take (length xs) (drop m (cs ++ xs))) from ∙ ap (take (length xs)) (drop-append_seam cs xs) ∙ take_all (length xs) xs (omega arith)
+
+  pub kept-pushed : kept (cs ++ xs) (es ++ x ∷ []) ≡ kept cs es ++ (record { at = x.at; remove = x.remove; events = xs; before = x.before }) ∷ []
+  kept-pushed = map-append (edit_of (cs ++ xs)) es (x ∷ []) ∙ ap (λ ys. ys ++ edit_of (cs ++ xs) x ∷ []) before-same ∙ ap (λ (ys : List Event). kept cs es ++ (record { at = x.at; remove = x.remove; events = ys; before = x.before }) ∷ []) last-events
+
+  pub are-pushed : All IsUnlinked xs → AreKept (cs ++ xs) (es ++ x ∷ [])
+  are-pushed u =
+      let size = size-both in
+      record {
+        brought = record {
+          order = All-push (λ (e : Entry). e.from ≤ e.to) es x k.brought.order (omega arith);
+          within = All-push (λ (e : Entry). e.to ≤ length (cs ++ xs)) es x (λ j d l. let w = k.brought.within j d l in omega arith) (omega arith);
+          unlinked = All-append IsUnlinked cs xs k.brought.unlinked u;
+        };
+        rises = IsNonDecreasingBy-push (λ (e : Entry). e.to) es x k.rises (λ d p. let w = k.brought.within (length es - 1) d (omega arith) in omega arith);
+      }
+
+pub pushed-seen : (cs ds xs : List Event) (es fs : List Entry) (x : Entry) → ds ≡ cs ++ xs → fs ≡ es ++ x ∷ [] → x.from ≡ length cs → x.to ≡ length ds → AreKept cs es → All IsUnlinked xs → (kept ds fs ≡ kept cs es ++ (record { at = x.at; remove = x.remove; events = xs; before = x.before }) ∷ []) × AreKept ds fs
+pushed-seen cs ds xs es fs x more longer from to k u =
+    let end = to ∙ ap length more in (
+      ap (λ ys. kept ys fs) more ∙ ap (kept (cs ++ xs)) longer ∙ kept-pushed cs xs es k x from end,
+      subst (λ (ys : List Event). AreKept ys fs) (sym more) (subst (λ (ys : List Entry). AreKept (cs ++ xs) ys) (sym longer) (are-pushed cs xs es k x from end u)),
+    )
+
+-- what is read of a map
+
+pub brought-seen : (cs ds : List Event) (es fs : List Entry) → ds ≡ cs → fs ≡ es → AreBrought cs es → AreBrought ds fs
+brought-seen cs ds es fs h g b = subst (λ (xs : List Event). AreBrought xs fs) (sym h) (subst (λ (xs : List Entry). AreBrought cs xs) (sym g) b)
+
+pub rest-seen : (cs ds : List Event) (es fs gs : List Entry) (log : List Edit) → ds ≡ cs → fs ≡ es → kept cs es ≡ log → IsRest 0 (kept ds fs) (kept ds gs) → IsRest 0 log (kept ds gs)
+rest-seen cs ds es fs gs log h g k r = subst (λ (xs : List Edit). IsRest 0 xs (kept ds gs)) (ap (λ x. kept x fs) h ∙ ap (kept cs) g ∙ k) r
+
+-- edits at a place bring events as all do
+pub brought-here : (cs : List Event) (es : List Entry) (p k : ℕ) → AreBrought cs es → AreBrought cs (take k (take (length es - p) (drop p es)))
+brought-here cs es p k b = record {
+  order = All-take (λ (e : Entry). e.from ≤ e.to) k (take (length es - p) (drop p es)) (All-take (λ (e : Entry). e.from ≤ e.to) (length es - p) (drop p es) (All-drop (λ (e : Entry). e.from ≤ e.to) p es b.order));
+  within = All-take (λ (e : Entry). e.to ≤ length cs) k (take (length es - p) (drop p es)) (All-take (λ (e : Entry). e.to ≤ length cs) (length es - p) (drop p es) (All-drop (λ (e : Entry). e.to ≤ length cs) p es b.within));
+  unlinked = b.unlinked;
+}
 
 -- what passing k edits at place i does to what is left from edit p on
-pub record Passing (i k p : ℕ) (es : List (Bor Edit)) : Type 0 where
-  pub plain : AddsUnlinked (lent (take k (take (length es - p) (drop p es))))
-  pub added : front_at i (lent (take k (take (length es - p) (drop p es)))) ++ back_at i (lent (take k (take (length es - p) (drop p es)))) ≡ added_at i (drop p (lent es))
-  pub removed : removed_at i (lent (take k (take (length es - p) (drop p es)))) ≡ removed_at i (drop p (lent es))
-  pub behind : IsRest (i + 1) (drop p (lent es)) (drop (p + k) (lent es))
+pub record Passing (cs : List Event) (i k p : ℕ) (es : List Entry) : Type 0 where
+  pub plain : AddsUnlinked (kept cs (take k (take (length es - p) (drop p es))))
+  pub added : front_at i (kept cs (take k (take (length es - p) (drop p es)))) ++ back_at i (kept cs (take k (take (length es - p) (drop p es)))) ≡ added_at i (drop p (kept cs es))
+  pub removed : removed_at i (kept cs (take k (take (length es - p) (drop p es)))) ≡ removed_at i (drop p (kept cs es))
+  pub behind : IsRest (i + 1) (drop p (kept cs es)) (drop (p + k) (kept cs es))
 
-pub passing : (i k p : ℕ) (es : List (Bor Edit)) → IsRest i (drop p (lent es)) (drop p (lent es)) → k ≤ length (take (length es - p) (drop p es)) → All (λ e. e.at ≡ i) (take k (lent (take (length es - p) (drop p es)))) → ((e : Edit) → k < length (take (length es - p) (drop p es)) → (get_or (lent (take (length es - p) (drop p es))) k e).at ≢ i) → Passing i k p es
-passing i k p es rest within here next =
+pub passing : (cs : List Event) (i k p : ℕ) (es : List Entry) → IsRest i (drop p (kept cs es)) (drop p (kept cs es)) → k ≤ length (take (length es - p) (drop p es)) → All (λ e. e.at ≡ i) (take k (take (length es - p) (drop p es))) → ((e : Entry) → k < length (take (length es - p) (drop p es)) → (get_or (take (length es - p) (drop p es)) k e).at ≢ i) → Passing cs i k p es
+passing cs i k p es rest within here next =
     let tail = take (length es - p) (drop p es) in
-    let is : lent tail ≡ drop p (lent es) = lent-tail es p in
+    let is : kept cs tail ≡ drop p (kept cs es) = kept-tail cs es p in
     let R : List Edit → Type 0 = λ r. IsRest i r r in
     let B : List Edit → Type 0 = λ r. IsRest (i + 1) r (drop k r) in
-    let C : List Edit → Type 0 = λ r. IsRest (i + 1) (drop p (lent es)) r in
-    let part : lent (take k tail) ≡ take k (lent tail) = sym (take-map (λ (e : Bor Edit). e.now) k tail) in
-    let size = length-map tail (λ (e : Bor Edit). e.now) in
-    let self : IsRest i (lent tail) (lent tail) = subst R (sym is) rest in
-    let low : k ≤ length (lent tail) = omega arith in
-    let other = λ (e : Edit) (l : k < length (lent tail)). next e (omega arith) in
+    let C : List Edit → Type 0 = λ r. IsRest (i + 1) (drop p (kept cs es)) r in
+    let part : kept cs (take k tail) ≡ take k (kept cs tail) = sym (take-map (edit_of cs) k tail) in
+    let size = length-map tail (edit_of cs) in
+    let self : IsRest i (kept cs tail) (kept cs tail) = subst R (sym is) rest in
+    let low : k ≤ length (kept cs tail) = omega arith in
+    let there : All (λ e. e.at ≡ i) (take k (kept cs tail)) = subst (λ (r : List Edit). All (λ e. e.at ≡ i) r) part (kept-at cs i (take k tail) here) in
+    let other = λ (e : Edit) (l : k < length (kept cs tail)) (h : (get_or (kept cs tail) k e).at ≡ i). next none (omega arith) (sym (ap (λ (x : Edit). x.at) (get_or-map (edit_of cs) tail k none e (omega arith))) ∙ h) in
     let P : List Edit → Type 0 = λ r. AddsUnlinked r in
     record {
-      plain = subst P (sym part) (All-take (λ (e : Edit). All IsUnlinked e.events) k (lent tail) self.plain);
-      added = ap (λ r. front_at i r ++ back_at i r) part ∙ added-here i k (lent tail) self low here other ∙ ap (added_at i) is;
-      removed = ap (removed_at i) part ∙ removed-here i k (lent tail) self low here other ∙ ap (removed_at i) is;
-      behind = subst C (drop-drop k p (lent es)) (subst B is (rest-behind i k (lent tail) self low here other));
+      plain = subst P (sym part) (All-take (λ (e : Edit). All IsUnlinked e.events) k (kept cs tail) self.plain);
+      added = ap (λ r. front_at i r ++ back_at i r) part ∙ added-here i k (kept cs tail) self low there other ∙ ap (added_at i) is;
+      removed = ap (removed_at i) part ∙ removed-here i k (kept cs tail) self low there other ∙ ap (removed_at i) is;
+      behind = subst C (drop-drop k p (kept cs es)) (subst B is (rest-behind i k (kept cs tail) self low there other));
     }
 
 -- no edit stands at the place
-module _ (i k p : ℕ) (es : List (Bor Edit)) (none : k ≡ 0) (passes : Passing i k p es) where
-  pub nothing-added : added_at i (drop p (lent es)) ≡ []
-  nothing-added = sym passes.added ∙ ap (λ n. front_at i (lent (take n (take (length es - p) (drop p es)))) ++ back_at i (lent (take n (take (length es - p) (drop p es))))) none
+module _ (cs : List Event) (i k p : ℕ) (es : List Entry) (zeros : k ≡ 0) (passes : Passing cs i k p es) where
+  pub nothing-added : added_at i (drop p (kept cs es)) ≡ []
+  nothing-added = sym passes.added ∙ ap (λ n. front_at i (kept cs (take n (take (length es - p) (drop p es)))) ++ back_at i (kept cs (take n (take (length es - p) (drop p es))))) zeros
 
-  pub nothing-removed : removed_at i (drop p (lent es)) ≡ 0
-  nothing-removed = sym passes.removed ∙ ap (λ n. removed_at i (lent (take n (take (length es - p) (drop p es))))) none
+  pub nothing-removed : removed_at i (drop p (kept cs es)) ≡ 0
+  nothing-removed = sym passes.removed ∙ ap (λ n. removed_at i (kept cs (take n (take (length es - p) (drop p es))))) zeros
 
-  pub all-behind : IsRest (i + 1) (drop p (lent es)) (drop p (lent es))
+  pub all-behind : IsRest (i + 1) (drop p (kept cs es)) (drop p (kept cs es))
   all-behind =
-      let R : ℕ → Type 0 = λ n. IsRest (i + 1) (drop p (lent es)) (drop n (lent es)) in
+      let R : ℕ → Type 0 = λ n. IsRest (i + 1) (drop p (kept cs es)) (drop n (kept cs es)) in
       let same : p + k ≡ p = omega arith in
       subst R same passes.behind
 
 -- One place passed, of what the log leaves.
 
-module _ (log : List Edit) (i p : ℕ) (vs ws : List (Bor Edit)) (is : ws ≡ vs) (rest : IsRest i log (drop p (lent vs))) where
-  left : IsRest i log (drop p (lent ws))
-  left = let R : List (Bor Edit) → Type 0 = λ v. IsRest i log (drop p (lent v)) in subst R (sym is) rest
-
-  pub put-place : (done put : List Event) → put ≡ done ++ added_at i (drop p (lent ws)) → put ≡ done ++ added_at i log
+module _ (log : List Edit) (i p : ℕ) (es : List Edit) (left : IsRest i log (drop p es)) where
+  pub put-place : (done put : List Event) → put ≡ done ++ added_at i (drop p es) → put ≡ done ++ added_at i log
   put-place done put h = h ∙ ap (λ x. done ++ x) (left.added i (omega arith))
 
-  pub rest-place : (q : ℕ) → IsRest (i + 1) (drop p (lent ws)) (drop q (lent ws)) → IsRest (i + 1) log (drop q (lent vs))
-  rest-place q r =
-      let R : List (Bor Edit) → Type 0 = λ v. IsRest (i + 1) log (drop q (lent v)) in
-      subst R is (rest-trans i (i + 1) log (drop p (lent ws)) (drop q (lent ws)) (omega arith) left r)
+  pub rest-place : (q : ℕ) → IsRest (i + 1) (drop p es) (drop q es) → IsRest (i + 1) log (drop q es)
+  rest-place q r = rest-trans i (i + 1) log (drop p es) (drop q es) (omega arith) left r
 
-  pub range-place : (a b : ℕ) → i < 2 ^ 64 - 1 → EndsAt log i i a → b ≡ max a (min (i + min (removed_at i (drop p (lent ws))) (2 ^ 64 - 1)) (2 ^ 64 - 1)) → EndsAt log i (i + 1) b
+  pub range-place : (a b : ℕ) → i < 2 ^ 64 - 1 → EndsAt log i i a → b ≡ max a (min (i + min (removed_at i (drop p es)) (2 ^ 64 - 1)) (2 ^ 64 - 1)) → EndsAt log i (i + 1) b
   range-place a b l h g = range-more log i a _ _ b l h (ap (λ n. min n (2 ^ 64 - 1)) (left.removed i (omega arith))) refl g
 
 -- Up to the next edit.
 
-pub ahead-seen : (m p : ℕ) (vs ws : List (Bor Edit)) → ws ≡ vs → All (λ e. m ≤ e.at) (drop p (lent ws)) → All (λ e. m ≤ e.at) (drop p (lent vs))
-ahead-seen m p vs ws is h = let P : List (Bor Edit) → Type 0 = λ es. All (λ e. m ≤ e.at) (drop p (lent es)) in subst P is h
-
-first-left : (es : List (Bor Edit)) (p : ℕ) (r : Bor Edit) → p < length es → r ≡ get_or es p r → (d : Edit) → get_or (drop p (lent es)) 0 d ≡ r.now
-first-left es p r l h d =
+first-left : (cs : List Event) (es : List Entry) (p : ℕ) → p < length es → (d : Edit) → get_or (drop p (kept cs es)) 0 d ≡ edit_of cs (entry es p)
+first-left cs es p l d =
     let at : p + 0 ≡ p = omega arith in
-    get_or-drop p (lent es) 0 d ∙ ap (λ n. get_or (lent es) n d) at ∙ lent-read es p r l h d
+    get_or-drop p (kept cs es) 0 d ∙ ap (λ n. get_or (kept cs es) n d) at ∙ kept-read cs es p l d
 
-left-size : (es : List (Bor Edit)) (p : ℕ) → length (drop p (lent es)) ≡ length es - p
-left-size es p = length-drop p (lent es) ∙ ap (λ n. n - p) (length-map es (λ (e : Bor Edit). e.now))
+left-size : (cs : List Event) (es : List Entry) (p : ℕ) → length (drop p (kept cs es)) ≡ length es - p
+left-size cs es p = length-drop p (kept cs es) ∙ ap (λ n. n - p) (length-map es (edit_of cs))
 
-pub next-from : (es : List (Bor Edit)) (p n : ℕ) (r : Bor Edit) → p < length es → r ≡ get_or es p r → All (λ e. n ≤ e.at) (drop p (lent es)) → n ≤ r.now.at
-next-from es p n r l h all =
-    let size = left-size es p in
-    let low = all 0 r.now (omega arith) in
-    omega (arith, ap (λ (e : Edit). e.at) (first-left es p r l h r.now))
+pub next-from : (cs : List Event) (es : List Entry) (p n : ℕ) → p < length es → All (λ e. n ≤ e.at) (drop p (kept cs es)) → n ≤ (entry es p).at
+next-from cs es p n l all =
+    let size = left-size cs es p in
+    let low = all 0 (edit_of cs (entry es p)) (omega arith) in
+    omega (arith, ap (λ (e : Edit). e.at) (first-left cs es p l (edit_of cs (entry es p))))
 
-pub next-rest : (es : List (Bor Edit)) (p t : ℕ) (r : Bor Edit) → p < length es → r ≡ get_or es p r → t ≤ r.now.at → IsNonDecreasingBy (λ e. e.at) (drop p (lent es)) → All (λ e. t ≤ e.at) (drop p (lent es))
-next-rest es p t r l h le up = λ k d m.
+pub next-rest : (cs : List Event) (es : List Entry) (p t : ℕ) → p < length es → t ≤ (entry es p).at → IsNonDecreasingBy (λ e. e.at) (drop p (kept cs es)) → All (λ e. t ≤ e.at) (drop p (kept cs es))
+next-rest cs es p t l le up = λ k d m.
     let more = up 0 k d (omega arith) m in
-    omega (arith, ap (λ (e : Edit). e.at) (first-left es p r l h d))
+    omega (arith, ap (λ (e : Edit). e.at) (first-left cs es p l d))
 
 -- the edits left lie from a later place on
 pub rest-later : (n m : ℕ) (log a : List Edit) → n ≤ m → IsRest n log a → All (λ e. m ≤ e.at) a → IsRest m log a

@@ -1,11 +1,12 @@
 -- Edits of a list of events, applied at once: each place is counted in the list before any edit.
-use Rattle.std.specs.Prelude.{◌≡◌, ℕ, zero, suc, ◌+◌, ◌-◌, ◌≤◌, ◌==◌, ◌||◌, ◌&&◌, not, nat_lt, nat_le, Bool, true, false, List, [], ◌∷◌, ◌++◌, length, map, if◌then◌else◌}
-use denote.Ref.{Bor}
+use Rattle.std.specs.Prelude.{◌≡◌, ℕ, zero, suc, ◌+◌, ◌-◌, ◌≤◌, ◌==◌, ◌||◌, ◌&&◌, not, nat_lt, nat_le, Bool, true, false, List, [], ◌∷◌, ◌++◌, length, take, drop, map, if◌then◌else◌}
 use Rattle.std.specs.List.{All}
 use Rattle.std.specs.List.Sorted.{IsNonDecreasingBy}
 use Rattle.std.specs.Option.{option_map}
 use Rattle.markdown_engine.specs.declared.event.Event.{Event}
 use Rattle.markdown_engine.specs.declared.util.edit_map.Edit.{Edit}
+use Rattle.markdown_engine.specs.declared.util.edit_map.Entry.{Entry}
+use Rattle.markdown_engine.specs.declared.util.edit_map.Kept.{Kept}
 use Rattle.markdown_engine.specs.Chain.{with_previous, previous_of, has_link, linked_at, IsUnlinked}
 
 -- What the edits collect at a place.
@@ -82,9 +83,27 @@ pub record CanEdit (log : List Edit) (es : List Event) : Type 0 where
 
 -- How one walk applies them.
 
--- the edits that these references lend
-abbrev pub lent : List (Bor Edit) → List Edit
-lent edits = map (λ e. e.now) edits
+-- the edit that an entry keeps: its events stand from a place to a place in the list of all that come
+abbrev pub edit_of : List Event → Entry → Edit
+edit_of comes e = record { at = e.at; remove = e.remove; events = take (e.to - e.from) (drop e.from comes); before = e.before }
+
+-- the edits that entries keep
+abbrev pub kept : List Event → List Entry → List Edit
+kept comes entries = map (edit_of comes) entries
+
+abbrev pub edits_of : Kept → List Edit
+edits_of k = kept k.comes.now k.entries.now
+
+-- the events that each entry brings stand in the list, and none of the list carries a link
+pub record AreBrought (comes : List Event) (entries : List Entry) : Type 0 where
+  pub order : All (λ e. e.from ≤ e.to) entries
+  pub within : All (λ e. e.to ≤ length comes) entries
+  pub unlinked : All IsUnlinked comes
+
+-- what is kept of edits: each brings events that stand behind those of the edits before it
+pub record AreKept (comes : List Event) (entries : List Entry) : Type 0 where
+  pub brought : AreBrought comes entries
+  pub rises : IsNonDecreasingBy (λ e. e.to) entries
 
 -- edits in the order of their places, none below n, which collect at each place from n on what the log collects there
 pub record IsRest (n : ℕ) (log rest : List Edit) : Type 0 where

@@ -1,9 +1,9 @@
 // Edits of a list of events, collected first and applied at once.
-ghost use Rattle.std.specs.Prelude.{◌≡◌, ◌≢◌, ℕ, ◌<◌, ◌≤◌, ◌+◌, ◌-◌, ◌^◌, ◌++◌, ◌∷◌, ◌==◌, [], length, take, drop, slice_index_or, min, max, sum_by, OnOk, OnErr, IfOk, true, false};
+ghost use Rattle.std.specs.Prelude.{◌≡◌, ◌≢◌, ℕ, ◌<◌, ◌≤◌, ◌+◌, ◌-◌, ◌^◌, ◌++◌, ◌∷◌, ◌==◌, [], length, take, drop, slice_index_or, min, max, sum_by, OnOk, OnErr, IfOk, IsTrue, List, true, false};
 ghost use Rattle.std.specs.List.{All};
 ghost use Rattle.std.specs.List.Sorted.{IsNonDecreasingBy};
 ghost use Rattle.markdown_engine.specs.Chain.{bare, IsLinked, IsUnlinked};
-ghost use Rattle.markdown_engine.specs.Edits.{removed_at, front_at, back_at, added_at, lent, number_of, renumbered, noted, edited, AddsUnlinked, IsRest, CanEdit};
+ghost use Rattle.markdown_engine.specs.Edits.{removed_at, front_at, back_at, added_at, edit_of, kept, edits_of, number_of, renumbered, noted, edited, AddsUnlinked, AreBrought, AreKept, IsRest, CanEdit};
 
 use crate::event::{Event, Link};
 use crate::events::Events;
@@ -11,7 +11,7 @@ use crate::seq::{Seq, Stack};
 use std::alloc::{AllocError, Global};
 use std::marker::Model;
 
-/// One edit of a list of events, at a place in the list as it is before any edit.
+/// One edit of a list of events, at a place in the list as it is before any edit: so contracts see what a map keeps.
 #[derive(Drop)]
 pub struct Edit {
     /// The place: the number of an event, or how many events there are.
@@ -24,45 +24,101 @@ pub struct Edit {
     pub before: bool,
 }
 
+// One edit, as a map keeps it.
+#[derive(Clone, Copy)]
+struct Entry {
+    // The place: the number of an event, or how many events there are.
+    at: usize,
+    // How many events go, from the place on.
+    remove: usize,
+    // Where the events that come begin, in the list of all that come.
+    from: usize,
+    // Where they end.
+    to: usize,
+    // Whether they come before those that earlier edits put there, and not behind.
+    before: bool,
+}
+
 /// Edits of a list of events, collected and then applied at once.
 ///
-/// Contracts see it as the list of the edits, in the order of the calls that added them.
+/// The events of all edits stand in one list, so that an edit takes no memory of its own. Contracts see
+/// the map as the list of the edits, in the order of the calls that added them.
 #[derive(Drop)]
 pub struct EditMap {
-    log: Seq<Edit>,
+    log: Seq<Entry>,
+    // the events that come, those of an edit behind those of the edits before it
+    comes: Seq<Event>,
     alloc: Global,
 }
 
 impl Model for EditMap {
     ghost use Rattle.std.specs.Prelude.{List};
-    ghost use Rattle.markdown_engine.specs.Edits.{AddsUnlinked};
+    ghost use Rattle.markdown_engine.specs.Edits.{kept, AreKept};
     ghost use Rattle.markdown_engine.specs.declared.util.edit_map.Edit.{Edit};
 
     ghost Value = { List Edit };
 
-    ghost view = { λ s. s.log };
+    ghost view = { λ s. kept s.comes s.log };
 
-    ghost invariant = { λ s. AddsUnlinked s.log };
+    ghost invariant = { λ s. AreKept s.comes s.log };
 }
 
-// The edits in the order of their places; those at one place in the order in which they were added.
-fn by_place<'a>(alloc: Global, log: &'a [Edit]) -> Result<Vec<&'a Edit>, AllocError>
-    requires { AddsUnlinked log.now }
-    ensures { IfOk result (λ v. IsRest 0 log.now (lent v.items)) }
+// Edits, and the list of all events that come.
+#[derive(Clone, Copy)]
+struct Kept<'a> {
+    entries: &'a [Entry],
+    comes: &'a [Event],
+}
+
+// The events that an edit brings.
+fn brought<'a>(comes: &'a [Event], edit: &Entry) -> &'a [Event]
+    requires order { edit.now.from ≤ edit.now.to }
+    requires within { edit.now.to ≤ length comes.now }
+    ensures { result.now ≡ (edit_of comes.now edit.now).events }
 {
-    let mut edits = Vec::with_capacity(alloc, log.len())?;
-    for edit in log {
-        edits.push(edit)?;
+    &comes[edit.from..edit.to]
+}
+
+// Whether each edit stands at a place not before that of the edit before it.
+fn is_in_order(log: &[Entry]) -> bool
+    ensures { IsTrue result → IsNonDecreasingBy (λ e. e.at) log.now }
+{
+    for index in 1..log.len() {
+        if log[index].at < log[index - 1].at {
+            return false;
+        }
     }
-    edits.sort_by_key(|edit| edit.at)?;
-    Ok(edits)
+    true
+}
+
+// The edits in the order of their places; those at one place in the order in which they were added. Room is filled where
+// they were added in another order.
+fn by_place<'a>(log: &'a [Entry], room: &'a mut Vec<Entry>) -> Result<&'a [Entry], AllocError>
+    requires { room.old.items ≡ [] }
+    ensures rest { (comes : List Event) → AreBrought comes log.now → IfOk result (λ v. IsRest 0 (kept comes log.now) (kept comes v.now)) }
+    ensures brought { (comes : List Event) → AreBrought comes log.now → IfOk result (λ v. AreBrought comes v.now) }
+{
+    if is_in_order(log) {
+        return Ok(log);
+    }
+    room.extend_from_slice(log)?;
+    room.sort_by_key(|edit| edit.at)?;
+    Ok(room.as_slice())
+}
+
+// Where the events end that the first edits bring.
+fn end_of(log: &[Entry], n: usize) -> usize
+    requires { n ≤ length log.now }
+    ensures { IsNonDecreasingBy (λ e. e.to) log.now → All (λ e. e.to ≤ result) (take n log.now) }
+{
+    if n == 0 { 0 } else { log[n - 1].to }
 }
 
 // How many edits at the front stand at a place.
-fn count_at(edits: &[&Edit], at: usize) -> usize
-    ensures here { All (λ e. e.at ≡ at) (take result (lent edits.now)) }
+fn count_at(edits: &[Entry], at: usize) -> usize
+    ensures here { All (λ e. e.at ≡ at) (take result edits.now) }
     ensures within { result ≤ length edits.now }
-    ensures next { (e : Edit) → result < length edits.now → (slice_index_or (lent edits.now) result e).at ≢ at }
+    ensures next { (e : Entry) → result < length edits.now → (slice_index_or edits.now result e).at ≢ at }
 {
     let mut count = 0usize;
     while count < edits.len() && edits[count].at == at {
@@ -72,38 +128,38 @@ fn count_at(edits: &[&Edit], at: usize) -> usize
 }
 
 // Adds the events that edits put at a place before others: the last edit's first.
-fn push_fronts(done: &mut Events, edits: &[&Edit], at: usize) -> Result<(), AllocError>
-    requires { AddsUnlinked (lent edits.now) }
-    ensures { OnOk result (done.new ≡ done.old ++ front_at at (lent edits.now)) }
+fn push_fronts(done: &mut Events, edits: &Kept, at: usize) -> Result<(), AllocError>
+    requires { AreBrought edits.now.comes.now edits.now.entries.now }
+    ensures { OnOk result (done.new ≡ done.old ++ front_at at (edits_of edits.now)) }
 {
-    for index in (0..edits.len()).rev() {
-        let edit = edits[index];
+    for index in (0..edits.entries.len()).rev() {
+        let edit = &edits.entries[index];
         if edit.at == at && edit.before {
-            done.extend_plain(edit.events.as_slice())?;
+            done.extend_plain(brought(edits.comes, edit))?;
         }
     }
     Ok(())
 }
 
 // Adds the events that edits put at a place behind others: the last edit's last.
-fn push_backs(done: &mut Events, edits: &[&Edit], at: usize) -> Result<(), AllocError>
-    requires { AddsUnlinked (lent edits.now) }
-    ensures { OnOk result (done.new ≡ done.old ++ back_at at (lent edits.now)) }
+fn push_backs(done: &mut Events, edits: &Kept, at: usize) -> Result<(), AllocError>
+    requires { AreBrought edits.now.comes.now edits.now.entries.now }
+    ensures { OnOk result (done.new ≡ done.old ++ back_at at (edits_of edits.now)) }
 {
-    for edit in edits {
+    for edit in edits.entries {
         if edit.at == at && !edit.before {
-            done.extend_plain(edit.events.as_slice())?;
+            done.extend_plain(brought(edits.comes, edit))?;
         }
     }
     Ok(())
 }
 
 // How many events go, from a place on; a count past usize::MAX stands as usize::MAX.
-fn removed_from(edits: &[&Edit], at: usize) -> usize
-    ensures { result ≡ min (removed_at at (lent edits.now)) (2 ^ 64 - 1) }
+fn removed_from(edits: &Kept, at: usize) -> usize
+    ensures { result ≡ min (removed_at at (edits_of edits.now)) (2 ^ 64 - 1) }
 {
     let mut removed = 0usize;
-    for edit in edits {
+    for edit in edits.entries {
         if edit.at == at {
             removed = removed.saturating_add(edit.remove);
         }
@@ -123,19 +179,20 @@ struct Passed {
 // Adds the events that come at a place, and passes its edits. The answer is how far the walk has then come.
 fn pass_place(
     done: &mut Events,
-    edits: &[&Edit],
+    edits: &Kept,
     passed: Passed,
     at: usize,
 ) -> Result<Passed, AllocError>
-    requires within { passed.edits ≤ length edits.now }
-    requires rest { let rest = drop passed.edits (lent edits.now) in IsRest at rest rest }
-    ensures done { OnOk result (done.new ≡ done.old ++ added_at at (drop passed.edits (lent edits.now))) }
-    ensures within { IfOk result (λ p. p.edits ≤ length edits.now) }
-    ensures rest { IfOk result (λ p. IsRest (at + 1) (drop passed.edits (lent edits.now)) (drop p.edits (lent edits.now))) }
+    requires within { passed.edits ≤ length edits.now.entries.now }
+    requires brought { AreBrought edits.now.comes.now edits.now.entries.now }
+    requires rest { let rest = drop passed.edits (edits_of edits.now) in IsRest at rest rest }
+    ensures done { OnOk result (done.new ≡ done.old ++ added_at at (drop passed.edits (edits_of edits.now))) }
+    ensures within { IfOk result (λ p. p.edits ≤ length edits.now.entries.now) }
+    ensures rest { IfOk result (λ p. IsRest (at + 1) (drop passed.edits (edits_of edits.now)) (drop p.edits (edits_of edits.now))) }
     ensures removed { IfOk result (λ p. p.removed_to
-        ≡ max passed.removed_to (min (at + min (removed_at at (drop passed.edits (lent edits.now))) (2 ^ 64 - 1)) (2 ^ 64 - 1))) }
+        ≡ max passed.removed_to (min (at + min (removed_at at (drop passed.edits (edits_of edits.now))) (2 ^ 64 - 1)) (2 ^ 64 - 1))) }
 {
-    let rest = &edits[passed.edits..];
+    let rest = &edits.entries[passed.edits..];
     let count = count_at(rest, at);
     if count == 0 {
         return Ok(Passed {
@@ -143,14 +200,17 @@ fn pass_place(
             removed_to: passed.removed_to.max(at),
         });
     }
-    let here = &rest[..count];
-    push_fronts(done, here, at)?;
-    push_backs(done, here, at)?;
+    let here = Kept {
+        entries: &rest[..count],
+        comes: edits.comes,
+    };
+    push_fronts(done, &here, at)?;
+    push_backs(done, &here, at)?;
     Ok(Passed {
         edits: passed.edits + count,
         removed_to: passed
             .removed_to
-            .max(at.saturating_add(removed_from(here, at))),
+            .max(at.saturating_add(removed_from(&here, at))),
     })
 }
 
@@ -210,14 +270,14 @@ fn keep(
 }
 
 // The place of the next edit, or the end of the list if that comes first.
-fn next_place(edits: &[&Edit], passed: usize, count: usize) -> usize
-    requires { passed ≤ length edits.now }
+fn next_place(edits: &Kept, passed: usize, count: usize) -> usize
+    requires { passed ≤ length edits.now.entries.now }
     ensures within { result ≤ count }
-    ensures from { (n : ℕ) → n ≤ count → All (λ e. n ≤ e.at) (drop passed (lent edits.now)) → n ≤ result }
-    ensures rest { IsNonDecreasingBy (λ e. e.at) (drop passed (lent edits.now)) → All (λ e. result ≤ e.at) (drop passed (lent edits.now)) }
+    ensures from { (n : ℕ) → n ≤ count → All (λ e. n ≤ e.at) (drop passed (edits_of edits.now)) → n ≤ result }
+    ensures rest { IsNonDecreasingBy (λ e. e.at) (drop passed (edits_of edits.now)) → All (λ e. result ≤ e.at) (drop passed (edits_of edits.now)) }
 {
-    if passed < edits.len() {
-        edits[passed].at.min(count)
+    if passed < edits.entries.len() {
+        edits.entries[passed].at.min(count)
     } else {
         count
     }
@@ -228,19 +288,19 @@ fn next_place(edits: &[&Edit], passed: usize, count: usize) -> usize
 fn pass_plain(
     done: &mut Events,
     events: &Events,
-    edits: &[&Edit],
+    edits: &Kept,
     passed: Passed,
     from: usize,
 ) -> Result<usize, AllocError>
-    requires within { passed.edits ≤ length edits.now }
+    requires within { passed.edits ≤ length edits.now.entries.now }
     requires from { from ≤ length events.now }
-    requires rest { let rest = drop passed.edits (lent edits.now) in IsRest from rest rest }
+    requires rest { let rest = drop passed.edits (edits_of edits.now) in IsRest from rest rest }
     ensures order { IfOk result (λ end. from ≤ end) }
     ensures within { IfOk result (λ end. end ≤ length events.now) }
     ensures done { IfOk result (λ end. done.new ≡ done.old ++ take (end - from) (drop from events.now)) }
     ensures plain { IfOk result (λ end. All IsUnlinked (take (end - from) (drop from events.now))) }
     ensures stays { IfOk result (λ end. from < end → passed.removed_to ≤ from) }
-    ensures rest { IfOk result (λ end. All (λ e. end ≤ e.at) (drop passed.edits (lent edits.now))) }
+    ensures rest { IfOk result (λ end. All (λ e. end ≤ e.at) (drop passed.edits (edits_of edits.now))) }
 {
     if passed.removed_to > from {
         return Ok(from);
@@ -251,17 +311,15 @@ fn pass_plain(
     Ok(from + plain.len())
 }
 
-// How many events there are after the edits, where no event goes twice.
-fn count_after(count: usize, log: &[Edit]) -> usize
-    ensures { result ≡ min (count + sum_by (λ e. length e.events) log.now) (2 ^ 64 - 1) - min (sum_by (λ e. e.remove) log.now) (2 ^ 64 - 1) }
+// How many events there are after the edits, where so many come and no event goes twice.
+fn count_after(count: usize, comes: usize, log: &[Entry]) -> usize
+    ensures { result ≡ min (count + comes) (2 ^ 64 - 1) - min (sum_by (λ e. e.remove) log.now) (2 ^ 64 - 1) }
 {
-    let mut after = count;
     let mut removed = 0usize;
     for edit in log {
-        after = after.saturating_add(edit.events.len());
         removed = removed.saturating_add(edit.remove);
     }
-    after.saturating_sub(removed)
+    count.saturating_add(comes).saturating_sub(removed)
 }
 
 impl EditMap {
@@ -271,6 +329,7 @@ impl EditMap {
     {
         EditMap {
             log: Seq::new(alloc),
+            comes: Seq::new(alloc),
             alloc,
         }
     }
@@ -289,6 +348,37 @@ impl EditMap {
         self.log.is_empty()
     }
 
+    // Adds an edit.
+    fn push(
+        &mut self,
+        at: usize,
+        remove: usize,
+        events: &[Event],
+        before: bool,
+    ) -> Result<(), AllocError>
+        requires { All IsUnlinked events.now }
+        ensures ok { OnOk result (self.new
+            ≡ self.old ++ (record { at = at; remove = remove; events = events.now; before = before }) ∷ []) }
+        ensures err { OnErr result (self.new ≡ self.old) }
+    {
+        let from = self.comes.len();
+        self.comes.extend_from_slice(events)?;
+        let entry = Entry {
+            at,
+            remove,
+            from,
+            to: self.comes.len(),
+            before,
+        };
+        match self.log.push(entry) {
+            Ok(()) => Ok(()),
+            Err(_) => {
+                self.comes.truncate(from);
+                Err(AllocError)
+            }
+        }
+    }
+
     /// Removes `remove` events from the place `at` on, and puts events there, behind those that earlier
     /// edits put there. The events carry no link.
     ///
@@ -299,13 +389,7 @@ impl EditMap {
             ≡ self.old ++ (record { at = at; remove = remove; events = events.items; before = false }) ∷ []) }
         ensures err { OnErr result (self.new ≡ self.old) }
     {
-        self.log.push(Edit {
-            at,
-            remove,
-            events: Seq::from_vec(events),
-            before: false,
-        })?;
-        Ok(())
+        self.push(at, remove, &events, false)
     }
 
     /// Removes `remove` events from the place `at` on, and puts events there, before those that earlier
@@ -323,13 +407,24 @@ impl EditMap {
             ≡ self.old ++ (record { at = at; remove = remove; events = events.items; before = true }) ∷ []) }
         ensures err { OnErr result (self.new ≡ self.old) }
     {
-        self.log.push(Edit {
-            at,
-            remove,
-            events: Seq::from_vec(events),
-            before: true,
-        })?;
-        Ok(())
+        self.push(at, remove, &events, true)
+    }
+
+    /// As `add`, with events that are lent: nothing is asked for but room in the map.
+    ///
+    /// `Err` only if memory is refused; the edits are then as they were.
+    pub fn add_slice(
+        &mut self,
+        at: usize,
+        remove: usize,
+        events: &[Event],
+    ) -> Result<(), AllocError>
+        requires { All IsUnlinked events.now }
+        ensures ok { OnOk result (self.new
+            ≡ self.old ++ (record { at = at; remove = remove; events = events.now; before = false }) ∷ []) }
+        ensures err { OnErr result (self.new ≡ self.old) }
+    {
+        self.push(at, remove, events, false)
     }
 
     /// Keeps the edits of the first `n` calls, or all if there are fewer.
@@ -338,7 +433,25 @@ impl EditMap {
     pub fn truncate(&mut self, n: usize)
         ensures { self.new ≡ take n self.old }
     {
+        let log = self.log.as_slice();
+        if n >= log.len() {
+            return;
+        }
+        let end = end_of(log, n);
         self.log.truncate(n);
+        self.comes.truncate(end);
+    }
+
+    // The edits in the order of their places, as `by_place` has them.
+    fn in_order<'a>(&'a self, room: &'a mut Vec<Entry>) -> Result<Kept<'a>, AllocError>
+        requires { room.old.items ≡ [] }
+        ensures rest { IfOk result (λ k. IsRest 0 self.now (edits_of k)) }
+        ensures brought { IfOk result (λ k. AreBrought k.comes.now k.entries.now) }
+    {
+        Ok(Kept {
+            entries: by_place(self.log.as_slice(), room)?,
+            comes: self.comes.as_slice(),
+        })
     }
 
     // The events after all edits.
@@ -346,9 +459,10 @@ impl EditMap {
         requires { CanEdit self.now events.now }
         ensures { IfOk result (λ done. done ≡ edited self.now events.now) }
     {
-        let edits = by_place(self.alloc, self.log.as_slice())?;
+        let mut sorted = Vec::new(self.alloc);
+        let edits = self.in_order(&mut sorted)?;
         let count = events.len();
-        let room = count_after(count, self.log.as_slice());
+        let room = count_after(count, self.comes.len(), self.log.as_slice());
         let mut done = Events::with_capacity(self.alloc, room)?;
         let mut notes = Stack::new(self.alloc);
         let mut passed = Passed {
@@ -387,7 +501,7 @@ impl EditMap {
         }
         let done = self.applied(events)?;
         *events = done;
-        self.log.truncate(0);
+        self.truncate(0);
         Ok(())
     }
 }

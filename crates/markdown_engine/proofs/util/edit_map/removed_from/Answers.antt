@@ -6,8 +6,9 @@ use Rattle.markdown_engine.proofs.util.edit_map.removed_from.Goals.{then-edit-at
 pub loop-edit-preserved : goal.loop-edit-preserved
 loop-edit-preserved c =
     let i = c.args.at in
-    let es = c.args.edits.now in
+    let cs = c.args.edits.now.comes.now in
+    let es = c.args.edits.now.entries.now in
     elim c.if-edit-at.branch [
-      | then-edit-at w ↦ removed-more i es c.loop-edit.edit-index c.edit-item.result c.loop-edit.removed c.if-edit-at.removed c.loop-edit-test.true c.edit-item.is c.loop-edit.invariant (w.removed-is ∙ w.saturating_add-removed.ensures) w.if-edit-at.true
-      | else-edit-at w ↦ rw w.removed-is (removed-left i es c.loop-edit.edit-index c.edit-item.result c.loop-edit.removed c.loop-edit-test.true c.edit-item.is c.loop-edit.invariant w.if-edit-at.false)
+      | then-edit-at w ↦ removed-more cs i es c.loop-edit.edit-index c.loop-edit.removed c.if-edit-at.removed c.loop-edit-test.true c.loop-edit.invariant (w.removed-is ∙ w.saturating_add-removed.ensures) w.if-edit-at.true
+      | else-edit-at w ↦ rw w.removed-is (removed-left cs i es c.loop-edit.edit-index c.loop-edit.removed c.loop-edit-test.true c.loop-edit.invariant w.if-edit-at.false)
     ]

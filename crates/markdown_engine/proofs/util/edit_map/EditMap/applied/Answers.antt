@@ -1,8 +1,8 @@
 use Rattle.std.proofs.Common.{◌≡◌, ◌∙◌, arith, ◌<◌, ◌+◌, ◌++◌, drop, length, false, true}
-use Rattle.markdown_engine.specs.Edits.{is_removed, edited, edited_from, lent, renumbered}
+use Rattle.markdown_engine.specs.Edits.{is_removed, edited, edited_from, edits_of, renumbered}
 use Rattle.markdown_engine.proofs.EditLemmas.{Notes, unlinked-seen, renumbered-moved, notes-kept, notes-gone, notes-plain, range-next, stays-from, goes-from, step-kept, step-gone, step-chains, placed-put, IsLinked-edited}
 use Rattle.markdown_engine.proofs.EditFacts.{placed-from}
-use Rattle.markdown_engine.proofs.EditOrder.{put-place, rest-place, range-place, rest-later, ahead-seen, range-stretch, events-stretch}
+use Rattle.markdown_engine.proofs.EditOrder.{adds-unlinked, put-place, rest-place, range-place, rest-later, range-stretch, events-stretch}
 use Rattle.markdown_engine.proofs.util.edit_map.EditMap.applied.Goals as goal
 use Rattle.markdown_engine.proofs.util.edit_map.EditMap.applied.Goals.{then-passed-index+in_ok-keep, else-passed-index}
 
@@ -13,11 +13,11 @@ keep-requires-clause-chains c =
     let i = c.loop-index.index in
     let l = c.loop-index.invariant in
     let within : i < length es = omega arith in
-    let put = put-place log i c.loop-index.passed.edits c.in_ok-edits.edits.items _ c.deref.ensures.value l.rest c.loop-index.done c.pass_place.new.done c.in_ok-passed.ensures.done in
-    let range = range-place log i c.loop-index.passed.edits c.in_ok-edits.edits.items _ c.deref.ensures.value l.rest _ _ (omega arith) l.removed c.in_ok-passed.ensures.removed in
+    let put = put-place log i c.loop-index.passed.edits (edits_of c.in_ok-edits.edits) l.rest c.loop-index.done c.pass_place.new.done c.in_ok-passed.ensures.done in
+    let range = range-place log i c.loop-index.passed.edits (edits_of c.in_ok-edits.edits) l.rest _ _ (omega arith) l.removed c.in_ok-passed.ensures.removed in
     let stays : is_removed log i ≡ false = stays-from log i c.in_ok-passed.passed.removed_to (omega arith) range c.if-passed-index.true in
     let event = renumbered-moved log es i c.loop-index.notes c.bare_at.result within c.bare_at.ensures.event c.bare_at.ensures.chains l.notes in
-    let chains = IsLinked-edited log es (unlinked-seen _ _ c.self.view_is c.self.invariant) c.requires c.bare_at.ensures.chains in
+    let chains = IsLinked-edited log es (unlinked-seen _ _ c.self.view_is (adds-unlinked c.self.inside.comes c.self.inside.log c.self.invariant.brought.unlinked)) c.requires c.bare_at.ensures.chains in
     step-chains log es i c.loop-index.done c.pass_place.new.done within l.events put c.bare_at.result (renumbered c.loop-index.notes c.bare_at.result) c.bare_at.ensures.event event stays chains
 
 pub loop-index-preserved : goal.loop-index-preserved
@@ -28,11 +28,11 @@ loop-index-preserved c =
     let l = c.loop-index.invariant in
     let d = c.in_ok-passed.passed.removed_to in
     let m = c.in_ok-index.index in
-    let rest = drop c.in_ok-passed.passed.edits (lent c.in_ok-edits.edits.items) in
+    let rest = drop c.in_ok-passed.passed.edits (edits_of c.in_ok-edits.edits) in
     let within : i < length es = omega arith in
-    let put = put-place log i c.loop-index.passed.edits c.in_ok-edits.edits.items _ c.deref.ensures.value l.rest c.loop-index.done c.pass_place.new.done c.in_ok-passed.ensures.done in
-    let range = range-place log i c.loop-index.passed.edits c.in_ok-edits.edits.items _ c.deref.ensures.value l.rest _ _ (omega arith) l.removed c.in_ok-passed.ensures.removed in
-    let behind = rest-place log i c.loop-index.passed.edits c.in_ok-edits.edits.items _ c.deref.ensures.value l.rest c.in_ok-passed.passed.edits c.in_ok-passed.ensures.rest in
+    let put = put-place log i c.loop-index.passed.edits (edits_of c.in_ok-edits.edits) l.rest c.loop-index.done c.pass_place.new.done c.in_ok-passed.ensures.done in
+    let range = range-place log i c.loop-index.passed.edits (edits_of c.in_ok-edits.edits) l.rest _ _ (omega arith) l.removed c.in_ok-passed.ensures.removed in
+    let behind = rest-place log i c.loop-index.passed.edits (edits_of c.in_ok-edits.edits) l.rest c.in_ok-passed.passed.edits c.in_ok-passed.ensures.rest in
     let placed = placed-put log i c.loop-index.done c.pass_place.new.done (placed-from log es c.loop-index.done i l.here l.events) put in
     let events : c.if-passed-index.done ++ edited_from log (i + 1) (drop (i + 1) es) ≡ edited log es =
     elim c.if-passed-index.branch [
@@ -53,12 +53,11 @@ loop-index-preserved c =
           rw w.notes-is (notes-gone log es i c.loop-index.notes (c.requires.unlinked i goes) l.notes)
     ] in
     let s = c.in_ok-index.ensures in
-    let seen = ahead-seen m c.in_ok-passed.passed.edits c.in_ok-edits.edits.items _ c.deref-in-loop-index.ensures.value s.rest in
     record {
       within = omega (arith, c.in_ok-passed.ensures.within);
       here = s.within;
-      rest = rest-later (i + 1) m log rest s.order behind seen;
-      events = events-stretch log rest es (i + 1) m d s.order s.within behind seen s.plain (omega arith) (range-next log i d range) s.stays c.if-passed-index.done c.pass_plain.new.done events s.done;
+      rest = rest-later (i + 1) m log rest s.order behind s.rest;
+      events = events-stretch log rest es (i + 1) m d s.order s.within behind s.rest s.plain (omega arith) (range-next log i d range) s.stays c.if-passed-index.done c.pass_plain.new.done events s.done;
       notes = notes-plain log es (i + 1) m c.if-passed-index.notes s.within s.plain notes;
-      removed = range-stretch log rest es (i + 1) m d s.order s.within behind seen s.plain (omega arith) (range-next log i d range);
+      removed = range-stretch log rest es (i + 1) m d s.order s.within behind s.rest s.plain (omega arith) (range-next log i d range);
     }

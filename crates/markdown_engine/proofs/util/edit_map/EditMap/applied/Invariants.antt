@@ -1,13 +1,13 @@
 use Rattle.std.proofs.Common.{◌≡◌, ◌≤◌, ◌-◌, ◌++◌, length, drop}
-use Rattle.markdown_engine.specs.Edits.{edited, edited_from, lent, IsRest}
+use Rattle.markdown_engine.specs.Edits.{edited, edited_from, edits_of, IsRest}
 use Rattle.markdown_engine.proofs.EditLemmas.{Notes, EndsAt}
 use Rattle.markdown_engine.proofs.util.edit_map.EditMap.applied.Given as goal
 
 abbrev pub invariant-loop-index : goal.invariant-loop-index
 invariant-loop-index l = record {
-  within : l.passed.edits ≤ length l.edits.items;
+  within : l.passed.edits ≤ length l.edits.entries.now;
   here : l.index ≤ length l.events;
-  rest : IsRest l.index l.self (drop l.passed.edits (lent l.edits.items));
+  rest : IsRest l.index l.self (drop l.passed.edits (edits_of l.edits));
   events : l.done ++ edited_from l.self l.index (drop l.index l.events) ≡ edited l.self l.events;
   notes : Notes l.self l.events l.index l.notes;
   removed : EndsAt l.self l.index l.index l.passed.removed_to;
