@@ -135,20 +135,20 @@ pub fn push_leaf(
     Ok(())
 }
 
-// Answers the events of data that loses its blank codes in front, at its back, or both, the back first; `hard` says that those at
-// its back may be a hard break.
+// Puts the events of data that loses its blank codes in front, at its back, or both, the back first, in place of those that the
+// list had; `hard` says that those at its back may be a hard break.
 fn trimmed_data(
-    alloc: Global,
+    events: &mut Vec<Event>,
     bytes: &[u8],
     front: bool,
     back: bool,
     hard: bool,
     from: Point,
     to: Point,
-) -> Result<Vec<Event>, AllocError>
+) -> Result<(), AllocError>
     requires fits { length bytes.now ≤ document_limit }
     requires stretch { IsStretch bytes.now from to }
-    ensures { IfOk result (λ v. v.items ≡ trimmed_events front back hard bytes.now from to) }
+    ensures { OnOk result (events.new.items ≡ trimmed_events front back hard bytes.now from to) }
 {
     let end = if back { kept_end(bytes, from, to) } else { to };
     let start = if front {
@@ -156,11 +156,11 @@ fn trimmed_data(
     } else {
         from
     };
-    let mut events = Vec::new(alloc);
-    push_leaf(&mut events, Name::SpaceOrTab, from, start)?;
-    push_leaf(&mut events, Name::Data, start, end)?;
-    push_leaf(&mut events, blank_name(bytes, end, to, hard), end, to)?;
-    Ok(events)
+    events.clear();
+    push_leaf(events, Name::SpaceOrTab, from, start)?;
+    push_leaf(events, Name::Data, start, end)?;
+    push_leaf(events, blank_name(bytes, end, to, hard), end, to)?;
+    Ok(())
 }
 
 // Whether this is the Enter of a line ending.
@@ -212,9 +212,9 @@ struct Trimming {
     whole: bool,
 }
 
-// Where data begins at this event: puts its trimmed events in place of its own.
+// Where data begins at this event: puts its trimmed events in place of its own. They are made in the room, whatever it holds.
 fn trim_first(
-    alloc: Global,
+    room: &mut Vec<Event>,
     bytes: &[u8],
     events: &Events,
     map: &mut EditMap,
@@ -233,8 +233,8 @@ fn trim_first(
         let exit = events.bare_at(index + 1);
         let back = goes_before(events, index + 2, trimming.whole);
         let hard = trimming.hard_break && goes_before(events, index + 2, false);
-        let trimmed = trimmed_data(alloc, bytes, front, back, hard, enter.point, exit.point)?;
-        map.add(index, 2, trimmed)?;
+        trimmed_data(room, bytes, front, back, hard, enter.point, exit.point)?;
+        map.add_slice(index, 2, room)?;
     }
     Ok(())
 }
@@ -252,9 +252,10 @@ fn trim_each(
     requires empty { map.old ≡ [] }
     ensures { OnOk result (map.new ≡ trims bytes.now trimming.hard_break trimming.whole 0 trimming.whole events.now) }
 {
+    let mut room = Vec::new(alloc);
     let mut front = trimming.whole;
     for index in 0..events.len() {
-        trim_first(alloc, bytes, events, map, index, front, trimming)?;
+        trim_first(&mut room, bytes, events, map, index, front, trimming)?;
         front = closes_ending(&events.bare_at(index));
     }
     Ok(())

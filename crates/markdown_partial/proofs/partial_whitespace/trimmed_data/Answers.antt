@@ -44,5 +44,5 @@ returns c =
     let two : List Event = leaf_events N.Data c.if-front.start c.if-back.end in
     let three : List Event = leaf_events c.blank_name.result c.if-back.end c.args.to in
     c.in_ok-push_leaf-3.ensures
-    ∙ ap (λ xs. xs ++ three) (c.in_ok-push_leaf-2.ensures ∙ ap (λ xs. xs ++ two) (c.in_ok-push_leaf.ensures ∙ ap (λ xs. xs ++ one) c.new-events.ensures.items))
+    ∙ ap (λ xs. xs ++ three) (c.in_ok-push_leaf-2.ensures ∙ ap (λ xs. xs ++ two) (c.in_ok-push_leaf.ensures ∙ ap (λ xs. xs ++ one) c.clear.ensures.items))
     ∙ trimmed-is c.args.bytes.now c.args.from c.args.to c.if-back.end c.if-front.start c.args.front c.args.back c.args.hard c.blank_name.result c.requires.stretch end start c.blank_name.ensures
