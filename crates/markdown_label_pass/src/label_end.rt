@@ -21,7 +21,7 @@ use markdown_engine::seq::Stack;
 use markdown_engine::subtokenize::Subresult;
 use markdown_engine::tokenizer::{Label, LabelKind, LabelStart, TokenizeState, Tokenizer};
 use markdown_engine::util::edit_map::EditMap;
-use std::alloc::{AllocError, Global};
+use std::alloc::AllocError;
 
 // Where an event stands.
 fn place(events: &Events, index: usize) -> Point
@@ -74,10 +74,10 @@ fn group_name(kind: LabelKind) -> Name
 }
 
 // What comes in place of the events of a link's start: the link's groups, the start, and the text's group.
-fn link_opened(alloc: Global, start: Point, marker_end: Point) -> Result<Vec<Event>, AllocError>
-    ensures { IfOk result (λ v. v.items ≡ opened LabelKind.Link start marker_end marker_end marker_end) }
+fn link_opened(start: Point, marker_end: Point) -> [Event; 7]
+    ensures { result ≡ opened LabelKind.Link start marker_end marker_end marker_end }
 {
-    let comes = vec![in alloc;
+    [
         enter(Name::Link, start),
         enter(Name::Label, start),
         enter(Name::LabelLink, start),
@@ -85,21 +85,14 @@ fn link_opened(alloc: Global, start: Point, marker_end: Point) -> Result<Vec<Eve
         exit(Name::LabelMarker, marker_end),
         exit(Name::LabelLink, marker_end),
         enter(Name::LabelText, marker_end),
-    ]?;
-    Ok(comes)
+    ]
 }
 
 // The same for a link whose text begins with the caret of a footnote start: the caret is data, the first in the text.
-fn caret_opened(
-    alloc: Global,
-    start: Point,
-    marker_end: Point,
-    caret: Point,
-    end: Point,
-) -> Result<Vec<Event>, AllocError>
-    ensures { IfOk result (λ v. v.items ≡ opened LabelKind.GfmUndefinedFootnote start marker_end caret end) }
+fn caret_opened(start: Point, marker_end: Point, caret: Point, end: Point) -> [Event; 9]
+    ensures { result ≡ opened LabelKind.GfmUndefinedFootnote start marker_end caret end }
 {
-    let comes = vec![in alloc;
+    [
         enter(Name::Link, start),
         enter(Name::Label, start),
         enter(Name::LabelLink, start),
@@ -109,21 +102,14 @@ fn caret_opened(
         enter(Name::LabelText, marker_end),
         enter(Name::Data, caret),
         exit(Name::Data, end),
-    ]?;
-    Ok(comes)
+    ]
 }
 
 // The same for an image.
-fn image_opened(
-    alloc: Global,
-    start: Point,
-    marker_end: Point,
-    bracket: Point,
-    end: Point,
-) -> Result<Vec<Event>, AllocError>
-    ensures { IfOk result (λ v. v.items ≡ opened LabelKind.Image start marker_end bracket end) }
+fn image_opened(start: Point, marker_end: Point, bracket: Point, end: Point) -> [Event; 9]
+    ensures { result ≡ opened LabelKind.Image start marker_end bracket end }
 {
-    let comes = vec![in alloc;
+    [
         enter(Name::Image, start),
         enter(Name::Label, start),
         enter(Name::LabelImage, start),
@@ -133,21 +119,14 @@ fn image_opened(
         exit(Name::LabelMarker, end),
         exit(Name::LabelImage, end),
         enter(Name::LabelText, end),
-    ]?;
-    Ok(comes)
+    ]
 }
 
 // The same for a footnote call.
-fn call_opened(
-    alloc: Global,
-    start: Point,
-    marker_end: Point,
-    caret: Point,
-    end: Point,
-) -> Result<Vec<Event>, AllocError>
-    ensures { IfOk result (λ v. v.items ≡ opened LabelKind.GfmFootnote start marker_end caret end) }
+fn call_opened(start: Point, marker_end: Point, caret: Point, end: Point) -> [Event; 9]
+    ensures { result ≡ opened LabelKind.GfmFootnote start marker_end caret end }
 {
-    let comes = vec![in alloc;
+    [
         enter(Name::GfmFootnoteCall, start),
         enter(Name::Label, start),
         enter(Name::GfmFootnoteCallLabel, start),
@@ -157,166 +136,116 @@ fn call_opened(
         exit(Name::GfmFootnoteCallMarker, end),
         exit(Name::GfmFootnoteCallLabel, end),
         enter(Name::LabelText, end),
-    ]?;
-    Ok(comes)
-}
-
-// What comes in place of the events of a label's start: where it begins, where its first marker ends, where its second one begins, and
-// where it ends. The start of a link has one marker.
-fn opened(
-    alloc: Global,
-    kind: LabelKind,
-    start: Point,
-    marker_end: Point,
-    second: Point,
-    end: Point,
-) -> Result<Vec<Event>, AllocError>
-    ensures { IfOk result (λ v. v.items ≡ opened kind start marker_end second end) }
-{
-    match kind {
-        LabelKind::Link => link_opened(alloc, start, marker_end),
-        LabelKind::Image => image_opened(alloc, start, marker_end, second, end),
-        LabelKind::GfmFootnote => call_opened(alloc, start, marker_end, second, end),
-        LabelKind::GfmUndefinedFootnote => caret_opened(alloc, start, marker_end, second, end),
-    }
+    ]
 }
 
 // What comes in place of an end's events: the text's group ends, and behind the end the label's.
-fn ended(alloc: Global, start: Point, end: Point) -> Result<Vec<Event>, AllocError>
-    ensures { IfOk result (λ v. v.items ≡ ended start end) }
+fn ended(start: Point, end: Point) -> [Event; 6]
+    ensures { result ≡ ended start end }
 {
-    let comes = vec![in alloc;
+    [
         exit(Name::LabelText, start),
         enter(Name::LabelEnd, start),
         enter(Name::LabelMarker, start),
         exit(Name::LabelMarker, end),
         exit(Name::LabelEnd, end),
         exit(Name::Label, end),
-    ]?;
-    Ok(comes)
+    ]
 }
 
 // Marks the start of a label.
-fn mark_start(
-    alloc: Global,
-    label: &Label,
-    events: &Events,
-    map: &mut EditMap,
-) -> Result<(), AllocError>
+fn mark_start(label: &Label, events: &Events, map: &mut EditMap) -> Result<(), AllocError>
     requires { IsWithin (length events.now) label.now }
     ensures { let l = label.now in OnOk result (map.new ≡ map.old ++ replacing l.start.0 (l.start.1 + 1 - l.start.0)
         (opened l.kind (place_at events.now l.start.0) (place_at events.now (l.start.0 + 2)) (place_at events.now (l.start.0 + 3)) (place_at events.now l.start.1)) ∷ []) }
 {
     let (first, last) = label.start;
-    let comes = opened(
-        alloc,
-        label.kind,
-        place(events, first),
-        place(events, first + 2),
-        place(events, first + 3),
-        place(events, last),
-    )?;
-    map.add(first, behind(events, last) - first, comes)
+    let remove = behind(events, last) - first;
+    let start = place(events, first);
+    let marker_end = place(events, first + 2);
+    let second = place(events, first + 3);
+    let end = place(events, last);
+    match label.kind {
+        LabelKind::Link => map.add_slice(first, remove, &link_opened(start, marker_end)),
+        LabelKind::Image => {
+            map.add_slice(first, remove, &image_opened(start, marker_end, second, end))
+        }
+        LabelKind::GfmFootnote => {
+            map.add_slice(first, remove, &call_opened(start, marker_end, second, end))
+        }
+        LabelKind::GfmUndefinedFootnote => {
+            map.add_slice(first, remove, &caret_opened(start, marker_end, second, end))
+        }
+    }
 }
 
 // Marks the end of a label.
-fn mark_end(
-    alloc: Global,
-    label: &Label,
-    events: &Events,
-    map: &mut EditMap,
-) -> Result<(), AllocError>
+fn mark_end(label: &Label, events: &Events, map: &mut EditMap) -> Result<(), AllocError>
     requires { IsWithin (length events.now) label.now }
     ensures { let l = label.now in OnOk result (map.new ≡ map.old ++ replacing l.end.0 4 (ended (place_at events.now l.end.0) (place_at events.now (l.end.0 + 3))) ∷ []) }
 {
     let (first, _last) = label.end;
-    let comes = ended(alloc, place(events, first), place(events, first + 3))?;
-    map.add(first, 4, comes)
+    let comes = ended(place(events, first), place(events, first + 3));
+    map.add_slice(first, 4, &comes)
 }
 
 // Marks where a label's group ends.
-fn mark_close(
-    alloc: Global,
-    label: &Label,
-    events: &Events,
-    map: &mut EditMap,
-) -> Result<(), AllocError>
+fn mark_close(label: &Label, events: &Events, map: &mut EditMap) -> Result<(), AllocError>
     requires { IsWithin (length events.now) label.now }
     ensures { let l = label.now in OnOk result (map.new ≡ map.old ++ replacing (l.end.1 + 1) 0 (closed l.kind (place_at events.now l.end.1)) ∷ []) }
 {
     let last = label.end.1;
-    let comes = vec![in alloc; exit(group_name(label.kind), place(events, last))]?;
-    map.add(behind(events, last), 0, comes)
+    let comes = [exit(group_name(label.kind), place(events, last))];
+    map.add_slice(behind(events, last), 0, &comes)
 }
 
 // Marks what a label changes.
-fn mark_label(
-    alloc: Global,
-    label: &Label,
-    events: &Events,
-    map: &mut EditMap,
-) -> Result<(), AllocError>
+fn mark_label(label: &Label, events: &Events, map: &mut EditMap) -> Result<(), AllocError>
     requires { IsWithin (length events.now) label.now }
     ensures { OnOk result (map.new ≡ map.old ++ label_edits events.now label.now) }
 {
-    mark_start(alloc, label, events, map)?;
-    mark_end(alloc, label, events, map)?;
-    mark_close(alloc, label, events, map)
+    mark_start(label, events, map)?;
+    mark_end(label, events, map)?;
+    mark_close(label, events, map)
 }
 
 // Marks what the labels change, in the order of their ends.
-fn mark_labels(
-    alloc: Global,
-    labels: &[Label],
-    events: &Events,
-    map: &mut EditMap,
-) -> Result<(), AllocError>
+fn mark_labels(labels: &[Label], events: &Events, map: &mut EditMap) -> Result<(), AllocError>
     requires { All (IsWithin (length events.now)) labels.now }
     ensures { OnOk result (map.new ≡ map.old ++ labels_edits events.now labels.now) }
 {
     for label in labels {
-        mark_label(alloc, label, events, map)?;
+        mark_label(label, events, map)?;
     }
     Ok(())
 }
 
 // Marks a start that becomes data.
-fn mark_loose(
-    alloc: Global,
-    start: (usize, usize),
-    events: &Events,
-    map: &mut EditMap,
-) -> Result<(), AllocError>
+fn mark_loose(start: (usize, usize), events: &Events, map: &mut EditMap) -> Result<(), AllocError>
     requires { IsStartWithin (length events.now) start }
     ensures { OnOk result (map.new ≡ map.old ++ loose_edit events.now start ∷ []) }
 {
     let (first, last) = start;
-    let comes = vec![in alloc;
+    let comes = [
         enter(Name::Data, place(events, first)),
         exit(Name::Data, place(events, last)),
-    ]?;
-    map.add(first, behind(events, last) - first, comes)
+    ];
+    map.add_slice(first, behind(events, last) - first, &comes)
 }
 
 // Marks the starts whose ends failed.
-fn mark_failed(
-    alloc: Global,
-    starts: &[LabelStart],
-    events: &Events,
-    map: &mut EditMap,
-) -> Result<(), AllocError>
+fn mark_failed(starts: &[LabelStart], events: &Events, map: &mut EditMap) -> Result<(), AllocError>
     requires { All (IsStartWithin (length events.now)) (starts_of starts.now) }
     ensures { OnOk result (map.new ≡ map.old ++ loose_edits events.now (starts_of starts.now)) }
 {
     for start in starts {
-        mark_loose(alloc, start.start, events, map)?;
+        mark_loose(start.start, events, map)?;
     }
     Ok(())
 }
 
 // Marks the starts that no end used, the last one first, and takes them off.
 fn mark_unused(
-    alloc: Global,
     starts: &mut Stack<LabelStart>,
     events: &Events,
     map: &mut EditMap,
@@ -326,14 +255,13 @@ fn mark_unused(
     ensures none { OnOk result (starts.new ≡ []) }
 {
     while let Some(start) = starts.pop() {
-        mark_loose(alloc, start.start, events, map)?;
+        mark_loose(start.start, events, map)?;
     }
     Ok(())
 }
 
 // Makes groups of labels.
 fn group(
-    alloc: Global,
     state: &mut TokenizeState,
     events: &mut Events,
     map: &mut EditMap,
@@ -344,9 +272,9 @@ fn group(
     ensures state { OnOk result (state.new ≡ unlabelled state.old) }
     ensures map { OnOk result (map.new ≡ []) }
 {
-    mark_labels(alloc, state.labels.as_slice(), events, map)?;
-    mark_unused(alloc, &mut state.label_starts, events, map)?;
-    mark_failed(alloc, state.label_starts_loose.as_slice(), events, map)?;
+    mark_labels(state.labels.as_slice(), events, map)?;
+    mark_unused(&mut state.label_starts, events, map)?;
+    mark_failed(state.label_starts_loose.as_slice(), events, map)?;
     map.consume(events)?;
     state.labels.truncate(0);
     state.label_starts_loose.truncate(0);
@@ -364,7 +292,6 @@ pub fn resolve(tokenizer: &mut Tokenizer) -> Result<Option<Subresult>, AllocErro
     ensures err { OnErr result (IsTrue tokenizer.new.failed) }
 {
     let done = group(
-        tokenizer.alloc,
         &mut tokenizer.tokenize_state,
         &mut tokenizer.events,
         &mut tokenizer.map,
