@@ -7,7 +7,7 @@ ghost use Rattle.markdown_model.specs.Groups.{pair_names};
 ghost use Rattle.markdown_emphasis.specs.Marks.{shifted, total, closing_at, opening_at, closings_from, openings_from, data_at, marker_events};
 
 use markdown_engine::event::{Event, Kind, Name, Point};
-use std::alloc::{AllocError, Global};
+use std::alloc::AllocError;
 
 // What the events of a pair are named.
 #[derive(Clone, Copy)]
@@ -165,22 +165,23 @@ fn push_openings(
     Ok(())
 }
 
-/// The events of a run of which pairs take these sizes, as a closer and as an opener, and leave so many markers.
+/// Puts the events of a run, of which pairs take these sizes, as a closer and as an opener, and leave so many markers, in place of
+/// those that the list had.
 pub(crate) fn run_events(
-    alloc: Global,
+    events: &mut Vec<Event>,
     marker: u8,
     from: Point,
     fronts: &[usize],
     kept: usize,
     backs: &[usize],
-) -> Result<Vec<Event>, AllocError>
+) -> Result<(), AllocError>
     requires column { from.column + (total fronts.now + kept + total backs.now) < 2 ^ 64 }
     requires index { from.index + (total fronts.now + kept + total backs.now) < 2 ^ 64 }
-    ensures { IfOk result (λ v. v.items ≡ marker_events marker from fronts.now kept backs.now) }
+    ensures { OnOk result (events.new.items ≡ marker_events marker from fronts.now kept backs.now) }
 {
-    let mut events = Vec::new(alloc);
-    let data = push_closings(&mut events, marker, from, fronts)?;
-    let openings = push_data(&mut events, data, kept)?;
-    push_openings(&mut events, marker, openings, backs)?;
-    Ok(events)
+    events.clear();
+    let data = push_closings(events, marker, from, fronts)?;
+    let openings = push_data(events, data, kept)?;
+    push_openings(events, marker, openings, backs)?;
+    Ok(())
 }

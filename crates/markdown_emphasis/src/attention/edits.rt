@@ -75,12 +75,20 @@ fn edit_runs(
     requires room { (i : ℕ) → i < length runs.now → HasRoom events.now fronts.now backs.now (run_at runs.now i) }
     ensures { OnOk result (map.new ≡ edits_by (added_for events.now fronts.now backs.now) runs.now) }
 {
+    let mut added = Vec::new(alloc);
     for run in runs {
         let enter = events.bare_at(run.event);
         let front = fronts[run.number].as_slice();
         let back = backs[run.number].as_slice();
-        let added = run_events(alloc, run.marker, enter.point, front, run.remaining, back)?;
-        map.add(run.event, 2, added)?;
+        run_events(
+            &mut added,
+            run.marker,
+            enter.point,
+            front,
+            run.remaining,
+            back,
+        )?;
+        map.add_slice(run.event, 2, &added)?;
     }
     Ok(())
 }

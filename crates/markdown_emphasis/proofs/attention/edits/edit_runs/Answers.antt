@@ -27,10 +27,10 @@ run_events-requires-clause-index c =
     (read-list c.args.backs.now r.number c.index-backs-run.result c.as_slice-back.result.now room.back c.index-backs-run.is c.as_slice-back.ensures)
     (room.column, room.index)).1
 
-pub add-requires : goal.add-requires
-add-requires c =
+pub add_slice-requires : goal.add_slice-requires
+add_slice-requires c =
     let r : Sequence = run_at c.args.runs.now c.loop-run.run-index in
-    events-plain r.marker c.bare_at-enter.result.point c.as_slice-front.result.now r.remaining c.as_slice-back.result.now c.in_ok-added.added.items c.in_ok-added.ensures
+    events-plain r.marker c.bare_at-enter.result.point c.as_slice-front.result.now r.remaining c.as_slice-back.result.now _ (c.deref.ensures.value ∙ c.in_ok-run_events.ensures)
 
 pub loop-run-preserved : goal.loop-run-preserved
 loop-run-preserved c =
@@ -39,6 +39,6 @@ loop-run-preserved c =
     let p : c.bare_at-enter.result.point ≡ point_in c.args.events.now r.event = point-read c.args.events.now r.event c.bare_at-enter.result room.event c.bare_at-enter.ensures.event in
     let f : c.as_slice-front.result.now ≡ get_or c.args.fronts.now r.number [] = read-list c.args.fronts.now r.number c.index-fronts-run.result c.as_slice-front.result.now room.front c.index-fronts-run.is c.as_slice-front.ensures in
     let b : c.as_slice-back.result.now ≡ get_or c.args.backs.now r.number [] = read-list c.args.backs.now r.number c.index-backs-run.result c.as_slice-back.result.now room.back c.index-backs-run.is c.as_slice-back.ensures in
-    edits-more (added_for c.args.events.now c.args.fronts.now c.args.backs.now) c.args.runs.now c.loop-run.run-index no_run c.loop-run.map c.add.new.self c.in_ok-added.added.items c.loop-run-test.true c.loop-run.invariant
-    (c.in_ok-added.ensures ∙ (λ i. marker_events r.marker (p i) (f i) r.remaining (b i)))
-    c.in_ok-add.ensures.ok
+    edits-more (added_for c.args.events.now c.args.fronts.now c.args.backs.now) c.args.runs.now c.loop-run.run-index no_run c.loop-run.map c.add_slice.new.self c.deref.result.now c.loop-run-test.true c.loop-run.invariant
+    (c.deref.ensures.value ∙ c.in_ok-run_events.ensures ∙ (λ i. marker_events r.marker (p i) (f i) r.remaining (b i)))
+    c.in_ok-add_slice.ensures.ok
