@@ -67,7 +67,7 @@ fn edit_one_place(
     map.add(2, 1, vec![in alloc; plain(Kind::Exit, Name::Emphasis)]?)?;
     map.add_before(2, 0, vec![in alloc; plain(Kind::Exit, Name::Strong)]?)?;
     map.add_before(0, 0, vec![in alloc; plain(Kind::Enter, Name::Strong)]?)?;
-    map.add(6, 0, vec![in alloc; plain(Kind::Enter, Name::Data)]?)?;
+    map.add_slice(6, 0, &[plain(Kind::Enter, Name::Data)])?;
     map.consume(events)?;
     assert!(rt; map.is_empty());
     let after = [
