@@ -5,7 +5,9 @@ use Rattle.std.proofs.lemmas.List.{drop-drop, length-drop}
 use Rattle.markdown_engine.specs.Codes.{Code}
 use Rattle.markdown_engine.specs.Place.{Place, ahead_at, moved, code_at}
 use Rattle.markdown_engine.specs.RunIndex.{leading, Key, LastRuns, is_asked, with_run, entries_from, last_runs, entry_at, begins_before, rules_out, past_run}
-use Rattle.markdown_engine.proofs.PlaceRules.{IsAhead, ahead_some, ahead_none, left_moved}
+use Rattle.markdown_engine.specs.Stretch.{past_stretch}
+use Rattle.markdown_engine.proofs.PlaceRules.{IsAhead, ahead_some, ahead_none, at_moved, codes_moved, left_moved}
+use Rattle.markdown_engine.proofs.Stretches.{kept}
 
 -- The first run.
 
@@ -106,6 +108,38 @@ start-entries asked p q es e h =
 pub found-past : (asked : List ℕ) (v : ℕ) (p q : Place) (cs : List Code) (es fs : List (Key × ℕ)) → code_at p ≡ Some v → q ≡ past_run v p → fs ≡ with_run (is_asked asked v) (v, q.at - p.at) p.at es → (p.codes ≡ cs) × (entries_from asked None 0 cs [] ≡ entries_from asked None p.at (ahead_at p) es) → (q.codes ≡ cs) × (entries_from asked None 0 cs [] ≡ entries_from asked None q.at (ahead_at q) fs)
 found-past asked v p q cs es fs h e f k =
     (ap (λ (x : Place). x.codes) e ∙ k.0, k.1 ∙ run-past asked v p es h ∙ ap (λ (x : Place). entries_from asked None x.at (ahead_at x) (with_run (is_asked asked v) (v, x.at - p.at) p.at es)) (sym e) ∙ ap (λ xs. entries_from asked None q.at (ahead_at q) xs) (sym f))
+
+-- a code that is not asked for stands before
+entries-behind : (asked : List ℕ) (v at : ℕ) (cs : List Code) (es : List (Key × ℕ)) → is_asked asked v ≡ false → entries_from asked (Some v) at cs es ≡ entries_from asked None at cs es
+entries-behind asked v at [] es h = refl
+entries-behind asked v at (c ∷ cs) es h =
+    let key : Key = (c.value, leading c.value (c ∷ cs)) in
+    elim (v == c.value) as (λ b. (v == c.value) ≡ b → entries_from asked (Some c.value) (suc at) cs (with_run (not b && is_asked asked c.value) key at es) ≡ entries_from asked (Some c.value) (suc at) cs (with_run (is_asked asked c.value) key at es)) [
+      | true ↦ λ e. ap (λ b. entries_from asked (Some c.value) (suc at) cs (with_run b key at es)) (sym (ap (is_asked asked) (sym (eqb-true v c.value e)) ∙ h))
+      | false ↦ λ e. refl
+    ] refl
+
+none-asked : (asked : List ℕ) (v : ℕ) (p : Place) (es : List (Key × ℕ)) → code_at p ≡ Some v → is_asked asked v ≡ false → entries_from asked None p.at (ahead_at p) es ≡ entries_from asked None (moved p).at (ahead_at (moved p)) es
+none-asked asked v p es h free =
+    let a : IsAhead p v = ahead_some p v h in
+    let key : Key = (a.code.value, leading a.code.value (a.code ∷ ahead_at (moved p))) in
+    let other : is_asked asked a.code.value ≡ false = ap (is_asked asked) a.value ∙ free in
+    ap (λ cs. entries_from asked None p.at cs es) a.codes
+    ∙ ap (λ b. entries_from asked (Some a.code.value) (suc p.at) (ahead_at (moved p)) (with_run b key p.at es)) other
+    ∙ entries-behind asked a.code.value (suc p.at) (ahead_at (moved p)) es other
+    ∙ ap (λ n. entries_from asked None n (ahead_at (moved p)) es) (add-one-sym p.at ∙ sym (at_moved p))
+  where
+    add-one-sym : (n : ℕ) → suc n ≡ n + 1
+    add-one-sym n = omega arith
+
+-- past a stretch of such codes
+found-stretch : (asked : List ℕ) (p : Place) (cs : List Code) (es : List (Key × ℕ)) → (p.codes ≡ cs) × (entries_from asked None 0 cs [] ≡ entries_from asked None p.at (ahead_at p) es) → ((past_stretch asked p).codes ≡ cs) × (entries_from asked None 0 cs [] ≡ entries_from asked None (past_stretch asked p).at (ahead_at (past_stretch asked p)) es)
+found-stretch asked p cs es k =
+    kept asked (λ q. (q.codes ≡ cs) × (entries_from asked None 0 cs [] ≡ entries_from asked None q.at (ahead_at q) es)) (λ q v h ending free k. (codes_moved q ∙ k.0, k.1 ∙ none-asked asked v q es h free)) p k
+
+-- the same, of where it leads
+pub found-at : (asked : List ℕ) (p q : Place) (cs : List Code) (es : List (Key × ℕ)) → q ≡ past_stretch asked p → (p.codes ≡ cs) × (entries_from asked None 0 cs [] ≡ entries_from asked None p.at (ahead_at p) es) → (q.codes ≡ cs) × (entries_from asked None 0 cs [] ≡ entries_from asked None q.at (ahead_at q) es)
+found-at asked p q cs es e k = subst (λ (x : Place). (x.codes ≡ cs) × (entries_from asked None 0 cs [] ≡ entries_from asked None x.at (ahead_at x) es)) (sym e) (found-stretch asked p cs es k)
 
 pub run-shorter : (v : ℕ) (p q : Place) → code_at p ≡ Some v → q ≡ past_run v p → length (ahead_at q) < length (ahead_at p)
 run-shorter v p q h e = subst (λ (x : Place). length (ahead_at x) < length (ahead_at p)) (sym e) (run-left v p h)

@@ -1,16 +1,19 @@
 -- The walk that finds where sequences last begin, and what an index of them says of the codes that it was made of.
 use Rattle.std.proofs.Common.{◌≡◌, ℕ, zero, suc, ◌+◌, ◌==◌, ◌&&◌, ◌||◌, nat_lt, Bool, true, false, if◌then◌else◌, cond, slice_index_or, length, ◌<◌, Option, Some, None, List, [], ◌∷◌, drop, refl, sym, ap, ◌∙◌, arith}
+use Rattle.std.specs.List.{list_any}
 use Rattle.std.proofs.lemmas.Bool.Decides.{nat_tests}
 use Rattle.std.proofs.lemmas.Grind.{common_steps}
 use Rattle.std.proofs.lemmas.List.{drop_more}
 use Rattle.markdown_engine.specs.Codes.{Code}
 use Rattle.markdown_engine.specs.Place.{Place, ahead_at, moved, code_at}
 use Rattle.markdown_engine.specs.RunIndex.{later_or, begins_before}
-use Rattle.markdown_engine.specs.SequenceIndex.{begins_at, begins_some, closes_past_spacing, closes_twice, is_spacing, stand_next, last_where, last_in, last_begins, rules_out, IsRightFor}
+use Rattle.markdown_engine.specs.SequenceIndex.{begins_at, first_bytes, closes_past_spacing, closes_twice, is_spacing, stand_next, last_where, last_in, last_begins, rules_out, IsRightFor}
 use Rattle.markdown_engine.specs.declared.sequence_index.LastBegins.{LastBegins}
 use Rattle.markdown_engine.specs.declared.sequence_index.Sequence.{Sequence}
 use Rattle.markdown_engine.specs.declared.sequence_index.Sequence.TheVariants.{CommentEnd, SectionEnd, InstructionEnd, DeclarationEnd, ResourceEnd}
 use Rattle.markdown_engine.proofs.PlaceRules.{IsAhead, ahead_some, ahead_none}
+use Rattle.markdown_engine.specs.Stretch.{past_stretch}
+use Rattle.markdown_engine.proofs.Stretches.{kept}
 use Rattle.markdown_engine.proofs.RunIndexFacts.{answer_from, answer-or}
 
 -- Whether values come next.
@@ -157,7 +160,7 @@ or-right : (a b : Bool) → a || b ≡ false → b ≡ false
 or-right false b e = e
 or-right true b e = cc
 
-pub none-begins : (p : Place) (v : ℕ) (last : LastBegins) → code_at p ≡ Some v → begins_some v ≡ false → FoundAt p last last
+pub none-begins : (p : Place) (v : ℕ) (last : LastBegins) → code_at p ≡ Some v → list_any (λ n. v == n) first_bytes ≡ false → FoundAt p last last
 none-begins p v last h e CommentEnd = ap (λ b. cond b (Some p.at) last.comment_end) (sym (next-other 45 (45 ∷ 62 ∷ []) p v h (or-left (v == 45) _ e)))
 none-begins p v last h e SectionEnd = ap (λ b. cond b (Some p.at) last.section_end) (sym (next-other 93 (93 ∷ 62 ∷ []) p v h (or-left (v == 93) _ (or-right (v == 45) _ e))))
 none-begins p v last h e InstructionEnd =
@@ -165,7 +168,11 @@ none-begins p v last h e InstructionEnd =
 none-begins p v last h e DeclarationEnd =
     ap (λ b. cond b (Some p.at) last.declaration_end) (sym (next-other 62 [] p v h (or-left (v == 62) _ (or-right (v == 63) _ (or-right (v == 93) _ (or-right (v == 45) _ e))))))
 none-begins p v last h e ResourceEnd =
-    ap (λ b. cond b (Some p.at) last.resource_end) (sym (twice-other p v h (or-right (v == 62) _ (or-right (v == 63) _ (or-right (v == 93) _ (or-right (v == 45) _ e))))))
+    ap (λ b. cond b (Some p.at) last.resource_end) (sym (twice-other p v h (or-left (v == 41) _ (or-right (v == 62) _ (or-right (v == 63) _ (or-right (v == 93) _ (or-right (v == 45) _ e)))))))
+
+-- past a stretch of such codes
+pub found-stretch : (cs : List Code) (p : Place) (last : LastBegins) → IsFound cs p last → IsFound cs (past_stretch first_bytes p) last
+found-stretch cs p last k = kept first_bytes (λ q. IsFound cs q last) (λ q v h ending free k. found-past cs q (moved q) v last last h refl (none-begins q v last h free) k) p k
 
 -- at the end
 pub found-all : (cs : List Code) (p : Place) (last : LastBegins) → code_at p ≡ None → IsFound cs p last → last ≡ last_begins cs

@@ -1,5 +1,5 @@
 -- A stretch of codes over which a state goes on by itself means as many steps.
-use Rattle.std.proofs.Common.{◌≡◌, ℕ, ◌==◌, ◌||◌, Bool, true, false, if◌then◌else◌, List, [], ◌∷◌, Option, Some, None, refl, sym, ap, subst, arith, ◌∙◌}
+use Rattle.std.proofs.Common.{◌≡◌, ℕ, ◌==◌, Bool, true, false, if◌then◌else◌, List, [], ◌∷◌, Option, Some, None, refl, sym, ap, subst, arith, ◌∙◌}
 use Rattle.std.specs.List.{list_any}
 use Rattle.std.proofs.lemmas.Bool.{both_ways, not-true, eqb-true}
 use Rattle.markdown_engine.specs.Codes.{Code, line_feed}
@@ -16,7 +16,7 @@ use Rattle.markdown_engine.specs.declared.tokenizer.Tokenizer.{Tokenizer}
 use Rattle.markdown_engine.proofs.PlaceRules.{ahead_moved, code_at_end}
 use Rattle.markdown_engine.proofs.ReachLemmas.{Reaches-call}
 use Rattle.markdown_engine.proofs.RunLemmas.{goes-alone, reaches-alone}
-use Rattle.markdown_engine.proofs.Stretches.{past-none, past-one}
+use Rattle.markdown_engine.proofs.Stretches.{past-none, past-one, or-none}
 
 -- at this place
 unfoldable pub placed : Place → Tokenizer → Tokenizer
@@ -92,10 +92,6 @@ onward-stretch ready step ends weight known laws steady s set T alone r is =
     onward-from ready step ends weight known laws steady s set (ahead T) T refl alone r is (is_free set (current_of T)) refl
 
 -- By the code at hand.
-
-or-none : (a b : Bool) → (a || b) ≡ false → (a ≡ false) × (b ≡ false)
-or-none true b h = cc
-or-none false b h = (refl, h)
 
 free-of : (set : List ℕ) (v : ℕ) → is_free set (Some v) ≡ true → (v == line_feed ≡ false) × (list_any (λ n. v == n) set ≡ false)
 free-of set v h = or-none (v == line_feed) (list_any (λ n. v == n) set) (not-true (stops set v) h)

@@ -1,5 +1,6 @@
 -- Past codes that mean themselves.
-use Rattle.std.proofs.Common.{ℕ, zero, suc, ◌+◌, ◌-◌, ◌<◌, ◌≤◌, true, false, ◌==◌, ◌≡◌, arith, List, [], ◌∷◌, length, get_or, refl, ap, subst, ◌∙◌, Option, Some, None, IsSome, inl, inr}
+use Rattle.std.proofs.Common.{ℕ, zero, suc, ◌+◌, ◌-◌, ◌<◌, ◌≤◌, Bool, true, false, ◌||◌, ◌==◌, ◌≡◌, arith, List, [], ◌∷◌, length, get_or, refl, sym, ap, subst, ◌∙◌, Option, Some, None, IsSome, inl, inr}
+use Rattle.std.specs.List.{list_any}
 use Rattle.std.proofs.lemmas.List.{drop_all}
 use Rattle.std.proofs.lemmas.Bool.{both_ways, cases_lt, not-true, not-false}
 use Rattle.std.proofs.lemmas.Bool.Decides.{nat_tests}
@@ -12,7 +13,7 @@ use Rattle.markdown_engine.specs.Stretch.{stops, is_free, stretch, walked, past_
 use Rattle.markdown_engine.specs.Plain.{is_plain, ArePlain}
 use Rattle.markdown_engine.proofs.ByteSets.{plain-parts}
 use Rattle.markdown_engine.proofs.CursorSteps.{moved_is}
-use Rattle.markdown_engine.proofs.PlaceRules.{ahead_none, ahead_some, IsAhead, code_at_end, codes_moved, at_moved}
+use Rattle.markdown_engine.proofs.PlaceRules.{ahead_none, ahead_some, ahead_moved, IsAhead, code_at_ahead, code_at_end, codes_moved, at_moved, left_moved}
 use Rattle.markdown_engine.proofs.PlainRuns.{plain_next, plain_code}
 
 -- One code.
@@ -70,6 +71,42 @@ fewer ms p q r h e same forward =
     let at : q.at ≡ p.at + 1 = ap (λ (x : Place). x.at) e ∙ at_moved p in
     let len : length r.codes ≡ length p.codes = ap (λ (x : List Code). length x) (same ∙ ap (λ (x : Place). x.codes) e ∙ codes_moved p) in
     omega (arith, lt, at, len, forward)
+
+-- What is kept.
+
+pub or-none : (a b : Bool) → (a || b) ≡ false → (a ≡ false) × (b ≡ false)
+or-none true b h = cc
+or-none false b h = (refl, h)
+
+-- it is kept past each code that is neither a line ending nor one of the bytes
+abbrev pub IsKept : List ℕ → (Place → Type 0) → Type 0
+IsKept ms P = (p : Place) (v : ℕ) → code_at p ≡ Some v → (v == line_feed) ≡ false → list_any (λ n. v == n) ms ≡ false → P p → P (moved p)
+
+kept-from : (ms : List ℕ) (P : Place → Type 0) → IsKept ms P → (cs : List Code) (p : Place) → ahead_at p ≡ cs → P p → P (walked (stretch ms cs) p)
+kept-from ms P next [] p e k = k
+kept-from ms P next (c ∷ cs) p e k =
+    elim (stops ms c.value) as (λ b. stops ms c.value ≡ b → P (walked (stretch ms (c ∷ cs)) p)) [
+      | true ↦ λ h. subst (λ (ds : List Code). P (walked ds p)) (sym (stretch-stops ms c cs h)) k
+      | false ↦ λ h.
+          let free : ((c.value == line_feed) ≡ false) × (list_any (λ n. c.value == n) ms ≡ false) = or-none (c.value == line_feed) (list_any (λ n. c.value == n) ms) h in
+          subst (λ (ds : List Code). P (walked ds p)) (sym (stretch-goes ms c cs h)) (kept-from ms P next cs (moved p) (ahead_moved p c cs e) (next p c.value (code_at_ahead p c cs e) free.0 free.1 k))
+    ] refl
+
+-- and so past a stretch
+pub kept : (ms : List ℕ) (P : Place → Type 0) → IsKept ms P → (p : Place) → P p → P (past_stretch ms p)
+unfolding past_stretch
+kept ms P next p k = kept-from ms P next (ahead_at p) p refl k
+
+-- no more codes are left
+pub left-stretch : (ms : List ℕ) (p : Place) → length (ahead_at (past_stretch ms p)) ≤ length (ahead_at p)
+left-stretch ms p =
+    kept ms (λ q. length (ahead_at q) ≤ length (ahead_at p)) (λ q v h ending free k. let one : length (ahead_at (moved q)) + 1 ≡ length (ahead_at q) = left_moved q v h in omega (arith, one, k)) p (omega arith)
+
+-- fewer are left behind the code where it ends
+pub left-behind : (ms : List ℕ) (p q r : Place) (v : ℕ) → q ≡ past_stretch ms p → code_at q ≡ Some v → length (ahead_at r) + 1 ≤ length (ahead_at q) → length (ahead_at r) < length (ahead_at p)
+left-behind ms p q r v e h less =
+    let left : length (ahead_at q) ≤ length (ahead_at p) = subst (λ (x : Place). length (ahead_at x) ≤ length (ahead_at p)) (sym e) (left-stretch ms p) in
+    omega (arith, left, less)
 
 -- Ordinary bytes.
 

@@ -4,6 +4,8 @@ use Rattle.std.proofs.lemmas.Bool.{eqb-true}
 use Rattle.markdown_engine.specs.Codes.{Code, is_line_ending, is_blank}
 use Rattle.markdown_engine.specs.Content.{has_no_blank_line, is_text_codes}
 use Rattle.markdown_engine.specs.Place.{Place, ahead_at, moved, code_at}
+use Rattle.markdown_engine.specs.Stretch.{past_stretch}
+use Rattle.markdown_engine.proofs.Stretches.{kept}
 use Rattle.markdown_engine.proofs.PlaceRules.{IsAhead, ahead_some, ahead_none, code_at_ahead, code_at_end}
 
 pub not-swap : (a r : Bool) → a ≡ not r → r ≡ not a
@@ -35,6 +37,14 @@ text-next p v b r h k e =
     let whole : has_no_blank_line b (ahead_at p) ≡ has_no_blank_line (if v == 10 then false else (b || not (is_blank a.code))) (ahead_at (moved p)) =
     ap (λ (cs : List Code). has_no_blank_line b cs) a.codes ∙ filled-by b a.code (ahead_at (moved p)) (v == 10) ending (λ t. k (eqb-true v 10 t)) in
     whole ∙ ap (λ (x : Bool). has_no_blank_line (if v == 10 then false else (b || not x)) (ahead_at (moved p))) blank ∙ ap (λ (x : Bool). has_no_blank_line x (ahead_at (moved p))) (sym e)
+
+-- past the rest of a line that is filled
+pub text-stretch : (ms : List ℕ) (p q : Place) (b : Bool) → b ≡ true → q ≡ past_stretch ms p → has_no_blank_line b (ahead_at q) ≡ has_no_blank_line b (ahead_at p)
+text-stretch ms p q b f e =
+    ap (λ (x : Bool). has_no_blank_line x (ahead_at q)) f
+    ∙ ap (λ (x : Place). has_no_blank_line true (ahead_at x)) e
+    ∙ kept ms (λ x. has_no_blank_line true (ahead_at x) ≡ has_no_blank_line true (ahead_at p)) (λ x v h ending free k. sym (text-next x v true true h (λ t. refl) (ap (λ (y : Bool). if y then false else true) (sym ending))) ∙ k) p refl
+    ∙ ap (λ (x : Bool). has_no_blank_line x (ahead_at p)) (sym f)
 
 -- a blank line
 pub text-blank : (p : Place) (v : ℕ) (b : Bool) → code_at p ≡ Some v → v ≡ 10 → b ≡ false → has_no_blank_line b (ahead_at p) ≡ false

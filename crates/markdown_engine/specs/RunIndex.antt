@@ -46,7 +46,7 @@ pub record LastRuns : Type 0 where
   pub entries : List (Key × ℕ)
 
 abbrev pub is_asked : List ℕ → ℕ → Bool
-is_asked asked value = list_any (λ a. a == value) asked
+is_asked asked value = list_any (λ a. value == a) asked
 
 abbrev pub is_same : Option ℕ → ℕ → Bool
 is_same None value = false

@@ -40,9 +40,9 @@ abbrev pub last_where : (List Code → Bool) → List Code → Option ℕ
 last_where p [] = None
 last_where p (c ∷ cs) = later_or (last_where p cs) (p (c ∷ cs))
 
--- a sequence begins with it
-abbrev pub begins_some : ℕ → Bool
-begins_some v = v == byte "-" || (v == byte "]" || (v == byte "?" || (v == byte ">" || v == byte ")")))
+-- with each of these a sequence begins
+abbrev pub first_bytes : List ℕ
+first_bytes = codes "-]?>)"
 
 -- what is held of a sequence
 abbrev pub last_in : LastBegins → Sequence → Option ℕ

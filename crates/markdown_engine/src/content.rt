@@ -1,10 +1,12 @@
 // Tests whether pieces of a document are a content, and a text.
 ghost use Rattle.std.specs.Prelude.{◌≡◌, ◌≤◌, ◌^◌, ◌&&◌, ◌||◌, ◌==◌, ◌↔◌, nat_lt, not, false, if◌then◌else◌, length, All, IsTrue, IsCharBoundary};
 ghost use Rattle.markdown_engine.specs.Codes.{place_of, is_at_or_after};
-ghost use Rattle.markdown_engine.specs.Content.{document_limit, content_of, is_text_codes, IsContent, IsTextContent, IsBetweenCharacters, are_pieces};
+ghost use Rattle.markdown_engine.specs.Content.{document_limit, content_of, has_no_blank_line, is_text_codes, IsContent, IsTextContent, IsBetweenCharacters, are_pieces};
 ghost use Rattle.markdown_engine.specs.Checks.{Reaches, PassesPiece, PassesNext};
+ghost use Rattle.markdown_engine.specs.Place.{ahead_at};
 ghost use Rattle.markdown_engine.specs.Walk.{IsPoint};
 
+use crate::byte_set;
 use crate::cursor::Cursor;
 use crate::event::Point;
 use crate::parser::Piece;
@@ -158,6 +160,16 @@ fn is_filled_by(filled: bool, code: u8) -> bool
     }
 }
 
+// Where a line is filled, moves past the rest of it, up to its line ending.
+fn pass_filled(cursor: &mut Cursor, filled: bool)
+    ensures lines { has_no_blank_line filled (ahead_at cursor.new) ≡ has_no_blank_line filled (ahead_at cursor.old) }
+    ensures left { length (ahead_at cursor.new) ≤ length (ahead_at cursor.old) }
+{
+    if filled {
+        cursor.consume_stretch(&byte_set!());
+    }
+}
+
 // Whether no line of a content is blank, and the last one has no line ending.
 fn has_text_lines(bytes: &[u8], pieces: &[Piece]) -> bool
     requires { IsContent bytes.now pieces.now }
@@ -171,6 +183,7 @@ fn has_text_lines(bytes: &[u8], pieces: &[Piece]) -> bool
         }
         filled = is_filled_by(filled, code);
         cursor.consume();
+        pass_filled(&mut cursor, filled);
     }
     filled
 }

@@ -228,6 +228,15 @@ impl<'a> Cursor<'a> {
         }
     }
 
+    // Moves past the codes at the place up to a line ending, one of these bytes or the end, and answers the code there.
+    pub(crate) fn seek(&mut self, stops: &ByteSet) -> Option<u8>
+        ensures place { self.new ≡ past_stretch stops.now self.old }
+        ensures code { result ≡ code_at self.new }
+    {
+        self.consume_stretch(stops);
+        self.current()
+    }
+
     // Moves past the code at the place, whatever it is, and wherever in its piece.
     #[inline(never)]
     fn consume_any(&mut self)

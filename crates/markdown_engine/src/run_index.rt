@@ -2,6 +2,8 @@
 ghost use Rattle.std.specs.Prelude.{◌≡◌, IfOk};
 ghost use Rattle.markdown_engine.specs.RunIndex.{last_runs, no_runs, rules_out, past_run};
 
+use crate::byte_set;
+use crate::bytes::ByteSet;
 use crate::cursor::Cursor;
 use std::alloc::{AllocError, Global};
 use std::collections::BTreeMap;
@@ -16,7 +18,7 @@ use std::marker::Model;
 /// It holds one entry for each length of a run, and answers in logarithmic time.
 #[derive(Drop)]
 pub struct RunIndex {
-    asked: &'static [u8],
+    asked: ByteSet,
     // By byte and length.
     last: BTreeMap<(u8, usize), usize>,
 }
@@ -26,7 +28,7 @@ impl Model for RunIndex {
 
     ghost Value = { LastRuns };
 
-    ghost view = { λ r. record { asked = r.asked.now; entries = r.last.entries } };
+    ghost view = { λ r. record { asked = r.asked; entries = r.last.entries } };
 }
 
 impl RunIndex {
@@ -35,7 +37,7 @@ impl RunIndex {
         ensures { result ≡ no_runs }
     {
         RunIndex {
-            asked: &[],
+            asked: byte_set!(),
             last: BTreeMap::new(alloc),
         }
     }
@@ -43,19 +45,15 @@ impl RunIndex {
     /// The runs of these bytes in the whole content of a cursor, by one walk.
     ///
     /// `Err` only if memory is refused.
-    pub fn over(
-        alloc: Global,
-        cursor: &Cursor,
-        asked: &'static [u8],
-    ) -> Result<RunIndex, AllocError>
-        ensures { IfOk result (λ r. r ≡ last_runs asked.entry.now cursor.now.codes) }
+    pub fn over(alloc: Global, cursor: &Cursor, asked: ByteSet) -> Result<RunIndex, AllocError>
+        ensures { IfOk result (λ r. r ≡ last_runs asked cursor.now.codes) }
     {
         let mut last = BTreeMap::new(alloc);
         let mut place = cursor.restart();
-        while let Some(code) = place.current() {
+        while let Some(code) = place.seek(&asked) {
             let begins = place.passed();
             pass_run(&mut place, code);
-            if asked.contains(&code) {
+            if asked.contains(code) {
                 let added = last.insert((code, place.passed() - begins), begins);
                 if added.is_err() {
                     return Err(AllocError);
@@ -70,7 +68,7 @@ impl RunIndex {
     pub fn rules_out(&self, byte: u8, size: usize, at: usize) -> bool
         ensures { result ≡ rules_out self.now byte size at }
     {
-        if !self.asked.contains(&byte) {
+        if !self.asked.contains(byte) {
             return false;
         }
         match self.last.get(&(byte, size)) {

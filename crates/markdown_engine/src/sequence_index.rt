@@ -1,9 +1,11 @@
 // Where the last of some sequences of bytes begins.
 ghost use Rattle.std.specs.Prelude.{◌≡◌, Some, None, cond};
 ghost use Rattle.markdown_engine.specs.Place.{ahead_at};
-ghost use Rattle.markdown_engine.specs.SequenceIndex.{begins_at, begins_some, closes_past_spacing, closes_twice, is_spacing, stand_next, last_in, last_begins, rules_out};
+ghost use Rattle.markdown_engine.specs.SequenceIndex.{begins_at, first_bytes, closes_past_spacing, closes_twice, is_spacing, stand_next, last_in, last_begins, rules_out};
 ghost use Rattle.markdown_engine.specs.declared.sequence_index.Sequence.{Sequence as Kind};
 
+use crate::byte_set;
+use crate::bytes::ByteSet;
 use crate::cursor::Cursor;
 use std::marker::Model;
 
@@ -88,9 +90,10 @@ impl SequenceIndex {
             declaration_end: None,
             resource_end: None,
         };
+        let firsts = first_bytes();
         let mut place = cursor.restart();
-        while let Some(code) = place.current() {
-            if begins_some(code) {
+        while let Some(code) = place.seek(&firsts) {
+            if firsts.contains(code) {
                 last = found_at(&place, last);
             }
             place.consume();
@@ -126,11 +129,11 @@ fn found_at(place: &Cursor, last: LastBegins) -> LastBegins
     }
 }
 
-// Whether it is the first byte of a sequence.
-fn begins_some(byte: u8) -> bool
-    ensures { result ≡ begins_some byte }
+// The first bytes of the sequences.
+fn first_bytes() -> ByteSet
+    ensures { result ≡ first_bytes }
 {
-    matches!(byte, b'-' | b']' | b'?' | b'>' | b')')
+    byte_set!(b'-', b']', b'?', b'>', b')')
 }
 
 // This place where the test holds, else the earlier one.

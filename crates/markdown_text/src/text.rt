@@ -20,9 +20,6 @@ use markdown_mail::gfm_autolink_literal;
 use markdown_partial::partial_whitespace;
 use std::alloc::AllocError;
 
-// The bytes whose runs close spans.
-const SPAN_MARKERS: [u8; 2] = [b'`', b'$'];
-
 // Where so many names are defined, and so many labels may end, an order of the names pays.
 const MANY: usize = 16;
 
@@ -96,7 +93,7 @@ fn index_runs(tokenizer: &mut Tokenizer) -> Result<(), AllocError>
     ensures ok { OnOk result (tokenizer.new ≡ scratched (record tokenizer.old.tokenize_state { runs = last_runs span_markers tokenizer.old.cursor.codes }) tokenizer.old) }
     ensures err { OnErr result (IsTrue tokenizer.new.failed) }
 {
-    match RunIndex::over(tokenizer.alloc, &tokenizer.cursor, &SPAN_MARKERS) {
+    match RunIndex::over(tokenizer.alloc, &tokenizer.cursor, byte_set!(b'`', b'$')) {
         Ok(runs) => {
             tokenizer.tokenize_state.runs = runs;
             Ok(())

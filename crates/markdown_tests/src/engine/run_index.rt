@@ -1,4 +1,5 @@
 // The last run of each size.
+use markdown_engine::byte_set;
 use markdown_engine::content::is_content;
 use markdown_engine::cursor::Cursor;
 use markdown_engine::parser::Piece;
@@ -14,7 +15,7 @@ fn knows_the_last_run_of_each_size(rt: HostRuntime) -> Result<(), Fail> {
     }];
     assert!(rt; is_content(bytes, &pieces));
     let cursor = Cursor::new(bytes, &pieces);
-    let runs = RunIndex::over(rt.alloc(), &cursor, b"`$")?;
+    let runs = RunIndex::over(rt.alloc(), &cursor, byte_set!(b'`', b'$'))?;
     for (byte, size, at, ruled_out) in [
         (b'`', 1, 5, false),
         (b'`', 1, 6, true),

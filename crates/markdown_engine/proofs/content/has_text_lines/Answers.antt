@@ -20,7 +20,9 @@ pub loop-code-smaller : goal.loop-code-smaller
 loop-code-smaller c =
     let here : code_at c.loop-code.cursor ≡ Some c.in-Some.code = sym c.current-in-loop-code.ensures ∙ c.in-Some.is in
     let less : length (ahead_at (moved c.loop-code.cursor)) + 1 ≡ length (ahead_at c.loop-code.cursor) = left_moved c.loop-code.cursor c.in-Some.code here in
-    subst (λ (p : Place). length (ahead_at p) < length (ahead_at c.loop-code.cursor)) (sym c.consume.ensures) (omega arith)
+    let one : length (ahead_at c.consume.new.self) < length (ahead_at c.loop-code.cursor) =
+    subst (λ (p : Place). length (ahead_at p) < length (ahead_at c.loop-code.cursor)) (sym c.consume.ensures) (omega arith) in
+    omega (arith, one, c.pass_filled.ensures.left)
 
 pub loop-code-preserved : goal.loop-code-preserved
 loop-code-preserved c =
@@ -33,6 +35,7 @@ loop-code-preserved c =
     c.loop-code.invariant
     ∙ text-next c.loop-code.cursor c.in-Some.code c.loop-code.filled c.is_filled_by-filled.result here seen c.is_filled_by-filled.ensures
     ∙ ap (λ (p : Place). has_no_blank_line c.is_filled_by-filled.result (ahead_at p)) (sym c.consume.ensures)
+    ∙ sym c.pass_filled.ensures.lines
 
 pub returns : goal.returns
 returns c = sym (c.loop-code.invariant ∙ text-end c.loop-code.cursor c.loop-code.filled (sym c.current-in-loop-code.ensures ∙ c.in_default.is))
