@@ -26,6 +26,7 @@ pub mod RunLemmas
 pub mod RunIndexLemmas
 pub mod RunIndexFacts
 pub mod SequenceIndexLemmas
+pub mod TitleIndexLemmas
 pub mod CountLemmas
 pub mod NameOrder
 pub mod NameSort

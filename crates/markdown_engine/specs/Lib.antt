@@ -13,6 +13,7 @@ pub mod Edits
 pub mod Nesting
 pub mod RunIndex
 pub mod SequenceIndex
+pub mod TitleIndex
 pub mod NameIndex
 pub mod Rest
 pub mod Begun

@@ -4,7 +4,7 @@ use Rattle.markdown_engine.specs.RunIndex.{no_runs}
 use Rattle.markdown_engine.specs.declared.event.Name.TheVariants as N
 use Rattle.markdown_engine.specs.declared.tokenizer.TokenizeState.{TokenizeState}
 
--- all at rest, with no labels, no markers, no probes, no known runs and sequences, and no names
+-- all at rest, with no labels, no markers, no probes, no known runs, sequences and titles, and no names
 abbrev pub at_rest : TokenizeState
 at_rest = record {
   marker = 0;
@@ -36,6 +36,7 @@ at_rest = record {
   probes = 0;
   runs = no_runs;
   sequences = None;
+  titles = None;
   names = None;
   document_at_first_paragraph_of_list_item = false;
 }

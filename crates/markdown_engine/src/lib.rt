@@ -17,6 +17,7 @@ pub mod seq;
 pub mod sequence_index;
 pub mod state;
 pub mod subtokenize;
+pub mod title_index;
 pub mod tokenizer;
 pub mod util;
 pub mod walk;

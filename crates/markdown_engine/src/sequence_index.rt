@@ -168,7 +168,7 @@ fn is_spacing(byte: u8) -> bool
 }
 
 // Whether a closing parenthesis comes next, past whitespace.
-fn closes_past_spacing(cursor: &Cursor) -> bool
+pub(crate) fn closes_past_spacing(cursor: &Cursor) -> bool
     ensures { result ≡ closes_past_spacing (ahead_at cursor.now) }
 {
     let mut place = cursor.save();

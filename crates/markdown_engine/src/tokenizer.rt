@@ -20,6 +20,7 @@ use crate::run_index::RunIndex;
 use crate::seq::{Seq, Stack};
 use crate::sequence_index::SequenceIndex;
 use crate::state::State;
+use crate::title_index::TitleIndex;
 use crate::util::edit_map::EditMap;
 use std::alloc::{AllocError, Global};
 use std::marker::Model;
@@ -61,7 +62,7 @@ pub struct Label {
 }
 
 /// The scratch fields of the states: what one state leaves for another. Each is at rest between two constructs, but for the lists of
-/// labels, `markers`, `probes`, `runs`, `sequences`, `names` and `document_at_first_paragraph_of_list_item`.
+/// labels, `markers`, `probes`, `runs`, `sequences`, `titles`, `names` and `document_at_first_paragraph_of_list_item`.
 ///
 /// Some of them mean one thing in one construct, and another in the next:
 ///
@@ -150,6 +151,8 @@ pub struct TokenizeState {
     pub runs: RunIndex,
     /// Where the last of some sequences begins in the content; nothing is known at rest.
     pub sequences: SequenceIndex,
+    /// Where titles in parentheses may end in the content, and resources behind them; none at rest.
+    pub titles: Option<TitleIndex>,
     /// The names of what is defined, each found by a search; none at rest.
     pub names: Option<Names>,
     /// Whether the content is the first paragraph of a list item.
@@ -157,7 +160,7 @@ pub struct TokenizeState {
 }
 
 impl TokenizeState {
-    /// All at rest: no labels, no markers, no probes, no known runs and sequences, no names.
+    /// All at rest: no labels, no markers, no probes, no known runs, sequences and titles, no names.
     pub fn new(alloc: Global) -> TokenizeState
         ensures { result ≡ at_rest }
     {
@@ -191,6 +194,7 @@ impl TokenizeState {
             probes: 0,
             runs: RunIndex::new(alloc),
             sequences: SequenceIndex::new(),
+            titles: None,
             names: None,
             document_at_first_paragraph_of_list_item: false,
         }
