@@ -11,4 +11,5 @@ mod seq;
 mod sequence_index;
 mod skip;
 mod slice;
+mod title_index;
 mod walk;
