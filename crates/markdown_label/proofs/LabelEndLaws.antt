@@ -164,6 +164,7 @@ module _ (W : Words) (within : Within states W) where
         part = record {
           short = k.part.short;
           indexed = k.part.indexed;
+          titled = k.part.titled;
           spaces = record { space = ap f k.part.spaces.space; eol = ap f k.part.spaces.eol };
           rest = ap f k.part.rest;
         };

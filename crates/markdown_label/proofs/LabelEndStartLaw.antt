@@ -135,6 +135,7 @@ module _ (T : Tokenizer) (x : Code) (cs : List Code) (whole : ahead T ≡ x ∷ 
         part = record {
           short = omega (arith, left-there, k.part.short);
           indexed = k.part.indexed;
+          titled = k.part.titled;
           spaces = record { space = ap f k.part.spaces.space; eol = ap f k.part.spaces.eol };
           rest = ap f k.part.rest;
         };

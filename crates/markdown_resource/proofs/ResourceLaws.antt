@@ -8,6 +8,7 @@ use Rattle.markdown_engine.specs.Past.{TreeReading, Reads, Refuses, past, last_l
 use Rattle.markdown_engine.specs.Runs.{restored}
 use Rattle.markdown_engine.specs.SequenceIndex.{IsRightFor, last_begins}
 use Rattle.markdown_engine.specs.StateWords.{Words, Law, GoesIn}
+use Rattle.markdown_engine.specs.TitleIndex as Titles
 use Rattle.markdown_engine.specs.Tree.{Forest, empty, leaf_then, group_then, ◌⊕◌, leaf_codes, event_count}
 use Rattle.markdown_engine.specs.Weights.{weight_at}
 use Rattle.markdown_engine.specs.declared.event.Name.{Name}
@@ -92,7 +93,7 @@ no-ending : (cs : List Code) → next_is is_line_ending cs ≡ false → at_endi
 no-ending [] e = refl
 no-ending (c ∷ cs) e = if-false _ _ _ e
 
-or-parts : (a b : Bool) → (a || b) ≡ false → (a ≡ false) × (b ≡ false)
+pub or-parts : (a b : Bool) → (a || b) ≡ false → (a ≡ false) × (b ≡ false)
 or-parts true b e = cc
 or-parts false b e = (refl, e)
 
@@ -125,6 +126,10 @@ stack-read r T U k = ap (λ (x : Tokenizer). x.stack) k.left
 pub indexed-same : (T U : Tokenizer) → U.cursor.codes ≡ T.cursor.codes → U.tokenize_state.sequences ≡ T.tokenize_state.sequences → IsRightFor T.cursor.codes T.tokenize_state.sequences → IsRightFor U.cursor.codes U.tokenize_state.sequences
 indexed-same T U codes same right last known = right last (sym same ∙ known) ∙ ap last_begins (sym codes)
 
+-- and so is what is known of the ends of titles
+pub titled-same : (T U : Tokenizer) → U.cursor.codes ≡ T.cursor.codes → U.tokenize_state.titles ≡ T.tokenize_state.titles → Titles.IsRightFor T.cursor.codes T.tokenize_state.titles → Titles.IsRightFor U.cursor.codes U.tokenize_state.titles
+titled-same T U codes same right closers known = right closers (sym same ∙ known) ∙ ap Titles.closers_of (sym codes)
+
 pub codes-read : (r : TreeReading) (s : TokenizeState) (T U : Tokenizer) → (k : Reads r None s T U) → U.cursor.codes ≡ T.cursor.codes
 unfolding past scratched
 codes-read r s T U k = ap (λ (x : Tokenizer). x.cursor.codes) k.left ∙ same-codes (leaf_codes k.tree) T.cursor
@@ -135,6 +140,7 @@ part-read r T U k p =
     record {
       short = omega (arith, left-read r None T.tokenize_state T U k, p.short);
       indexed = indexed-same T U (codes-read r T.tokenize_state T U k) (ap (λ (s : TokenizeState). s.sequences) same) p.indexed;
+      titled = titled-same T U (codes-read r T.tokenize_state T U k) (ap (λ (s : TokenizeState). s.titles) same) p.titled;
       spaces = subst WhitespaceAtRest (sym same) p.spaces;
       rest = subst (λ (s : TokenizeState). rested s ≡ s) (sym same) p.rest;
     }

@@ -1,5 +1,6 @@
 -- The laws of the states of a resource behind its opening.
-use Rattle.std.proofs.Common.{◌≡◌, ℕ, ◌<◌, ◌≤◌, ◌==◌, Bool, true, false, ◌||◌, if◌then◌else◌, Option, Some, None, List, [], ◌∷◌, ◌++◌, refl, sym, ap, subst, ◌∙◌, arith}
+use Rattle.std.proofs.Common.{◌≡◌, ℕ, ◌<◌, ◌≤◌, ◌==◌, Bool, true, false, ◌||◌, if◌then◌else◌, Option, Some, None, List, [], ◌∷◌, ◌++◌, refl, sym, ap, subst, ◌∙◌, arith, inl, inr}
+use Rattle.std.proofs.lemmas.Bool.{eqb-true, or_cases}
 use Rattle.markdown_engine.specs.Codes.{Code}
 use Rattle.markdown_engine.specs.Grown.{Grown, Fails}
 use Rattle.markdown_engine.specs.Lists.{rest_of}
@@ -7,6 +8,7 @@ use Rattle.markdown_engine.specs.Ops.{Exit, ahead, applied, current_of, done, sc
 use Rattle.markdown_engine.specs.Past.{TreeReading, Reads, past, behind}
 use Rattle.markdown_engine.specs.Place.{ahead_at}
 use Rattle.markdown_engine.specs.Runs.{stepped}
+use Rattle.markdown_engine.specs.SequenceIndex.{closes_twice, last_where, rules_out}
 use Rattle.markdown_engine.specs.StateWords.{StateWords, Words, words_in, Law, GoesIn}
 use Rattle.markdown_engine.specs.Tree.{Forest, leaf, leaf_codes}
 use Rattle.markdown_engine.specs.Weights.{codes_left, weight_at}
@@ -21,8 +23,9 @@ use Rattle.markdown_engine.proofs.EndsLemmas.{left-read, scratched-same}
 use Rattle.markdown_engine.proofs.Laws.{Grown-refl, if-step, restored-fails}
 use Rattle.markdown_engine.proofs.OpRules.{Begins, ahead-none, ahead-some, attempts-scratched, left-scratched}
 use Rattle.markdown_engine.proofs.OpsLemmas.{and-left, and-right, attempts-done}
-use Rattle.markdown_engine.proofs.SequenceIndexLemmas.{ruled-out}
+use Rattle.markdown_engine.proofs.SequenceIndexLemmas as S
 use Rattle.markdown_engine.proofs.SolidLemmas.{IsSolid-leaf}
+use Rattle.markdown_engine.proofs.TitleIndexLemmas.{ruled-out}
 use Rattle.markdown_engine.proofs.TreeLemmas.{ahead-past, ops-past}
 use Rattle.markdown_model.specs.CodeTests.{is_value, next_is}
 use Rattle.markdown_model.specs.Grammar.{gives, one}
@@ -38,8 +41,8 @@ use Rattle.markdown_string.specs.Title as ST
 use Rattle.markdown_resource.specs.Parts.{PartReady, rested, names_rested}
 use Rattle.markdown_resource.specs.Resource.{destination_asked, destination_rested, title_asked, front_ops, at_space, at_close, at_title, at_parenthesis, is_hopeless, spaced, destination_put, destination_after_step, title_put, title_after_step, RowReads, RowEnds, closes, or_without, and_then, after_title, between, after_destination_of, after_destination, opened, InReady, open_ends, destination_after_ends, missing_ends, between_ends, title_after_ends, end_ends, open_words, destination_after_words, missing_words, between_words, title_after_words, end_words, states}
 use Rattle.markdown_resource.proofs.NextCodes.{at-value, at-none}
-use Rattle.markdown_resource.proofs.TitleEnds.{no-title}
-use Rattle.markdown_resource.proofs.ResourceLaws.{NoLinks, indexed-same, codes-read, row-then, row-scratched, row-same, no-space, closes-here, fields-read, in-read, spacing-unlinked, spaced-law}
+use Rattle.markdown_resource.proofs.TitleEnds.{no-title, none-twice}
+use Rattle.markdown_resource.proofs.ResourceLaws.{NoLinks, indexed-same, titled-same, codes-read, row-then, row-scratched, row-same, no-space, closes-here, fields-read, in-read, spacing-unlinked, spaced-law}
 use Rattle.markdown_resource.proofs.ResourceReadings.{closes-none}
 
 -- Names that were set, put to rest.
@@ -85,7 +88,7 @@ asked-holds q r T U k = k.holds ∙ ap (λ xs. Some (k.tree, xs)) (sym k.after)
 part-back : (put : TokenizeState → TokenizeState) (T U : Tokenizer) → PartReady T → codes_left U ≤ codes_left T → U.cursor.codes ≡ T.cursor.codes → put U.tokenize_state ≡ T.tokenize_state → PartReady (scratched (put U.tokenize_state) U)
 unfolding scratched
 part-back put T U p fewer codes e =
-    record { short = omega (arith, fewer, p.short); indexed = indexed-same T (scratched (put U.tokenize_state) U) codes (ap (λ (s : TokenizeState). s.sequences) e) p.indexed; spaces = subst WhitespaceAtRest (sym e) p.spaces; rest = subst (λ (s : TokenizeState). rested s ≡ s) (sym e) p.rest }
+    record { short = omega (arith, fewer, p.short); indexed = indexed-same T (scratched (put U.tokenize_state) U) codes (ap (λ (s : TokenizeState). s.sequences) e) p.indexed; titled = titled-same T (scratched (put U.tokenize_state) U) codes (ap (λ (s : TokenizeState). s.titles) e) p.titled; spaces = subst WhitespaceAtRest (sym e) p.spaces; rest = subst (λ (s : TokenizeState). rested s ≡ s) (sym e) p.rest }
 
 -- destinations and titles are groups
 destination-yields : Yields NoLinks (destination 32 resource_names)
@@ -116,9 +119,19 @@ parenthesis-here T (Some v) e = sym (at-value T v 40 (v == 40) e refl)
 
 hopeless-between : (T : Tokenizer) → InReady T → is_hopeless T ≡ true → between (ahead T) ≡ None
 unfolding ahead_at
-hopeless-between T p h =
-    no-title (ahead T) (sym (parenthesis-here T (current_of T) refl) ∙ and-left _ _ h)
-    (ruled-out T.tokenize_state.sequences T.cursor.codes ResourceEnd T.cursor.at p.part.indexed (and-right (at_parenthesis (current_of T)) _ h))
+hopeless-between T p h = by-codes (ahead T) refl (sym (parenthesis-here T (current_of T) refl) ∙ and-left (at_parenthesis (current_of T)) _ h)
+  where
+    s : TokenizeState
+    s = T.tokenize_state
+
+    by-codes : (cs : List Code) → ahead T ≡ cs → next_is (is_value 40) cs ≡ true → between (ahead T) ≡ None
+    by-codes [] e here = cc
+    by-codes (c ∷ cs) e here =
+        ap between e
+        ∙ no-title c cs here (elim (or_cases (rules_out s.sequences ResourceEnd T.cursor.at) _ (and-right (at_parenthesis (current_of T)) _ h)) [
+          | inl g ↦ none-twice c cs (ap (last_where closes_twice) (sym e) ∙ S.ruled-out s.sequences T.cursor.codes ResourceEnd T.cursor.at p.part.indexed g)
+          | inr g ↦ ruled-out s.titles T.cursor.codes cs c T.cursor.at p.part.titled g e (eqb-true c.value 40 here)
+        ])
 
 exited-ahead : (T : Tokenizer) → ahead (applied (Exit N.Resource) T) ≡ ahead T
 unfolding applied

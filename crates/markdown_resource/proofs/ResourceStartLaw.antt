@@ -134,7 +134,7 @@ module _ (T : Tokenizer) (x : Code) (cs : List Code) (whole : ahead T ≡ x ∷ 
 
   ready-there : PartReady T → InReady P
   unfolding past applied moved
-  ready-there p = record { part = record { short = omega (arith, left-there, p.short); indexed = p.indexed; spaces = p.spaces; rest = p.rest }; whole = refl }
+  ready-there p = record { part = record { short = omega (arith, left-there, p.short); indexed = p.indexed; titled = p.titled; spaces = p.spaces; rest = p.rest }; whole = refl }
 
   row-there : (t : Forest) (U : Tokenizer) → U ≡ applied (Exit N.Resource) (past None t (scratched P.tokenize_state P)) → U ≡ applied (Exit N.Resource) (past None (M ⊕ t) (applied (Enter N.Resource) T))
   unfolding past applied scratched

@@ -1,19 +1,22 @@
--- Where no closing parenthesis has another one behind it, no resource ends behind a title in parentheses.
-use Rattle.std.proofs.Common.{◌≡◌, ℕ, Bool, true, false, ◌&&◌, ◌||◌, ◌==◌, if◌then◌else◌, Option, Some, None, List, [], ◌∷◌, ◌++◌, refl, sym, ap, subst, ◌∙◌, arith}
+-- Where the first closing parenthesis behind a title's start that is not escaped has no other one behind it, no resource ends behind that title.
+use Rattle.std.proofs.Common.{◌≡◌, ℕ, Bool, true, false, ◌&&◌, ◌||◌, ◌==◌, if◌then◌else◌, Option, Some, None, List, [], ◌∷◌, refl, sym, ap, subst, ◌∙◌}
 use Rattle.std.proofs.lemmas.Bool.{eqb-true, or_cases}
 use Rattle.std.proofs.Common.{inl, inr}
 use Rattle.markdown_engine.specs.Codes.{Code, is_blank, is_line_ending}
 use Rattle.markdown_engine.specs.Past.{behind}
 use Rattle.markdown_engine.specs.SequenceIndex.{closes_past_spacing, closes_twice, is_spacing, last_where}
+use Rattle.markdown_engine.specs.TitleIndex as Titles
+use Rattle.markdown_engine.specs.TitleIndex.{closes_resource, escapes}
 use Rattle.markdown_engine.specs.Tree.{Forest}
 use Rattle.markdown_engine.proofs.RunIndexFacts.{later-none}
 use Rattle.markdown_model.specs.CodeTests.{is_among, is_empty, is_value, next_is}
-use Rattle.markdown_model.specs.Grammar.{Reading, ◌>>=◌, ◌>>◌, gives, either, provided, before, one, some, any_number, span, escaped_from, up_to}
+use Rattle.markdown_model.specs.Grammar.{Reading, with_first, ◌>>=◌, ◌>>◌, gives, either, provided, before, one, some, any_number, span, escaped_from, up_to}
 use Rattle.markdown_model.specs.Resource.{begins_title, title, title_between, title_names}
 use Rattle.markdown_model.specs.Whitespace.{spacing, spaces_across, spaces_on_line, begins_filled_line}
-use Rattle.markdown_model.proofs.ReadingSteps.{if-true}
-use Rattle.markdown_string.proofs.EscapeReadings.{Text, text}
+use Rattle.markdown_model.proofs.ReadingSteps.{if-true, and-false, and-left, and-true}
+use Rattle.markdown_string.proofs.EscapeReadings.{text-end, text-next, text-stops, text-taken}
 use Rattle.markdown_resource.specs.Resource.{closes, or_without, and_then, after_title, between}
+use Rattle.markdown_resource.proofs.ResourceLaws.{or-parts}
 use Rattle.markdown_resource.proofs.ResourceReadings.{closes-none}
 
 -- What a reading leaves.
@@ -119,28 +122,57 @@ after-none cs h = by-space (spacing None cs) refl
     by-space None e = ap (λ x. or_without x closes cs) e ∙ closes-none cs (next-unclosed cs h)
     by-space (Some r) e = ap (λ x. or_without x closes cs) e ∙ ap (behind r.0) (closes-none r.1 (next-unclosed r.1 (subst (λ o. Rests Unclosed o) e (spacing-rest cs h))))
 
--- No two parenthesis with nothing but whitespace between them.
+-- No two parentheses with nothing but whitespace between them.
 
 abbrev NoEnd : List Code → Type 0
-NoEnd cs = last_where closes_twice cs ≡ None
-
-no-end-behind : (xs ys : List Code) → NoEnd (xs ++ ys) → NoEnd ys
-no-end-behind [] ys h = h
-no-end-behind (x ∷ xs) ys h = no-end-behind xs ys (later-none _ _ h).0
-
-no-end-past : (c : Code) (cs : List Code) → NoEnd (c ∷ cs) → NoEnd cs
-no-end-past c cs h = (later-none _ _ h).0
+NoEnd cs = closes_twice cs ≡ false
 
 no-end-closed : (c : Code) (cs : List Code) → is_value 41 c ≡ true → NoEnd (c ∷ cs) → Unclosed cs
-no-end-closed c cs e h = sym (ap (λ b. b && closes_past_spacing cs) e) ∙ (later-none (last_where closes_twice cs) (closes_twice (c ∷ cs)) h).1
+no-end-closed c cs e h = sym (ap (λ b. b && closes_past_spacing cs) e) ∙ h
 
-text-rest : (stop takes refuses : Code → Bool) (cs : List Code) → NoEnd cs → Rests NoEnd (up_to stop takes refuses cs)
+rests-first : (Q : List Code → Type 0) (c : Code) (o : Option (List Code × List Code)) → Rests Q o → Rests Q (with_first c o)
+rests-first Q c None h = tt
+rests-first Q c (Some r) h = h
+
+-- what a title takes behind a backslash, and where it stops
+
+abbrev takes : Code → Bool
+takes = is_among (92 ∷ 41 ∷ [])
+
+abbrev titled : Bool → Reading (List Code)
+titled = escaped_from (is_value 41) takes (λ c. false)
+
+behind-slash : (c : Code) (cs : List Code) → closes_resource true (c ∷ cs) ≡ false → closes_resource false cs ≡ false
+behind-slash c cs h =
+    sym (ap (λ b. if b then closes_past_spacing cs else closes_resource (escapes true c.value) cs) (and-false (c.value == 41)) ∙ ap (λ b. closes_resource b cs) (and-false (c.value == 92)))
+    ∙ h
+
+past-slash : (c : Code) (cs : List Code) (b : Bool) → takes c ≡ b → Rests NoEnd (titled false cs) → Rests NoEnd (titled true (c ∷ cs))
+past-slash c cs true e k = subst (Rests NoEnd) (sym (text-taken (is_value 41) takes (λ c. false) true c cs e)) (rests-first NoEnd c (titled false cs) k)
+past-slash c cs false e k =
+    let slash = or-parts (c.value == 92) (c.value == 41 || false) e in
+    let other = or-parts (c.value == 41) false slash.1 in
+    subst (Rests NoEnd) (sym (text-next (is_value 41) takes (λ c. false) true c cs e other.0 refl ∙ ap (λ b. with_first c (titled b cs)) slash.0))
+    (rests-first NoEnd c (titled false cs) k)
+
+past-other : (c : Code) (cs : List Code) (b : Bool) → (c.value == 41) ≡ b → closes_resource false (c ∷ cs) ≡ false → ((slash : Bool) → closes_resource slash cs ≡ false → Rests NoEnd (titled slash cs)) → Rests NoEnd (titled false (c ∷ cs))
+past-other c cs true e h k =
+    subst (Rests NoEnd) (sym (text-stops (is_value 41) takes (λ c. false) false c cs refl e))
+    (ap (λ b. b && closes_past_spacing cs) e ∙ sym (ap (λ b. if b && true then closes_past_spacing cs else closes_resource (escapes false c.value) cs) e) ∙ h)
+past-other c cs false e h k =
+    subst (Rests NoEnd) (sym (text-next (is_value 41) takes (λ c. false) false c cs refl e refl))
+    (rests-first NoEnd c (titled (c.value == 92) cs)
+    (k (c.value == 92)
+    (ap (λ b. closes_resource b cs) (sym (and-true (c.value == 92))) ∙ sym (ap (λ b. if b && true then closes_past_spacing cs else closes_resource (escapes false c.value) cs) e) ∙ h)))
+
+text-rest : (slash : Bool) (cs : List Code) → closes_resource slash cs ≡ false → Rests NoEnd (titled slash cs)
+text-rest slash [] h = subst (Rests NoEnd) (sym (text-end (is_value 41) takes (λ c. false) slash)) tt
+text-rest true (c ∷ cs) h = past-slash c cs (takes c) refl (text-rest false cs (behind-slash c cs h))
+text-rest false (c ∷ cs) h = past-other c cs (c.value == 41) refl h (λ slash k. text-rest slash cs k)
+
+whole-rest : (cs : List Code) → closes_resource false cs ≡ false → Rests NoEnd (up_to (is_value 41) takes (λ c. false) cs)
 unfolding up_to
-text-rest stop takes refuses cs h = by-text (escaped_from stop takes refuses false cs) refl
-  where
-    by-text : (o : Option (List Code × List Code)) → escaped_from stop takes refuses false cs ≡ o → Rests NoEnd o
-    by-text None e = tt
-    by-text (Some r) e = let t : Text stop cs r = text stop takes refuses false cs r e in no-end-behind r.0 r.1 (subst NoEnd t.whole h)
+whole-rest cs h = text-rest false cs h
 
 other-value : (n m : ℕ) (c : Code) (cs ds : List Code) (d : Code) → (n == m) ≡ false → is_value n c ≡ true → c ∷ cs ≡ d ∷ ds → is_value m d ≡ true → ⊥
 other-value n m c cs ds d other e same k = differ (sym (ap (λ v. v == m) (eqb-true c.value n e) ∙ other) ∙ ap (λ xs. next_is (is_value m) xs) same ∙ k)
@@ -148,21 +180,38 @@ other-value n m c cs ds d other e same k = differ (sym (ap (λ v. v == m) (eqb-t
     differ : false ≡ true → ⊥
     differ x = cc
 
-title-rest : (c : Code) (cs : List Code) → is_value 40 c ≡ true → NoEnd (c ∷ cs) → Rests Unclosed (title title_names (c ∷ cs))
+same-tail : (c d : Code) (cs ds : List Code) → c ∷ cs ≡ d ∷ ds → cs ≡ ds
+same-tail c d cs ds e = cc
+
+title-rest : (c : Code) (cs : List Code) → is_value 40 c ≡ true → closes_resource false cs ≡ false → Rests Unclosed (title title_names (c ∷ cs))
 unfolding title title_between
 title-rest c cs e h =
     rests-either Unclosed _ _ (c ∷ cs)
     (rests-bind (λ _. ⊥) Unclosed (one (is_value 34)) _ (c ∷ cs) (rests-one (λ _. ⊥) (is_value 34) (c ∷ cs) (λ d ds same k. other-value 40 34 c cs ds d refl e same k)) λ x r k. absurd k)
     (rests-either Unclosed _ _ (c ∷ cs)
     (rests-bind (λ _. ⊥) Unclosed (one (is_value 39)) _ (c ∷ cs) (rests-one (λ _. ⊥) (is_value 39) (c ∷ cs) (λ d ds same k. other-value 40 39 c cs ds d refl e same k)) λ x r k. absurd k)
-    (rests-bind NoEnd Unclosed (one (is_value 40)) _ (c ∷ cs) (rests-one NoEnd (is_value 40) (c ∷ cs) (λ d ds same k. no-end-past d ds (subst NoEnd same h))) λ front r k.
-    rests-bind NoEnd Unclosed (up_to (is_value 41) (is_among (92 ∷ 41 ∷ [])) (λ c. false)) _ r (text-rest (is_value 41) (is_among (92 ∷ 41 ∷ [])) (λ c. false) r k) λ inside r k.
+    (rests-bind (λ r. closes_resource false r ≡ false) Unclosed (one (is_value 40)) _ (c ∷ cs) (rests-one (λ r. closes_resource false r ≡ false) (is_value 40) (c ∷ cs) (λ d ds same k. subst (λ r. closes_resource false r ≡ false) (same-tail c d cs ds same) h)) λ front r k.
+    rests-bind NoEnd Unclosed (up_to (is_value 41) takes (λ c. false)) _ r (whole-rest r k) λ inside r k.
     rests-bind Unclosed Unclosed (one (is_value 41)) _ r (rests-one Unclosed (is_value 41) r (λ d ds same t. no-end-closed d ds t (subst NoEnd same k))) λ back r k. rests-passed Unclosed _ _ r (rests-gives Unclosed _ r k)))
 
-pub no-title : (cs : List Code) → next_is (is_value 40) cs ≡ true → last_where closes_twice cs ≡ None → between cs ≡ None
-no-title [] e h = cc
-no-title (c ∷ cs) e h = if-true (begins_title (c ∷ cs)) _ _ (ap (λ v. v == 34 || (v == 39 || (v == 40 || false))) (eqb-true c.value 40 e)) ∙ by-title (title title_names (c ∷ cs)) refl
+pub no-title : (c : Code) (cs : List Code) → is_value 40 c ≡ true → closes_resource false cs ≡ false → between (c ∷ cs) ≡ None
+no-title c cs e h = if-true (begins_title (c ∷ cs)) _ _ (ap (λ v. v == 34 || (v == 39 || (v == 40 || false))) (eqb-true c.value 40 e)) ∙ by-title (title title_names (c ∷ cs)) refl
   where
     by-title : (o : Option (Forest × List Code)) → title title_names (c ∷ cs) ≡ o → and_then o after_title ≡ None
     by-title None g = refl
     by-title (Some r) g = ap (behind r.0) (after-none r.1 (subst (λ o. Rests Unclosed o) g (title-rest c cs e h)))
+
+-- so it is where no closing parenthesis further on has another one behind it
+
+none-by : (b slash : Bool) (c : Code) (cs : List Code) → Titles.closes slash c.value ≡ b → closes_twice (c ∷ cs) ≡ false → closes_resource (escapes slash c.value) cs ≡ false → (if b then closes_past_spacing cs else closes_resource (escapes slash c.value) cs) ≡ false
+none-by true slash c cs e h k = sym (ap (λ b. b && closes_past_spacing cs) (and-left (c.value == 41) _ e)) ∙ h
+none-by false slash c cs e h k = k
+
+none-from : (slash : Bool) (cs : List Code) → last_where closes_twice cs ≡ None → closes_resource slash cs ≡ false
+none-from slash [] h = refl
+none-from slash (c ∷ cs) h =
+    let here = later-none (last_where closes_twice cs) (closes_twice (c ∷ cs)) h in
+    none-by (Titles.closes slash c.value) slash c cs refl here.1 (none-from (escapes slash c.value) cs here.0)
+
+pub none-twice : (c : Code) (cs : List Code) → last_where closes_twice (c ∷ cs) ≡ None → closes_resource false cs ≡ false
+none-twice c cs h = none-from false cs (later-none (last_where closes_twice cs) (closes_twice (c ∷ cs)) h).0

@@ -7,6 +7,7 @@ use Rattle.markdown_engine.specs.Past.{EndsAs, TreeReading, past, behind}
 use Rattle.markdown_engine.specs.Runs.{Stepped, stepped}
 use Rattle.markdown_engine.specs.SequenceIndex.{rules_out}
 use Rattle.markdown_engine.specs.StateWords.{StateWords}
+use Rattle.markdown_engine.specs.TitleIndex as Titles
 use Rattle.markdown_engine.specs.Tree.{Forest, leaf, leaf_codes}
 use Rattle.markdown_engine.specs.declared.event.Name.TheVariants as N
 use Rattle.markdown_engine.specs.declared.sequence_index.Sequence.TheVariants.{ResourceEnd}
@@ -95,7 +96,7 @@ at_parenthesis (Some v) = v == 40
 
 -- a title in parentheses may begin here, and it is known that no resource ends behind one
 abbrev pub is_hopeless : Tokenizer → Bool
-is_hopeless T = at_parenthesis (current_of T) && rules_out T.tokenize_state.sequences ResourceEnd T.cursor.at
+is_hopeless T = at_parenthesis (current_of T) && (rules_out T.tokenize_state.sequences ResourceEnd T.cursor.at || Titles.rules_out T.tokenize_state.titles T.cursor.at)
 
 abbrev pub between_step : Tokenizer → Stepped
 between_step T =

@@ -6,6 +6,7 @@
 
 ghost use Rattle.std.specs.Prelude.{◌≡◌, IfOk, OnErr, IsTrue};
 ghost use Rattle.markdown_engine.specs.Ops.{IsOpen};
+ghost use Rattle.markdown_engine.specs.TitleIndex as Titles;
 ghost use Rattle.markdown_engine.specs.declared.event.Name.TheVariants.{Resource};
 ghost use Rattle.markdown_resource.specs.Parts.{names_rested};
 ghost use Rattle.markdown_resource.specs.Resource.{destination_asked, destination_rested, title_asked, start_step, before_step, open_step, destination_after_step, missing_step, is_hopeless, between_step, title_after_step, end_step};
@@ -13,6 +14,7 @@ ghost use Rattle.markdown_resource.specs.Resource.{destination_asked, destinatio
 use markdown_engine::event::Name;
 use markdown_engine::sequence_index::Sequence;
 use markdown_engine::state::{State, StateName};
+use markdown_engine::title_index::TitleIndex;
 use markdown_engine::tokenizer::{TokenizeState, Tokenizer};
 use markdown_partial::partial_space_or_tab_eol::space_or_tab_eol;
 use markdown_util::util::constant::RESOURCE_DESTINATION_BALANCE_MAX;
@@ -151,18 +153,30 @@ pub fn resource_destination_missing(tokenizer: &mut Tokenizer) -> Result<State, 
     Ok(State::Nok)
 }
 
+// Whether it is known that no resource ends behind a title in parentheses that begins at this many codes.
+fn rules_out(titles: &Option<TitleIndex>, at: usize) -> bool
+    ensures { result ≡ Titles.rules_out titles.now at }
+{
+    match titles {
+        None => false,
+        Some(index) => index.rules_out(at),
+    }
+}
+
 // Whether a title in parentheses may begin here, and it is known that no resource ends behind one.
 fn is_hopeless(tokenizer: &Tokenizer) -> bool
     ensures { result ≡ is_hopeless tokenizer.now }
 {
-    let index = &tokenizer.tokenize_state.sequences;
+    let state = &tokenizer.tokenize_state;
+    let at = tokenizer.cursor.passed();
     matches!(tokenizer.current(), Some(b'('))
-        && index.rules_out(Sequence::ResourceEnd, tokenizer.cursor.passed())
+        && (state.sequences.rules_out(Sequence::ResourceEnd, at) || rules_out(&state.titles, at))
 }
 
 /// Behind a destination and whitespace: at a title, if a quote or a parenthesis stands there, or else at the end.
 ///
-/// A title in parentheses is not tried where it is known that no `)` behind it has another one behind it, past whitespace.
+/// A title in parentheses is not tried where it is known that the first `)` behind it that no backslash escapes has no other one behind it,
+/// past whitespace, or that none at all has.
 ///
 /// The error comes where a growth is refused; then `failed` is true.
 pub fn resource_between(tokenizer: &mut Tokenizer) -> Result<State, AllocError>

@@ -15,6 +15,7 @@ use Rattle.markdown_engine.specs.declared.resolve.ResolveName.TheVariants as R
 use Rattle.markdown_engine.specs.declared.tokenizer.TokenizeState.{TokenizeState}
 use Rattle.markdown_engine.specs.declared.tokenizer.Tokenizer.{Tokenizer}
 use Rattle.markdown_engine.proofs.SequenceIndexLemmas.{right-unknown}
+use Rattle.markdown_engine.proofs.TitleIndexLemmas as Titles
 use Rattle.markdown_label.proofs.ListedNames.{listed-unknown}
 use Rattle.markdown_gfm.specs.GfmAutolinkLiteral as G
 use Rattle.markdown_leaf.specs.RawText as X
@@ -76,7 +77,7 @@ text-ready p pieces first T text k =
       literals = start-literals p.bytes.now pieces T content input k.place (ap G.rested k.fields ∙ sym k.fields);
       last = start-last p.bytes.now pieces T.cursor text k.place;
       ends = record {
-        part = record { short = fits; indexed = right-unknown T.cursor.codes T.tokenize_state.sequences (ap (λ (s : TokenizeState). s.sequences) k.fields); spaces = record { space = ap W.rested k.fields ∙ sym k.fields; eol = ap L.eol_rested k.fields ∙ sym k.fields }; rest = ap Parts.rested k.fields ∙ sym k.fields };
+        part = record { short = fits; indexed = right-unknown T.cursor.codes T.tokenize_state.sequences (ap (λ (s : TokenizeState). s.sequences) k.fields); titled = Titles.right-unknown T.cursor.codes T.tokenize_state.titles (ap (λ (s : TokenizeState). s.titles) k.fields); spaces = record { space = ap W.rested k.fields ∙ sym k.fields; eol = ap L.eol_rested k.fields ∙ sym k.fields }; rest = ap Parts.rested k.fields ∙ sym k.fields };
         listed = listed-unknown T (ap (λ (s : TokenizeState). s.names) k.fields);
         text = start-reads p.bytes.now pieces T content input k.place;
         within = subst (λ (s : TokenizeState). AreWithin T s.label_starts) (sym k.fields) tt;

@@ -1,5 +1,5 @@
 -- What the states of a text do, and how runs from them end.
-use Rattle.std.specs.Prelude.{◌≡◌, ◌≢◌, ℕ, Bool, true, false, nat_le, ◌&&◌, ◌||◌, if◌then◌else◌, List, [], ◌∷◌, Option, Some, None, length, map, codes, string_bytes}
+use Rattle.std.specs.Prelude.{◌≡◌, ◌≢◌, ℕ, Bool, true, false, nat_le, ◌==◌, ◌&&◌, ◌||◌, not, if◌then◌else◌, List, [], ◌∷◌, Option, Some, None, length, map, codes, string_bytes}
 use Rattle.markdown_engine.specs.Codes.{Code, count_of, stop_of, document_start}
 use Rattle.markdown_engine.specs.NameIndex.{names_in_order}
 use Rattle.markdown_engine.specs.Ops.{attempted, scratched, registered, current_of, ahead}
@@ -7,13 +7,16 @@ use Rattle.markdown_engine.specs.Place.{Place}
 use Rattle.markdown_engine.specs.RunIndex.{last_runs}
 use Rattle.markdown_engine.specs.Runs.{Stepped, stepped}
 use Rattle.markdown_engine.specs.StateWords.{StateWords}
-use Rattle.markdown_engine.specs.SequenceIndex.{last_begins}
+use Rattle.markdown_engine.specs.SequenceIndex.{last_begins, rules_out}
+use Rattle.markdown_engine.specs.TitleIndex.{closers_of}
 use Rattle.markdown_engine.specs.declared.name_index.Names.{Names}
 use Rattle.markdown_engine.specs.declared.parser.ParseState.{ParseState}
 use Rattle.markdown_engine.specs.declared.resolve.ResolveName.TheVariants as R
+use Rattle.markdown_engine.specs.declared.sequence_index.Sequence.TheVariants.{ResourceEnd}
 use Rattle.markdown_engine.specs.declared.state.State.TheVariants.{Next, Retry, Ok, Nok}
 use Rattle.markdown_engine.specs.declared.state.StateName.{StateName}
 use Rattle.markdown_engine.specs.declared.state.StateName.TheVariants.{AttentionStart, AutolinkStart, CharacterEscapeStart, CharacterReferenceStart, DataStart, GfmAutolinkLiteralProtocolStart, GfmAutolinkLiteralWwwStart, GfmLabelStartFootnoteStart, GfmTaskListItemCheckStart, HardBreakEscapeStart, HtmlTextStart, LabelEndStart, LabelStartImageStart, LabelStartLinkStart, RawTextStart, TextBefore, TextBeforeData, TextBeforeHardBreakEscape, TextBeforeHtml, TextBeforeLabelStartLink}
+use Rattle.markdown_engine.specs.declared.title_index.Closer.{Closer}
 use Rattle.markdown_engine.specs.declared.tokenizer.TokenizeState.{TokenizeState}
 use Rattle.markdown_engine.specs.declared.tokenizer.Tokenizer.{Tokenizer}
 use Rattle.markdown_gfm.specs.GfmAutolinkLiteral as G
@@ -67,10 +70,18 @@ order_pays cs p = (nat_le 16 (length p.definitions.items) || nat_le 16 (length p
 abbrev pub names_for : List Code → ParseState → Option Names
 names_for cs p = if order_pays cs p then Some (names_in_order (map string_bytes p.definitions.items) (map string_bytes p.gfm_footnote_definitions.items)) else None
 
+-- so many titles in parentheses may begin in these codes, behind some of which a resource may end, that to note where each may end pays
+abbrev pub titles_pay : List Code → Bool
+titles_pay cs = not (rules_out (Some (last_begins cs)) ResourceEnd 0) && nat_le 16 (count_of 40 cs)
+
+-- where titles in parentheses may end, if that pays
+abbrev pub titles_for : List Code → Option (List Closer)
+titles_for cs = if titles_pay cs then Some (closers_of cs) else None
+
 -- the scratch fields of a text of these codes: where data stops, where the last runs begin at which spans may close, where the sequences
--- last begin that end HTML and resources, and the names of what is defined
+-- last begin that end HTML and resources, where titles may end, and the names of what is defined
 abbrev pub marked_fields : List Code → ParseState → TokenizeState → TokenizeState
-marked_fields cs p s = record s { markers = text_markers; runs = last_runs span_markers cs; sequences = Some (last_begins cs); names = names_for cs p }
+marked_fields cs p s = record s { markers = text_markers; runs = last_runs span_markers cs; sequences = Some (last_begins cs); titles = titles_for cs; names = names_for cs p }
 
 abbrev pub text_marked : Tokenizer → Tokenizer
 text_marked T = scratched (marked_fields T.cursor.codes T.parse_state.now T.tokenize_state) T

@@ -1,26 +1,29 @@
 //! Text content: what stands in paragraphs and headings.
 #![tactic(auto, using(markdown_engine::proofs::OpRules::op_rules))]
 
-ghost use Rattle.std.specs.Prelude.{◌≡◌, IfOk, OnOk, OnErr, IsTrue, None, true};
+ghost use Rattle.std.specs.Prelude.{◌≡◌, IfOk, OnOk, OnErr, IsTrue, None, Some, true};
 ghost use Rattle.markdown_engine.specs.Ops.{scratched};
 ghost use Rattle.markdown_engine.specs.RunIndex.{last_runs};
+ghost use Rattle.markdown_engine.specs.SequenceIndex.{last_begins};
 ghost use Rattle.markdown_text.specs.Resolve.{MayFinish, FinishesText};
-ghost use Rattle.markdown_text.specs.TextSteps.{names_for, order_pays, span_markers, text_markers, first_try, trying, start_step, before_step, before_html_step, before_hard_break_escape_step, before_label_start_link_step, before_data_step};
+ghost use Rattle.markdown_text.specs.TextSteps.{names_for, order_pays, titles_for, titles_pay, span_markers, text_markers, first_try, trying, start_step, before_step, before_html_step, before_hard_break_escape_step, before_label_start_link_step, before_data_step};
 
 use markdown_engine::byte_set;
 use markdown_engine::bytes::ByteSet;
 use markdown_engine::name_index::Names;
 use markdown_engine::resolve::ResolveName;
 use markdown_engine::run_index::RunIndex;
-use markdown_engine::sequence_index::SequenceIndex;
+use markdown_engine::sequence_index::{Sequence, SequenceIndex};
 use markdown_engine::state::{State, StateName};
 use markdown_engine::subtokenize::Subresult;
+use markdown_engine::title_index::TitleIndex;
 use markdown_engine::tokenizer::Tokenizer;
 use markdown_mail::gfm_autolink_literal;
 use markdown_partial::partial_whitespace;
 use std::alloc::AllocError;
 
-// Where so many names are defined, and so many labels may end, an order of the names pays.
+// Where so many names are defined, and so many labels may end, an order of the names pays; and where so many titles may begin, to note
+// where they may end.
 const MANY: usize = 16;
 
 // What is tried at which bytes: the start of what is tried first, and the state to go on with where that does not hold. The rows are
@@ -138,11 +141,44 @@ fn index_names(tokenizer: &mut Tokenizer) -> Result<(), AllocError>
     }
 }
 
+// Whether so many titles in parentheses may begin, behind some of which a resource may end, that to note where each may end pays. The
+// sequences are those of the content.
+fn titles_pay(tokenizer: &Tokenizer) -> bool
+    requires { tokenizer.now.tokenize_state.sequences ≡ Some (last_begins tokenizer.now.cursor.codes) }
+    ensures { result ≡ titles_pay tokenizer.now.cursor.codes }
+{
+    let sequences = &tokenizer.tokenize_state.sequences;
+    !sequences.rules_out(Sequence::ResourceEnd, 0) && tokenizer.cursor.holds(b'(', MANY)
+}
+
+// Makes known where titles in parentheses may end, where that pays.
+#[tactic(auto, unfolding(markdown_engine::specs::Ops::scratched))]
+fn index_titles(tokenizer: &mut Tokenizer) -> Result<(), AllocError>
+    requires { tokenizer.old.tokenize_state.sequences ≡ Some (last_begins tokenizer.old.cursor.codes) }
+    ensures ok { OnOk result (tokenizer.new ≡ scratched (record tokenizer.old.tokenize_state { titles = titles_for tokenizer.old.cursor.codes }) tokenizer.old) }
+    ensures err { OnErr result (IsTrue tokenizer.new.failed) }
+{
+    if !titles_pay(tokenizer) {
+        tokenizer.tokenize_state.titles = None;
+        return Ok(());
+    }
+    match TitleIndex::over(tokenizer.alloc, &tokenizer.cursor) {
+        Ok(titles) => {
+            tokenizer.tokenize_state.titles = Some(titles);
+            Ok(())
+        }
+        Err(refused) => {
+            tokenizer.fail();
+            Err(refused)
+        }
+    }
+}
+
 /// At the start of a text, where the check of a task may stand.
 ///
 /// One walk over the content finds the sequences that end HTML and resources, and a second one the runs at which spans may close, so
-/// that none is looked for in vain. Where many names are defined and many labels may end, the names are put in order, so that each is
-/// found by a search.
+/// that none is looked for in vain. Where many titles in parentheses may begin, and a resource may end behind one, a third one finds where
+/// each may end. Where many names are defined and many labels may end, the names are put in order, so that each is found by a search.
 ///
 /// The error comes where a growth is refused; then `failed` is true.
 #[tactic(auto, using(markdown_engine::proofs::OpRules::op_rules), unfolding(markdown_engine::specs::Ops::scratched))]
@@ -152,6 +188,7 @@ pub fn start(tokenizer: &mut Tokenizer) -> Result<State, AllocError>
 {
     tokenizer.tokenize_state.markers = markers();
     tokenizer.tokenize_state.sequences = SequenceIndex::over(&tokenizer.cursor);
+    index_titles(tokenizer)?;
     index_runs(tokenizer)?;
     index_names(tokenizer)?;
     attempt(

@@ -15,6 +15,7 @@ use Rattle.markdown_engine.specs.declared.tokenizer.LabelStart as Kept
 use Rattle.markdown_engine.specs.declared.tokenizer.TokenizeState.{TokenizeState}
 use Rattle.markdown_engine.specs.declared.tokenizer.Tokenizer.{Tokenizer}
 use Rattle.markdown_engine.proofs.SequenceIndexLemmas.{right-unknown}
+use Rattle.markdown_engine.proofs.TitleIndexLemmas as Titles
 use Rattle.markdown_label.proofs.ListedNames.{listed-unknown}
 use Rattle.markdown_label.specs.LabelEnd as E
 use Rattle.markdown_label.specs.LabelEnd.{AreWithin, place_at}
@@ -58,7 +59,7 @@ module _ (T : Tokenizer) (es : List Event) (ls : List Kept.LabelStart) (none : T
   pub end-ready : E.StartReady U
   end-ready =
       record {
-        part = record { short = fits; indexed = right-unknown T.cursor.codes T.tokenize_state.sequences (ap (λ (s : TokenizeState). s.sequences) e); spaces = record { space = ap W.rested fields ∙ sym fields; eol = ap L.eol_rested fields ∙ sym fields }; rest = ap Parts.rested fields ∙ sym fields };
+        part = record { short = fits; indexed = right-unknown T.cursor.codes T.tokenize_state.sequences (ap (λ (s : TokenizeState). s.sequences) e); titled = Titles.right-unknown T.cursor.codes T.tokenize_state.titles (ap (λ (s : TokenizeState). s.titles) e); spaces = record { space = ap W.rested fields ∙ sym fields; eol = ap L.eol_rested fields ∙ sym fields }; rest = ap Parts.rested fields ∙ sym fields };
         listed = listed-unknown U (ap (λ (s : TokenizeState). s.names) fields);
         text = text;
         within = subst (λ (xs : List Kept.LabelStart). AreWithin U xs) (sym only) (record { within = some; between = between }, tt);

@@ -219,6 +219,35 @@ pub(crate) const NAMED: [Row; 2] = [
     ),
 ];
 
+// A text with as many parentheses as it takes to note where titles may end.
+pub(crate) const TITLED: [Row; 1] = [(
+    "(((((((((((((((([a](b (c))",
+    &[
+        Name::Data,
+        Name::Link,
+        Name::Label,
+        Name::LabelLink,
+        Name::LabelMarker,
+        Name::LabelText,
+        Name::Data,
+        Name::LabelEnd,
+        Name::LabelMarker,
+        Name::Resource,
+        Name::ResourceMarker,
+        Name::ResourceDestination,
+        Name::ResourceDestinationRaw,
+        Name::ResourceDestinationString,
+        Name::Data,
+        Name::SpaceOrTab,
+        Name::ResourceTitle,
+        Name::ResourceTitleMarker,
+        Name::ResourceTitleString,
+        Name::Data,
+        Name::ResourceTitleMarker,
+        Name::ResourceMarker,
+    ],
+)];
+
 // A link over two lines of a quote, the mark of which belongs to neither line.
 pub(crate) const QUOTED: Row = (
     "> [a\n> ](b)",

@@ -134,7 +134,7 @@ fn reads_titles(rt: HostRuntime) -> Result<(), Fail> {
 }
 
 // Titles in parentheses, which are tried only where a resource may end behind one.
-const PARENTHESES: [(&str, &str); 8] = [
+const PARENTHESES: [(&str, &str); 10] = [
     (
         "[a](b (c) )",
         "Link 0-11 [Label 0-3 [LabelLink 0-1, LabelText 1-2 [Data 1-2], LabelEnd 2-3], Resource 3-11 [ResourceMarker 3-4, Raw 4-5, SpaceOrTab 5-6, ResourceTitle 6-9 [ResourceTitleMarker 6-7, ResourceTitleString 7-8 [Data 7-8], ResourceTitleMarker 8-9], SpaceOrTab 9-10, ResourceMarker 10-11]]",
@@ -157,6 +157,15 @@ const PARENTHESES: [(&str, &str); 8] = [
     (
         "[a](b (c)) [a](b (c)",
         "Link 0-10 [Label 0-3 [LabelLink 0-1, LabelText 1-2 [Data 1-2], LabelEnd 2-3], Resource 3-10 [ResourceMarker 3-4, Raw 4-5, SpaceOrTab 5-6, ResourceTitle 6-9 [ResourceTitleMarker 6-7, ResourceTitleString 7-8 [Data 7-8], ResourceTitleMarker 8-9], ResourceMarker 9-10]], Data 10-20",
+    ),
+    // With so many parentheses that it is noted where titles may end.
+    (
+        "(((((((((((((((([a](b (c) d) [a](b (c))",
+        "Data 0-29, Link 29-39 [Label 29-32 [LabelLink 29-30, LabelText 30-31 [Data 30-31], LabelEnd 31-32], Resource 32-39 [ResourceMarker 32-33, Raw 33-34, SpaceOrTab 34-35, ResourceTitle 35-38 [ResourceTitleMarker 35-36, ResourceTitleString 36-37 [Data 36-37], ResourceTitleMarker 37-38], ResourceMarker 38-39]]",
+    ),
+    (
+        "(((((((((((((((([a](b (c\\)))",
+        "Data 0-16, Link 16-28 [Label 16-19 [LabelLink 16-17, LabelText 17-18 [Data 17-18], LabelEnd 18-19], Resource 19-28 [ResourceMarker 19-20, Raw 20-21, SpaceOrTab 21-22, ResourceTitle 22-27 [ResourceTitleMarker 22-23, ResourceTitleString 23-26 [Data 23-26], ResourceTitleMarker 26-27], ResourceMarker 27-28]]",
     ),
 ];
 

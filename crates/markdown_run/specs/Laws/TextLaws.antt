@@ -6,7 +6,6 @@ use Rattle.std.specs.List.{list_any}
 use Rattle.std.specs.Prelude.{codes}
 use Rattle.markdown_engine.specs.Codes.{Code, stop_of, document_start}
 use Rattle.markdown_engine.specs.NameIndex.{names_in_order}
-use Rattle.markdown_engine.specs.declared.name_index.Names.{Names}
 use Rattle.markdown_engine.specs.declared.event.Point.{Point}
 use Rattle.markdown_engine.specs.Ops.{ahead, current_of, is_registered, registered, scratched, previous_of}
 use Rattle.markdown_engine.specs.Past.{past, moved_by, EndsAs, Reads, Refuses, TreeReading}
@@ -15,6 +14,7 @@ use Rattle.markdown_engine.specs.RunIndex.{LastRuns, last_runs}
 use Rattle.markdown_engine.specs.SequenceIndex.{last_begins}
 use Rattle.markdown_engine.specs.Runs.{Stepped, stepped}
 use Rattle.markdown_engine.specs.StateWords.{GoesIn, Law, weight_in}
+use Rattle.markdown_engine.specs.TitleIndex.{closers_of}
 use Rattle.markdown_engine.specs.Tree.{Forest, empty, leaf_codes}
 use Rattle.markdown_engine.specs.Weights.{codes_left, weight_at}
 use Rattle.markdown_engine.specs.declared.resolve.ResolveName.TheVariants as P
@@ -46,7 +46,7 @@ use Rattle.markdown_partial.specs.EolSteps as L
 use Rattle.markdown_resource.specs.Parts as Parts
 use Rattle.markdown_resource.specs.Parts.{PartReady}
 use Rattle.markdown_resource.proofs.NextCodes.{same-codes}
-use Rattle.markdown_resource.proofs.ResourceLaws.{indexed-same}
+use Rattle.markdown_resource.proofs.ResourceLaws.{indexed-same, titled-same}
 use Rattle.markdown_leaf.specs.Autolink.{link_here}
 use Rattle.markdown_leaf.specs.CharacterEscape.{escape_here}
 use Rattle.markdown_leaf.specs.CharacterReference.{IsAtRest, reference_here}
@@ -61,7 +61,7 @@ use Rattle.markdown_row.specs.Row.{EndsRest, Row, loses, row_end, row_then, past
 use Rattle.markdown_row.proofs.LabelElements.{empty-part, mark-alone}
 use Rattle.markdown_row.proofs.RowFields.{relisted, row-cursor, row-input, row-text, row-fields, tree-within, made-within, lost-within}
 use Rattle.markdown_text.specs.StringSteps.{is_on}
-use Rattle.markdown_text.specs.TextSteps.{text_tries, text_markers, order_pays, marked_fields, text_marked, text_passed, trying, start_step, first_try, tries_at, before_at, before_step, text_choice_of, EndsWithCodes, StartReady, IsMarked, BeforeReady, StandsAlone, before_ends, data_ends, start_words, before_words, before_html_words, before_hard_break_escape_words, before_label_start_link_words, before_data_words}
+use Rattle.markdown_text.specs.TextSteps.{text_tries, text_markers, order_pays, titles_pay, marked_fields, text_marked, text_passed, trying, start_step, first_try, tries_at, before_at, before_step, text_choice_of, EndsWithCodes, StartReady, IsMarked, BeforeReady, StandsAlone, before_ends, data_ends, start_words, before_words, before_html_words, before_hard_break_escape_words, before_label_start_link_words, before_data_words}
 use Rattle.markdown_text.proofs.TableLemmas.{EachOf, by-row}
 use Rattle.markdown_row.proofs.NodeLemmas.{protocol-node, www-node, check-node, html-node, escape-node, reference-node, break-node, autolink-node, span-node}
 use Rattle.markdown_run.specs.Laws.TextElements.{is_marker, data-holds}
@@ -124,6 +124,7 @@ part-past T U e l k =
     record {
       short = omega (arith, l, k.short);
       indexed = sequences-past T U e k.indexed;
+      titled = titled-same T U e.codes (ap (λ (s : TokenizeState). s.titles) e.fields) k.titled;
       spaces = record { space = ap W.rested e.fields ∙ ap (relisted u) k.spaces.space ∙ sym e.fields; eol = ap L.eol_rested e.fields ∙ ap (relisted u) k.spaces.eol ∙ sym e.fields };
       rest = ap Parts.rested e.fields ∙ ap (relisted u) k.rest ∙ sym e.fields;
     }
@@ -493,9 +494,10 @@ literals-marked T r =
     let s : TokenizeState → TokenizeState = marked_fields T.cursor.codes T.parse_state.now in
     record { text = text-scratched (s T.tokenize_state) T r.text; resting = ap s r.resting; short = r.short }
 
-ordered-names : (many : Bool) (order names : Names) → (if many then Some order else None) ≡ Some names → names ≡ order
-ordered-names true order names e = cc
-ordered-names false order names e = cc
+-- what is known is what was made, where that pays
+made-known : {A : Type 0} (pays : Bool) (made known : A) → (if pays then Some made else None) ≡ Some known → known ≡ made
+made-known true made known e = cc
+made-known false made known e = cc
 
 ends-marked : (T : Tokenizer) → E.StartReady T → E.StartReady (text_marked T)
 unfolding scratched
@@ -503,8 +505,8 @@ ends-marked T r =
     let M : Tokenizer = text_marked T in
     let s : TokenizeState → TokenizeState = marked_fields T.cursor.codes T.parse_state.now in
     record {
-      part = record { short = r.part.short; indexed = right-made T.cursor.codes (Some (last_begins T.cursor.codes)) refl; spaces = record { space = ap s r.part.spaces.space; eol = ap s r.part.spaces.eol }; rest = ap s r.part.rest };
-      listed = λ names. ordered-names (order_pays T.cursor.codes T.parse_state.now) (names_in_order (setting_in T).definitions (setting_in T).footnotes) names;
+      part = record { short = r.part.short; indexed = right-made T.cursor.codes (Some (last_begins T.cursor.codes)) refl; titled = λ closers. made-known (titles_pay T.cursor.codes) (closers_of T.cursor.codes) closers; spaces = record { space = ap s r.part.spaces.space; eol = ap s r.part.spaces.eol }; rest = ap s r.part.rest };
+      listed = λ names. made-known (order_pays T.cursor.codes T.parse_state.now) (names_in_order (setting_in T).definitions (setting_in T).footnotes) names;
       text = text-scratched (s T.tokenize_state) T r.text;
       within = within-grown T M [] refl (sym (append-nil T.events)) T.tokenize_state.label_starts r.within;
       resting = r.resting;
