@@ -18,7 +18,7 @@ use std::alloc::AllocError;
 ///
 /// A layer says, for each state, when it may be called, what it answers and leaves, how a run from there may end, and a number that falls
 /// at each step; its laws make any run of it safe, finite, and ended as it says. For a state that passes code after code it may name the
-/// bytes at which it stops.
+/// bytes at which it stops. A call of a state or a pass answers the error where a growth is refused; then `failed` is true.
 pub trait Layer {
     // when a state may be called
     ghost ready: { StateName → Tokenizer → Type 0 };
@@ -42,8 +42,6 @@ pub trait Layer {
     ghost resolves: { ResolveName → Tokenizer → Tokenizer → Type 0 };
 
     /// Calls the state of this name.
-    ///
-    /// The error comes where a growth is refused; then `failed` is true.
     fn call(name: StateName, tokenizer: &mut Tokenizer) -> Result<State, AllocError>
         requires { ready name tokenizer.old }
         ensures ok { IfOk result (λ s. step name tokenizer.old ≡ record { state = s; left = tokenizer.new }) }
@@ -55,8 +53,6 @@ pub trait Layer {
         ensures { result ≡ stops name fields.now };
 
     /// Calls the pass of this name.
-    ///
-    /// The error comes where a growth is refused; then `failed` is true.
     fn resolve(
         name: ResolveName,
         tokenizer: &mut Tokenizer,

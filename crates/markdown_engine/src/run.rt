@@ -1,4 +1,4 @@
-// Runs of a layer's states, and of its passes.
+// Runs of a layer's states, and of its passes. Each answers the error where a growth is refused; then `failed` is true.
 ghost use Rattle.std.specs.Prelude.{◌≡◌, ◌<◌, Bool, [], IfOk, OnOk, OnErr, IsTrue};
 ghost use Rattle.markdown_engine.specs.Runs.{going_state, going_in, ends_state, ready_state, MayGo};
 ghost use Rattle.markdown_engine.specs.Reach.{Reaches};
@@ -99,8 +99,6 @@ fn run_from<L: Layer>(start: State, tokenizer: &mut Tokenizer) -> Result<bool, A
 
 impl<'a> Tokenizer<'a> {
     /// Runs the layer's states from this one over the content until Ok (true) or Nok (false) with no attempt open.
-    ///
-    /// The error comes where a growth is refused; then `failed` is true.
     pub fn run_state<L: Layer>(&mut self, name: StateName) -> Result<bool, AllocError>
         requires ready { L.ready name self.old }
         requires alone { self.old.attempts ≡ [] }
@@ -113,8 +111,6 @@ impl<'a> Tokenizer<'a> {
     }
 
     /// Runs the registered passes in order, after which none is registered.
-    ///
-    /// The error comes where a growth is refused; then `failed` is true.
     #[tactic(auto, unfolding(crate::specs::Resolves::unregistered))]
     pub fn resolve_all<L: Layer>(&mut self) -> Result<(), AllocError>
         requires { MayResolve L.may_resolve L.resolves self.old.resolvers (unregistered self.old) }

@@ -1,6 +1,9 @@
 // Names of states, and what a state answers.
 
 /// A state, named after its module without `partial_` and then its function: `DataAtBreak` is `partial_data::at_break`.
+///
+/// A picture in the docs of a state shows input, and a caret under each code that may be at hand where the state is called. A caret behind
+/// a line is at its line ending, or at the end.
 #[derive(Clone, Copy, Debug, PartialEq, Eq)]
 pub enum StateName {
     AttentionInside,

@@ -1,4 +1,6 @@
 // The tokenizer: what a state function is given.
+//
+// Each operation that may grow a list answers the error where the growth is refused; then `failed` is true.
 ghost use Rattle.std.specs.Prelude.{◌≡◌, ◌++◌, ◌∷◌, [], OnOk, OnErr, IsTrue, true, false, Some, None};
 ghost use Rattle.markdown_engine.specs.Ops.{applied, Enter, Exit, EnterLink, EnterConnected, Consume, attempted, registered, registered_before, is_registered, refused, current_of, previous_of, IsOpen, HasCode, link_back, enter_event, LinkedBefore};
 ghost use Rattle.markdown_engine.specs.Content.{IsContent};
@@ -338,8 +340,6 @@ impl<'a> Tokenizer<'a> {
     }
 
     /// Appends an Enter at the place.
-    ///
-    /// The error comes where a growth is refused; then `failed` is true.
     #[tactic(auto, unfolding(crate::specs::Ops::applied))]
     pub fn enter(&mut self, name: Name) -> Result<(), AllocError>
         ensures ok { OnOk result (self.new ≡ applied (Enter name) self.old) }
@@ -351,8 +351,6 @@ impl<'a> Tokenizer<'a> {
     }
 
     /// Appends an Enter of linked content at the place, the first of a chain.
-    ///
-    /// The error comes where a growth is refused; then `failed` is true.
     #[tactic(auto, unfolding(crate::specs::Ops::applied))]
     pub fn enter_link(&mut self, name: Name, link: Link) -> Result<(), AllocError>
         requires { link ≡ link_back None link.content }
@@ -365,8 +363,6 @@ impl<'a> Tokenizer<'a> {
     }
 
     /// Appends an Enter of linked content at the place, linked to the linked event just before.
-    ///
-    /// The error comes where a growth is refused; then `failed` is true.
     #[tactic(auto, using(crate::proofs::ConnectLemmas::connect_rules), unfolding(crate::specs::Ops::applied))]
     pub fn enter_connected(&mut self, name: Name, content: Content) -> Result<(), AllocError>
         requires { LinkedBefore self.old }
@@ -388,8 +384,6 @@ impl<'a> Tokenizer<'a> {
     }
 
     /// Appends an Exit of the innermost open event at the place, or at the start of the line after a line ending.
-    ///
-    /// The error comes where a growth is refused; then `failed` is true.
     #[tactic(auto, unfolding(crate::specs::Ops::applied))]
     pub fn exit(&mut self, name: Name) -> Result<(), AllocError>
         requires { IsOpen name self.old }
@@ -442,8 +436,6 @@ impl<'a> Tokenizer<'a> {
     /// To restore is to take off the events, the edits and the open events beyond as many as there are now, and to go back to this place.
     /// Those that stay are as the attempt left them: a link that it wrote between two of these events stays, as do scratch fields and
     /// registered passes.
-    ///
-    /// The error comes where a growth is refused; then `failed` is true.
     pub fn attempt(&mut self, ok: State, nok: State) -> Result<(), AllocError>
         ensures ok { OnOk result (self.new ≡ attempted false ok nok self.old) }
         ensures err { OnErr result (IsTrue self.new.failed) }
@@ -452,8 +444,6 @@ impl<'a> Tokenizer<'a> {
     }
 
     /// As `attempt`, and the next Ok restores too.
-    ///
-    /// The error comes where a growth is refused; then `failed` is true.
     pub fn check(&mut self, ok: State, nok: State) -> Result<(), AllocError>
         ensures ok { OnOk result (self.new ≡ attempted true ok nok self.old) }
         ensures err { OnErr result (IsTrue self.new.failed) }
@@ -491,8 +481,6 @@ impl<'a> Tokenizer<'a> {
     }
 
     /// Adds the pass last, unless it is there.
-    ///
-    /// The error comes where a growth is refused; then `failed` is true.
     #[tactic(auto, unfolding(crate::specs::Ops::registered))]
     pub fn register_resolver(&mut self, name: ResolveName) -> Result<(), AllocError>
         ensures ok { OnOk result (self.new ≡ registered name self.old) }
@@ -509,8 +497,6 @@ impl<'a> Tokenizer<'a> {
     }
 
     /// Adds the pass first, unless it is there.
-    ///
-    /// The error comes where a growth is refused; then `failed` is true.
     #[tactic(auto, unfolding(crate::specs::Ops::registered_before))]
     pub fn register_resolver_before(&mut self, name: ResolveName) -> Result<(), AllocError>
         ensures ok { OnOk result (self.new ≡ registered_before name self.old) }
