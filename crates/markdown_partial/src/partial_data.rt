@@ -1,4 +1,6 @@
 // Data: text that means itself.
+//
+// Each state answers the error where a growth is refused; then `failed` is true.
 #![tactic(auto, using(markdown_engine::proofs::OpRules::op_rules))]
 
 ghost use Rattle.std.specs.Prelude.{◌≡◌, ◌-◌, ◌<◌, ◌≤◌, ◌++◌, IfOk, OnOk, OnErr, IsTrue, Some, None, [], drop, length};
@@ -40,7 +42,8 @@ fn pass(tokenizer: &mut Tokenizer, byte: u8) -> Result<State, AllocError>
 
 /// At the start of data: the code at hand belongs to it, whatever it is.
 ///
-/// The error comes where a growth is refused; then `failed` is true.
+///     > | one & six
+///         ^   ^
 pub fn start(tokenizer: &mut Tokenizer) -> Result<State, AllocError>
     ensures ok { IfOk result (λ s. start_step tokenizer.old ≡ record { state = s; left = tokenizer.new }) }
     ensures err { OnErr result (IsTrue tokenizer.new.failed) }
@@ -53,7 +56,10 @@ pub fn start(tokenizer: &mut Tokenizer) -> Result<State, AllocError>
 
 /// Between two stretches: at a line ending, a marker or the end, or at the start of a line.
 ///
-/// The error comes where a growth is refused; then `failed` is true.
+///     > | one
+///            ^
+///     > | six *
+///         ^   ^
 pub fn at_break(tokenizer: &mut Tokenizer) -> Result<State, AllocError>
     ensures ok { IfOk result (λ s. at_break_step tokenizer.old ≡ record { state = s; left = tokenizer.new }) }
     ensures err { OnErr result (IsTrue tokenizer.new.failed) }
@@ -66,7 +72,8 @@ pub fn at_break(tokenizer: &mut Tokenizer) -> Result<State, AllocError>
 
 /// In a stretch of data, which ends before a line ending, a marker or the end.
 ///
-/// The error comes where a growth is refused; then `failed` is true.
+///     > | plain *
+///          ^^^^^^
 pub fn inside(tokenizer: &mut Tokenizer) -> Result<State, AllocError>
     requires { IsOpen Data tokenizer.old }
     ensures ok { IfOk result (λ s. inside_step tokenizer.old ≡ record { state = s; left = tokenizer.new }) }

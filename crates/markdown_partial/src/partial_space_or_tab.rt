@@ -1,4 +1,6 @@
 // Whitespace on one line: spaces, tabs and virtual spaces, as many as stand there, within bounds.
+//
+// Each state answers the error where a growth is refused; then `failed` is true.
 #![tactic(auto, using(markdown_engine::proofs::OpRules::op_rules), unfolding(markdown_engine::specs::Ops::scratched))]
 
 ghost use Rattle.std.specs.Prelude.{◌≡◌, IfOk, OnErr, IsTrue, true, false, None};
@@ -75,7 +77,8 @@ pub fn space_or_tab_with_options(tokenizer: &mut Tokenizer, options: Options) ->
 
 /// At the start of whitespace, or where it would start.
 ///
-/// The error comes where a growth is refused; then `failed` is true.
+///     > | [x](  y)
+///             ^
 pub fn start(tokenizer: &mut Tokenizer) -> Result<State, AllocError>
     requires { tokenizer.old.tokenize_state.space_or_tab_connect ≡ true → LinkedBefore tokenizer.old }
     ensures ok { IfOk result (λ s. start_step tokenizer.old ≡ record { state = s; left = tokenizer.new }) }
@@ -95,7 +98,8 @@ pub fn start(tokenizer: &mut Tokenizer) -> Result<State, AllocError>
 
 /// In whitespace, which ends before another code, at the end, or where it has as many codes as it may.
 ///
-/// The error comes where a growth is refused; then `failed` is true.
+///     > | [x](  y)
+///             ^^^
 pub fn inside(tokenizer: &mut Tokenizer) -> Result<State, AllocError>
     requires { IsOpen tokenizer.old.tokenize_state.space_or_tab_token tokenizer.old }
     ensures ok { IfOk result (λ s. inside_step tokenizer.old ≡ record { state = s; left = tokenizer.new }) }
@@ -117,7 +121,8 @@ pub fn inside(tokenizer: &mut Tokenizer) -> Result<State, AllocError>
 
 /// After whitespace: whether it has as many codes as it must. Its scratch fields are at rest from here on.
 ///
-/// The error comes where a growth is refused; then `failed` is true.
+///     > | [x](  y)
+///               ^
 pub fn after(tokenizer: &mut Tokenizer) -> Result<State, AllocError>
     ensures ok { IfOk result (λ s. after_step tokenizer.old ≡ record { state = s; left = tokenizer.new }) }
     ensures err { OnErr result (IsTrue tokenizer.new.failed) }

@@ -1,4 +1,6 @@
 // Whitespace with at most one line ending: blank codes on one line, or a line ending with the blank codes around it.
+//
+// Each state answers the error where a growth is refused; then `failed` is true.
 #![tactic(auto, using(markdown_engine::proofs::OpRules::op_rules), unfolding(markdown_engine::specs::Ops::scratched, markdown_engine::specs::Ops::attempted, markdown_engine::specs::Ops::frame_of))]
 
 ghost use Rattle.std.specs.Prelude.{◌≡◌, IfOk, OnErr, IsTrue, true, false, None};
@@ -80,7 +82,9 @@ fn rest(tokenizer: &mut Tokenizer)
 
 /// At the start: blank codes, or the line ending.
 ///
-/// The error comes where a growth is refused; then `failed` is true.
+///     > | [x]( y
+///             ^ ^
+///     > |   "z")
 pub fn start(tokenizer: &mut Tokenizer) -> Result<State, AllocError>
     ensures ok { IfOk result (λ s. start_step tokenizer.old ≡ record { state = s; left = tokenizer.new }) }
     ensures err { OnErr result (IsTrue tokenizer.new.failed) }
@@ -100,7 +104,9 @@ pub fn start(tokenizer: &mut Tokenizer) -> Result<State, AllocError>
 
 /// After the blank codes before the line ending, which are enough by themselves.
 ///
-/// The error comes where a growth is refused; then `failed` is true.
+///     > | [x]( y
+///              ^
+///     > |   "z")
 pub fn after_first(tokenizer: &mut Tokenizer) -> Result<State, AllocError>
     ensures ok { IfOk result (λ s. after_first_step tokenizer.old ≡ record { state = s; left = tokenizer.new }) }
     ensures err { OnErr result (IsTrue tokenizer.new.failed) }
@@ -111,7 +117,9 @@ pub fn after_first(tokenizer: &mut Tokenizer) -> Result<State, AllocError>
 
 /// At the line ending, if there is one.
 ///
-/// The error comes where a growth is refused; then `failed` is true.
+///     > | [x]( y
+///              ^^
+///     > |   "z")
 pub fn at_eol(tokenizer: &mut Tokenizer) -> Result<State, AllocError>
     requires { tokenizer.old.tokenize_state.space_or_tab_eol_connect ≡ true → LinkedBefore tokenizer.old }
     ensures ok { IfOk result (λ s. at_eol_step tokenizer.old ≡ record { state = s; left = tokenizer.new }) }
@@ -139,7 +147,9 @@ pub fn at_eol(tokenizer: &mut Tokenizer) -> Result<State, AllocError>
 
 /// After the line ending: the blank codes of the next line.
 ///
-/// The error comes where a growth is refused; then `failed` is true.
+///     > | [x]( y
+///     > |   "z")
+///         ^
 pub fn after_eol(tokenizer: &mut Tokenizer) -> Result<State, AllocError>
     ensures ok { IfOk result (λ s. after_eol_step tokenizer.old ≡ record { state = s; left = tokenizer.new }) }
     ensures err { OnErr result (IsTrue tokenizer.new.failed) }
@@ -156,7 +166,9 @@ pub fn after_eol(tokenizer: &mut Tokenizer) -> Result<State, AllocError>
 
 /// After the blank codes of the next line, which must not be a blank line. The scratch fields are at rest from here on.
 ///
-/// The error comes where a growth is refused; then `failed` is true.
+///     > | [x]( y
+///     > |   "z")
+///           ^
 pub fn after_more(tokenizer: &mut Tokenizer) -> Result<State, AllocError>
     ensures ok { IfOk result (λ s. after_more_step tokenizer.old ≡ record { state = s; left = tokenizer.new }) }
     ensures err { OnErr result (IsTrue tokenizer.new.failed) }
