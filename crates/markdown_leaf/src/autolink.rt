@@ -2,6 +2,8 @@
 //
 // CommonMark 6.5: between `<` and `>` a URI, whose scheme has 2 to 32 codes, or an email address, whose labels have 1 to 63 codes
 // each and neither start nor end with a hyphen.
+//
+// Each state answers the error where a growth is refused; then `failed` is true.
 #![tactic(auto, using(markdown_engine::proofs::OpRules::law_rules), unfolding(markdown_engine::specs::Ops::scratched))]
 
 ghost use Rattle.std.specs.Prelude.{◌≡◌, IfOk, OnErr, IsTrue};
@@ -44,7 +46,8 @@ fn finish(tokenizer: &mut Tokenizer, name: Name) -> Result<State, AllocError>
 
 /// At the start of an autolink: the bracket.
 ///
-/// The error comes where a growth is refused; then `failed` is true.
+///     > | <ftp:x> or <me@b.c>
+///         ^          ^
 pub fn start(tokenizer: &mut Tokenizer) -> Result<State, AllocError>
     ensures ok { IfOk result (λ s. start_step tokenizer.old ≡ record { state = s; left = tokenizer.new }) }
     ensures err { OnErr result (IsTrue tokenizer.new.failed) }
@@ -63,7 +66,8 @@ pub fn start(tokenizer: &mut Tokenizer) -> Result<State, AllocError>
 
 /// After the bracket: a scheme or an address.
 ///
-/// The error comes where a growth is refused; then `failed` is true.
+///     > | <ftp:x> or <me@b.c>
+///          ^          ^
 pub fn open(tokenizer: &mut Tokenizer) -> Result<State, AllocError>
     requires { InsideReady tokenizer.old }
     ensures ok { IfOk result (λ s. open_step tokenizer.old ≡ record { state = s; left = tokenizer.new }) }
@@ -84,7 +88,8 @@ pub fn open(tokenizer: &mut Tokenizer) -> Result<State, AllocError>
 
 /// After one letter: a scheme goes on, or an address.
 ///
-/// The error comes where a growth is refused; then `failed` is true.
+///     > | <ftp:x> or <me@b.c>
+///           ^          ^
 pub fn scheme_or_email_atext(tokenizer: &mut Tokenizer) -> Result<State, AllocError>
     requires { InsideReady tokenizer.old }
     ensures ok { IfOk result (λ s. scheme_or_step tokenizer.old ≡ record { state = s; left = tokenizer.new }) }
@@ -102,7 +107,8 @@ pub fn scheme_or_email_atext(tokenizer: &mut Tokenizer) -> Result<State, AllocEr
 
 /// In a scheme, which may be the front of an address.
 ///
-/// The error comes where a growth is refused; then `failed` is true.
+///     > | <ftp:x> or <me@b.c>
+///            ^^         ^
 pub fn scheme_inside_or_email_atext(tokenizer: &mut Tokenizer) -> Result<State, AllocError>
     requires { SchemeReady tokenizer.old }
     ensures ok { IfOk result (λ s. scheme_inside_step tokenizer.old ≡ record { state = s; left = tokenizer.new }) }
@@ -125,7 +131,8 @@ pub fn scheme_inside_or_email_atext(tokenizer: &mut Tokenizer) -> Result<State, 
 
 /// After the colon of a URI.
 ///
-/// The error comes where a growth is refused; then `failed` is true.
+///     > | <ftp:x>
+///              ^^
 pub fn url_inside(tokenizer: &mut Tokenizer) -> Result<State, AllocError>
     requires { InsideReady tokenizer.old }
     ensures ok { IfOk result (λ s. url_inside_step tokenizer.old ≡ record { state = s; left = tokenizer.new }) }
@@ -143,7 +150,8 @@ pub fn url_inside(tokenizer: &mut Tokenizer) -> Result<State, AllocError>
 
 /// In an address before its `@`.
 ///
-/// The error comes where a growth is refused; then `failed` is true.
+///     > | <o_k@x-1.org>
+///           ^^^
 pub fn email_atext(tokenizer: &mut Tokenizer) -> Result<State, AllocError>
     requires { InsideReady tokenizer.old }
     ensures ok { IfOk result (λ s. email_atext_step tokenizer.old ≡ record { state = s; left = tokenizer.new }) }
@@ -164,7 +172,8 @@ pub fn email_atext(tokenizer: &mut Tokenizer) -> Result<State, AllocError>
 
 /// After the `@` or a dot: a label, which starts with a letter or a digit.
 ///
-/// The error comes where a growth is refused; then `failed` is true.
+///     > | <o_k@x-1.org>
+///              ^   ^
 pub fn email_at_sign_or_dot(tokenizer: &mut Tokenizer) -> Result<State, AllocError>
     requires { InsideReady tokenizer.old }
     ensures ok { IfOk result (λ s. email_at_sign_or_dot_step tokenizer.old ≡ record { state = s; left = tokenizer.new }) }
@@ -203,7 +212,8 @@ fn in_label(tokenizer: &mut Tokenizer) -> State
 
 /// In a label, after a letter or a digit: the label may end.
 ///
-/// The error comes where a growth is refused; then `failed` is true.
+///     > | <o_k@x-1.org>
+///               ^ ^ ^^^
 #[tactic(auto, using(markdown_construct::proofs::RenamingLemmas::rename_rules), unfolding(markdown_engine::specs::Ops::scratched))]
 pub fn email_label(tokenizer: &mut Tokenizer) -> Result<State, AllocError>
     requires { LabelReady tokenizer.old }
@@ -225,7 +235,8 @@ pub fn email_label(tokenizer: &mut Tokenizer) -> Result<State, AllocError>
 
 /// In a label, after a hyphen: the label goes on.
 ///
-/// The error comes where a growth is refused; then `failed` is true.
+///     > | <o_k@x-1.org>
+///                ^
 pub fn email_value(tokenizer: &mut Tokenizer) -> Result<State, AllocError>
     requires { LabelReady tokenizer.old }
     ensures ok { IfOk result (λ s. email_value_step tokenizer.old ≡ record { state = s; left = tokenizer.new }) }

@@ -1,6 +1,8 @@
 // Character escapes.
 //
 // CommonMark 2.4: a backslash before an ASCII punctuation character makes that character stand for itself.
+//
+// Each state answers the error where a growth is refused; then `failed` is true.
 #![tactic(auto, using(markdown_engine::proofs::OpRules::op_rules))]
 
 ghost use Rattle.std.specs.Prelude.{◌≡◌, IfOk, OnErr, IsTrue};
@@ -15,7 +17,8 @@ use std::alloc::AllocError;
 
 /// At the start of a character escape: the backslash.
 ///
-/// The error comes where a growth is refused; then `failed` is true.
+///     > | 5 \* 3
+///           ^
 pub fn start(tokenizer: &mut Tokenizer) -> Result<State, AllocError>
     ensures ok { IfOk result (λ s. start_step tokenizer.old ≡ record { state = s; left = tokenizer.new }) }
     ensures err { OnErr result (IsTrue tokenizer.new.failed) }
@@ -35,7 +38,8 @@ pub fn start(tokenizer: &mut Tokenizer) -> Result<State, AllocError>
 
 /// After the backslash: the punctuation that it escapes.
 ///
-/// The error comes where a growth is refused; then `failed` is true.
+///     > | 5 \* 3
+///            ^
 pub fn inside(tokenizer: &mut Tokenizer) -> Result<State, AllocError>
     requires { IsOpen CharacterEscape tokenizer.old }
     ensures ok { IfOk result (λ s. inside_step tokenizer.old ≡ record { state = s; left = tokenizer.new }) }

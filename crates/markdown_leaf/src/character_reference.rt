@@ -1,6 +1,8 @@
 // Character references.
 //
 // CommonMark 2.5: `&`, the name of a character or its number, and `;`. A number is `#` and decimal digits, or `#x` and hexadecimal ones.
+//
+// Each state answers the error where a growth is refused; then `failed` is true.
 #![tactic(auto, using(markdown_engine::proofs::OpRules::op_rules), unfolding(markdown_engine::specs::Ops::scratched))]
 
 ghost use Rattle.std.specs.Prelude.{◌≡◌, ◌<◌, IfOk, OnErr, IsTrue};
@@ -22,7 +24,8 @@ use std::str;
 
 /// At the start of a character reference: the `&`.
 ///
-/// The error comes where a growth is refused; then `failed` is true.
+///     > | &lt; &#36; &#x3E;
+///         ^    ^     ^
 pub fn start(tokenizer: &mut Tokenizer) -> Result<State, AllocError>
     ensures ok { IfOk result (λ s. start_step tokenizer.old ≡ record { state = s; left = tokenizer.new }) }
     ensures err { OnErr result (IsTrue tokenizer.new.failed) }
@@ -42,7 +45,8 @@ pub fn start(tokenizer: &mut Tokenizer) -> Result<State, AllocError>
 
 /// After the `&`: a `#`, or a name of the table and its `;`.
 ///
-/// The error comes where a growth is refused; then `failed` is true.
+///     > | &lt; &#36; &#x3E;
+///          ^    ^     ^
 pub fn open(tokenizer: &mut Tokenizer) -> Result<State, AllocError>
     ensures ok { IfOk result (λ s. open_step tokenizer.old ≡ record { state = s; left = tokenizer.new }) }
     ensures err { OnErr result (IsTrue tokenizer.new.failed) }
@@ -63,7 +67,8 @@ pub fn open(tokenizer: &mut Tokenizer) -> Result<State, AllocError>
 
 /// After the `#`: an `x` of either case, or the first decimal digit.
 ///
-/// The error comes where a growth is refused; then `failed` is true.
+///     > | &lt; &#36; &#x3E;
+///                ^     ^
 pub fn numeric(tokenizer: &mut Tokenizer) -> Result<State, AllocError>
     ensures ok { IfOk result (λ s. numeric_step tokenizer.old ≡ record { state = s; left = tokenizer.new }) }
     ensures err { OnErr result (IsTrue tokenizer.new.failed) }
@@ -84,7 +89,8 @@ pub fn numeric(tokenizer: &mut Tokenizer) -> Result<State, AllocError>
 
 /// In the value, `size` codes of which are passed; `marker` says of which kind it is.
 ///
-/// The error comes where a growth is refused; then `failed` is true.
+///     > | &lt; &#36; &#x3E;
+///          ^^^   ^^^    ^^^
 pub fn value(tokenizer: &mut Tokenizer) -> Result<State, AllocError>
     requires { IsValue tokenizer.old }
     ensures ok { IfOk result (λ s. value_step tokenizer.old ≡ record { state = s; left = tokenizer.new }) }

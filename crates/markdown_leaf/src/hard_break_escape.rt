@@ -1,6 +1,8 @@
 // Hard breaks by a backslash.
 //
 // CommonMark 6.7: a backslash before a line ending is a hard line break. The line ending itself stays.
+//
+// Each state answers the error where a growth is refused; then `failed` is true.
 #![tactic(auto, using(markdown_engine::proofs::OpRules::op_rules))]
 
 ghost use Rattle.std.specs.Prelude.{◌≡◌, IfOk, OnErr, IsTrue};
@@ -15,7 +17,9 @@ use std::alloc::AllocError;
 
 /// At the start of a hard break: the backslash.
 ///
-/// The error comes where a growth is refused; then `failed` is true.
+///     > | red\
+///            ^
+///     > | blue
 pub fn start(tokenizer: &mut Tokenizer) -> Result<State, AllocError>
     ensures ok { IfOk result (λ s. start_step tokenizer.old ≡ record { state = s; left = tokenizer.new }) }
     ensures err { OnErr result (IsTrue tokenizer.new.failed) }
@@ -33,7 +37,9 @@ pub fn start(tokenizer: &mut Tokenizer) -> Result<State, AllocError>
 
 /// After the backslash: a line ending has to follow, and is left to others.
 ///
-/// The error comes where a growth is refused; then `failed` is true.
+///     > | red\
+///             ^
+///     > | blue
 pub fn after(tokenizer: &mut Tokenizer) -> Result<State, AllocError>
     requires { IsOpen HardBreakEscape tokenizer.old }
     ensures ok { IfOk result (λ s. after_step tokenizer.old ≡ record { state = s; left = tokenizer.new }) }

@@ -2,6 +2,8 @@
 //
 // CommonMark 6.1: a run of backticks opens a span that ends at the next run of equal length. Line endings and runs of another
 // length inside are leaves of their own. Math spans are the same with dollars.
+//
+// Each state answers the error where a growth is refused; then `failed` is true.
 #![tactic(auto, using(markdown_engine::proofs::OpRules::law_rules), unfolding(markdown_engine::specs::Ops::scratched))]
 
 ghost use Rattle.std.specs.Prelude.{◌≡◌, IfOk, OnErr, IsTrue};
@@ -78,8 +80,10 @@ fn rest(tokenizer: &mut Tokenizer)
 
 /// At the start of a span: its first marker.
 ///
-/// A span does not start after the same marker, unless that is escaped. The error comes where a growth is refused; then `failed`
-/// is true.
+/// A span does not start after the same marker, unless that is escaped.
+///
+///     > | `p` $$q$$
+///         ^   ^
 pub fn start(tokenizer: &mut Tokenizer) -> Result<State, AllocError>
     ensures ok { IfOk result (λ s. start_step tokenizer.old ≡ record { state = s; left = tokenizer.new }) }
     ensures err { OnErr result (IsTrue tokenizer.new.failed) }
@@ -135,7 +139,8 @@ fn after_opening(tokenizer: &mut Tokenizer) -> Result<State, AllocError>
 
 /// In the opening run.
 ///
-/// The error comes where a growth is refused; then `failed` is true.
+///     > | ``xy`z``
+///          ^^
 pub fn sequence_open(tokenizer: &mut Tokenizer) -> Result<State, AllocError>
     requires { SequenceOpenReady tokenizer.old }
     ensures ok { IfOk result (λ s. sequence_open_step tokenizer.old ≡ record { state = s; left = tokenizer.new }) }
@@ -154,7 +159,8 @@ pub fn sequence_open(tokenizer: &mut Tokenizer) -> Result<State, AllocError>
 
 /// After the opening run, a line ending, data or a run of another length.
 ///
-/// The error comes where a growth is refused; then `failed` is true.
+///     > | ``xy`z``
+///           ^ ^^^
 pub fn between(tokenizer: &mut Tokenizer) -> Result<State, AllocError>
     requires { BetweenReady tokenizer.old }
     ensures ok { IfOk result (λ s. between_step tokenizer.old ≡ record { state = s; left = tokenizer.new }) }
@@ -187,7 +193,8 @@ pub fn between(tokenizer: &mut Tokenizer) -> Result<State, AllocError>
 
 /// In data.
 ///
-/// The error comes where a growth is refused; then `failed` is true.
+///     > | ``xy`z``
+///            ^^ ^
 pub fn data(tokenizer: &mut Tokenizer) -> Result<State, AllocError>
     requires { DataReady tokenizer.old }
     ensures ok { IfOk result (λ s. data_step tokenizer.old ≡ record { state = s; left = tokenizer.new }) }
@@ -238,7 +245,8 @@ fn after_run(tokenizer: &mut Tokenizer) -> Result<State, AllocError>
 
 /// In a run of markers after the opening one.
 ///
-/// The error comes where a growth is refused; then `failed` is true.
+///     > | ``xy`z``
+///              ^ ^^
 pub fn sequence_close(tokenizer: &mut Tokenizer) -> Result<State, AllocError>
     requires { SequenceCloseReady tokenizer.old }
     ensures ok { IfOk result (λ s. sequence_close_step tokenizer.old ≡ record { state = s; left = tokenizer.new }) }
