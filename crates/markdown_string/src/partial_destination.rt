@@ -2,6 +2,8 @@
 //
 // CommonMark 6.3: between `<` and `>` codes on one line without a bare `<`; or codes without space and control whose parentheses are
 // balanced. The names come from the scratch fields, and `size_b` is the greatest depth of parentheses.
+//
+// Each state answers the error where a growth is refused; then `failed` is true.
 #![tactic(auto, using(markdown_engine::proofs::OpRules::law_rules), unfolding(markdown_engine::specs::Ops::scratched))]
 
 ghost use Rattle.std.specs.Prelude.{◌≡◌, IfOk, OnErr, IsTrue};
@@ -22,7 +24,8 @@ const STRING: Link = Link {
 
 /// At the start of a destination: a bracket, or its first code.
 ///
-/// The error comes where a growth is refused; then `failed` is true.
+///     > | [x](<y>) and [z](w)
+///             ^            ^
 pub fn start(tokenizer: &mut Tokenizer) -> Result<State, AllocError>
     ensures ok { IfOk result (λ s. start_step tokenizer.old ≡ record { state = s; left = tokenizer.new }) }
     ensures err { OnErr result (IsTrue tokenizer.new.failed) }
@@ -64,7 +67,8 @@ fn close(tokenizer: &mut Tokenizer) -> Result<State, AllocError>
 
 /// After the opening bracket: the text, or the closing bracket.
 ///
-/// The error comes where a growth is refused; then `failed` is true.
+///     > | [x](<a\>b>)
+///              ^
 pub fn enclosed_before(tokenizer: &mut Tokenizer) -> Result<State, AllocError>
     requires { BeforeReady tokenizer.old }
     ensures ok { IfOk result (λ s. enclosed_before_step tokenizer.old ≡ record { state = s; left = tokenizer.new }) }
@@ -82,7 +86,8 @@ pub fn enclosed_before(tokenizer: &mut Tokenizer) -> Result<State, AllocError>
 
 /// Between the brackets.
 ///
-/// The error comes where a growth is refused; then `failed` is true.
+///     > | [x](<a\>b>)
+///              ^^ ^^
 pub fn enclosed(tokenizer: &mut Tokenizer) -> Result<State, AllocError>
     requires { EnclosedReady tokenizer.old }
     ensures ok { IfOk result (λ s. enclosed_step tokenizer.old ≡ record { state = s; left = tokenizer.new }) }
@@ -108,7 +113,8 @@ pub fn enclosed(tokenizer: &mut Tokenizer) -> Result<State, AllocError>
 
 /// Between the brackets, after a backslash: it may escape the code at hand.
 ///
-/// The error comes where a growth is refused; then `failed` is true.
+///     > | [x](<a\>b>)
+///                ^
 pub fn enclosed_escape(tokenizer: &mut Tokenizer) -> Result<State, AllocError>
     requires { EnclosedReady tokenizer.old }
     ensures ok { IfOk result (λ s. enclosed_escape_step tokenizer.old ≡ record { state = s; left = tokenizer.new }) }
@@ -147,7 +153,8 @@ fn finish(tokenizer: &mut Tokenizer) -> Result<State, AllocError>
 
 /// In a destination without brackets; so many parentheses are open as `size` says.
 ///
-/// The error comes where a growth is refused; then `failed` is true.
+///     > | [x](a(b\)c))
+///             ^^^^ ^^^
 pub fn raw(tokenizer: &mut Tokenizer) -> Result<State, AllocError>
     requires { RawReady tokenizer.old }
     ensures ok { IfOk result (λ s. raw_step tokenizer.old ≡ record { state = s; left = tokenizer.new }) }
@@ -180,7 +187,8 @@ pub fn raw(tokenizer: &mut Tokenizer) -> Result<State, AllocError>
 
 /// In a destination without brackets, after a backslash: it may escape the code at hand.
 ///
-/// The error comes where a growth is refused; then `failed` is true.
+///     > | [x](a(b\)c))
+///                 ^
 pub fn raw_escape(tokenizer: &mut Tokenizer) -> Result<State, AllocError>
     requires { RawReady tokenizer.old }
     ensures ok { IfOk result (λ s. raw_escape_step tokenizer.old ≡ record { state = s; left = tokenizer.new }) }

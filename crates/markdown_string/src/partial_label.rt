@@ -3,6 +3,8 @@
 // CommonMark 6.3: between `[` and `]` without a bare bracket, over several lines, none of which is blank; with a code that is no
 // whitespace, and with 999 codes at most, of which line endings and the blank codes after them are none. The names come from the
 // scratch fields.
+//
+// Each state answers the error where a growth is refused; then `failed` is true.
 #![tactic(auto, using(markdown_engine::proofs::OpRules::law_rules), unfolding(markdown_engine::specs::Ops::scratched, markdown_engine::specs::Ops::attempted, markdown_engine::specs::Ops::frame_of))]
 
 ghost use Rattle.std.specs.Prelude.{◌≡◌, ◌≤◌, IfOk, OnErr, IsTrue, true};
@@ -18,7 +20,8 @@ use std::alloc::AllocError;
 
 /// At the start of a label: its bracket.
 ///
-/// The error comes where a growth is refused; then `failed` is true.
+///     > | [x][y]
+///            ^
 pub fn start(tokenizer: &mut Tokenizer) -> Result<State, AllocError>
     ensures ok { IfOk result (λ s. start_step tokenizer.old ≡ record { state = s; left = tokenizer.new }) }
     ensures err { OnErr result (IsTrue tokenizer.new.failed) }
@@ -74,7 +77,10 @@ fn pass(tokenizer: &mut Tokenizer, code: u8) -> State
 
 /// Between two stretches of the text: at a bracket, a line ending or the end, or where data starts.
 ///
-/// The error comes where a growth is refused; then `failed` is true.
+///     > | [x][y
+///             ^^
+///     > |   z]
+///           ^^
 pub fn at_break(tokenizer: &mut Tokenizer) -> Result<State, AllocError>
     requires { BreakReady tokenizer.old }
     ensures ok { IfOk result (λ s. at_break_step tokenizer.old ≡ record { state = s; left = tokenizer.new }) }
@@ -104,7 +110,9 @@ pub fn at_break(tokenizer: &mut Tokenizer) -> Result<State, AllocError>
 
 /// After a line ending and the blank codes behind it: the text goes on, with the same chain.
 ///
-/// The error comes where a growth is refused; then `failed` is true.
+///     > | [x][y
+///     > |   z]
+///           ^
 pub fn eol_after(tokenizer: &mut Tokenizer) -> Result<State, AllocError>
     ensures ok { IfOk result (λ s. eol_after_step tokenizer.old ≡ record { state = s; left = tokenizer.new }) }
     ensures err { OnErr result (IsTrue tokenizer.new.failed) }
@@ -115,7 +123,8 @@ pub fn eol_after(tokenizer: &mut Tokenizer) -> Result<State, AllocError>
 
 /// The label does not hold.
 ///
-/// The error comes where a growth is refused; then `failed` is true.
+///     > | [x][ ]
+///              ^
 pub fn nok(tokenizer: &mut Tokenizer) -> Result<State, AllocError>
     ensures ok { IfOk result (λ s. nok_step tokenizer.old ≡ record { state = s; left = tokenizer.new }) }
     ensures err { OnErr result (IsTrue tokenizer.new.failed) }
@@ -128,7 +137,8 @@ pub fn nok(tokenizer: &mut Tokenizer) -> Result<State, AllocError>
 
 /// In a stretch of the text, which ends before a bracket, a line ending or the end, or where there are too many codes.
 ///
-/// The error comes where a growth is refused; then `failed` is true.
+///     > | [x][y\]z]
+///              ^ ^^
 pub fn inside(tokenizer: &mut Tokenizer) -> Result<State, AllocError>
     requires { InsideReady tokenizer.old }
     ensures ok { IfOk result (λ s. inside_step tokenizer.old ≡ record { state = s; left = tokenizer.new }) }
@@ -149,7 +159,8 @@ pub fn inside(tokenizer: &mut Tokenizer) -> Result<State, AllocError>
 
 /// After a backslash in the text: it may escape the code at hand.
 ///
-/// The error comes where a growth is refused; then `failed` is true.
+///     > | [x][y\]z]
+///               ^
 pub fn escape(tokenizer: &mut Tokenizer) -> Result<State, AllocError>
     requires { EscapeReady tokenizer.old }
     ensures ok { IfOk result (λ s. escape_step tokenizer.old ≡ record { state = s; left = tokenizer.new }) }

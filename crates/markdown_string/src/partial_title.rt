@@ -2,6 +2,8 @@
 //
 // CommonMark 6.3: between two `"`, two `'`, or `(` and `)`, over several lines, none of which is blank. The names come from the scratch
 // fields.
+//
+// Each state answers the error where a growth is refused; then `failed` is true.
 #![tactic(auto, using(markdown_engine::proofs::OpRules::law_rules), unfolding(markdown_engine::specs::Ops::scratched, markdown_engine::specs::Ops::attempted, markdown_engine::specs::Ops::frame_of))]
 
 ghost use Rattle.std.specs.Prelude.{◌≡◌, IfOk, OnErr, IsTrue, true};
@@ -30,7 +32,8 @@ fn open(tokenizer: &mut Tokenizer, closer: u8) -> Result<State, AllocError>
 
 /// At the start of a title: its opening marker.
 ///
-/// The error comes where a growth is refused; then `failed` is true.
+///     > | [x](y "z")
+///               ^
 pub fn start(tokenizer: &mut Tokenizer) -> Result<State, AllocError>
     ensures ok { IfOk result (λ s. start_step tokenizer.old ≡ record { state = s; left = tokenizer.new }) }
     ensures err { OnErr result (IsTrue tokenizer.new.failed) }
@@ -61,7 +64,8 @@ fn close(tokenizer: &mut Tokenizer) -> Result<State, AllocError>
 
 /// After the opening marker: the text, or the closing marker.
 ///
-/// The error comes where a growth is refused; then `failed` is true.
+///     > | [x](y "z")
+///                ^
 pub fn begin(tokenizer: &mut Tokenizer) -> Result<State, AllocError>
     requires { IsOpen tokenizer.old.tokenize_state.token_1 tokenizer.old }
     ensures ok { IfOk result (λ s. begin_step tokenizer.old ≡ record { state = s; left = tokenizer.new }) }
@@ -91,7 +95,10 @@ fn pass(tokenizer: &mut Tokenizer, code: u8) -> State
 
 /// Between two stretches of the text: at the closing marker, a line ending or the end, or where data starts.
 ///
-/// The error comes where a growth is refused; then `failed` is true.
+///     > | [x](y "z
+///                ^^
+///     > |   w")
+///           ^^
 pub fn at_break(tokenizer: &mut Tokenizer) -> Result<State, AllocError>
     requires { BreakReady tokenizer.old }
     ensures ok { IfOk result (λ s. at_break_step tokenizer.old ≡ record { state = s; left = tokenizer.new }) }
@@ -120,7 +127,9 @@ pub fn at_break(tokenizer: &mut Tokenizer) -> Result<State, AllocError>
 
 /// After a line ending and the blank codes behind it: the text goes on, with the same chain.
 ///
-/// The error comes where a growth is refused; then `failed` is true.
+///     > | [x](y "z
+///     > |   w")
+///           ^
 pub fn after_eol(tokenizer: &mut Tokenizer) -> Result<State, AllocError>
     ensures ok { IfOk result (λ s. after_eol_step tokenizer.old ≡ record { state = s; left = tokenizer.new }) }
     ensures err { OnErr result (IsTrue tokenizer.new.failed) }
@@ -131,7 +140,8 @@ pub fn after_eol(tokenizer: &mut Tokenizer) -> Result<State, AllocError>
 
 /// The title does not hold: at the end, or at a blank line.
 ///
-/// The error comes where a growth is refused; then `failed` is true.
+///     > | [x](y "z)
+///                  ^
 pub fn nok(tokenizer: &mut Tokenizer) -> Result<State, AllocError>
     ensures ok { IfOk result (λ s. nok_step tokenizer.old ≡ record { state = s; left = tokenizer.new }) }
     ensures err { OnErr result (IsTrue tokenizer.new.failed) }
@@ -143,7 +153,8 @@ pub fn nok(tokenizer: &mut Tokenizer) -> Result<State, AllocError>
 
 /// In a stretch of the text, which ends before the closing marker, a line ending or the end.
 ///
-/// The error comes where a growth is refused; then `failed` is true.
+///     > | [x](y "z\"w")
+///                 ^ ^^
 pub fn inside(tokenizer: &mut Tokenizer) -> Result<State, AllocError>
     requires { InsideReady tokenizer.old }
     ensures ok { IfOk result (λ s. inside_step tokenizer.old ≡ record { state = s; left = tokenizer.new }) }
@@ -162,7 +173,8 @@ pub fn inside(tokenizer: &mut Tokenizer) -> Result<State, AllocError>
 
 /// After a backslash in the text: it may escape the code at hand.
 ///
-/// The error comes where a growth is refused; then `failed` is true.
+///     > | [x](y "z\"w")
+///                  ^
 pub fn escape(tokenizer: &mut Tokenizer) -> Result<State, AllocError>
     requires { InsideReady tokenizer.old }
     ensures ok { IfOk result (λ s. escape_step tokenizer.old ≡ record { state = s; left = tokenizer.new }) }
