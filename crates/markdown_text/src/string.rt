@@ -1,4 +1,6 @@
 //! String content: escapes, character references and data.
+//!
+//! Each state answers the error where a growth is refused; then `failed` is true.
 #![tactic(auto, using(markdown_engine::proofs::OpRules::op_rules))]
 
 ghost use Rattle.std.specs.Prelude.{◌≡◌, IfOk, OnErr, IsTrue, None, false};
@@ -23,7 +25,8 @@ fn markers() -> ByteSet
 
 /// At the start of a string.
 ///
-/// The error comes where a growth is refused; then `failed` is true.
+///     > | R\&D &gt; x
+///         ^
 #[tactic(auto, using(markdown_engine::proofs::OpRules::op_rules), unfolding(markdown_engine::specs::Ops::scratched))]
 pub fn start(tokenizer: &mut Tokenizer) -> Result<State, AllocError>
     ensures ok { IfOk result (λ s. start_step tokenizer.old ≡ record { state = s; left = tokenizer.new }) }
@@ -35,7 +38,8 @@ pub fn start(tokenizer: &mut Tokenizer) -> Result<State, AllocError>
 
 /// Before an element of the string, or at its end.
 ///
-/// The error comes where a growth is refused; then `failed` is true.
+///     > | R\&D &gt; x
+///         ^^ ^ ^   ^ ^
 pub fn before(tokenizer: &mut Tokenizer) -> Result<State, AllocError>
     ensures ok { IfOk result (λ s. before_step tokenizer.old ≡ record { state = s; left = tokenizer.new }) }
     ensures err { OnErr result (IsTrue tokenizer.new.failed) }
@@ -66,7 +70,8 @@ pub fn before(tokenizer: &mut Tokenizer) -> Result<State, AllocError>
 
 /// Before data of the string.
 ///
-/// The error comes where a growth is refused; then `failed` is true.
+///     > | R\&D &gt; x
+///         ^  ^     ^
 pub fn before_data(tokenizer: &mut Tokenizer) -> Result<State, AllocError>
     ensures ok { IfOk result (λ s. before_data_step tokenizer.old ≡ record { state = s; left = tokenizer.new }) }
     ensures err { OnErr result (IsTrue tokenizer.new.failed) }

@@ -1,4 +1,6 @@
 //! Text content: what stands in paragraphs and headings.
+//!
+//! Each state answers the error where a growth is refused; then `failed` is true.
 #![tactic(auto, using(markdown_engine::proofs::OpRules::op_rules))]
 
 ghost use Rattle.std.specs.Prelude.{◌≡◌, IfOk, OnOk, OnErr, IsTrue, None, Some, true};
@@ -180,7 +182,8 @@ fn index_titles(tokenizer: &mut Tokenizer) -> Result<(), AllocError>
 /// that none is looked for in vain. Where many titles in parentheses may begin, and a resource may end behind one, a third one finds where
 /// each may end. Where many names are defined and many labels may end, the names are put in order, so that each is found by a search.
 ///
-/// The error comes where a growth is refused; then `failed` is true.
+///     > | [ ] do *it*
+///         ^
 #[tactic(auto, using(markdown_engine::proofs::OpRules::op_rules), unfolding(markdown_engine::specs::Ops::scratched))]
 pub fn start(tokenizer: &mut Tokenizer) -> Result<State, AllocError>
     ensures ok { IfOk result (λ s. start_step tokenizer.old ≡ record { state = s; left = tokenizer.new }) }
@@ -200,7 +203,8 @@ pub fn start(tokenizer: &mut Tokenizer) -> Result<State, AllocError>
 
 /// Before an element of the text, or at its end.
 ///
-/// The error comes where a growth is refused; then `failed` is true.
+///     > | a *b* c
+///         ^ ^^^^ ^
 pub fn before(tokenizer: &mut Tokenizer) -> Result<State, AllocError>
     ensures ok { IfOk result (λ s. before_step tokenizer.old ≡ record { state = s; left = tokenizer.new }) }
     ensures err { OnErr result (IsTrue tokenizer.new.failed) }
@@ -220,7 +224,8 @@ pub fn before(tokenizer: &mut Tokenizer) -> Result<State, AllocError>
 
 /// At a `<` that begins no autolink: before HTML.
 ///
-/// The error comes where a growth is refused; then `failed` is true.
+///     > | a <b> c
+///           ^
 pub fn before_html(tokenizer: &mut Tokenizer) -> Result<State, AllocError>
     ensures ok { IfOk result (λ s. before_html_step tokenizer.old ≡ record { state = s; left = tokenizer.new }) }
     ensures err { OnErr result (IsTrue tokenizer.new.failed) }
@@ -234,7 +239,9 @@ pub fn before_html(tokenizer: &mut Tokenizer) -> Result<State, AllocError>
 
 /// At a backslash that escapes nothing: before a hard break.
 ///
-/// The error comes where a growth is refused; then `failed` is true.
+///     > | one\
+///            ^
+///     > | two
 pub fn before_hard_break_escape(tokenizer: &mut Tokenizer) -> Result<State, AllocError>
     ensures ok { IfOk result (λ s. before_hard_break_escape_step tokenizer.old ≡ record { state = s; left = tokenizer.new }) }
     ensures err { OnErr result (IsTrue tokenizer.new.failed) }
@@ -248,7 +255,8 @@ pub fn before_hard_break_escape(tokenizer: &mut Tokenizer) -> Result<State, Allo
 
 /// At a `[` that begins no footnote call: before the start of a link.
 ///
-/// The error comes where a growth is refused; then `failed` is true.
+///     > | see [that](x)
+///             ^
 pub fn before_label_start_link(tokenizer: &mut Tokenizer) -> Result<State, AllocError>
     ensures ok { IfOk result (λ s. before_label_start_link_step tokenizer.old ≡ record { state = s; left = tokenizer.new }) }
     ensures err { OnErr result (IsTrue tokenizer.new.failed) }
@@ -262,7 +270,8 @@ pub fn before_label_start_link(tokenizer: &mut Tokenizer) -> Result<State, Alloc
 
 /// Before data, which holds everywhere.
 ///
-/// The error comes where a growth is refused; then `failed` is true.
+///     > | 2 & 3
+///         ^ ^
 pub fn before_data(tokenizer: &mut Tokenizer) -> Result<State, AllocError>
     ensures ok { IfOk result (λ s. before_data_step tokenizer.old ≡ record { state = s; left = tokenizer.new }) }
     ensures err { OnErr result (IsTrue tokenizer.new.failed) }
