@@ -2,6 +2,8 @@
 //!
 //! The states read a run of markers, as long as it is, as an event `AttentionSequence`. Which runs pair shows once all are read: `runs`
 //! has them as they stand, and `pairing` finds the pairs.
+//!
+//! Each state answers the error where a growth is refused; then `failed` is true.
 #![tactic(auto, using(markdown_engine::proofs::OpRules::law_rules), unfolding(markdown_engine::specs::Ops::scratched))]
 
 mod newest;
@@ -34,7 +36,8 @@ fn begins_run(constructs: Constructs, byte: u8) -> bool
 
 /// At the start of a run: its first marker.
 ///
-/// The error comes where a growth is refused; then `failed` is true.
+///     > | so **very** ok
+///            ^     ^
 pub fn start(tokenizer: &mut Tokenizer) -> Result<State, AllocError>
     ensures ok { IfOk result (λ s. start_step tokenizer.old ≡ record { state = s; left = tokenizer.new }) }
     ensures err { OnErr result (IsTrue tokenizer.new.failed) }
@@ -64,7 +67,8 @@ fn leave(tokenizer: &mut Tokenizer) -> Result<State, AllocError>
 
 /// In a run of the marker that it began with.
 ///
-/// The error comes where a growth is refused; then `failed` is true.
+///     > | so **very** ok
+///            ^^^   ^^^
 pub fn inside(tokenizer: &mut Tokenizer) -> Result<State, AllocError>
     requires { IsOpen AttentionSequence tokenizer.old }
     ensures ok { IfOk result (λ s. inside_step tokenizer.old ≡ record { state = s; left = tokenizer.new }) }
