@@ -2,6 +2,8 @@
 //
 // CommonMark 6.6: an opening tag, a closing tag, a comment, an instruction, a declaration or a CDATA section, over one line or more.
 // Each line has data of its own; the blank codes at the start of a later line are whitespace.
+//
+// Each state answers the error where a growth is refused; then `failed` is true.
 #![tactic(auto, using(markdown_engine::proofs::OpRules::law_rules), unfolding(markdown_engine::specs::Ops::scratched, markdown_engine::specs::Ops::attempted, markdown_engine::specs::Ops::frame_of))]
 
 ghost use Rattle.std.specs.Prelude.{◌≡◌, ◌<◌, Some, IfOk, OnErr, IsTrue};
@@ -101,7 +103,8 @@ fn pass_line_ending(tokenizer: &mut Tokenizer) -> Result<State, AllocError>
 
 /// At the start: `<`.
 ///
-/// The error comes where a growth is refused; then `failed` is true.
+///     > | x<br>y
+///          ^
 pub fn start(tokenizer: &mut Tokenizer) -> Result<State, AllocError>
     ensures ok { IfOk result (λ s. start_step tokenizer.old ≡ record { state = s; left = tokenizer.new }) }
     ensures err { OnErr result (IsTrue tokenizer.new.failed) }
@@ -118,7 +121,8 @@ pub fn start(tokenizer: &mut Tokenizer) -> Result<State, AllocError>
 
 /// After `<`: which kind it is. An instruction is given up here where it is known that no `?>` follows.
 ///
-/// The error comes where a growth is refused; then `failed` is true.
+///     > | x<br>y
+///           ^
 pub fn open(tokenizer: &mut Tokenizer) -> Result<State, AllocError>
     ensures ok { IfOk result (λ s. open_step tokenizer.old ≡ record { state = s; left = tokenizer.new }) }
     ensures err { OnErr result (IsTrue tokenizer.new.failed) }
@@ -147,7 +151,8 @@ pub fn open(tokenizer: &mut Tokenizer) -> Result<State, AllocError>
 
 /// After `<!`: a comment, a declaration or a CDATA section, each of which is given up here where it is known that its end does not follow.
 ///
-/// The error comes where a growth is refused; then `failed` is true.
+///     > | x<!DTD 1>y
+///            ^
 pub fn declaration_open(tokenizer: &mut Tokenizer) -> Result<State, AllocError>
     ensures ok { IfOk result (λ s. declaration_open_step tokenizer.old ≡ record { state = s; left = tokenizer.new }) }
     ensures err { OnErr result (IsTrue tokenizer.new.failed) }
@@ -174,7 +179,8 @@ pub fn declaration_open(tokenizer: &mut Tokenizer) -> Result<State, AllocError>
 
 /// After `<!-`: another hyphen.
 ///
-/// The error comes where a growth is refused; then `failed` is true.
+///     > | x<!--no-->y
+///             ^
 pub fn comment_open_inside(tokenizer: &mut Tokenizer) -> Result<State, AllocError>
     ensures ok { IfOk result (λ s. comment_open_inside_step tokenizer.old ≡ record { state = s; left = tokenizer.new }) }
     ensures err { OnErr result (IsTrue tokenizer.new.failed) }
@@ -189,7 +195,8 @@ pub fn comment_open_inside(tokenizer: &mut Tokenizer) -> Result<State, AllocErro
 
 /// In a comment.
 ///
-/// The error comes where a growth is refused; then `failed` is true.
+///     > | x<!--no-->y
+///              ^^^
 pub fn comment(tokenizer: &mut Tokenizer) -> Result<State, AllocError>
     ensures ok { IfOk result (λ s. comment_step tokenizer.old ≡ record { state = s; left = tokenizer.new }) }
     ensures err { OnErr result (IsTrue tokenizer.new.failed) }
@@ -210,7 +217,8 @@ pub fn comment(tokenizer: &mut Tokenizer) -> Result<State, AllocError>
 
 /// In a comment, after a hyphen.
 ///
-/// The error comes where a growth is refused; then `failed` is true.
+///     > | x<!--n-o-->y
+///                ^ ^
 pub fn comment_close(tokenizer: &mut Tokenizer) -> Result<State, AllocError>
     ensures ok { IfOk result (λ s. comment_close_step tokenizer.old ≡ record { state = s; left = tokenizer.new }) }
     ensures err { OnErr result (IsTrue tokenizer.new.failed) }
@@ -224,7 +232,8 @@ pub fn comment_close(tokenizer: &mut Tokenizer) -> Result<State, AllocError>
 
 /// In a comment, after two hyphens, which may be those that began it.
 ///
-/// The error comes where a growth is refused; then `failed` is true.
+///     > | x<!--no-->y
+///              ^   ^
 pub fn comment_end(tokenizer: &mut Tokenizer) -> Result<State, AllocError>
     ensures ok { IfOk result (λ s. comment_end_step tokenizer.old ≡ record { state = s; left = tokenizer.new }) }
     ensures err { OnErr result (IsTrue tokenizer.new.failed) }
@@ -238,7 +247,8 @@ pub fn comment_end(tokenizer: &mut Tokenizer) -> Result<State, AllocError>
 
 /// After `<![`, and so many codes of `CDATA[`.
 ///
-/// The error comes where a growth is refused; then `failed` is true.
+///     > | x<![CDATA[2<3]]>y
+///             ^^^^^^
 pub fn cdata_open_inside(tokenizer: &mut Tokenizer) -> Result<State, AllocError>
     requires { tokenizer.old.tokenize_state.size < 6 }
     ensures ok { IfOk result (λ s. cdata_open_inside_step tokenizer.old ≡ record { state = s; left = tokenizer.new }) }
@@ -261,7 +271,8 @@ pub fn cdata_open_inside(tokenizer: &mut Tokenizer) -> Result<State, AllocError>
 
 /// In a CDATA section.
 ///
-/// The error comes where a growth is refused; then `failed` is true.
+///     > | x<![CDATA[2<3]]>y
+///                   ^^^^
 pub fn cdata(tokenizer: &mut Tokenizer) -> Result<State, AllocError>
     ensures ok { IfOk result (λ s. cdata_step tokenizer.old ≡ record { state = s; left = tokenizer.new }) }
     ensures err { OnErr result (IsTrue tokenizer.new.failed) }
@@ -282,7 +293,8 @@ pub fn cdata(tokenizer: &mut Tokenizer) -> Result<State, AllocError>
 
 /// In a CDATA section, after `]`.
 ///
-/// The error comes where a growth is refused; then `failed` is true.
+///     > | x<![CDATA[2<3]]>y
+///                       ^
 pub fn cdata_close(tokenizer: &mut Tokenizer) -> Result<State, AllocError>
     ensures ok { IfOk result (λ s. cdata_close_step tokenizer.old ≡ record { state = s; left = tokenizer.new }) }
     ensures err { OnErr result (IsTrue tokenizer.new.failed) }
@@ -296,7 +308,8 @@ pub fn cdata_close(tokenizer: &mut Tokenizer) -> Result<State, AllocError>
 
 /// In a CDATA section, after `]]`.
 ///
-/// The error comes where a growth is refused; then `failed` is true.
+///     > | x<![CDATA[2<3]]>y
+///                        ^
 pub fn cdata_end(tokenizer: &mut Tokenizer) -> Result<State, AllocError>
     ensures ok { IfOk result (λ s. cdata_end_step tokenizer.old ≡ record { state = s; left = tokenizer.new }) }
     ensures err { OnErr result (IsTrue tokenizer.new.failed) }
@@ -310,7 +323,8 @@ pub fn cdata_end(tokenizer: &mut Tokenizer) -> Result<State, AllocError>
 
 /// In a declaration.
 ///
-/// The error comes where a growth is refused; then `failed` is true.
+///     > | x<!DTD 1>y
+///             ^^^^^
 pub fn declaration(tokenizer: &mut Tokenizer) -> Result<State, AllocError>
     ensures ok { IfOk result (λ s. declaration_step tokenizer.old ≡ record { state = s; left = tokenizer.new }) }
     ensures err { OnErr result (IsTrue tokenizer.new.failed) }
@@ -327,7 +341,8 @@ pub fn declaration(tokenizer: &mut Tokenizer) -> Result<State, AllocError>
 
 /// In an instruction.
 ///
-/// The error comes where a growth is refused; then `failed` is true.
+///     > | x<?go?>y
+///            ^^^
 pub fn instruction(tokenizer: &mut Tokenizer) -> Result<State, AllocError>
     ensures ok { IfOk result (λ s. instruction_step tokenizer.old ≡ record { state = s; left = tokenizer.new }) }
     ensures err { OnErr result (IsTrue tokenizer.new.failed) }
@@ -348,7 +363,8 @@ pub fn instruction(tokenizer: &mut Tokenizer) -> Result<State, AllocError>
 
 /// In an instruction, after `?`.
 ///
-/// The error comes where a growth is refused; then `failed` is true.
+///     > | x<?go?>y
+///               ^
 pub fn instruction_close(tokenizer: &mut Tokenizer) -> Result<State, AllocError>
     ensures ok { IfOk result (λ s. instruction_close_step tokenizer.old ≡ record { state = s; left = tokenizer.new }) }
     ensures err { OnErr result (IsTrue tokenizer.new.failed) }
@@ -361,7 +377,8 @@ pub fn instruction_close(tokenizer: &mut Tokenizer) -> Result<State, AllocError>
 
 /// After `</`: the name of a closing tag.
 ///
-/// The error comes where a growth is refused; then `failed` is true.
+///     > | x</em>y
+///            ^
 pub fn tag_close_start(tokenizer: &mut Tokenizer) -> Result<State, AllocError>
     ensures ok { IfOk result (λ s. tag_close_start_step tokenizer.old ≡ record { state = s; left = tokenizer.new }) }
     ensures err { OnErr result (IsTrue tokenizer.new.failed) }
@@ -377,7 +394,8 @@ pub fn tag_close_start(tokenizer: &mut Tokenizer) -> Result<State, AllocError>
 
 /// In the name of a closing tag.
 ///
-/// The error comes where a growth is refused; then `failed` is true.
+///     > | x</em>y
+///             ^^
 pub fn tag_close(tokenizer: &mut Tokenizer) -> Result<State, AllocError>
     ensures ok { IfOk result (λ s. tag_close_step tokenizer.old ≡ record { state = s; left = tokenizer.new }) }
     ensures err { OnErr result (IsTrue tokenizer.new.failed) }
@@ -393,7 +411,8 @@ pub fn tag_close(tokenizer: &mut Tokenizer) -> Result<State, AllocError>
 
 /// In a closing tag, after its name.
 ///
-/// The error comes where a growth is refused; then `failed` is true.
+///     > | x</em >y
+///              ^^
 pub fn tag_close_between(tokenizer: &mut Tokenizer) -> Result<State, AllocError>
     ensures ok { IfOk result (λ s. tag_close_between_step tokenizer.old ≡ record { state = s; left = tokenizer.new }) }
     ensures err { OnErr result (IsTrue tokenizer.new.failed) }
@@ -410,7 +429,8 @@ pub fn tag_close_between(tokenizer: &mut Tokenizer) -> Result<State, AllocError>
 
 /// In the name of an opening tag.
 ///
-/// The error comes where a growth is refused; then `failed` is true.
+///     > | x<br>y
+///            ^^
 pub fn tag_open(tokenizer: &mut Tokenizer) -> Result<State, AllocError>
     ensures ok { IfOk result (λ s. tag_open_step tokenizer.old ≡ record { state = s; left = tokenizer.new }) }
     ensures err { OnErr result (IsTrue tokenizer.new.failed) }
@@ -428,7 +448,8 @@ pub fn tag_open(tokenizer: &mut Tokenizer) -> Result<State, AllocError>
 
 /// In an opening tag, after its name or an attribute, and whitespace.
 ///
-/// The error comes where a growth is refused; then `failed` is true.
+///     > | x<br id>y
+///             ^^ ^
 pub fn tag_open_between(tokenizer: &mut Tokenizer) -> Result<State, AllocError>
     ensures ok { IfOk result (λ s. tag_open_between_step tokenizer.old ≡ record { state = s; left = tokenizer.new }) }
     ensures err { OnErr result (IsTrue tokenizer.new.failed) }
@@ -453,7 +474,8 @@ pub fn tag_open_between(tokenizer: &mut Tokenizer) -> Result<State, AllocError>
 
 /// In the name of an attribute.
 ///
-/// The error comes where a growth is refused; then `failed` is true.
+///     > | x<br id>y
+///               ^^
 pub fn tag_open_attribute_name(tokenizer: &mut Tokenizer) -> Result<State, AllocError>
     ensures ok { IfOk result (λ s. tag_open_attribute_name_step tokenizer.old ≡ record { state = s; left = tokenizer.new }) }
     ensures err { OnErr result (IsTrue tokenizer.new.failed) }
@@ -469,7 +491,8 @@ pub fn tag_open_attribute_name(tokenizer: &mut Tokenizer) -> Result<State, Alloc
 
 /// After the name of an attribute, and whitespace.
 ///
-/// The error comes where a growth is refused; then `failed` is true.
+///     > | x<br id = 78>y
+///                ^^
 pub fn tag_open_attribute_name_after(tokenizer: &mut Tokenizer) -> Result<State, AllocError>
     ensures ok { IfOk result (λ s. tag_open_attribute_name_after_step tokenizer.old ≡ record { state = s; left = tokenizer.new }) }
     ensures err { OnErr result (IsTrue tokenizer.new.failed) }
@@ -490,7 +513,8 @@ pub fn tag_open_attribute_name_after(tokenizer: &mut Tokenizer) -> Result<State,
 
 /// Before the value of an attribute, after its `=`.
 ///
-/// The error comes where a growth is refused; then `failed` is true.
+///     > | x<br id = 78>y
+///                  ^^
 pub fn tag_open_attribute_value_before(tokenizer: &mut Tokenizer) -> Result<State, AllocError>
     ensures ok { IfOk result (λ s. tag_open_attribute_value_before_step tokenizer.old ≡ record { state = s; left = tokenizer.new }) }
     ensures err { OnErr result (IsTrue tokenizer.new.failed) }
@@ -516,7 +540,8 @@ pub fn tag_open_attribute_value_before(tokenizer: &mut Tokenizer) -> Result<Stat
 
 /// In a quoted value.
 ///
-/// The error comes where a growth is refused; then `failed` is true.
+///     > | x<br id='78'>y
+///                  ^^^
 pub fn tag_open_attribute_value_quoted(tokenizer: &mut Tokenizer) -> Result<State, AllocError>
     ensures ok { IfOk result (λ s. tag_open_attribute_value_quoted_step tokenizer.old ≡ record { state = s; left = tokenizer.new }) }
     ensures err { OnErr result (IsTrue tokenizer.new.failed) }
@@ -542,7 +567,8 @@ pub fn tag_open_attribute_value_quoted(tokenizer: &mut Tokenizer) -> Result<Stat
 
 /// After a quoted value.
 ///
-/// The error comes where a growth is refused; then `failed` is true.
+///     > | x<br id='78'>y
+///                     ^
 pub fn tag_open_attribute_value_quoted_after(tokenizer: &mut Tokenizer) -> Result<State, AllocError>
     ensures ok { IfOk result (λ s. tag_open_attribute_value_quoted_after_step tokenizer.old ≡ record { state = s; left = tokenizer.new }) }
     ensures err { OnErr result (IsTrue tokenizer.new.failed) }
@@ -556,7 +582,8 @@ pub fn tag_open_attribute_value_quoted_after(tokenizer: &mut Tokenizer) -> Resul
 
 /// In an unquoted value, after its first code.
 ///
-/// The error comes where a growth is refused; then `failed` is true.
+///     > | x<br id=78>y
+///                  ^^
 pub fn tag_open_attribute_value_unquoted(tokenizer: &mut Tokenizer) -> Result<State, AllocError>
     ensures ok { IfOk result (λ s. tag_open_attribute_value_unquoted_step tokenizer.old ≡ record { state = s; left = tokenizer.new }) }
     ensures err { OnErr result (IsTrue tokenizer.new.failed) }
@@ -573,7 +600,8 @@ pub fn tag_open_attribute_value_unquoted(tokenizer: &mut Tokenizer) -> Result<St
 
 /// At the `>` that ends it.
 ///
-/// The error comes where a growth is refused; then `failed` is true.
+///     > | x<br>y
+///             ^
 pub fn end(tokenizer: &mut Tokenizer) -> Result<State, AllocError>
     requires { AreOpen HtmlTextData HtmlText tokenizer.old }
     ensures ok { IfOk result (λ s. end_step tokenizer.old ≡ record { state = s; left = tokenizer.new }) }
@@ -592,7 +620,9 @@ pub fn end(tokenizer: &mut Tokenizer) -> Result<State, AllocError>
 
 /// At a line ending: the data of the line ends.
 ///
-/// The error comes where a growth is refused; then `failed` is true.
+///     > | x<br
+///             ^
+///       |   id>y
 pub fn line_ending_before(tokenizer: &mut Tokenizer) -> Result<State, AllocError>
     requires open { AreOpen HtmlTextData HtmlText tokenizer.old }
     requires code { current_of tokenizer.old ≡ Some 10 }
@@ -605,7 +635,9 @@ pub fn line_ending_before(tokenizer: &mut Tokenizer) -> Result<State, AllocError
 
 /// After a line ending: the blank codes at the start of the line.
 ///
-/// The error comes where a growth is refused; then `failed` is true.
+///       | x<br
+///     > |   id>y
+///         ^
 pub fn line_ending_after(tokenizer: &mut Tokenizer) -> Result<State, AllocError>
     ensures ok { IfOk result (λ s. line_ending_after_step tokenizer.old ≡ record { state = s; left = tokenizer.new }) }
     ensures err { OnErr result (IsTrue tokenizer.new.failed) }
@@ -625,7 +657,9 @@ pub fn line_ending_after(tokenizer: &mut Tokenizer) -> Result<State, AllocError>
 
 /// After the blank codes at the start of a line: its data, or the line ending of a blank line, which has none.
 ///
-/// The error comes where a growth is refused; then `failed` is true.
+///       | x<br
+///     > |   id>y
+///           ^
 pub fn line_ending_after_prefix(tokenizer: &mut Tokenizer) -> Result<State, AllocError>
     ensures ok { IfOk result (λ s. line_ending_after_prefix_step tokenizer.old ≡ record { state = s; left = tokenizer.new }) }
     ensures err { OnErr result (IsTrue tokenizer.new.failed) }
