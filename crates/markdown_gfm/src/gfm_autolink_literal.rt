@@ -2,6 +2,8 @@
 //
 // GFM 6.9: `http` or `https` with `://`, or `www.`, then a domain, and a path that ends before whitespace or trailing punctuation.
 // Domains and paths look at characters of the document; both end with the content at the latest.
+//
+// Each state answers the error where a growth is refused; then `failed` is true.
 #![tactic(auto, using(markdown_engine::proofs::OpRules::law_rules), unfolding(markdown_engine::specs::Ops::scratched))]
 
 ghost use Rattle.std.specs.Prelude.{◌≡◌, ◌<◌, false, IfOk, OnErr, IsTrue};
@@ -116,7 +118,8 @@ fn is_mark(code: u8) -> bool
 
 /// At the start of a literal with a protocol: its first letter, with no letter before it.
 ///
-/// The error comes where a growth is refused; then `failed` is true.
+///     > | to http://a.b/c and
+///            ^
 pub fn protocol_start(tokenizer: &mut Tokenizer) -> Result<State, AllocError>
     ensures ok { IfOk result (λ s. protocol_start_step tokenizer.old ≡ record { state = s; left = tokenizer.new }) }
     ensures err { OnErr result (IsTrue tokenizer.new.failed) }
@@ -146,7 +149,8 @@ pub fn protocol_start(tokenizer: &mut Tokenizer) -> Result<State, AllocError>
 
 /// After a literal with a protocol.
 ///
-/// The error comes where a growth is refused; then `failed` is true.
+///     > | to http://a.b/c and
+///                        ^
 pub fn protocol_after(tokenizer: &mut Tokenizer) -> Result<State, AllocError>
     requires { IsOpen GfmAutolinkLiteralProtocol tokenizer.old }
     ensures ok { IfOk result (λ s. protocol_after_step tokenizer.old ≡ record { state = s; left = tokenizer.new }) }
@@ -158,7 +162,8 @@ pub fn protocol_after(tokenizer: &mut Tokenizer) -> Result<State, AllocError>
 
 /// In the name of a protocol, of which `size` letters are passed, or at its colon.
 ///
-/// The error comes where a growth is refused; then `failed` is true.
+///     > | to http://a.b/c and
+///            ^^^^^
 pub fn protocol_prefix_inside(tokenizer: &mut Tokenizer) -> Result<State, AllocError>
     ensures ok { IfOk result (λ s. prefix_step tokenizer.old ≡ record { state = s; left = tokenizer.new }) }
     ensures err { OnErr result (IsTrue tokenizer.new.failed) }
@@ -181,7 +186,8 @@ pub fn protocol_prefix_inside(tokenizer: &mut Tokenizer) -> Result<State, AllocE
 
 /// At the slashes after a protocol, of which `size` are passed.
 ///
-/// The error comes where a growth is refused; then `failed` is true.
+///     > | to http://a.b/c and
+///                 ^^
 pub fn protocol_slashes_inside(tokenizer: &mut Tokenizer) -> Result<State, AllocError>
     ensures ok { IfOk result (λ s. slashes_step tokenizer.old ≡ record { state = s; left = tokenizer.new }) }
     ensures err { OnErr result (IsTrue tokenizer.new.failed) }
@@ -203,7 +209,8 @@ pub fn protocol_slashes_inside(tokenizer: &mut Tokenizer) -> Result<State, Alloc
 
 /// At the start of a literal from `www.` on: its first letter. The word is only looked at: it belongs to the domain.
 ///
-/// The error comes where a growth is refused; then `failed` is true.
+///     > | to www.a.b and
+///            ^
 pub fn www_start(tokenizer: &mut Tokenizer) -> Result<State, AllocError>
     ensures ok { IfOk result (λ s. www_start_step tokenizer.old ≡ record { state = s; left = tokenizer.new }) }
     ensures err { OnErr result (IsTrue tokenizer.new.failed) }
@@ -228,7 +235,8 @@ pub fn www_start(tokenizer: &mut Tokenizer) -> Result<State, AllocError>
 
 /// In `www.`, of which `size` codes are passed, or at the code that has to follow it.
 ///
-/// The error comes where a growth is refused; then `failed` is true.
+///     > | to www.a.b and
+///            ^^^^^
 pub fn www_prefix_inside(tokenizer: &mut Tokenizer) -> Result<State, AllocError>
     ensures ok { IfOk result (λ s. www_prefix_step tokenizer.old ≡ record { state = s; left = tokenizer.new }) }
     ensures err { OnErr result (IsTrue tokenizer.new.failed) }
@@ -250,7 +258,8 @@ pub fn www_prefix_inside(tokenizer: &mut Tokenizer) -> Result<State, AllocError>
 
 /// At the start of a literal, where `www.` was seen.
 ///
-/// The error comes where a growth is refused; then `failed` is true.
+///     > | to www.a.b and
+///            ^
 pub fn www_prefix_after(tokenizer: &mut Tokenizer) -> Result<State, AllocError>
     ensures ok { IfOk result (λ s. www_prefix_after_step tokenizer.old ≡ record { state = s; left = tokenizer.new }) }
     ensures err { OnErr result (IsTrue tokenizer.new.failed) }
@@ -265,7 +274,8 @@ pub fn www_prefix_after(tokenizer: &mut Tokenizer) -> Result<State, AllocError>
 
 /// After a literal from `www.` on.
 ///
-/// The error comes where a growth is refused; then `failed` is true.
+///     > | to www.a.b and
+///                   ^
 pub fn www_after(tokenizer: &mut Tokenizer) -> Result<State, AllocError>
     requires { IsOpen GfmAutolinkLiteralWww tokenizer.old }
     ensures ok { IfOk result (λ s. www_after_step tokenizer.old ≡ record { state = s; left = tokenizer.new }) }
@@ -277,7 +287,8 @@ pub fn www_after(tokenizer: &mut Tokenizer) -> Result<State, AllocError>
 
 /// In a domain: `.` and `_` belong to it where no trail begins with them.
 ///
-/// The error comes where a growth is refused; then `failed` is true.
+///     > | to http://a.b/c and
+///                   ^^^^
 pub fn domain_inside(tokenizer: &mut Tokenizer) -> Result<State, AllocError>
     requires { MayClass tokenizer.old }
     ensures ok { IfOk result (λ s. domain_step tokenizer.old ≡ record { state = s; left = tokenizer.new }) }
@@ -328,7 +339,8 @@ fn domain_on(tokenizer: &Tokenizer) -> StateName
 
 /// In a domain, at a `.` or a `_` that belongs to it. Where another one follows, that belongs to it too.
 ///
-/// The error comes where a growth is refused; then `failed` is true.
+///     > | to http://a.b/c and
+///                    ^
 pub fn domain_at_punctuation(tokenizer: &mut Tokenizer) -> Result<State, AllocError>
     requires { HasCode tokenizer.old }
     ensures ok { IfOk result (λ s. domain_punctuation_step tokenizer.old ≡ record { state = s; left = tokenizer.new }) }
@@ -342,7 +354,8 @@ pub fn domain_at_punctuation(tokenizer: &mut Tokenizer) -> Result<State, AllocEr
 
 /// After a domain: it holds a character of class other, and no `_` in its last two parts.
 ///
-/// The error comes where a growth is refused; then `failed` is true.
+///     > | to http://a.b/c and
+///                      ^
 pub fn domain_after(tokenizer: &mut Tokenizer) -> Result<State, AllocError>
     ensures ok { IfOk result (λ s. domain_after_step tokenizer.old ≡ record { state = s; left = tokenizer.new }) }
     ensures err { OnErr result (IsTrue tokenizer.new.failed) }
@@ -404,7 +417,8 @@ fn pass(tokenizer: &mut Tokenizer, known: u8, code: u8) -> State
 /// In a path: `size` parentheses of it opened, and `size_b` closed. `marker` says what is known of trails, so that a row of marks that
 /// does not trail is looked at once.
 ///
-/// The error comes where a growth is refused; then `failed` is true.
+///     > | to http://a.b/c and
+///                      ^^^
 pub fn path_inside(tokenizer: &mut Tokenizer) -> Result<State, AllocError>
     requires class { MayClass tokenizer.old }
     requires count { MayCount tokenizer.old }
@@ -433,7 +447,8 @@ pub fn path_inside(tokenizer: &mut Tokenizer) -> Result<State, AllocError>
 
 /// In a path, at punctuation that belongs to it, as no trail begins with it.
 ///
-/// The error comes where a growth is refused; then `failed` is true.
+///     > | to http://a.b/c?d and
+///                        ^
 pub fn path_at_punctuation(tokenizer: &mut Tokenizer) -> Result<State, AllocError>
     requires code { HasCode tokenizer.old }
     requires count { MayCount tokenizer.old }
@@ -448,7 +463,8 @@ pub fn path_at_punctuation(tokenizer: &mut Tokenizer) -> Result<State, AllocErro
 
 /// After a path.
 ///
-/// The error comes where a growth is refused; then `failed` is true.
+///     > | to http://a.b/c, and
+///                        ^
 pub fn path_after(tokenizer: &mut Tokenizer) -> Result<State, AllocError>
     ensures ok { IfOk result (λ s. path_after_step tokenizer.old ≡ record { state = s; left = tokenizer.new }) }
     ensures err { OnErr result (IsTrue tokenizer.new.failed) }
@@ -459,7 +475,8 @@ pub fn path_after(tokenizer: &mut Tokenizer) -> Result<State, AllocError>
 
 /// In what may be trailing punctuation.
 ///
-/// The error comes where a growth is refused; then `failed` is true.
+///     > | to http://a.b/c), and
+///                    ^^  ^^^
 pub fn trail(tokenizer: &mut Tokenizer) -> Result<State, AllocError>
     requires { TrailReady tokenizer.old }
     ensures ok { IfOk result (λ s. trail_step tokenizer.old ≡ record { state = s; left = tokenizer.new }) }
@@ -489,7 +506,8 @@ pub fn trail(tokenizer: &mut Tokenizer) -> Result<State, AllocError>
 
 /// In what may be trailing punctuation, after a closing bracket.
 ///
-/// The error comes where a growth is refused; then `failed` is true.
+///     > | [http://a.b/c][d]
+///                       ^
 pub fn trail_bracket_after(tokenizer: &mut Tokenizer) -> Result<State, AllocError>
     ensures ok { IfOk result (λ s. bracket_after_step tokenizer.old ≡ record { state = s; left = tokenizer.new }) }
     ensures err { OnErr result (IsTrue tokenizer.new.failed) }
@@ -502,7 +520,8 @@ pub fn trail_bracket_after(tokenizer: &mut Tokenizer) -> Result<State, AllocErro
 
 /// In what may be trailing punctuation, after a `&`: a letter.
 ///
-/// The error comes where a growth is refused; then `failed` is true.
+///     > | to http://a.b/c&lt; and
+///                         ^
 pub fn trail_char_ref_start(tokenizer: &mut Tokenizer) -> Result<State, AllocError>
     ensures ok { IfOk result (λ s. reference_start_step tokenizer.old ≡ record { state = s; left = tokenizer.new }) }
     ensures err { OnErr result (IsTrue tokenizer.new.failed) }
@@ -517,7 +536,8 @@ pub fn trail_char_ref_start(tokenizer: &mut Tokenizer) -> Result<State, AllocErr
 
 /// In what may be trailing punctuation, in what looks like a character reference.
 ///
-/// The error comes where a growth is refused; then `failed` is true.
+///     > | to http://a.b/c&lt; and
+///                         ^^^
 pub fn trail_char_ref_inside(tokenizer: &mut Tokenizer) -> Result<State, AllocError>
     ensures ok { IfOk result (λ s. reference_step tokenizer.old ≡ record { state = s; left = tokenizer.new }) }
     ensures err { OnErr result (IsTrue tokenizer.new.failed) }

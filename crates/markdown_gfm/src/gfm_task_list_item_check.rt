@@ -2,6 +2,8 @@
 //
 // GFM 5.3: where the first paragraph of a list item begins, a space, a tab, a line ending or an `x` of either case between brackets.
 // A line ending has to follow, or spaces and tabs and a further code; these are left to others.
+//
+// Each state answers the error where a growth is refused; then `failed` is true.
 #![tactic(auto, using(markdown_engine::proofs::OpRules::op_rules), unfolding(markdown_engine::specs::Ops::scratched))]
 
 ghost use Rattle.std.specs.Prelude.{◌≡◌, IfOk, OnErr, IsTrue};
@@ -17,7 +19,8 @@ use std::alloc::AllocError;
 
 /// At the start of a check: the opening bracket, with no code before it in the content.
 ///
-/// The error comes where a growth is refused; then `failed` is true.
+///     > | - [X] tea
+///           ^
 pub fn start(tokenizer: &mut Tokenizer) -> Result<State, AllocError>
     ensures ok { IfOk result (λ s. start_step tokenizer.old ≡ record { state = s; left = tokenizer.new }) }
     ensures err { OnErr result (IsTrue tokenizer.new.failed) }
@@ -41,7 +44,8 @@ pub fn start(tokenizer: &mut Tokenizer) -> Result<State, AllocError>
 
 /// After the opening bracket: the value.
 ///
-/// The error comes where a growth is refused; then `failed` is true.
+///     > | - [X] tea
+///            ^
 pub fn inside(tokenizer: &mut Tokenizer) -> Result<State, AllocError>
     ensures ok { IfOk result (λ s. inside_step tokenizer.old ≡ record { state = s; left = tokenizer.new }) }
     ensures err { OnErr result (IsTrue tokenizer.new.failed) }
@@ -65,7 +69,8 @@ pub fn inside(tokenizer: &mut Tokenizer) -> Result<State, AllocError>
 
 /// After the value: the closing bracket.
 ///
-/// The error comes where a growth is refused; then `failed` is true.
+///     > | - [X] tea
+///             ^
 pub fn close(tokenizer: &mut Tokenizer) -> Result<State, AllocError>
     requires { IsOpen GfmTaskListItemCheck tokenizer.old }
     ensures ok { IfOk result (λ s. close_step tokenizer.old ≡ record { state = s; left = tokenizer.new }) }
@@ -84,7 +89,8 @@ pub fn close(tokenizer: &mut Tokenizer) -> Result<State, AllocError>
 
 /// After a check: a line ending, or spaces and tabs, which are passed only to look at what stands behind them.
 ///
-/// The error comes where a growth is refused; then `failed` is true.
+///     > | - [X] tea
+///              ^
 pub fn after(tokenizer: &mut Tokenizer) -> Result<State, AllocError>
     ensures ok { IfOk result (λ s. after_step tokenizer.old ≡ record { state = s; left = tokenizer.new }) }
     ensures err { OnErr result (IsTrue tokenizer.new.failed) }
@@ -106,7 +112,8 @@ pub fn after(tokenizer: &mut Tokenizer) -> Result<State, AllocError>
 
 /// After a check and the spaces and tabs behind it: a code has to follow.
 ///
-/// The error comes where a growth is refused; then `failed` is true.
+///     > | - [X] tea
+///               ^
 pub fn after_space_or_tab(tokenizer: &mut Tokenizer) -> Result<State, AllocError>
     ensures ok { IfOk result (λ s. after_space_or_tab_step tokenizer.old ≡ record { state = s; left = tokenizer.new }) }
     ensures err { OnErr result (IsTrue tokenizer.new.failed) }
