@@ -2,6 +2,8 @@
 //
 // CommonMark 6.3: behind the label of a link or an image, in parentheses, a destination and a title, each of which may be missing, with
 // whitespace around them; a title does not stand without a destination. These are states of a label's end.
+//
+// Each state answers the error where a growth is refused; then `failed` is true.
 #![tactic(auto, using(markdown_engine::proofs::OpRules::law_rules), unfolding(markdown_engine::specs::Ops::scratched, markdown_engine::specs::Ops::attempted, markdown_engine::specs::Ops::frame_of))]
 
 ghost use Rattle.std.specs.Prelude.{◌≡◌, IfOk, OnErr, IsTrue};
@@ -64,7 +66,8 @@ fn rest_title(state: &mut TokenizeState)
 
 /// At the start of a resource: its opening parenthesis.
 ///
-/// The error comes where a growth is refused; then `failed` is true.
+///     > | [x]( y 'z' )
+///            ^
 pub fn resource_start(tokenizer: &mut Tokenizer) -> Result<State, AllocError>
     ensures ok { IfOk result (λ s. start_step tokenizer.old ≡ record { state = s; left = tokenizer.new }) }
     ensures err { OnErr result (IsTrue tokenizer.new.failed) }
@@ -83,7 +86,8 @@ pub fn resource_start(tokenizer: &mut Tokenizer) -> Result<State, AllocError>
 
 /// Behind the opening parenthesis, where whitespace may stand.
 ///
-/// The error comes where a growth is refused; then `failed` is true.
+///     > | [x]( y 'z' )
+///             ^
 pub fn resource_before(tokenizer: &mut Tokenizer) -> Result<State, AllocError>
     ensures ok { IfOk result (λ s. before_step tokenizer.old ≡ record { state = s; left = tokenizer.new }) }
     ensures err { OnErr result (IsTrue tokenizer.new.failed) }
@@ -103,7 +107,8 @@ pub fn resource_before(tokenizer: &mut Tokenizer) -> Result<State, AllocError>
 
 /// Behind the whitespace after the opening parenthesis: at the closing one, or at a destination.
 ///
-/// The error comes where a growth is refused; then `failed` is true.
+///     > | [x]( y 'z' )
+///              ^
 pub fn resource_open(tokenizer: &mut Tokenizer) -> Result<State, AllocError>
     ensures ok { IfOk result (λ s. open_step tokenizer.old ≡ record { state = s; left = tokenizer.new }) }
     ensures err { OnErr result (IsTrue tokenizer.new.failed) }
@@ -123,7 +128,8 @@ pub fn resource_open(tokenizer: &mut Tokenizer) -> Result<State, AllocError>
 
 /// Behind a destination, where whitespace may stand, and behind that a title.
 ///
-/// The error comes where a growth is refused; then `failed` is true.
+///     > | [x]( y 'z' )
+///               ^
 pub fn resource_destination_after(tokenizer: &mut Tokenizer) -> Result<State, AllocError>
     ensures ok { IfOk result (λ s. destination_after_step tokenizer.old ≡ record { state = s; left = tokenizer.new }) }
     ensures err { OnErr result (IsTrue tokenizer.new.failed) }
@@ -144,7 +150,11 @@ pub fn resource_destination_after(tokenizer: &mut Tokenizer) -> Result<State, Al
 
 /// No destination stands there, or no title where one has to stand: all names are put to rest.
 ///
-/// The error comes where a growth is refused; then `failed` is true.
+///     > | [x](<y)
+///             ^
+///
+///     > | [x](y 'z)
+///               ^
 pub fn resource_destination_missing(tokenizer: &mut Tokenizer) -> Result<State, AllocError>
     ensures ok { IfOk result (λ s. missing_step tokenizer.old ≡ record { state = s; left = tokenizer.new }) }
     ensures err { OnErr result (IsTrue tokenizer.new.failed) }
@@ -178,7 +188,8 @@ fn is_hopeless(tokenizer: &Tokenizer) -> bool
 /// A title in parentheses is not tried where it is known that the first `)` behind it that no backslash escapes has no other one behind it,
 /// past whitespace, or that none at all has.
 ///
-/// The error comes where a growth is refused; then `failed` is true.
+///     > | [x]( y 'z' )
+///                ^
 pub fn resource_between(tokenizer: &mut Tokenizer) -> Result<State, AllocError>
     ensures ok { IfOk result (λ s. between_step tokenizer.old ≡ record { state = s; left = tokenizer.new }) }
     ensures err { OnErr result (IsTrue tokenizer.new.failed) }
@@ -199,7 +210,8 @@ pub fn resource_between(tokenizer: &mut Tokenizer) -> Result<State, AllocError>
 
 /// Behind a title, where whitespace may stand.
 ///
-/// The error comes where a growth is refused; then `failed` is true.
+///     > | [x]( y 'z' )
+///                   ^
 pub fn resource_title_after(tokenizer: &mut Tokenizer) -> Result<State, AllocError>
     ensures ok { IfOk result (λ s. title_after_step tokenizer.old ≡ record { state = s; left = tokenizer.new }) }
     ensures err { OnErr result (IsTrue tokenizer.new.failed) }
@@ -220,7 +232,8 @@ pub fn resource_title_after(tokenizer: &mut Tokenizer) -> Result<State, AllocErr
 
 /// At the closing parenthesis.
 ///
-/// The error comes where a growth is refused; then `failed` is true.
+///     > | [x]( y 'z' )
+///                    ^
 pub fn resource_end(tokenizer: &mut Tokenizer) -> Result<State, AllocError>
     requires { IsOpen Resource tokenizer.old }
     ensures ok { IfOk result (λ s. end_step tokenizer.old ≡ record { state = s; left = tokenizer.new }) }
