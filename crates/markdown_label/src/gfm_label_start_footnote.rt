@@ -1,6 +1,8 @@
 // Starts of footnote calls.
 //
 // GFM footnotes: a call begins with an opening bracket and a caret.
+//
+// Each state answers the error where a growth is refused; then `failed` is true.
 #![tactic(auto, using(markdown_engine::proofs::OpRules::law_rules), unfolding(markdown_engine::specs::Ops::scratched))]
 
 ghost use Rattle.std.specs.Prelude.{◌≡◌, IfOk, OnErr, IsTrue};
@@ -14,7 +16,8 @@ use std::alloc::AllocError;
 
 /// At the start of a footnote call's label: its bracket.
 ///
-/// The error comes where a growth is refused; then `failed` is true.
+///     > | x[^1]y
+///          ^
 pub fn start(tokenizer: &mut Tokenizer) -> Result<State, AllocError>
     ensures ok { IfOk result (λ s. footnote_step tokenizer.old ≡ record { state = s; left = tokenizer.new }) }
     ensures err { OnErr result (IsTrue tokenizer.new.failed) }
@@ -38,7 +41,8 @@ pub fn start(tokenizer: &mut Tokenizer) -> Result<State, AllocError>
 
 /// After the bracket: the caret.
 ///
-/// The error comes where a growth is refused; then `failed` is true.
+///     > | x[^1]y
+///           ^
 pub fn open(tokenizer: &mut Tokenizer) -> Result<State, AllocError>
     requires { FootnoteOpenReady tokenizer.old }
     ensures ok { IfOk result (λ s. footnote_open_step tokenizer.old ≡ record { state = s; left = tokenizer.new }) }

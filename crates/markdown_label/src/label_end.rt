@@ -3,6 +3,8 @@
 // CommonMark 6.3 and 6.4, and footnote calls: a closing bracket takes the last start that no end has used. With a resource behind it, a
 // reference to a definition, or an identifier that is defined, it makes a link, an image or a footnote call; else its start is used up in
 // vain. A start behind which a link or a call was made is no link's.
+//
+// Each state answers the error where a growth is refused; then `failed` is true.
 #![tactic(auto, using(markdown_engine::proofs::OpRules::law_rules), unfolding(markdown_engine::specs::Ops::scratched, markdown_engine::specs::Ops::attempted, markdown_engine::specs::Ops::frame_of))]
 
 ghost use Rattle.std.specs.Prelude.{◌≡◌, IfOk, OnErr, IsTrue};
@@ -99,8 +101,10 @@ fn ask_for_names(state: &mut TokenizeState)
 
 /// At the end of a label: its bracket, if a start stands before it.
 ///
-/// The number of the end's first event is kept in `end`. Where the last start is barred, the end fails. The error comes where a growth
-/// is refused; then `failed` is true.
+/// The number of the end's first event is kept in `end`. Where the last start is barred, the end fails.
+///
+///     > | x[y](z)
+///            ^
 pub fn start(tokenizer: &mut Tokenizer) -> Result<State, AllocError>
     ensures ok { IfOk result (λ s. start_step tokenizer.old ≡ record { state = s; left = tokenizer.new }) }
     ensures err { OnErr result (IsTrue tokenizer.new.failed) }
@@ -154,7 +158,11 @@ fn tail(tokenizer: &mut Tokenizer, defined: bool) -> Result<State, AllocError>
 
 /// Behind a `]`: a call is made, or what follows is tried.
 ///
-/// The label is read at most about twice as far as it begins like something that is defined. The error comes where memory is refused; then `failed` is true.
+/// The label is read at most about twice as far as it begins like something that is defined. The error comes where memory for its
+/// identifier is refused, too; then `failed` is true.
+///
+///     > | x[y](z)
+///             ^
 pub fn after(tokenizer: &mut Tokenizer) -> Result<State, AllocError>
     requires { LabelIsAround tokenizer.old }
     ensures ok { IfOk result (λ s. after_step tokenizer.old ≡ record { state = s; left = tokenizer.new }) }
@@ -179,7 +187,8 @@ pub fn after(tokenizer: &mut Tokenizer) -> Result<State, AllocError>
 
 /// The end makes a label of its start, and marks the starts before it where that is a link or a call.
 ///
-/// The error comes where a growth is refused; then `failed` is true.
+///     > | x[y](z)!
+///                ^
 pub fn ok(tokenizer: &mut Tokenizer) -> Result<State, AllocError>
     ensures ok { IfOk result (λ s. ok_step tokenizer.old ≡ record { state = s; left = tokenizer.new }) }
     ensures err { OnErr result (IsTrue tokenizer.new.failed) }
@@ -209,7 +218,10 @@ pub fn ok(tokenizer: &mut Tokenizer) -> Result<State, AllocError>
 
 /// Behind a label that follows a label: whether it names a definition.
 ///
-/// The error comes where memory is refused; then `failed` is true.
+/// The error comes where memory for its identifier is refused, too; then `failed` is true.
+///
+///     > | x[y][z]!
+///                ^
 pub fn reference_full_after(tokenizer: &mut Tokenizer) -> Result<State, AllocError>
     requires { ReferenceIsAround tokenizer.old }
     ensures ok { IfOk result (λ s. reference_full_after_step tokenizer.old ≡ record { state = s; left = tokenizer.new }) }
@@ -230,7 +242,11 @@ pub fn reference_full_after(tokenizer: &mut Tokenizer) -> Result<State, AllocErr
 
 /// The end makes no label: its start is used up.
 ///
-/// The error comes where a growth is refused; then `failed` is true.
+///     > | x[y]!
+///             ^
+///
+///     > | [x[y](z)]!
+///                 ^
 pub fn nok(tokenizer: &mut Tokenizer) -> Result<State, AllocError>
     ensures ok { IfOk result (λ s. nok_step tokenizer.old ≡ record { state = s; left = tokenizer.new }) }
     ensures err { OnErr result (IsTrue tokenizer.new.failed) }
@@ -249,7 +265,8 @@ pub fn nok(tokenizer: &mut Tokenizer) -> Result<State, AllocError>
 
 /// At a `[`: a full reference is tried.
 ///
-/// The error comes where a growth is refused; then `failed` is true.
+///     > | x[y][z]!
+///             ^
 pub fn reference_full(tokenizer: &mut Tokenizer) -> Result<State, AllocError>
     ensures ok { IfOk result (λ s. reference_full_step tokenizer.old ≡ record { state = s; left = tokenizer.new }) }
     ensures err { OnErr result (IsTrue tokenizer.new.failed) }
@@ -264,7 +281,8 @@ pub fn reference_full(tokenizer: &mut Tokenizer) -> Result<State, AllocError>
 
 /// No label stands there.
 ///
-/// The error comes where a growth is refused; then `failed` is true.
+///     > | x[y][]!
+///             ^
 pub fn reference_full_missing(tokenizer: &mut Tokenizer) -> Result<State, AllocError>
     ensures ok { IfOk result (λ s. reference_full_missing_step tokenizer.old ≡ record { state = s; left = tokenizer.new }) }
     ensures err { OnErr result (IsTrue tokenizer.new.failed) }
@@ -275,7 +293,8 @@ pub fn reference_full_missing(tokenizer: &mut Tokenizer) -> Result<State, AllocE
 
 /// No full reference stands there, and the label itself is defined.
 ///
-/// The error comes where a growth is refused; then `failed` is true.
+///     > | x[y][]!
+///             ^
 pub fn reference_not_full(tokenizer: &mut Tokenizer) -> Result<State, AllocError>
     ensures ok { IfOk result (λ s. reference_not_full_step tokenizer.old ≡ record { state = s; left = tokenizer.new }) }
     ensures err { OnErr result (IsTrue tokenizer.new.failed) }
@@ -296,7 +315,8 @@ pub fn reference_not_full(tokenizer: &mut Tokenizer) -> Result<State, AllocError
 
 /// At a `[` where no full reference stands: a collapsed reference may begin.
 ///
-/// The error comes where a growth is refused; then `failed` is true.
+///     > | x[y][]!
+///             ^
 pub fn reference_collapsed(tokenizer: &mut Tokenizer) -> Result<State, AllocError>
     ensures ok { IfOk result (λ s. reference_collapsed_step tokenizer.old ≡ record { state = s; left = tokenizer.new }) }
     ensures err { OnErr result (IsTrue tokenizer.new.failed) }
@@ -315,7 +335,8 @@ pub fn reference_collapsed(tokenizer: &mut Tokenizer) -> Result<State, AllocErro
 
 /// After the opening bracket of a collapsed reference: its closing one.
 ///
-/// The error comes where a growth is refused; then `failed` is true.
+///     > | x[y][]!
+///              ^
 pub fn reference_collapsed_open(tokenizer: &mut Tokenizer) -> Result<State, AllocError>
     requires { IsOpen Reference tokenizer.old }
     ensures ok { IfOk result (λ s. reference_collapsed_open_step tokenizer.old ≡ record { state = s; left = tokenizer.new }) }

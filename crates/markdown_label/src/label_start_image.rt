@@ -2,6 +2,8 @@
 //
 // CommonMark 6.4: the description of an image begins with an exclamation mark and an opening bracket. Where footnotes are on and a caret
 // follows, the mark is data, and a footnote call begins at the bracket.
+//
+// Each state answers the error where a growth is refused; then `failed` is true.
 #![tactic(auto, using(markdown_engine::proofs::OpRules::law_rules), unfolding(markdown_engine::specs::Ops::scratched))]
 
 ghost use Rattle.std.specs.Prelude.{◌≡◌, IfOk, OnErr, IsTrue};
@@ -15,7 +17,8 @@ use std::alloc::AllocError;
 
 /// At the start of an image's label: its exclamation mark.
 ///
-/// The error comes where a growth is refused; then `failed` is true.
+///     > | x![y](z)
+///          ^
 pub fn start(tokenizer: &mut Tokenizer) -> Result<State, AllocError>
     ensures ok { IfOk result (λ s. image_step tokenizer.old ≡ record { state = s; left = tokenizer.new }) }
     ensures err { OnErr result (IsTrue tokenizer.new.failed) }
@@ -35,7 +38,8 @@ pub fn start(tokenizer: &mut Tokenizer) -> Result<State, AllocError>
 
 /// After the exclamation mark: the bracket.
 ///
-/// The error comes where a growth is refused; then `failed` is true.
+///     > | x![y](z)
+///           ^
 pub fn open(tokenizer: &mut Tokenizer) -> Result<State, AllocError>
     requires { ImageOpenReady tokenizer.old }
     ensures ok { IfOk result (λ s. image_open_step tokenizer.old ≡ record { state = s; left = tokenizer.new }) }
@@ -55,7 +59,8 @@ pub fn open(tokenizer: &mut Tokenizer) -> Result<State, AllocError>
 
 /// After the bracket: a caret may make it the start of a footnote call.
 ///
-/// The error comes where a growth is refused; then `failed` is true.
+///     > | x![y](z)
+///            ^
 pub fn after(tokenizer: &mut Tokenizer) -> Result<State, AllocError>
     requires { ImageAfterReady tokenizer.old }
     ensures ok { IfOk result (λ s. image_after_step tokenizer.old ≡ record { state = s; left = tokenizer.new }) }

@@ -1,6 +1,8 @@
 // Starts of links.
 //
 // CommonMark 6.3: the text of a link begins with an opening bracket.
+//
+// The state answers the error where a growth is refused; then `failed` is true.
 #![tactic(auto, using(markdown_engine::proofs::OpRules::law_rules), unfolding(markdown_engine::specs::Ops::scratched))]
 
 ghost use Rattle.std.specs.Prelude.{◌≡◌, IfOk, OnErr, IsTrue};
@@ -14,7 +16,8 @@ use std::alloc::AllocError;
 
 /// At the start of a link's label: its bracket.
 ///
-/// The error comes where a growth is refused; then `failed` is true.
+///     > | x[y](z)
+///          ^
 pub fn start(tokenizer: &mut Tokenizer) -> Result<State, AllocError>
     ensures ok { IfOk result (λ s. link_step tokenizer.old ≡ record { state = s; left = tokenizer.new }) }
     ensures err { OnErr result (IsTrue tokenizer.new.failed) }
