@@ -61,7 +61,7 @@ fn expect(
 }
 
 // Emphasis and strong emphasis.
-const PAIRS: [Row; 9] = [
+const PAIRS: [Row; 10] = [
     (
         "***a***",
         "Emphasis 0-7 [EmphasisSequence 0-1, EmphasisText 1-6 [Strong 1-6 [StrongSequence 1-3, StrongText 3-4 [Data 3-4], StrongSequence 4-6]], EmphasisSequence 6-7]",
@@ -105,6 +105,12 @@ const PAIRS: [Row; 9] = [
         24,
     ),
     ("~a~", "Data 0-3", 0, 0),
+    (
+        "*a  \nb*",
+        "Emphasis 0-7 [EmphasisSequence 0-1, EmphasisText 1-6 [Data 1-2, HardBreakTrailing 2-4, LineEnding 4-5, Data 5-6], EmphasisSequence 6-7]",
+        1,
+        6,
+    ),
     (
         "*`*`*",
         "Emphasis 0-5 [EmphasisSequence 0-1, EmphasisText 1-4 [CodeText 1-4 [CodeTextSequence 1-2, CodeTextData 2-3, CodeTextSequence 3-4]], EmphasisSequence 4-5]",

@@ -209,7 +209,7 @@ fn refuses_other_words(rt: HostRuntime) -> Result<(), Fail> {
 
 #[test]
 fn prints_the_events_of_a_text(rt: HostRuntime) -> Result<(), Fail> {
-    let cases: [(&[&str], &[u8], &str); 6] = [
+    let cases: [(&[&str], &[u8], &str); 7] = [
         (&["text"], b"", ""),
         (
             &["text", "gfm", "math"],
@@ -231,6 +231,11 @@ fn prints_the_events_of_a_text(rt: HostRuntime) -> Result<(), Fail> {
             &["text", "math"],
             b"$a$",
             "Enter MathText 1 1 0 0\nEnter MathTextSequence 1 1 0 0\nExit MathTextSequence 1 2 1 0\nEnter MathTextData 1 2 1 0\nExit MathTextData 1 3 2 0\nEnter MathTextSequence 1 3 2 0\nExit MathTextSequence 1 4 3 0\nExit MathText 1 4 3 0\n",
+        ),
+        (
+            &["text", "cm-lengths"],
+            b"x*****a** b*",
+            "Enter Data 1 1 0 0\nExit Data 1 5 4 0\nEnter Strong 1 5 4 0\nEnter StrongSequence 1 5 4 0\nExit StrongSequence 1 7 6 0\nEnter StrongText 1 7 6 0\nEnter Data 1 7 6 0\nExit Data 1 8 7 0\nExit StrongText 1 8 7 0\nEnter StrongSequence 1 8 7 0\nExit StrongSequence 1 10 9 0\nExit Strong 1 10 9 0\nEnter Data 1 10 9 0\nExit Data 1 13 12 0\n",
         ),
     ];
     for (words, input, want) in cases {

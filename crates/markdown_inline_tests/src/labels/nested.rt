@@ -1,5 +1,6 @@
 // Labels within labels, runs of markers within them, and brackets that stay.
 use crate::labels::fixtures::{Given, counted, defined, expect, noted, piece, plain};
+use markdown_engine::configuration::{Constructs, ParseOptions};
 use std::alloc::{AllocError, Global};
 use std::process::Abort;
 use std::test::Fail;
@@ -101,7 +102,19 @@ fn expect_pairs(
 }
 
 // The whole and the text of each label hold runs of their own.
-const RUNS: [Row; 9] = [
+const RUNS: [Row; 11] = [
+    (
+        "[a *b* c](#)",
+        "Link 0-12 [Label 0-9 [LabelLink 0-1, LabelText 1-8 [Data 1-3, Emphasis 3-6 [EmphasisSequence 3-4, EmphasisText 4-5 [Data 4-5], EmphasisSequence 5-6], Data 6-8], LabelEnd 8-9], Resource 9-12 [ResourceMarker 9-10, Raw 10-11, ResourceMarker 11-12]]",
+        1,
+        6,
+    ),
+    (
+        "![a *b* c](#)",
+        "Image 0-13 [Label 0-10 [LabelImage 0-2 [LabelImageMarker 0-1, LabelMarker 1-2], LabelText 2-9 [Data 2-4, Emphasis 4-7 [EmphasisSequence 4-5, EmphasisText 5-6 [Data 5-6], EmphasisSequence 6-7], Data 7-9], LabelEnd 9-10], Resource 10-13 [ResourceMarker 10-11, Raw 11-12, ResourceMarker 12-13]]",
+        1,
+        6,
+    ),
     (
         "*[a*](b)",
         "Data 0-1, Link 1-8 [Label 1-5 [LabelLink 1-2, LabelText 2-4 [Data 2-4], LabelEnd 4-5], Resource 5-8 [ResourceMarker 5-6, Raw 6-7, ResourceMarker 7-8]]",
@@ -189,5 +202,30 @@ const STRUCK: [Row; 3] = [
 #[test]
 fn strikes_text_of_one_label_through(rt: HostRuntime) -> Result<(), Fail> {
     expect_pairs(&rt, rt.alloc(), &noted(&[], &["*a*"]), &STRUCK)?;
+    Ok(())
+}
+
+// The last of them, where literals are on.
+const STRUCK_BESIDE_AN_EMAIL: [Row; 1] = [(
+    "contact ~Mercury~Venus at hi@venus.com!",
+    "Data 0-8, GfmStrikethrough 8-17 [GfmStrikethroughSequence 8-9, GfmStrikethroughText 9-16 [Data 9-16], GfmStrikethroughSequence 16-17], Data 17-26, GfmAutolinkLiteralEmail 26-38, Data 38-39",
+    1,
+    6,
+)];
+
+#[test]
+fn strikes_text_through_beside_an_email(rt: HostRuntime) -> Result<(), Fail> {
+    let noted = noted(&[], &[]);
+    let given = Given {
+        options: ParseOptions {
+            constructs: Constructs {
+                gfm_autolink_literal: true,
+                ..noted.options.constructs
+            },
+            ..noted.options
+        },
+        ..noted
+    };
+    expect_pairs(&rt, rt.alloc(), &given, &STRUCK_BESIDE_AN_EMAIL)?;
     Ok(())
 }

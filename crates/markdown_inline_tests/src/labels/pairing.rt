@@ -1,5 +1,5 @@
-// A second pass of runs, as simple as can be: one array of all runs, walked back over all of them for each closer. Its events are compared with those
-// of the library's, the other passes being called one by one around both.
+// A second pass of runs, as simple as can be: one array of all runs, walked back for each closer. Its events are compared with those of the library's,
+// the other passes being called one by one around both.
 ghost use Rattle.std.specs.Prelude.{◌≡◌, OnOk};
 ghost use Rattle.markdown_engine.specs.Chain.{IsFresh};
 
@@ -140,20 +140,19 @@ fn opener_of(all: &[Sequence], at: usize, options: &ParseOptions) -> Option<usiz
     if !closer.closes || closer.left == 0 {
         return None;
     }
-    let mut nearest = None;
-    for (i, opener) in all.iter().enumerate() {
-        if i < at
-            && opener.container == closer.container
+    for i in (0..at).rev() {
+        let opener = all.get(i)?;
+        if opener.container == closer.container
             && opener.marker == closer.marker
             && opener.opens
             && !opener.passed
             && opener.left > 0
             && agree(opener, closer, options)
         {
-            nearest = Some(i);
+            return Some(i);
         }
     }
-    nearest
+    None
 }
 
 // Takes markers of two rows, and passes those of their container that stand between. Answers how many of each.

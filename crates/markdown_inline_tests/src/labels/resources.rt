@@ -4,15 +4,7 @@ use markdown_engine::configuration::{Constructs, ParseOptions};
 use std::test::Fail;
 
 // What stands in a label.
-const LABELS: [(&str, &str); 6] = [
-    (
-        "[a *b* c](#)",
-        "Link 0-12 [Label 0-9 [LabelLink 0-1, LabelText 1-8 [Data 1-3, Emphasis 3-6 [EmphasisSequence 3-4, EmphasisText 4-5 [Data 4-5], EmphasisSequence 5-6], Data 6-8], LabelEnd 8-9], Resource 9-12 [ResourceMarker 9-10, Raw 10-11, ResourceMarker 11-12]]",
-    ),
-    (
-        "![a *b* c](#)",
-        "Image 0-13 [Label 0-10 [LabelImage 0-2 [LabelImageMarker 0-1, LabelMarker 1-2], LabelText 2-9 [Data 2-4, Emphasis 4-7 [EmphasisSequence 4-5, EmphasisText 5-6 [Data 5-6], EmphasisSequence 6-7], Data 7-9], LabelEnd 9-10], Resource 10-13 [ResourceMarker 10-11, Raw 11-12, ResourceMarker 12-13]]",
-    ),
+const LABELS: [(&str, &str); 4] = [
     (
         "[<https://example.com>](#)",
         "Link 0-26 [Label 0-23 [LabelLink 0-1, LabelText 1-22 [Autolink 1-22 [AutolinkMarker 1-2, AutolinkProtocol 2-21, AutolinkMarker 21-22]], LabelEnd 22-23], Resource 23-26 [ResourceMarker 23-24, Raw 24-25, ResourceMarker 25-26]]",
