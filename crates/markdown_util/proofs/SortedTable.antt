@@ -4,16 +4,17 @@ use Rattle.std.specs.Cmp.Lexicographic.{slice_cmp, same_text}
 use Rattle.std.specs.List.{list_all}
 use Rattle.std.specs.List.Sorted.{IsSortedBy, IsBinarySearchResult, IsSearchInRange, IsPartitionPoint}
 use Rattle.std.specs.Ordering.{is_lt, is_eq, nat_cmp, ordering_reverse}
-use Rattle.std.specs.Str.{bytes_eq}
+use Rattle.std.specs.Str.{bytes_eq, byte}
 use Rattle.std.specs.declared.cmp.Ordering.{Ordering}
 use Rattle.std.specs.declared.cmp.Ordering.TheVariants.{Less, Equal, Greater}
 use Rattle.std.specs.Result.{MatchResult}
 use Rattle.std.proofs.lemmas.Bool.{false≢true, cases_lt}
 use Rattle.std.proofs.lemmas.Cmp.{nat_list_cmp_total}
+use Rattle.std.proofs.lemmas.List.Folds.{list_all-append}
 use Rattle.std.proofs.lemmas.List.Sorted.{searchable_from_sorted}
 use Rattle.std.proofs.lemmas.Map.Text.{is_eq-slice_cmp}
 use Rattle.std.proofs.lemmas.Slice.Eq.{bytes_eq-Decides}
-use Rattle.markdown_util.specs.Reference.{Table, rows_of, named_value, has_name, has_distinct_names, is_below, is_below_first, is_sorted}
+use Rattle.markdown_util.specs.Reference.{Table, rows_of, is_value, named_value, has_name, has_distinct_names, is_below, is_below_first, is_sorted}
 use Rattle.markdown_util.specs.TableParts.{IsPart}
 use Rattle.markdown_util.proofs.Semicolon.{and_parts}
 
@@ -103,35 +104,69 @@ named-front (row ∷ low) high name h = go (named-front low high name h) (bytes_
     go later true = refl
     go later false = later
 
-first-front : (low high : Table) (name : List ℕ) → is_below_first name (low ++ high) ≡ true → is_below_first name low ≡ true
-first-front [] high name h = refl
-first-front (row ∷ low) high name h = h
+-- A part in order, its names between two cuts: none below the first, each below the second.
 
-sorted-front : (low high : Table) → is_sorted (low ++ high) ≡ true → is_sorted low ≡ true
-sorted-front [] high s = refl
-sorted-front (row ∷ low) high s =
-    let parts = and_parts (is_below_first row.0 (low ++ high)) (is_sorted (low ++ high)) s in
-    and_true _ _ (first-front low high row.0 parts.0) (sorted-front low high parts.1)
+abbrev pub has_rows : Table → Bool
+has_rows [] = false
+has_rows (row ∷ rows) = true
 
-sorted-back : (low high : Table) → is_sorted (low ++ high) ≡ true → is_sorted high ≡ true
-sorted-back [] high s = s
-sorted-back (row ∷ low) high s = sorted-back low high (and_parts (is_below_first row.0 (low ++ high)) (is_sorted (low ++ high)) s).1
+pub record IsInOrder (part : Table) (from next : List ℕ) : Type 0 where
+  pub sorted : is_sorted part ≡ true
+  pub names : list_all (λ row. is_value (byte "&") row.0) part ≡ true
+  pub filled : has_rows part ≡ true
+  pub first : is_below_first from part ≡ true
+  pub before : list_all (λ row. is_below row.0 next) part ≡ true
 
-pub whole : (table rows : Table) (name : List ℕ) → table ≡ rows → is_sorted table ≡ true → IsPart table rows name
-whole table rows name e s = record { held = ap (λ t. named_value t name) (sym e); sorted = subst (λ (t : Table). is_sorted t ≡ true) e s }
+sorted-join : (cut : List ℕ) (low high : Table) → is_sorted low ≡ true → list_all (λ row. is_below row.0 cut) low ≡ true → is_below_first cut high ≡ true → is_sorted high ≡ true → is_sorted (low ++ high) ≡ true
+sorted-join cut [] high s all first t = t
+sorted-join cut (row ∷ []) high s all first t = and_true _ _ (further row.0 cut high (and_parts (is_below row.0 cut) true all).0 first) t
+sorted-join cut (row ∷ next ∷ low) high s all first t =
+    let parts = and_parts (is_below row.0 next.0) (is_sorted (next ∷ low)) s in
+    let rest = and_parts (is_below row.0 cut) (list_all (λ r. is_below r.0 cut) (next ∷ low)) all in
+    and_true _ _ parts.0 (sorted-join cut (next ∷ low) high parts.1 rest.1 first t)
+
+all-join : (p : List ℕ × List ℕ → Bool) (low high : Table) → list_all p low ≡ true → list_all p high ≡ true → list_all p (low ++ high) ≡ true
+all-join p low high h k = rw (list_all-append p low high, h) k
+
+all-below : (cut next : List ℕ) (rows : Table) → is_below cut next ≡ true → list_all (λ row. is_below row.0 cut) rows ≡ true → list_all (λ row. is_below row.0 next) rows ≡ true
+all-below cut next [] h k = refl
+all-below cut next (row ∷ rows) h k =
+    let parts = and_parts (is_below row.0 cut) (list_all (λ r. is_below r.0 cut) rows) k in
+    and_true _ _ (below-trans row.0 cut next parts.0 h) (all-below cut next rows h parts.1)
+
+filled-join : (low high : Table) → has_rows low ≡ true → has_rows (low ++ high) ≡ true
+filled-join [] high h = absurd (false≢true h)
+filled-join (row ∷ low) high h = refl
+
+first-join : (cut : List ℕ) (low high : Table) → has_rows low ≡ true → is_below_first cut low ≡ true → is_below_first cut (low ++ high) ≡ true
+first-join cut [] high h k = absurd (false≢true h)
+first-join cut (row ∷ low) high h k = k
+
+-- one part, and the next from where it ends
+pub order-join : (from cut next : List ℕ) (low high : Table) → is_below cut next ≡ true → IsInOrder low from cut → IsInOrder high cut next → IsInOrder (low ++ high) from next
+order-join from cut next low high h l r = record {
+  sorted = sorted-join cut low high l.sorted l.before r.first r.sorted;
+  names = all-join _ low high l.names r.names;
+  filled = filled-join low high l.filled;
+  first = first-join from low high l.filled l.first;
+  before = all-join _ low high (all-below cut next low h l.before) r.before;
+}
+
+pub whole : (table rows : Table) (name from next : List ℕ) → IsInOrder table from next → rows ≡ table → IsPart table rows name
+whole table rows name from next order e = record { held = ap (λ t. named_value t name) e; sorted = subst (λ (t : Table). is_sorted t ≡ true) (sym e) order.sorted }
 
 -- a name before a cut stands among the rows before it
-pub part-before : (table low high : Table) (name cut : List ℕ) → is_below_first cut high ≡ true → is_below name cut ≡ true → IsPart table (low ++ high) name → IsPart table low name
-part-before table low high name cut first h part = record {
-  held = named-front low high name (none-above high name (sorted-back low high part.sorted) (further name cut high h first)) ∙ part.held;
-  sorted = sorted-front low high part.sorted;
+pub part-before : (low high rows : Table) (name cut next : List ℕ) → IsInOrder high cut next → is_below name cut ≡ true → IsPart low rows name → IsPart (low ++ high) rows name
+part-before low high rows name cut next order h part = record {
+  held = part.held ∙ named-front low high name (none-above high name order.sorted (further name cut high h order.first));
+  sorted = part.sorted;
 }
 
 -- and any other name among the rest
-pub part-after : (table low high : Table) (name cut : List ℕ) → list_all (λ row. is_below row.0 cut) low ≡ true → is_below name cut ≡ false → IsPart table (low ++ high) name → IsPart table high name
-part-after table low high name cut all h part = record {
-  held = named-back low high name (none-passes (λ x. is_below x cut) low name all h) ∙ part.held;
-  sorted = sorted-back low high part.sorted;
+pub part-after : (low high rows : Table) (name from cut : List ℕ) → IsInOrder low from cut → is_below name cut ≡ false → IsPart high rows name → IsPart (low ++ high) rows name
+part-after low high rows name from cut order h part = record {
+  held = part.held ∙ named-back low high name (none-passes (λ x. is_below x cut) low name order.before h);
+  sorted = part.sorted;
 }
 
 -- A binary search.

@@ -1,9 +1,10 @@
 -- Laws of the definitions.
-use Rattle.std.specs.Prelude.{◌≡◌, ◌≢◌, ℕ, List, [], ◌∷◌, ◌++◌, All, IsTrue, chars}
+use Rattle.std.specs.Prelude.{◌≡◌, ◌≢◌, ℕ, List, [], ◌∷◌, ◌++◌, All, IsTrue, chars, map}
 use Rattle.std.specs.List.{list_all}
 use Rattle.std.specs.Str.{byte}
 use Rattle.markdown_util.specs.Identifier.{separates_words, identifier_of}
-use Rattle.markdown_util.specs.Reference.{Table, parsed}
+use Rattle.markdown_util.specs.Reference.{Table, html_4_rows, html_5_rows, parsed}
+use Rattle.markdown_util.specs.declared.util.constant.TheConstants.{CHARACTER_REFERENCES, CHARACTER_REFERENCES_HTML_4}
 
 -- nothing but TAB, LF, CR and space
 abbrev pub AreSpaces : List ℕ → Type 0
@@ -53,3 +54,8 @@ IdentifierLaw = (xs ys : List ℕ) → DifferInSpaces (chars xs) (chars ys) → 
 -- a text without `&` is parsed to itself, whichever the table
 abbrev pub UnchangedLaw : Type 0
 UnchangedLaw = (table : Table) (text : List ℕ) → All (λ b. b ≢ byte "&") text → parsed table text ≡ text
+
+-- the constants of the crate's surface hold the rows of the tables
+pub record ConstantsHoldRows : Type 0 where
+  pub html_4 : map (λ row. (row.0.now, row.1.now)) CHARACTER_REFERENCES_HTML_4 ≡ html_4_rows
+  pub html_5 : map (λ row. (row.0.now, row.1.now)) CHARACTER_REFERENCES ≡ html_5_rows

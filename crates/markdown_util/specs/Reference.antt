@@ -8,7 +8,7 @@ use Rattle.std.specs.Int.{is_in_range}
 use Rattle.std.specs.List.{list_all, list_any, position_or_len, before_first}
 use Rattle.std.specs.Str.{bytes_eq, byte}
 use Rattle.std.specs.Str.Parse.{IsNumeral, digits_value}
-use Rattle.markdown_util.specs.declared.util.constant.TheConstants.{CHARACTER_REFERENCES, CHARACTER_REFERENCES_HTML_4}
+use Rattle.markdown_util.specs.declared.util.constant.TheConstants.{HTML_5_CAPITALS, HTML_5_A_TO_D, HTML_5_E_TO_L, HTML_5_M_TO_R, HTML_5_S_TO_Z, HTML_4_CAPITALS, HTML_4_A_TO_D, HTML_4_E_TO_L, HTML_4_M_TO_R, HTML_4_S_TO_Z}
 
 -- The three kinds of reference, each named by a byte: `&` for a name, `#` for a decimal number and `x` for a hexadecimal one. The value is what stands before the `;`.
 
@@ -38,11 +38,43 @@ Table = List (List ℕ × List ℕ)
 abbrev pub rows_of : List (Bor (List ℕ) × Bor (List ℕ)) → Table
 rows_of rows = map (λ row. (row.0.now, row.1.now)) rows
 
+-- Each table stands in five parts, by the first letter of the names: what is computed of a part asks for no other.
+
+unfoldable pub html_4_capitals : Table
+html_4_capitals = map (λ row. (row.0.now, row.1.now)) HTML_4_CAPITALS
+
+unfoldable pub html_4_a_to_d : Table
+html_4_a_to_d = map (λ row. (row.0.now, row.1.now)) HTML_4_A_TO_D
+
+unfoldable pub html_4_e_to_l : Table
+html_4_e_to_l = map (λ row. (row.0.now, row.1.now)) HTML_4_E_TO_L
+
+unfoldable pub html_4_m_to_r : Table
+html_4_m_to_r = map (λ row. (row.0.now, row.1.now)) HTML_4_M_TO_R
+
+unfoldable pub html_4_s_to_z : Table
+html_4_s_to_z = map (λ row. (row.0.now, row.1.now)) HTML_4_S_TO_Z
+
+unfoldable pub html_5_capitals : Table
+html_5_capitals = map (λ row. (row.0.now, row.1.now)) HTML_5_CAPITALS
+
+unfoldable pub html_5_a_to_d : Table
+html_5_a_to_d = map (λ row. (row.0.now, row.1.now)) HTML_5_A_TO_D
+
+unfoldable pub html_5_e_to_l : Table
+html_5_e_to_l = map (λ row. (row.0.now, row.1.now)) HTML_5_E_TO_L
+
+unfoldable pub html_5_m_to_r : Table
+html_5_m_to_r = map (λ row. (row.0.now, row.1.now)) HTML_5_M_TO_R
+
+unfoldable pub html_5_s_to_z : Table
+html_5_s_to_z = map (λ row. (row.0.now, row.1.now)) HTML_5_S_TO_Z
+
 unfoldable pub html_4_rows : Table
-html_4_rows = map (λ row. (row.0.now, row.1.now)) CHARACTER_REFERENCES_HTML_4
+html_4_rows = html_4_capitals ++ (html_4_a_to_d ++ (html_4_e_to_l ++ (html_4_m_to_r ++ html_4_s_to_z)))
 
 unfoldable pub html_5_rows : Table
-html_5_rows = map (λ row. (row.0.now, row.1.now)) CHARACTER_REFERENCES
+html_5_rows = html_5_capitals ++ (html_5_a_to_d ++ (html_5_e_to_l ++ (html_5_m_to_r ++ html_5_s_to_z)))
 
 -- the rows of HTML 5, or else those of HTML 4
 abbrev pub rows_for : Bool → Table

@@ -6,8 +6,8 @@ ghost use Rattle.markdown_util.specs.Parts.{IsMarked};
 ghost use Rattle.std.specs.Option.{option_copied};
 ghost use Rattle.std.specs.Str.{byte};
 ghost use Rattle.std.specs.Str.Parse.{digits_value};
-ghost use Rattle.markdown_util.specs.Reference.{named_value, rows_of, rows_for, html_4_rows, html_5_rows, is_sorted, character_of, is_replaced, IsNumber, IsMarker, radix_of, value_size_max, is_value_byte, decoded, reference_text, is_semicolon, parsed};
-ghost use Rattle.markdown_util.specs.TableParts.{IsPart, html_5_capitals, html_5_a_to_d, html_5_e_to_l, html_5_m_to_r, html_5_s_to_z, html_4_capitals, html_4_a_to_d, html_4_e_to_l, html_4_m_to_r, html_4_s_to_z};
+ghost use Rattle.markdown_util.specs.Reference.{html_5_capitals, html_5_a_to_d, html_5_e_to_l, html_5_m_to_r, html_5_s_to_z, html_4_capitals, html_4_a_to_d, html_4_e_to_l, html_4_m_to_r, html_4_s_to_z, named_value, rows_of, rows_for, html_4_rows, html_5_rows, is_sorted, character_of, is_replaced, IsNumber, IsMarker, radix_of, value_size_max, is_value_byte, decoded, reference_text, is_semicolon, parsed};
+ghost use Rattle.markdown_util.specs.TableParts.{IsPart};
 
 use crate::util::constant::{
     CHARACTER_REFERENCE_DECIMAL_SIZE_MAX, CHARACTER_REFERENCE_HEXADECIMAL_SIZE_MAX,
@@ -192,35 +192,35 @@ fn html_5(name: &str) -> &'static [(&'static str, &'static str)]
     }
 }
 
-#[tactic(auto, unfolding(crate::specs::TableParts::html_5_capitals))]
+#[tactic(auto, unfolding(crate::specs::Reference::html_5_capitals))]
 fn html_5_capitals() -> &'static [(&'static str, &'static str)]
     ensures { rows_of result.now ≡ html_5_capitals }
 {
     &HTML_5_CAPITALS
 }
 
-#[tactic(auto, unfolding(crate::specs::TableParts::html_5_a_to_d))]
+#[tactic(auto, unfolding(crate::specs::Reference::html_5_a_to_d))]
 fn html_5_a_to_d() -> &'static [(&'static str, &'static str)]
     ensures { rows_of result.now ≡ html_5_a_to_d }
 {
     &HTML_5_A_TO_D
 }
 
-#[tactic(auto, unfolding(crate::specs::TableParts::html_5_e_to_l))]
+#[tactic(auto, unfolding(crate::specs::Reference::html_5_e_to_l))]
 fn html_5_e_to_l() -> &'static [(&'static str, &'static str)]
     ensures { rows_of result.now ≡ html_5_e_to_l }
 {
     &HTML_5_E_TO_L
 }
 
-#[tactic(auto, unfolding(crate::specs::TableParts::html_5_m_to_r))]
+#[tactic(auto, unfolding(crate::specs::Reference::html_5_m_to_r))]
 fn html_5_m_to_r() -> &'static [(&'static str, &'static str)]
     ensures { rows_of result.now ≡ html_5_m_to_r }
 {
     &HTML_5_M_TO_R
 }
 
-#[tactic(auto, unfolding(crate::specs::TableParts::html_5_s_to_z))]
+#[tactic(auto, unfolding(crate::specs::Reference::html_5_s_to_z))]
 fn html_5_s_to_z() -> &'static [(&'static str, &'static str)]
     ensures { rows_of result.now ≡ html_5_s_to_z }
 {
@@ -244,35 +244,35 @@ fn html_4(name: &str) -> &'static [(&'static str, &'static str)]
     }
 }
 
-#[tactic(auto, unfolding(crate::specs::TableParts::html_4_capitals))]
+#[tactic(auto, unfolding(crate::specs::Reference::html_4_capitals))]
 fn html_4_capitals() -> &'static [(&'static str, &'static str)]
     ensures { rows_of result.now ≡ html_4_capitals }
 {
     &HTML_4_CAPITALS
 }
 
-#[tactic(auto, unfolding(crate::specs::TableParts::html_4_a_to_d))]
+#[tactic(auto, unfolding(crate::specs::Reference::html_4_a_to_d))]
 fn html_4_a_to_d() -> &'static [(&'static str, &'static str)]
     ensures { rows_of result.now ≡ html_4_a_to_d }
 {
     &HTML_4_A_TO_D
 }
 
-#[tactic(auto, unfolding(crate::specs::TableParts::html_4_e_to_l))]
+#[tactic(auto, unfolding(crate::specs::Reference::html_4_e_to_l))]
 fn html_4_e_to_l() -> &'static [(&'static str, &'static str)]
     ensures { rows_of result.now ≡ html_4_e_to_l }
 {
     &HTML_4_E_TO_L
 }
 
-#[tactic(auto, unfolding(crate::specs::TableParts::html_4_m_to_r))]
+#[tactic(auto, unfolding(crate::specs::Reference::html_4_m_to_r))]
 fn html_4_m_to_r() -> &'static [(&'static str, &'static str)]
     ensures { rows_of result.now ≡ html_4_m_to_r }
 {
     &HTML_4_M_TO_R
 }
 
-#[tactic(auto, unfolding(crate::specs::TableParts::html_4_s_to_z))]
+#[tactic(auto, unfolding(crate::specs::Reference::html_4_s_to_z))]
 fn html_4_s_to_z() -> &'static [(&'static str, &'static str)]
     ensures { rows_of result.now ≡ html_4_s_to_z }
 {
