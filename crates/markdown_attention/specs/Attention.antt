@@ -1,5 +1,6 @@
 -- What the states of a run of markers do, and how runs from them end.
 use Rattle.std.specs.Prelude.{◌≡◌, ℕ, Bool, true, false, ◌||◌, ◌==◌, if◌then◌else◌, Option, Some, None, List, [], ◌∷◌}
+use Rattle.std.specs.Str.{byte}
 use Rattle.markdown_engine.specs.Codes.{Code}
 use Rattle.markdown_engine.specs.Ops.{Enter, Consume, IsOpen, ahead, current_of, done, exited, registered, scratched}
 use Rattle.markdown_engine.specs.Past.{Reads, Refuses, TreeReading, passed}
@@ -22,7 +23,7 @@ use Rattle.markdown_engine.specs.declared.tokenizer.Tokenizer.{Tokenizer}
 
 -- the switch of a marker
 abbrev pub begins_run : Constructs → ℕ → Bool
-begins_run on c = if c == 42 || c == 95 then on.attention else (if c == 126 then on.gfm_strikethrough else false)
+begins_run on c = if c == byte "*" || c == byte "_" then on.attention else (if c == byte "~" then on.gfm_strikethrough else false)
 
 abbrev pub switches_of : Tokenizer → Constructs
 switches_of T = T.parse_state.now.options.now.constructs

@@ -1,5 +1,6 @@
 -- The lists of open runs, one for each container and marker, and the marks of refusals.
 use Rattle.std.specs.Prelude.{◌⊎◌, ◌≡◌, ℕ, zero, suc, ◌+◌, ◌-◌, ◌*◌, ◌%◌, ◌<◌, ◌≤◌, Bool, true, false, not, ◌&&◌, ◌==◌, nat_lt, if◌then◌else◌, List, length, slice_index, IsTrue}
+use Rattle.std.specs.Str.{byte}
 use Rattle.markdown_attention.specs.declared.attention.runs.Sequence.{Sequence}
 use Rattle.markdown_attention.specs.declared.attention.pairing.Pair.{Pair}
 use Rattle.markdown_engine.specs.declared.configuration.ParseOptions.{ParseOptions}
@@ -7,7 +8,7 @@ use Rattle.markdown_attention.specs.Pairs.{row_of, run_at, left, is_shut, pairs_
 
 -- which list of its container a marker has
 abbrev pub kind_of : ℕ → ℕ
-kind_of marker = if marker == 42 then 0 else (if marker == 95 then 1 else 2)
+kind_of marker = if marker == byte "*" then 0 else (if marker == byte "_" then 1 else 2)
 
 -- the list of a run
 abbrev pub key_of : Sequence → ℕ
@@ -16,7 +17,7 @@ key_of r = row_of r.text * 3 + kind_of r.marker
 -- what of a closer, of which y markers are left, decides who may open it
 unfoldable pub class_of : ParseOptions → Sequence → ℕ → ℕ
 class_of options b y =
-    if b.marker == 126 then (if y == 1 then 1 else (if y == 2 then 2 else 0))
+    if b.marker == byte "~" then (if y == 1 then 1 else (if y == 2 then 2 else 0))
     else ruled_size options b.size y % 3 + (if b.may_open then 3 else 0)
 
 -- h is one more than the newest open run of list q below n, or 0 if there is none
@@ -71,7 +72,7 @@ Refuses options a x class =
 
 -- the markers of runs: `*`, `_` and `~`
 abbrev pub IsMarker : ℕ → Type 0
-IsMarker marker = (marker ≡ 42) ⊎ ((marker ≡ 95) ⊎ (marker ≡ 126))
+IsMarker marker = (marker ≡ byte "*") ⊎ ((marker ≡ byte "_") ⊎ (marker ≡ byte "~"))
 
 abbrev pub HaveMarkers : List Sequence → Type 0
 HaveMarkers runs = (i : ℕ) → i < length runs → IsMarker (run_at runs i).marker

@@ -1,5 +1,6 @@
 -- The pair list of a container, by the numbers of the runs of all containers.
 use Rattle.std.specs.Prelude.{◌≡◌, ℕ, ◌+◌, ◌-◌, ◌%◌, ◌<◌, ◌≤◌, Bool, false, not, ◌&&◌, ◌||◌, ◌==◌, nat_lt, if◌then◌else◌, List, [], ◌∷◌, ◌++◌, length, slice_index_or, slice_set, sum_by, filter, IsTrue, Option, Some, None}
+use Rattle.std.specs.Str.{byte}
 use Rattle.std.specs.List.{list_any}
 use Rattle.markdown_attention.specs.declared.attention.runs.Sequence.{Sequence}
 use Rattle.markdown_attention.specs.declared.attention.pairing.Pair.{Pair}
@@ -49,7 +50,7 @@ tilde_allows options x y = (x == y) && ((y == 2) || (y == 1) && options.gfm_stri
 -- whether the sizes let two runs pair, of which x and y markers are left
 unfoldable pub sizes_fit : ParseOptions → Sequence → Sequence → ℕ → ℕ → Bool
 sizes_fit options a b x y =
-    if b.marker == 126 then tilde_allows options x y
+    if b.marker == byte "~" then tilde_allows options x y
     else not (three_refuses (a.may_close || b.may_open) (ruled_size options a.size x) (ruled_size options b.size y))
 
 -- two where both have two, else one

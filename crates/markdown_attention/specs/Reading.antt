@@ -1,6 +1,6 @@
 -- Reading the runs off a list of events.
 use Rattle.std.specs.Prelude.{◌≡◌, ℕ, suc, ◌+◌, ◌-◌, ◌<◌, ◌≤◌, Bool, true, false, ◌&&◌, ◌||◌, not, ◌==◌, if◌then◌else◌, List, [], ◌∷◌, ◌++◌, length, slice_index_or, Option, Some, None}
-use Rattle.std.specs.Str.{IsCharBoundary}
+use Rattle.std.specs.Str.{IsCharBoundary, byte}
 use Rattle.markdown_engine.specs.Lists.{rest_of}
 use Rattle.markdown_engine.specs.declared.event.Event.{Event}
 use Rattle.markdown_engine.specs.declared.event.Kind.{Kind}
@@ -38,7 +38,7 @@ opens_text e = is_enter e.kind && is_text e.name
 
 abbrev pub is_beside_marker : Bool → ℕ → Option ℕ → Bool
 is_beside_marker tildes marker None = false
-is_beside_marker tildes marker (Some c) = not (marker == 126) && ((c == 42 || c == 95) || (c == 126 && tildes))
+is_beside_marker tildes marker (Some c) = not (marker == byte "~") && ((c == byte "*" || c == byte "_") || (c == byte "~" && tildes))
 
 -- by the characters before and after it left-flanking, and with these exchanged right-flanking
 abbrev pub is_flanking : Bool → ℕ → Option ℕ → Option ℕ → Bool
@@ -47,7 +47,7 @@ is_flanking tildes marker b a =
 
 -- a run that is flanking on both sides may do as `_` only what the character before it lets it
 abbrev pub may_act : ℕ → Option ℕ → Bool → Bool → Bool
-may_act marker beside here there = here && (not (marker == 95) || (not (is_other (class_of beside)) || not there))
+may_act marker beside here there = here && (not (marker == byte "_") || (not (is_other (class_of beside)) || not there))
 
 -- A container: none for the whole content, or the text of a label, by the number of its Enter event and its number among the texts. These
 -- are counted from 0, in the order in which they begin.

@@ -1,5 +1,6 @@
 // Tests whether pieces of a document are a content, and a text.
 ghost use Rattle.std.specs.Prelude.{◌≡◌, ◌≤◌, ◌^◌, ◌&&◌, ◌||◌, ◌==◌, ◌↔◌, nat_lt, not, false, if◌then◌else◌, length, All, IsTrue, IsCharBoundary};
+ghost use Rattle.std.specs.Str.{byte};
 ghost use Rattle.markdown_engine.specs.Codes.{place_of, is_at_or_after};
 ghost use Rattle.markdown_engine.specs.Content.{document_limit, content_of, has_no_blank_line, is_text_codes, IsContent, IsTextContent, IsBetweenCharacters, are_pieces};
 ghost use Rattle.markdown_engine.specs.Checks.{Reaches, PassesPiece, PassesNext};
@@ -151,7 +152,7 @@ pub fn is_content(bytes: &[u8], pieces: &[Piece]) -> bool
 
 // Whether a line has a code that is not blank once this one is read, if `filled` says so before it.
 fn is_filled_by(filled: bool, code: u8) -> bool
-    ensures { result ≡ (if code == 10 then false else (filled || not (code == 32 || code == 9))) }
+    ensures { result ≡ (if code == byte "\n" then false else (filled || not (code == byte " " || code == byte "\t"))) }
 {
     match code {
         b'\n' => false,

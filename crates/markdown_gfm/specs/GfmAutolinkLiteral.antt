@@ -90,7 +90,7 @@ abbrev pub saw : TokenizeState → TokenizeState
 saw s = record s { seen = true }
 
 abbrev pub underscored : TokenizeState → TokenizeState
-underscored s = record s { marker = 95 }
+underscored s = record s { marker = byte "_" }
 
 abbrev pub dotted : TokenizeState → TokenizeState
 dotted s = record s { marker = 0; marker_b = s.marker }

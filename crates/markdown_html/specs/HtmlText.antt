@@ -424,7 +424,7 @@ pub record QuotedReady (T : Tokenizer) : Type 0 where
 -- at a line ending
 pub record BeforeReady (T : Tokenizer) : Type 0 where
   pub inside : InsideReady T
-  pub ending : current_of T ≡ Some 10
+  pub ending : current_of T ≡ Some (byte "\n")
 
 -- at the start of a later line
 pub record AfterReady (T : Tokenizer) : Type 0 where

@@ -7,6 +7,7 @@
 #![tactic(auto, using(markdown_engine::proofs::OpRules::law_rules), unfolding(markdown_engine::specs::Ops::scratched, markdown_engine::specs::Ops::attempted, markdown_engine::specs::Ops::frame_of))]
 
 ghost use Rattle.std.specs.Prelude.{◌≡◌, ◌<◌, Some, IfOk, OnErr, IsTrue};
+ghost use Rattle.std.specs.Str.{byte};
 ghost use Rattle.markdown_engine.specs.Ops.{HasCode, current_of};
 ghost use Rattle.markdown_engine.specs.declared.event.Name.TheVariants.{HtmlText, HtmlTextData};
 ghost use Rattle.markdown_construct.specs.Scratch.{AreOpen};
@@ -625,7 +626,7 @@ pub fn end(tokenizer: &mut Tokenizer) -> Result<State, AllocError>
 ///       |   id>y
 pub fn line_ending_before(tokenizer: &mut Tokenizer) -> Result<State, AllocError>
     requires open { AreOpen HtmlTextData HtmlText tokenizer.old }
-    requires code { current_of tokenizer.old ≡ Some 10 }
+    requires code { current_of tokenizer.old ≡ Some (byte "\n") }
     ensures ok { IfOk result (λ s. line_ending_before_step tokenizer.old ≡ record { state = s; left = tokenizer.new }) }
     ensures err { OnErr result (IsTrue tokenizer.new.failed) }
 {

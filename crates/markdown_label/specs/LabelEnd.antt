@@ -1,7 +1,7 @@
 -- What the states of the end of a label do, and how runs from them end.
 use Rattle.std.specs.Prelude.{◌≡◌, ◌≢◌, ◌≤◌, ◌<◌, ℕ, ◌+◌, ◌-◌, Bool, true, false, ◌==◌, ◌&&◌, not, is_some, if◌then◌else◌, List, [], ◌∷◌, ◌++◌, length, slice_get, Option, Some, None}
 use Rattle.std.specs.Prelude.{IsUtf8}
-use Rattle.std.specs.Str.{IsCharBoundary}
+use Rattle.std.specs.Str.{IsCharBoundary, byte}
 use Rattle.markdown_engine.specs.Codes.{Code, document_start}
 use Rattle.markdown_engine.specs.Grown.{Fails}
 use Rattle.markdown_engine.specs.Ops.{Op, Enter, Exit, Consume, IsOpen, ahead, attempted, current_of, done, registered_before, scratched}
@@ -97,7 +97,7 @@ is_on T = T.parse_state.now.options.now.constructs.label_end
 
 abbrev pub start_at : Option ℕ → Tokenizer → Stepped
 start_at None T = stepped Nok T
-start_at (Some c) T = if is_on T && (c == 93) then start_by T.tokenize_state.label_starts T else stepped Nok T
+start_at (Some c) T = if is_on T && (c == byte "]") then start_by T.tokenize_state.label_starts T else stepped Nok T
 
 abbrev pub start_step : Tokenizer → Stepped
 start_step T = start_at (current_of T) T
@@ -112,8 +112,8 @@ not_full defined = if defined then LabelEndReferenceNotFull else LabelEndNok
 abbrev pub tail_at : Bool → Option ℕ → Tokenizer → Stepped
 tail_at defined None T = stepped (Retry (by_definition defined)) T
 tail_at defined (Some c) T =
-    if c == 40 then stepped (Retry LabelEndResourceStart) (attempted false (Next LabelEndOk) (Next (by_definition defined)) T)
-    else (if c == 91 then stepped (Retry LabelEndReferenceFull) (attempted false (Next LabelEndOk) (Next (not_full defined)) T)
+    if c == byte "(" then stepped (Retry LabelEndResourceStart) (attempted false (Next LabelEndOk) (Next (by_definition defined)) T)
+    else (if c == byte "[" then stepped (Retry LabelEndReferenceFull) (attempted false (Next LabelEndOk) (Next (not_full defined)) T)
     else stepped (Retry (by_definition defined)) T)
 
 abbrev pub starts_set : List Kept.LabelStart → TokenizeState → TokenizeState
@@ -188,14 +188,14 @@ collapsed_back = Enter N.ReferenceMarker ∷ Consume ∷ Exit N.ReferenceMarker 
 
 abbrev pub collapsed_at : Option ℕ → Tokenizer → Stepped
 collapsed_at None T = stepped Nok T
-collapsed_at (Some c) T = if c == 91 then stepped (Next LabelEndReferenceCollapsedOpen) (done collapsed_front T) else stepped Nok T
+collapsed_at (Some c) T = if c == byte "[" then stepped (Next LabelEndReferenceCollapsedOpen) (done collapsed_front T) else stepped Nok T
 
 abbrev pub reference_collapsed_step : Tokenizer → Stepped
 reference_collapsed_step T = collapsed_at (current_of T) T
 
 abbrev pub collapsed_open_at : Option ℕ → Tokenizer → Stepped
 collapsed_open_at None T = stepped Nok T
-collapsed_open_at (Some c) T = if c == 93 then stepped Ok (done collapsed_back T) else stepped Nok T
+collapsed_open_at (Some c) T = if c == byte "]" then stepped Ok (done collapsed_back T) else stepped Nok T
 
 abbrev pub reference_collapsed_open_step : Tokenizer → Stepped
 reference_collapsed_open_step T = collapsed_open_at (current_of T) T
@@ -305,7 +305,7 @@ outcome_by [] T back cs = None
 outcome_by (l ∷ ls) T back cs = (provided (not (bars l)) >> outcome (setting_in T) l.kind (identifier_of (bytes_between (setting_in T) (place_at T.events l.start.1) (start_of back)))) cs
 
 abbrev pub end_reading : Tokenizer → Reading (List Code × (LabelKind × Forest))
-end_reading T = provided (is_on T) >> (one (is_value 93) >>= λ back. outcome_by T.tokenize_state.label_starts T back >>= λ o. gives (back, o))
+end_reading T = provided (is_on T) >> (one (is_value (byte "]")) >>= λ back. outcome_by T.tokenize_state.label_starts T back >>= λ o. gives (back, o))
 
 -- the fields that a failed end leaves: its start is used up, tried as a link's unless it is barred
 abbrev pub lost_starts : List Kept.LabelStart → List Kept.LabelStart
@@ -319,7 +319,7 @@ lost_by (l ∷ ls) s = loosened (lost_starts (l ∷ ls)) s
 abbrev pub lost_fields : Tokenizer → TokenizeState
 lost_fields T =
     let s : TokenizeState = T.tokenize_state in
-    if is_on T && next_is (is_value 93) (ahead T) then lost_by s.label_starts s else s
+    if is_on T && next_is (is_value (byte "]")) (ahead T) then lost_by s.label_starts s else s
 
 -- the end is made: its own events, and what follows
 unfoldable pub end_made : List Code → LabelKind → Forest → Tokenizer → Tokenizer
@@ -371,7 +371,7 @@ abbrev pub reference_collapsed_ends : Tokenizer → Bool → Tokenizer → Type 
 reference_collapsed_ends T ok U = EndsAs collapsed_reference None T.tokenize_state T ok U
 
 abbrev pub collapsed_open_plan : Plan
-collapsed_open_plan cs = if next_is (is_value 93) cs then Some collapsed_back else None
+collapsed_open_plan cs = if next_is (is_value (byte "]")) cs then Some collapsed_back else None
 
 abbrev pub reference_collapsed_open_ends : Tokenizer → Bool → Tokenizer → Type 0
 reference_collapsed_open_ends T ok U = KeepsAs 1 collapsed_open_plan T ok U

@@ -1,5 +1,6 @@
 -- What the states of the starts of labels do, and how runs from them end.
 use Rattle.std.specs.Prelude.{◌≡◌, ◌≤◌, ℕ, ◌-◌, Bool, true, false, ◌==◌, ◌&&◌, not, if◌then◌else◌, List, [], ◌∷◌, ◌++◌, length, Option, Some, None}
+use Rattle.std.specs.Str.{byte}
 use Rattle.markdown_engine.specs.Codes.{Code}
 use Rattle.markdown_engine.specs.Grown.{Grown}
 use Rattle.markdown_engine.specs.Lists.{rest_of}
@@ -30,7 +31,7 @@ links_on T = T.parse_state.now.options.now.constructs.label_start_link
 
 abbrev pub link_at : Option ℕ → Tokenizer → Stepped
 link_at None T = stepped Nok T
-link_at (Some c) T = if links_on T && (c == 91) then stepped Ok (kept_start LabelKind.Link 4 (done link_ops T)) else stepped Nok T
+link_at (Some c) T = if links_on T && (c == byte "[") then stepped Ok (kept_start LabelKind.Link 4 (done link_ops T)) else stepped Nok T
 
 abbrev pub link_step : Tokenizer → Stepped
 link_step T = link_at (current_of T) T
@@ -48,14 +49,14 @@ footnotes_on T = T.parse_state.now.options.now.constructs.gfm_label_start_footno
 
 abbrev pub footnote_at : Option ℕ → Tokenizer → Stepped
 footnote_at None T = stepped Nok T
-footnote_at (Some c) T = if footnotes_on T && (c == 91) then stepped (Next GfmLabelStartFootnoteOpen) (done footnote_front T) else stepped Nok T
+footnote_at (Some c) T = if footnotes_on T && (c == byte "[") then stepped (Next GfmLabelStartFootnoteOpen) (done footnote_front T) else stepped Nok T
 
 abbrev pub footnote_step : Tokenizer → Stepped
 footnote_step T = footnote_at (current_of T) T
 
 abbrev pub footnote_open_at : Option ℕ → Tokenizer → Stepped
 footnote_open_at None T = stepped Nok T
-footnote_open_at (Some c) T = if c == 94 then stepped Ok (kept_start LabelKind.GfmFootnote 6 (done footnote_back T)) else stepped Nok T
+footnote_open_at (Some c) T = if c == byte "^" then stepped Ok (kept_start LabelKind.GfmFootnote 6 (done footnote_back T)) else stepped Nok T
 
 abbrev pub footnote_open_step : Tokenizer → Stepped
 footnote_open_step T = footnote_open_at (current_of T) T
@@ -73,14 +74,14 @@ images_on T = T.parse_state.now.options.now.constructs.label_start_image
 
 abbrev pub image_at : Option ℕ → Tokenizer → Stepped
 image_at None T = stepped Nok T
-image_at (Some c) T = if images_on T && (c == 33) then stepped (Next LabelStartImageOpen) (done image_front T) else stepped Nok T
+image_at (Some c) T = if images_on T && (c == byte "!") then stepped (Next LabelStartImageOpen) (done image_front T) else stepped Nok T
 
 abbrev pub image_step : Tokenizer → Stepped
 image_step T = image_at (current_of T) T
 
 abbrev pub image_open_at : Option ℕ → Tokenizer → Stepped
 image_open_at None T = stepped Nok T
-image_open_at (Some c) T = if c == 91 then stepped (Next LabelStartImageAfter) (done image_back T) else stepped Nok T
+image_open_at (Some c) T = if c == byte "[" then stepped (Next LabelStartImageAfter) (done image_back T) else stepped Nok T
 
 abbrev pub image_open_step : Tokenizer → Stepped
 image_open_step T = image_open_at (current_of T) T
@@ -88,7 +89,7 @@ image_open_step T = image_open_at (current_of T) T
 -- a caret makes it a footnote's, behind a `!` that is data
 abbrev pub is_caret : Option ℕ → Bool
 is_caret None = false
-is_caret (Some c) = c == 94
+is_caret (Some c) = c == byte "^"
 
 abbrev pub image_after_step : Tokenizer → Stepped
 image_after_step T = if footnotes_on T && is_caret (current_of T) then stepped Nok T else stepped Ok (kept_start LabelKind.Image 6 T)
@@ -126,37 +127,37 @@ begins_as d kind size ops test T true U = Begins kind size ops test T U
 begins_as d kind size ops test T false U = BeginsNot d test T U
 
 abbrev pub link_test : Tokenizer → List Code → Bool
-link_test T cs = links_on T && next_is (is_value 91) cs
+link_test T cs = links_on T && next_is (is_value (byte "[")) cs
 
 abbrev pub link_ends : Tokenizer → Bool → Tokenizer → Type 0
 link_ends T ok U = begins_as 0 LabelKind.Link 4 link_ops (link_test T) T ok U
 
 abbrev pub footnote_open_test : List Code → Bool
-footnote_open_test cs = next_is (is_value 94) cs
+footnote_open_test cs = next_is (is_value (byte "^")) cs
 
 abbrev pub footnote_open_ends : Tokenizer → Bool → Tokenizer → Type 0
 footnote_open_ends T ok U = begins_as 1 LabelKind.GfmFootnote 6 footnote_back footnote_open_test T ok U
 
 abbrev pub footnote_test : Tokenizer → List Code → Bool
-footnote_test T cs = (footnotes_on T && next_is (is_value 91) cs) && footnote_open_test (rest_of cs)
+footnote_test T cs = (footnotes_on T && next_is (is_value (byte "[")) cs) && footnote_open_test (rest_of cs)
 
 abbrev pub footnote_ends : Tokenizer → Bool → Tokenizer → Type 0
 footnote_ends T ok U = begins_as 0 LabelKind.GfmFootnote 6 (footnote_front ++ footnote_back) (footnote_test T) T ok U
 
 abbrev pub image_after_test : Tokenizer → List Code → Bool
-image_after_test T cs = not (footnotes_on T && next_is (is_value 94) cs)
+image_after_test T cs = not (footnotes_on T && next_is (is_value (byte "^")) cs)
 
 abbrev pub image_after_ends : Tokenizer → Bool → Tokenizer → Type 0
 image_after_ends T ok U = begins_as 0 LabelKind.Image 6 [] (image_after_test T) T ok U
 
 abbrev pub image_open_test : Tokenizer → List Code → Bool
-image_open_test T cs = next_is (is_value 91) cs && image_after_test T (rest_of cs)
+image_open_test T cs = next_is (is_value (byte "[")) cs && image_after_test T (rest_of cs)
 
 abbrev pub image_open_ends : Tokenizer → Bool → Tokenizer → Type 0
 image_open_ends T ok U = begins_as 1 LabelKind.Image 6 image_back (image_open_test T) T ok U
 
 abbrev pub image_test : Tokenizer → List Code → Bool
-image_test T cs = (images_on T && next_is (is_value 33) cs) && image_open_test T (rest_of cs)
+image_test T cs = (images_on T && next_is (is_value (byte "!")) cs) && image_open_test T (rest_of cs)
 
 abbrev pub image_ends : Tokenizer → Bool → Tokenizer → Type 0
 image_ends T ok U = begins_as 0 LabelKind.Image 6 (image_front ++ image_back) (image_test T) T ok U

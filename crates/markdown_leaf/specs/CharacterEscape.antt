@@ -17,7 +17,7 @@ use Rattle.markdown_engine.specs.declared.state.StateName.{StateName}
 use Rattle.std.specs.Str.{byte}
 
 abbrev pub is_punctuation : ℕ → Bool
-is_punctuation c = (nat_le 33 c && nat_le c 47) || (nat_le 58 c && nat_le c 64) || (nat_le 91 c && nat_le c 96) || (nat_le 123 c && nat_le c 126)
+is_punctuation c = (nat_le (byte "!") c && nat_le c (byte "/")) || (nat_le (byte ":") c && nat_le c (byte "@")) || (nat_le (byte "[") c && nat_le c (byte "`")) || (nat_le (byte "{") c && nat_le c (byte "~"))
 
 abbrev pub opening : List Op
 opening = Enter N.CharacterEscape ∷ Enter N.CharacterEscapeMarker ∷ Consume ∷ Exit N.CharacterEscapeMarker ∷ []

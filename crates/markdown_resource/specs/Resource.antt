@@ -1,5 +1,6 @@
 -- What the states of a resource do, and how runs from them end.
 use Rattle.std.specs.Prelude.{◌≡◌, ℕ, Bool, true, false, ◌==◌, ◌&&◌, ◌||◌, if◌then◌else◌, List, [], ◌∷◌, ◌++◌, Option, Some, None}
+use Rattle.std.specs.Str.{byte}
 use Rattle.markdown_engine.specs.Codes.{Code}
 use Rattle.markdown_engine.specs.Grown.{Grown}
 use Rattle.markdown_engine.specs.Ops.{Op, Enter, Exit, Consume, IsOpen, ahead, applied, attempted, current_of, done, scratched}
@@ -51,14 +52,14 @@ front_ops = Enter N.ResourceMarker ∷ Consume ∷ Exit N.ResourceMarker ∷ []
 
 abbrev pub start_at : Option ℕ → Tokenizer → Stepped
 start_at None T = stepped Nok T
-start_at (Some c) T = if c == 40 then stepped (Next LabelEndResourceBefore) (done (Enter N.Resource ∷ front_ops) T) else stepped Nok T
+start_at (Some c) T = if c == byte "(" then stepped (Next LabelEndResourceBefore) (done (Enter N.Resource ∷ front_ops) T) else stepped Nok T
 
 abbrev pub start_step : Tokenizer → Stepped
 start_step T = start_at (current_of T) T
 
 abbrev pub at_space : Option ℕ → Bool
 at_space None = false
-at_space (Some v) = v == 9 || (v == 10 || v == 32)
+at_space (Some v) = v == byte "\t" || (v == byte "\n" || v == byte " ")
 
 -- whitespace is tried, and the run goes on with these states
 abbrev pub spaced : StateName → StateName → Tokenizer → Stepped
@@ -69,7 +70,7 @@ before_step T = if at_space (current_of T) then spaced LabelEndResourceOpen Labe
 
 abbrev pub at_close : Option ℕ → Bool
 at_close None = false
-at_close (Some v) = v == 41
+at_close (Some v) = v == byte ")"
 
 abbrev pub open_step : Tokenizer → Stepped
 open_step T =
@@ -88,11 +89,11 @@ missing_step T = stepped Nok (destination_put T)
 
 abbrev pub at_title : Option ℕ → Bool
 at_title None = false
-at_title (Some v) = v == 34 || (v == 39 || (v == 40 || false))
+at_title (Some v) = v == byte "\"" || (v == byte "'" || (v == byte "(" || false))
 
 abbrev pub at_parenthesis : Option ℕ → Bool
 at_parenthesis None = false
-at_parenthesis (Some v) = v == 40
+at_parenthesis (Some v) = v == byte "("
 
 -- a title in parentheses may begin here, and it is known that no resource ends behind one
 abbrev pub is_hopeless : Tokenizer → Bool
@@ -135,7 +136,7 @@ RowEnds reading s T false U = RowRefuses reading s T U
 -- The rest of the row, from each place on.
 
 abbrev pub closes : TreeReading
-closes cs = (one (is_value 41) >>= λ back. gives (leaf N.ResourceMarker back)) cs
+closes cs = (one (is_value (byte ")")) >>= λ back. gives (leaf N.ResourceMarker back)) cs
 
 -- a part and then what follows it, which may also stand without it
 abbrev pub or_without : Option (Forest × List Code) → TreeReading → List Code → Option (Forest × List Code)
@@ -161,7 +162,7 @@ abbrev pub after_destination : TreeReading
 after_destination cs = after_destination_of (spacing None cs) cs
 
 abbrev pub opened : TreeReading
-opened cs = if next_is (is_value 41) cs then closes cs else and_then (destination 32 resource_names cs) after_destination
+opened cs = if next_is (is_value (byte ")")) cs then closes cs else and_then (destination 32 resource_names cs) after_destination
 
 abbrev pub inside : TreeReading
 inside cs = or_without (spacing None cs) opened cs

@@ -152,7 +152,7 @@ start_ends T ok U = EndsAs (title (names_in T.tokenize_state)) None T.tokenize_s
 module _ (marker : ℕ) (names : StringNames) where
   -- the text from here on
   abbrev pub text_from : Bool → List Code → Option (List Code × List Code)
-  text_from slash cs = escaped_from (is_value marker) (is_among (92 ∷ marker ∷ [])) (λ c. false) slash cs
+  text_from slash cs = escaped_from (is_value marker) (is_among (byte "\\" ∷ marker ∷ [])) (λ c. false) slash cs
 
   -- in a stretch; `slash` says that a backslash stands before
   abbrev pub inside_plan : Bool → Plan

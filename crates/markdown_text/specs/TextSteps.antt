@@ -1,5 +1,6 @@
 -- What the states of a text do, and how runs from them end.
 use Rattle.std.specs.Prelude.{◌≡◌, ◌≢◌, ℕ, Bool, true, false, nat_le, ◌==◌, ◌&&◌, ◌||◌, not, if◌then◌else◌, List, [], ◌∷◌, Option, Some, None, length, map, codes, string_bytes}
+use Rattle.std.specs.Str.{byte}
 use Rattle.markdown_engine.specs.Codes.{Code, count_of, stop_of, document_start}
 use Rattle.markdown_engine.specs.NameIndex.{names_in_order}
 use Rattle.markdown_engine.specs.Ops.{attempted, scratched, registered, current_of, ahead}
@@ -60,11 +61,11 @@ first_try = said_at text_tries
 
 -- the codes whose runs close spans
 abbrev pub span_markers : List ℕ
-span_markers = 96 ∷ 36 ∷ []
+span_markers = codes "`$"
 
 -- so many names are defined, and so many labels may end in these codes, that an order of the names pays
 abbrev pub order_pays : List Code → ParseState → Bool
-order_pays cs p = (nat_le 16 (length p.definitions.items) || nat_le 16 (length p.gfm_footnote_definitions.items)) && nat_le 16 (count_of 93 cs)
+order_pays cs p = (nat_le 16 (length p.definitions.items) || nat_le 16 (length p.gfm_footnote_definitions.items)) && nat_le 16 (count_of (byte "]") cs)
 
 -- the names of what is defined, in order, if that pays
 abbrev pub names_for : List Code → ParseState → Option Names
@@ -72,7 +73,7 @@ names_for cs p = if order_pays cs p then Some (names_in_order (map string_bytes 
 
 -- so many titles in parentheses may begin in these codes, behind some of which a resource may end, that to note where each may end pays
 abbrev pub titles_pay : List Code → Bool
-titles_pay cs = not (rules_out (Some (last_begins cs)) ResourceEnd 0) && nat_le 16 (count_of 40 cs)
+titles_pay cs = not (rules_out (Some (last_begins cs)) ResourceEnd 0) && nat_le 16 (count_of (byte "(") cs)
 
 -- where titles in parentheses may end, if that pays
 abbrev pub titles_for : List Code → Option (List Closer)
@@ -172,19 +173,19 @@ pub record BeforeDataReady (T : Tokenizer) : Type 0 where
 -- a `<` is at hand that begins no autolink
 pub record BeforeHtmlReady (T : Tokenizer) : Type 0 where
   pub before : BeforeReady T
-  pub angle : current_of T ≡ Some 60
+  pub angle : current_of T ≡ Some (byte "<")
   pub no_autolink : link_here T (ahead T) ≡ None
 
 -- a backslash is at hand that escapes nothing
 pub record BeforeBreakReady (T : Tokenizer) : Type 0 where
   pub before : BeforeReady T
-  pub slash : current_of T ≡ Some 92
+  pub slash : current_of T ≡ Some (byte "\\")
   pub no_escape : escape_here T (ahead T) ≡ None
 
 -- a `[` is at hand that begins no footnote call
 pub record BeforeLinkReady (T : Tokenizer) : Type 0 where
   pub before : BeforeReady T
-  pub bracket : current_of T ≡ Some 91
+  pub bracket : current_of T ≡ Some (byte "[")
   pub no_footnote : footnote_test T (ahead T) ≡ false
 
 -- How runs end.

@@ -1,5 +1,6 @@
 -- Which starts and ends of labels stand at the codes at hand of a text.
 use Rattle.std.proofs.Common.{◌≡◌, ℕ, ◌==◌, Bool, true, false, not, ◌&&◌, List, [], ◌∷◌, ◌++◌, Option, None, Some, refl, sym, ap, ◌∙◌}
+use Rattle.std.specs.Str.{byte}
 use Rattle.std.proofs.lemmas.Bool.{eqb-true}
 use Rattle.markdown_engine.specs.Codes.{Code}
 use Rattle.markdown_engine.specs.Lists.{rest_of}
@@ -89,48 +90,48 @@ on-none false a cs h = switched-off a false cs refl
 
 -- Starts.
 
-pub footnote-some : (c d : Code) (cs : List Code) → c.value ≡ 91 → d.value ≡ 94 → footnote_start (c ∷ d ∷ cs) ≡ Some (starts LabelKind.GfmFootnote (c ∷ d ∷ []), cs)
+pub footnote-some : (c d : Code) (cs : List Code) → c.value ≡ byte "[" → d.value ≡ byte "^" → footnote_start (c ∷ d ∷ cs) ≡ Some (starts LabelKind.GfmFootnote (c ∷ d ∷ []), cs)
 unfolding footnote_start word gives
-footnote-some c d cs e f = bind-some (word "[^") _ (c ∷ d ∷ cs) (c ∷ d ∷ []) cs _ (pair-some 91 94 c d cs (is-the 91 c e) (is-the 94 d f)) refl
+footnote-some c d cs e f = bind-some (word "[^") _ (c ∷ d ∷ cs) (c ∷ d ∷ []) cs _ (pair-some (byte "[") (byte "^") c d cs (is-the (byte "[") c e) (is-the (byte "^") d f)) refl
 
-pub footnote-none : (cs : List Code) → next_is (is_value 91) cs && next_is (is_value 94) (rest_of cs) ≡ false → footnote_start cs ≡ None
+pub footnote-none : (cs : List Code) → next_is (is_value (byte "[")) cs && next_is (is_value (byte "^")) (rest_of cs) ≡ false → footnote_start cs ≡ None
 unfolding footnote_start word
-footnote-none cs e = bind-none (word "[^") _ cs (pair-none 91 94 cs e)
+footnote-none cs e = bind-none (word "[^") _ cs (pair-none (byte "[") (byte "^") cs e)
 
-pub link-some : (c : Code) (cs : List Code) → c.value ≡ 91 → link_start (c ∷ cs) ≡ Some (starts LabelKind.Link (c ∷ []), cs)
+pub link-some : (c : Code) (cs : List Code) → c.value ≡ byte "[" → link_start (c ∷ cs) ≡ Some (starts LabelKind.Link (c ∷ []), cs)
 unfolding link_start gives
-link-some c cs e = bind-some (one (is_value 91)) _ (c ∷ cs) (c ∷ []) cs _ (one-here (is_value 91) c cs (is-the 91 c e)) refl
+link-some c cs e = bind-some (one (is_value (byte "["))) _ (c ∷ cs) (c ∷ []) cs _ (one-here (is_value (byte "[")) c cs (is-the (byte "[") c e)) refl
 
-pub link-none : (cs : List Code) → next_is (is_value 91) cs ≡ false → link_start cs ≡ None
+pub link-none : (cs : List Code) → next_is (is_value (byte "[")) cs ≡ false → link_start cs ≡ None
 unfolding link_start
-link-none cs e = bind-none (one (is_value 91)) _ cs (one-not (is_value 91) cs e)
+link-none cs e = bind-none (one (is_value (byte "["))) _ cs (one-not (is_value (byte "[")) cs e)
 
-pub image-some : (footnotes : Bool) (c d : Code) (cs : List Code) → c.value ≡ 33 → d.value ≡ 91 → not (footnotes && next_is (is_value 94) cs) ≡ true → image_start footnotes (c ∷ d ∷ cs) ≡ Some (starts LabelKind.Image (c ∷ d ∷ []), cs)
+pub image-some : (footnotes : Bool) (c d : Code) (cs : List Code) → c.value ≡ byte "!" → d.value ≡ byte "[" → not (footnotes && next_is (is_value (byte "^")) cs) ≡ true → image_start footnotes (c ∷ d ∷ cs) ≡ Some (starts LabelKind.Image (c ∷ d ∷ []), cs)
 unfolding image_start word gives
 image-some footnotes c d cs e f h =
-    bind-some (before (word "![") (λ xs. not (footnotes && next_is (is_value 94) xs))) _ (c ∷ d ∷ cs) (c ∷ d ∷ []) cs _
-    (before-some (word "![") (λ xs. not (footnotes && next_is (is_value 94) xs)) (c ∷ d ∷ cs) (c ∷ d ∷ []) cs (pair-some 33 91 c d cs (is-the 33 c e) (is-the 91 d f)) h) refl
+    bind-some (before (word "![") (λ xs. not (footnotes && next_is (is_value (byte "^")) xs))) _ (c ∷ d ∷ cs) (c ∷ d ∷ []) cs _
+    (before-some (word "![") (λ xs. not (footnotes && next_is (is_value (byte "^")) xs)) (c ∷ d ∷ cs) (c ∷ d ∷ []) cs (pair-some (byte "!") (byte "[") c d cs (is-the (byte "!") c e) (is-the (byte "[") d f)) h) refl
 
 -- where one of the tests fails
-pub image-none : (footnotes : Bool) (cs : List Code) → next_is (is_value 33) cs && (next_is (is_value 91) (rest_of cs) && not (footnotes && next_is (is_value 94) (rest_of (rest_of cs)))) ≡ false → image_start footnotes cs ≡ None
+pub image-none : (footnotes : Bool) (cs : List Code) → next_is (is_value (byte "!")) cs && (next_is (is_value (byte "[")) (rest_of cs) && not (footnotes && next_is (is_value (byte "^")) (rest_of (rest_of cs)))) ≡ false → image_start footnotes cs ≡ None
 unfolding image_start word
-image-none footnotes cs e = bind-none (before (word "![") (λ xs. not (footnotes && next_is (is_value 94) xs))) _ cs (by_first (next_is (is_value 33) cs && next_is (is_value 91) (rest_of cs)) refl)
+image-none footnotes cs e = bind-none (before (word "![") (λ xs. not (footnotes && next_is (is_value (byte "^")) xs))) _ cs (by_first (next_is (is_value (byte "!")) cs && next_is (is_value (byte "[")) (rest_of cs)) refl)
   where
     and-apart : (a b c : Bool) → a && b ≡ true → a && (b && c) ≡ false → c ≡ false
     and-apart true true c h k = k
     and-apart true false c h k = cc
     and-apart false b c h k = cc
 
-    there : (f : First 33 cs) (g : First 91 (rest_of cs)) → word "![" cs ≡ Some (f.code ∷ g.code ∷ [], rest_of (rest_of cs))
+    there : (f : First (byte "!") cs) (g : First (byte "[") (rest_of cs)) → word "![" cs ≡ Some (f.code ∷ g.code ∷ [], rest_of (rest_of cs))
     there f g =
-        ap (word "![") (f.whole ∙ ap (λ xs. f.code ∷ xs) g.whole) ∙ pair-some 33 91 f.code g.code (rest_of (rest_of cs)) (is-the 33 f.code f.value) (is-the 91 g.code g.value)
+        ap (word "![") (f.whole ∙ ap (λ xs. f.code ∷ xs) g.whole) ∙ pair-some (byte "!") (byte "[") f.code g.code (rest_of (rest_of cs)) (is-the (byte "!") f.code f.value) (is-the (byte "[") g.code g.value)
 
-    by_first : (b : Bool) → next_is (is_value 33) cs && next_is (is_value 91) (rest_of cs) ≡ b → before (word "![") (λ xs. not (footnotes && next_is (is_value 94) xs)) cs ≡ None
+    by_first : (b : Bool) → next_is (is_value (byte "!")) cs && next_is (is_value (byte "[")) (rest_of cs) ≡ b → before (word "![") (λ xs. not (footnotes && next_is (is_value (byte "^")) xs)) cs ≡ None
     by_first true h =
-        before-other (word "![") (λ xs. not (footnotes && next_is (is_value 94) xs)) cs _ (rest_of (rest_of cs))
-        (there (first-is 33 cs (and-left _ _ h)) (first-is 91 (rest_of cs) (and-right _ _ h)))
-        (and-apart (next_is (is_value 33) cs) (next_is (is_value 91) (rest_of cs)) _ h e)
-    by_first false h = before-none (word "![") _ cs (pair-none 33 91 cs h)
+        before-other (word "![") (λ xs. not (footnotes && next_is (is_value (byte "^")) xs)) cs _ (rest_of (rest_of cs))
+        (there (first-is (byte "!") cs (and-left _ _ h)) (first-is (byte "[") (rest_of cs) (and-right _ _ h)))
+        (and-apart (next_is (is_value (byte "!")) cs) (next_is (is_value (byte "[")) (rest_of cs)) _ h e)
+    by_first false h = before-none (word "![") _ cs (pair-none (byte "!") (byte "[") cs h)
 
 -- Past the start of a label.
 
@@ -147,10 +148,10 @@ two-whole v w cs f g = f.whole ∙ ap (λ xs. f.code ∷ xs) g.whole
 
 pub image-advances : (T U : Tokenizer) → image_ends T true U → Advances (text_choice_of T) T U
 image-advances T U k =
-    let f : First 33 (ahead T) = first-is 33 (ahead T) (and-right _ _ (and-left _ _ k.holds)) in
-    let g : First 91 (rest_of (ahead T)) = first-is 91 (rest_of (ahead T)) (and-left _ _ (and-right _ _ k.holds)) in
+    let f : First (byte "!") (ahead T) = first-is (byte "!") (ahead T) (and-right _ _ (and-left _ _ k.holds)) in
+    let g : First (byte "[") (rest_of (ahead T)) = first-is (byte "[") (rest_of (ahead T)) (and-left _ _ (and-right _ _ k.holds)) in
     let rest : List Code = rest_of (rest_of (ahead T)) in
-    let whole : ahead T ≡ f.code ∷ g.code ∷ rest = two-whole 33 91 (ahead T) f g in
+    let whole : ahead T ≡ f.code ∷ g.code ∷ rest = two-whole (byte "!") (byte "[") (ahead T) f g in
     started LabelKind.Image (f.code ∷ g.code ∷ []) rest T U (image-past f.code g.code rest T U whole f.value g.value k)
     (λ earlier previous stands.
     ap (text_choice_of T earlier previous) whole
@@ -158,11 +159,11 @@ image-advances T U k =
     (on-some T.parse_state.now.options.now.constructs.label_start_image _ (f.code ∷ g.code ∷ rest) _ (and-left _ _ (and-left _ _ k.holds))
     (image-some (footnotes_on T) f.code g.code rest f.value g.value (and-right _ _ (and-right _ _ k.holds)))))
 
-pub image-alone : (T : Tokenizer) → current_of T ≡ Some 33 → image_test T (ahead T) ≡ false → StandsAlone T
+pub image-alone : (T : Tokenizer) → current_of T ≡ Some (byte "!") → image_test T (ahead T) ≡ false → StandsAlone T
 image-alone T e refused earlier previous c cs stands w =
-    no-image-element (text_setting T) (end_in T) earlier previous c cs (value-here T 33 c cs e w)
+    no-image-element (text_setting T) (end_in T) earlier previous c cs (value-here T (byte "!") c cs e w)
     (on-none T.parse_state.now.options.now.constructs.label_start_image _ (c ∷ cs) (λ on.
-    image-none (footnotes_on T) (c ∷ cs) (ap (λ xs. next_is (is_value 33) xs && (next_is (is_value 91) (rest_of xs) && not (footnotes_on T && next_is (is_value 94) (rest_of (rest_of xs))))) (sym w) ∙ tests T.parse_state.now.options.now.constructs.label_start_image _ _ on refused)))
+    image-none (footnotes_on T) (c ∷ cs) (ap (λ xs. next_is (is_value (byte "!")) xs && (next_is (is_value (byte "[")) (rest_of xs) && not (footnotes_on T && next_is (is_value (byte "^")) (rest_of (rest_of xs))))) (sym w) ∙ tests T.parse_state.now.options.now.constructs.label_start_image _ _ on refused)))
   where
     tests : (a b c : Bool) → a ≡ true → (a && b) && c ≡ false → b && c ≡ false
     tests true b c h k = k
@@ -170,10 +171,10 @@ image-alone T e refused earlier previous c cs stands w =
 
 pub footnote-advances : (T U : Tokenizer) → check_here T (ahead T) ≡ None → footnote_ends T true U → Advances (text_choice_of T) T U
 footnote-advances T U none k =
-    let f : First 91 (ahead T) = first-is 91 (ahead T) (and-right _ _ (and-left _ _ k.holds)) in
-    let g : First 94 (rest_of (ahead T)) = first-is 94 (rest_of (ahead T)) (and-right _ _ k.holds) in
+    let f : First (byte "[") (ahead T) = first-is (byte "[") (ahead T) (and-right _ _ (and-left _ _ k.holds)) in
+    let g : First (byte "^") (rest_of (ahead T)) = first-is (byte "^") (rest_of (ahead T)) (and-right _ _ k.holds) in
     let rest : List Code = rest_of (rest_of (ahead T)) in
-    let whole : ahead T ≡ f.code ∷ g.code ∷ rest = two-whole 91 94 (ahead T) f g in
+    let whole : ahead T ≡ f.code ∷ g.code ∷ rest = two-whole (byte "[") (byte "^") (ahead T) f g in
     let found : Element × List Code = (starts LabelKind.GfmFootnote (f.code ∷ g.code ∷ []), rest) in
     started LabelKind.GfmFootnote (f.code ∷ g.code ∷ []) rest T U (footnote-past f.code g.code rest T U whole f.value g.value k)
     (λ earlier previous stands.
@@ -184,7 +185,7 @@ footnote-advances T U none k =
 -- no footnote call begins here
 no-footnote : (T : Tokenizer) (cs : List Code) → ahead T ≡ cs → footnote_test T (ahead T) ≡ false → switched (footnotes_on T) footnote_start cs ≡ None
 no-footnote T cs w refused =
-    on-none (footnotes_on T) footnote_start cs (λ on. footnote-none cs (ap (λ xs. next_is (is_value 91) xs && next_is (is_value 94) (rest_of xs)) (sym w) ∙ tests (footnotes_on T) _ _ on refused))
+    on-none (footnotes_on T) footnote_start cs (λ on. footnote-none cs (ap (λ xs. next_is (is_value (byte "[")) xs && next_is (is_value (byte "^")) (rest_of xs)) (sym w) ∙ tests (footnotes_on T) _ _ on refused))
   where
     tests : (a b c : Bool) → a ≡ true → (a && b) && c ≡ false → b && c ≡ false
     tests true b c h k = k
@@ -192,7 +193,7 @@ no-footnote T cs w refused =
 
 pub link-advances : (T U : Tokenizer) → check_here T (ahead T) ≡ None → footnote_test T (ahead T) ≡ false → link_ends T true U → Advances (text_choice_of T) T U
 link-advances T U none refused k =
-    let f : First 91 (ahead T) = first-is 91 (ahead T) (and-right _ _ k.holds) in
+    let f : First (byte "[") (ahead T) = first-is (byte "[") (ahead T) (and-right _ _ k.holds) in
     let rest : List Code = rest_of (ahead T) in
     let found : Element × List Code = (starts LabelKind.Link (f.code ∷ []), rest) in
     started LabelKind.Link (f.code ∷ []) rest T U (link-past f.code rest T U f.whole f.value k)
@@ -201,11 +202,11 @@ link-advances T U none refused k =
     ∙ bracket-element (text_setting T) (end_in T) earlier previous f.code rest found (first-none T earlier previous f.code rest none stands f.whole) f.value
     (either-second _ _ (f.code ∷ rest) (no-footnote T (f.code ∷ rest) f.whole refused) ∙ on-some T.parse_state.now.options.now.constructs.label_start_link link_start (f.code ∷ rest) found (and-left _ _ k.holds) (link-some f.code rest f.value)))
 
-pub bracket-alone : (T : Tokenizer) → check_here T (ahead T) ≡ None → current_of T ≡ Some 91 → footnote_test T (ahead T) ≡ false → link_test T (ahead T) ≡ false → StandsAlone T
+pub bracket-alone : (T : Tokenizer) → check_here T (ahead T) ≡ None → current_of T ≡ Some (byte "[") → footnote_test T (ahead T) ≡ false → link_test T (ahead T) ≡ false → StandsAlone T
 bracket-alone T none e no_footnote refused earlier previous c cs stands w =
-    no-bracket-element (text_setting T) (end_in T) earlier previous c cs (first-none T earlier previous c cs none stands w) (value-here T 91 c cs e w)
+    no-bracket-element (text_setting T) (end_in T) earlier previous c cs (first-none T earlier previous c cs none stands w) (value-here T (byte "[") c cs e w)
     (either-second _ _ (c ∷ cs) (no-footnote T (c ∷ cs) w no_footnote)
-    ∙ on-none T.parse_state.now.options.now.constructs.label_start_link link_start (c ∷ cs) (λ on. link-none (c ∷ cs) (ap (next_is (is_value 91)) (sym w) ∙ right-of _ _ on refused)))
+    ∙ on-none T.parse_state.now.options.now.constructs.label_start_link link_start (c ∷ cs) (λ on. link-none (c ∷ cs) (ap (next_is (is_value (byte "["))) (sym w) ∙ right-of _ _ on refused)))
   where
     right-of : (a b : Bool) → a ≡ true → a && b ≡ false → b ≡ false
     right-of true b h k = k
@@ -239,15 +240,15 @@ same-made : (ls : List Kept.LabelStart) (T : Tokenizer) (back cs : List Code) �
 same-made [] T back cs = refl
 same-made (l ∷ ls) T back cs = refl
 
-module _ (T : Tokenizer) (here : current_of T ≡ Some 93) (on : is_on T ≡ true) where
-  abbrev B : Begins 93 (ahead T)
-  B = ahead-some T 93 here
+module _ (T : Tokenizer) (here : current_of T ≡ Some (byte "]")) (on : is_on T ≡ true) where
+  abbrev B : Begins (byte "]") (ahead T)
+  B = ahead-some T (byte "]") here
 
   abbrev behind : List Code
   behind = rest_of (ahead T)
 
-  closes : is_value 93 B.code ≡ true
-  closes = is-the 93 B.code B.value
+  closes : is_value (byte "]") B.code ≡ true
+  closes = is-the (byte "]") B.code B.value
 
   -- what the end makes, by the last start that is kept
   reads : end_reading T (ahead T) ≡ elim (outcome_by T.tokenize_state.label_starts T (B.code ∷ []) behind) as (λ _. Option ((List Code × (LabelKind × Forest)) × List Code)) [ None ↦ None | Some r ↦ Some ((B.code ∷ [], r.0), r.1) ]
@@ -267,7 +268,7 @@ module _ (T : Tokenizer) (here : current_of T ≡ Some 93) (on : is_on T ≡ tru
   -- where it makes none, its `]` is the first code of the data behind it
   pub failed-advances : (V : Tokenizer) → end_reading T (ahead T) ≡ None → (let F : Tokenizer = past_mark loses T in Reads (data_up_to text_markers) None F.tokenize_state F V) → Advances (text_choice_of T) T V
   failed-advances V none k =
-      lost-advances (text_choice_of T) text_markers T V B.code behind B.whole (ap (λ v. v == 10) B.value) k
+      lost-advances (text_choice_of T) text_markers T V B.code behind B.whole (ap (λ v. v == byte "\n") B.value) k
       (λ earlier previous stands.
       end-element (text_setting T) (end_in T) earlier previous B.code behind (ends (B.code ∷ []) None, behind) B.value on
       (same-end T earlier (B.code ∷ behind)
@@ -276,5 +277,5 @@ module _ (T : Tokenizer) (here : current_of T ≡ Some 93) (on : is_on T ≡ tru
       (other-data T)
 
 -- where ends are off
-pub end-alone : (T : Tokenizer) → current_of T ≡ Some 93 → is_on T ≡ false → StandsAlone T
-end-alone T e off earlier previous c cs stands w = no-end-element (text_setting T) (end_in T) earlier previous c cs (value-here T 93 c cs e w) off
+pub end-alone : (T : Tokenizer) → current_of T ≡ Some (byte "]") → is_on T ≡ false → StandsAlone T
+end-alone T e off earlier previous c cs stands w = no-end-element (text_setting T) (end_in T) earlier previous c cs (value-here T (byte "]") c cs e w) off

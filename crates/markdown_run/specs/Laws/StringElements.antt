@@ -1,5 +1,6 @@
 -- Which element of a string stands where.
 use Rattle.std.proofs.Common.{◌≡◌, Bool, true, false, ◌&&◌, ◌||◌, List, ◌∷◌, Option, None, Some, refl, ap, ◌∙◌}
+use Rattle.std.specs.Str.{byte}
 use Rattle.markdown_engine.specs.Codes.{Code, is_line_ending}
 use Rattle.markdown_engine.specs.Tree.{Forest}
 use Rattle.markdown_engine.specs.declared.parser.ParseState.{ParseState}
@@ -65,17 +66,17 @@ single-element s c cs none e =
     ∙ code-element c cs
 
 -- no escape begins at another code than the backslash
-pub no-backslash : (on : Bool) (c : Code) (cs : List Code) → is_value 92 c ≡ false → (provided on >> escape) (c ∷ cs) ≡ None
+pub no-backslash : (on : Bool) (c : Code) (cs : List Code) → is_value (byte "\\") c ≡ false → (provided on >> escape) (c ∷ cs) ≡ None
 unfolding escape
 no-backslash false c cs e = switched-off escape false (c ∷ cs) refl
-no-backslash true c cs e = switched-on escape true (c ∷ cs) refl ∙ bind-none (one (is_value 92)) _ (c ∷ cs) (one-other (is_value 92) c cs e)
+no-backslash true c cs e = switched-on escape true (c ∷ cs) refl ∙ bind-none (one (is_value (byte "\\"))) _ (c ∷ cs) (one-other (is_value (byte "\\")) c cs e)
 
 unread : (o : Option (Forest × List Code)) → tree_ops o ≡ None → o ≡ None
 unread None e = refl
 unread (Some r) e = cc
 
 -- no reference begins at another code than `&`
-pub no-ampersand : (on : Bool) (c : Code) (cs : List Code) → is_value 38 c ≡ false → (provided on >> reference html_5_rows) (c ∷ cs) ≡ None
+pub no-ampersand : (on : Bool) (c : Code) (cs : List Code) → is_value (byte "&") c ≡ false → (provided on >> reference html_5_rows) (c ∷ cs) ≡ None
 no-ampersand on c cs e = unread ((provided on >> reference html_5_rows) (c ∷ cs)) (no-reference on (c ∷ cs) (ap (λ b. on && b) e ∙ and-false on))
 
 neither : (a b : Bool) → (a || (b || false)) ≡ false → (a ≡ false) × (b ≡ false)
@@ -86,5 +87,5 @@ neither false false e = (refl, refl)
 -- a code at which data does not stop
 pub unmarked-element : (p : ParseState) (c : Code) (cs : List Code) → is_among string_markers c ≡ false → string_element (setting_of p) (c ∷ cs) ≡ Some (plain (code_leaf c), cs)
 unmarked-element p c cs e =
-    let k = neither (is_value 38 c) (is_value 92 c) e in
+    let k = neither (is_value (byte "&") c) (is_value (byte "\\") c) e in
     single-element (setting_of p) c cs (no-backslash p.options.now.constructs.character_escape c cs k.1) (no-ampersand p.options.now.constructs.character_reference c cs k.0)

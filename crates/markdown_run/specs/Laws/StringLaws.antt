@@ -1,5 +1,6 @@
 -- The laws of the states of a string.
 use Rattle.std.proofs.Common.{◌≡◌, ◌≢◌, ℕ, ◌*◌, ◌<◌, ◌==◌, Bool, true, false, Option, Some, None, [], refl, ap, ◌∙◌, arith}
+use Rattle.std.specs.Str.{byte}
 use Rattle.std.specs.List.{list_any}
 use Rattle.markdown_engine.specs.Lists.{rest_of}
 use Rattle.markdown_engine.specs.Ops.{ahead, current_of, registered, scratched}
@@ -41,15 +42,15 @@ at-end T e false U k = cc
 some-none : (o : Option ℕ) (v : ℕ) → o ≡ Some v → o ≢ None
 some-none o v e = λ h. cc
 
-no-escape : (T : Tokenizer) (v : ℕ) → current_of T ≡ Some v → v == 92 ≡ false → escape_here T (ahead T) ≡ None
+no-escape : (T : Tokenizer) (v : ℕ) → current_of T ≡ Some v → v == byte "\\" ≡ false → escape_here T (ahead T) ≡ None
 no-escape T v e h =
     let b : Begins v (ahead T) = ahead-some T v e in
-    ap (escape_here T) b.whole ∙ no-backslash (is_on T).character_escape b.code (rest_of (ahead T)) (ap (λ x. x == 92) b.value ∙ h)
+    ap (escape_here T) b.whole ∙ no-backslash (is_on T).character_escape b.code (rest_of (ahead T)) (ap (λ x. x == byte "\\") b.value ∙ h)
 
-no-reference : (T : Tokenizer) (v : ℕ) → current_of T ≡ Some v → v == 38 ≡ false → reference_here T (ahead T) ≡ None
+no-reference : (T : Tokenizer) (v : ℕ) → current_of T ≡ Some v → v == byte "&" ≡ false → reference_here T (ahead T) ≡ None
 no-reference T v e h =
     let b : Begins v (ahead T) = ahead-some T v e in
-    ap (reference_here T) b.whole ∙ no-ampersand (is_on T).character_reference b.code (rest_of (ahead T)) (ap (λ x. x == 38) b.value ∙ h)
+    ap (reference_here T) b.whole ∙ no-ampersand (is_on T).character_reference b.code (rest_of (ahead T)) (ap (λ x. x == byte "&") b.value ∙ h)
 
 passed-attempts : (T : Tokenizer) → T.attempts ≡ [] → (string_passed T).attempts ≡ []
 passed-attempts T alone = attempts-registered P.String (registered P.Data T) ∙ attempts-registered P.Data T ∙ alone
@@ -64,24 +65,24 @@ module _ (T : Tokenizer) (alone : T.attempts ≡ []) (marked : BeforeReady T) wh
       (record { before = marked; some_code = some-none (current_of T) v e; no_escape = none; no_reference = plain_code })
       (omega arith) (λ ok V h. h)
 
-  tries-escape : current_of T ≡ Some 92 → Before (tries_at (Some CharacterEscapeStart) T)
+  tries-escape : current_of T ≡ Some (byte "\\") → Before (tries_at (Some CharacterEscapeStart) T)
   tries-escape e =
       Goes-attempt inline (weight_at 6 T) (before_ends T) (Retry CharacterEscapeStart) {w = E.start_words} refl (Next StringBefore) (Next StringBeforeData) T alone tt (omega arith)
       (λ U now k. on-before (weight_at 6 T) T U (omega arith) marked (escape-past T U k))
       (λ U now k. let r : E.start_ends T false U = k in
-      rw (restored-fails false (Next StringBefore) (Next StringBeforeData) T.tokenize_state T U r.fails, scratched-same T) (to-data 92 e r.refused (no-reference T 92 e refl)))
+      rw (restored-fails false (Next StringBefore) (Next StringBeforeData) T.tokenize_state T U r.fails, scratched-same T) (to-data (byte "\\") e r.refused (no-reference T (byte "\\") e refl)))
 
-  tries-reference : current_of T ≡ Some 38 → Before (tries_at (Some CharacterReferenceStart) T)
+  tries-reference : current_of T ≡ Some (byte "&") → Before (tries_at (Some CharacterReferenceStart) T)
   tries-reference e =
       Goes-attempt inline (weight_at 6 T) (before_ends T) (Retry CharacterReferenceStart) {w = R.start_words} refl (Next StringBefore) (Next StringBeforeData) T alone marked.rest (omega arith)
-      (λ U now k. on-before (weight_at 6 T) T U (omega arith) marked (reference-past T U (no-escape T 38 e refl) k))
+      (λ U now k. on-before (weight_at 6 T) T U (omega arith) marked (reference-past T U (no-escape T (byte "&") e refl) k))
       (λ U now k. let r : R.start_ends T false U = k in
-      rw (restored-fails false (Next StringBefore) (Next StringBeforeData) T.tokenize_state T U r.fails, scratched-same T) (to-data 38 e (no-escape T 38 e refl) r.refused))
+      rw (restored-fails false (Next StringBefore) (Next StringBeforeData) T.tokenize_state T U r.fails, scratched-same T) (to-data (byte "&") e (no-escape T (byte "&") e refl) r.refused))
 
   tries-none : (v : ℕ) → current_of T ≡ Some v → list_any (λ n. v == n) string_markers ≡ false → Before (tries_at None T)
   tries-none v e h =
       Goes-plain inline (weight_at 6 T) (before_ends T) (Retry StringBeforeData) {w = before_data_words} refl T alone
-      (record { before = marked; some_code = some-none (current_of T) v e; no_escape = no-escape T v e (none-of string_markers v 92 h refl); no_reference = no-reference T v e (none-of string_markers v 38 h refl) })
+      (record { before = marked; some_code = some-none (current_of T) v e; no_escape = no-escape T v e (none-of string_markers v (byte "\\") h refl); no_reference = no-reference T v e (none-of string_markers v (byte "&") h refl) })
       (omega arith) (λ ok V k. k)
 
   tries : (v : ℕ) → current_of T ≡ Some v → Before (tries_at (said_at string_tries v) T)

@@ -1,6 +1,7 @@
 -- Which element of a text stands at the codes at hand.
 use Rattle.std.proofs.Common.{◌≡◌, ℕ, Bool, true, false, not, ◌&&◌, ◌||◌, ◌==◌, List, [], ◌∷◌, Option, None, Some, refl, sym, ap, ◌∙◌, inl, inr}
 use Rattle.std.specs.Prelude.{codes, is_none, nat_lt}
+use Rattle.std.specs.Str.{byte}
 use Rattle.std.specs.List.{list_any}
 use Rattle.std.proofs.lemmas.Bool.{or_parts, or_from, or_cases, eqb-true}
 use Rattle.markdown_engine.specs.Codes.{Code, is_line_ending}
@@ -91,31 +92,31 @@ is_marker v = list_any (λ n. v == n) run_markers
 
 abbrev spans_by : ParseOptions → Bool → Option Code → Reading Forest
 spans_by p escaped previous =
-    either (provided p.constructs.code_text >> span_here 96 code_names (λ n. true) escaped previous)
-    (provided p.constructs.math_text >> span_here 36 math_names (λ n. p.math_text_single_dollar || nat_lt 1 n) escaped previous)
+    either (provided p.constructs.code_text >> span_here (byte "`") code_names (λ n. true) escaped previous)
+    (provided p.constructs.math_text >> span_here (byte "$") math_names (λ n. p.math_text_single_dollar || nat_lt 1 n) escaped previous)
 
 -- one of them begins at its marker only
-only-code : (p : ParseOptions) (escaped : Bool) (previous : Option Code) (c : Code) (cs : List Code) → c.value ≡ 96
-    → spans_by p escaped previous (c ∷ cs) ≡ (provided p.constructs.code_text >> span_here 96 code_names (λ n. true) escaped previous) (c ∷ cs)
+only-code : (p : ParseOptions) (escaped : Bool) (previous : Option Code) (c : Code) (cs : List Code) → c.value ≡ byte "`"
+    → spans_by p escaped previous (c ∷ cs) ≡ (provided p.constructs.code_text >> span_here (byte "`") code_names (λ n. true) escaped previous) (c ∷ cs)
 only-code p escaped previous c cs e =
-    either-first _ (provided p.constructs.math_text >> span_here 36 math_names (λ n. p.math_text_single_dollar || nat_lt 1 n) escaped previous) (c ∷ cs)
-    (here-off p.math_text_single_dollar 36 math_names (λ n. p.math_text_single_dollar || nat_lt 1 n) p.constructs.math_text escaped previous (c ∷ cs)
-    (ap (λ v. (v == 36) && (p.constructs.math_text && (escaped || not (is_some_code (is_value 36) previous)))) e))
+    either-first _ (provided p.constructs.math_text >> span_here (byte "$") math_names (λ n. p.math_text_single_dollar || nat_lt 1 n) escaped previous) (c ∷ cs)
+    (here-off p.math_text_single_dollar (byte "$") math_names (λ n. p.math_text_single_dollar || nat_lt 1 n) p.constructs.math_text escaped previous (c ∷ cs)
+    (ap (λ v. (v == byte "$") && (p.constructs.math_text && (escaped || not (is_some_code (is_value (byte "$")) previous)))) e))
 
-only-math : (p : ParseOptions) (escaped : Bool) (previous : Option Code) (c : Code) (cs : List Code) → c.value ≡ 36
-    → spans_by p escaped previous (c ∷ cs) ≡ (provided p.constructs.math_text >> span_here 36 math_names (λ n. p.math_text_single_dollar || nat_lt 1 n) escaped previous) (c ∷ cs)
+only-math : (p : ParseOptions) (escaped : Bool) (previous : Option Code) (c : Code) (cs : List Code) → c.value ≡ byte "$"
+    → spans_by p escaped previous (c ∷ cs) ≡ (provided p.constructs.math_text >> span_here (byte "$") math_names (λ n. p.math_text_single_dollar || nat_lt 1 n) escaped previous) (c ∷ cs)
 only-math p escaped previous c cs e =
-    either-second (provided p.constructs.code_text >> span_here 96 code_names (λ n. true) escaped previous) _ (c ∷ cs)
-    (here-off p.math_text_single_dollar 96 code_names (λ n. true) p.constructs.code_text escaped previous (c ∷ cs)
-    (ap (λ v. (v == 96) && (p.constructs.code_text && (escaped || not (is_some_code (is_value 96) previous)))) e))
+    either-second (provided p.constructs.code_text >> span_here (byte "`") code_names (λ n. true) escaped previous) _ (c ∷ cs)
+    (here-off p.math_text_single_dollar (byte "`") code_names (λ n. true) p.constructs.code_text escaped previous (c ∷ cs)
+    (ap (λ v. (v == byte "`") && (p.constructs.code_text && (escaped || not (is_some_code (is_value (byte "`")) previous)))) e))
 
 module _ (s : Setting) (end : ℕ) (earlier : List Element) (previous : Option Code) where
   -- a check begins with a bracket
-  no-check : (c : Code) (cs : List Code) → (c.value == 91) ≡ false → first_check s end earlier previous (c ∷ cs) ≡ None
+  no-check : (c : Code) (cs : List Code) → (c.value == byte "[") ≡ false → first_check s end earlier previous (c ∷ cs) ≡ None
   unfolding first_check plain_of task_check
   no-check c cs e =
       let begins : Bool = (is_none previous && s.first_of_item) && s.options.constructs.gfm_task_list_item in
-      plain-switched begins task_check (c ∷ cs) ∙ ap plain_of (off-or-none begins task_check (c ∷ cs) (bind-none (one (is_value 91)) _ (c ∷ cs) (one-other (is_value 91) c cs e)))
+      plain-switched begins task_check (c ∷ cs) ∙ ap plain_of (off-or-none begins task_check (c ∷ cs) (bind-none (one (is_value (byte "["))) _ (c ∷ cs) (one-other (is_value (byte "[")) c cs e)))
 
   -- where a check begins
   pub check-element : (c : Code) (cs : List Code) (t : Forest) (rest : List Code)
@@ -133,14 +134,14 @@ module _ (s : Setting) (end : ℕ) (earlier : List Element) (previous : Option C
       ∙ ap (λ r. either r data_code (c ∷ cs)) e
 
   -- the same, of a code with this value, which is no bracket
-  text-row : (v : ℕ) (row : Reading Element) (c : Code) (cs : List Code) → c.value ≡ v → (v == 91) ≡ false → tried (tries s end earlier previous) v ≡ row → text_element s end earlier previous (c ∷ cs) ≡ either row data_code (c ∷ cs)
-  text-row v row c cs e n k = text-at row c cs (no-check c cs (ap (λ x. x == 91) e ∙ n)) (ap (tried (tries s end earlier previous)) e ∙ k)
+  text-row : (v : ℕ) (row : Reading Element) (c : Code) (cs : List Code) → c.value ≡ v → (v == byte "[") ≡ false → tried (tries s end earlier previous) v ≡ row → text_element s end earlier previous (c ∷ cs) ≡ either row data_code (c ∷ cs)
+  text-row v row c cs e n k = text-at row c cs (no-check c cs (ap (λ x. x == byte "[") e ∙ n)) (ap (tried (tries s end earlier previous)) e ∙ k)
 
-  value-other : (v : ℕ) (c : Code) → c.value ≡ v → (v == 10) ≡ false → is_line_ending c ≡ false
-  value-other v c e k = ap (λ n. n == 10) e ∙ k
+  value-other : (v : ℕ) (c : Code) → c.value ≡ v → (v == byte "\n") ≡ false → is_line_ending c ≡ false
+  value-other v c e k = ap (λ n. n == byte "\n") e ∙ k
 
   -- a row of one construct
-  one-row : (v : ℕ) (on : Bool) (a : Reading Forest) (c : Code) (cs : List Code) (o : Option (Forest × List Code)) → c.value ≡ v → (v == 10) ≡ false → (v == 91) ≡ false
+  one-row : (v : ℕ) (on : Bool) (a : Reading Forest) (c : Code) (cs : List Code) (o : Option (Forest × List Code)) → c.value ≡ v → (v == byte "\n") ≡ false → (v == byte "[") ≡ false
       → tried (tries s end earlier previous) v ≡ switched on (as_plain a) → (provided on >> a) (c ∷ cs) ≡ o → text_element s end earlier previous (c ∷ cs) ≡ element_here c cs o
   one-row v on a c cs o e k n row h =
       text-row v (switched on (as_plain a)) c cs e n row
@@ -148,61 +149,61 @@ module _ (s : Setting) (end : ℕ) (earlier : List Element) (previous : Option C
 
   -- Spans.
 
-  pub code-element : (c : Code) (cs : List Code) (o : Option (Forest × List Code)) → c.value ≡ 96
-      → (provided s.options.constructs.code_text >> span_here 96 code_names (λ n. true) (ends_escaped earlier) previous) (c ∷ cs) ≡ o → text_element s end earlier previous (c ∷ cs) ≡ element_here c cs o
+  pub code-element : (c : Code) (cs : List Code) (o : Option (Forest × List Code)) → c.value ≡ byte "`"
+      → (provided s.options.constructs.code_text >> span_here (byte "`") code_names (λ n. true) (ends_escaped earlier) previous) (c ∷ cs) ≡ o → text_element s end earlier previous (c ∷ cs) ≡ element_here c cs o
   unfolding tries tried code_span
-  code-element c cs o e h = one-row 96 s.options.constructs.code_text (span_here 96 code_names (λ n. true) (ends_escaped earlier) previous) c cs o e refl refl refl h
+  code-element c cs o e h = one-row (byte "`") s.options.constructs.code_text (span_here (byte "`") code_names (λ n. true) (ends_escaped earlier) previous) c cs o e refl refl refl h
 
-  pub math-element : (c : Code) (cs : List Code) (o : Option (Forest × List Code)) → c.value ≡ 36
-      → (provided s.options.constructs.math_text >> span_here 36 math_names (λ n. s.options.math_text_single_dollar || nat_lt 1 n) (ends_escaped earlier) previous) (c ∷ cs) ≡ o
+  pub math-element : (c : Code) (cs : List Code) (o : Option (Forest × List Code)) → c.value ≡ byte "$"
+      → (provided s.options.constructs.math_text >> span_here (byte "$") math_names (λ n. s.options.math_text_single_dollar || nat_lt 1 n) (ends_escaped earlier) previous) (c ∷ cs) ≡ o
       → text_element s end earlier previous (c ∷ cs) ≡ element_here c cs o
   unfolding tries tried math_span
   math-element c cs o e h =
-      one-row 36 s.options.constructs.math_text (span_here 36 math_names (λ n. s.options.math_text_single_dollar || nat_lt 1 n) (ends_escaped earlier) previous) c cs o e refl refl refl h
+      one-row (byte "$") s.options.constructs.math_text (span_here (byte "$") math_names (λ n. s.options.math_text_single_dollar || nat_lt 1 n) (ends_escaped earlier) previous) c cs o e refl refl refl h
 
   -- what `span_at` reads, of a tokenizer with these switches of spans and this before it
   pub span-element : (T : Tokenizer) (c : Code) (cs : List Code) (o : Option (Forest × List Code)) → spans_by s.options ≡ spans_by T.parse_state.now.options.now → StandsAfter earlier previous T
-      → (c.value == 36 || c.value == 96) ≡ true → span_at T (c ∷ cs) ≡ o → text_element s end earlier previous (c ∷ cs) ≡ element_here c cs o
-  span-element T c cs o same stands e h = by_test (c.value == 36) refl e
+      → (c.value == byte "$" || c.value == byte "`") ≡ true → span_at T (c ∷ cs) ≡ o → text_element s end earlier previous (c ∷ cs) ≡ element_here c cs o
+  span-element T c cs o same stands e h = by_test (c.value == byte "$") refl e
     where
       given : spans_by s.options (ends_escaped earlier) previous (c ∷ cs) ≡ o
       given = (λ i. same i (sym stands.escaped i) (sym stands.before i) (c ∷ cs)) ∙ h
 
-      by_test : (b : Bool) → (c.value == 36) ≡ b → (b || c.value == 96) ≡ true → text_element s end earlier previous (c ∷ cs) ≡ element_here c cs o
-      by_test true k f = let v = eqb-true c.value 36 k in math-element c cs o v (sym (only-math s.options (ends_escaped earlier) previous c cs v) ∙ given)
-      by_test false k f = let v = eqb-true c.value 96 f in code-element c cs o v (sym (only-code s.options (ends_escaped earlier) previous c cs v) ∙ given)
+      by_test : (b : Bool) → (c.value == byte "$") ≡ b → (b || c.value == byte "`") ≡ true → text_element s end earlier previous (c ∷ cs) ≡ element_here c cs o
+      by_test true k f = let v = eqb-true c.value (byte "$") k in math-element c cs o v (sym (only-math s.options (ends_escaped earlier) previous c cs v) ∙ given)
+      by_test false k f = let v = eqb-true c.value (byte "`") f in code-element c cs o v (sym (only-code s.options (ends_escaped earlier) previous c cs v) ∙ given)
 
   -- References.
 
-  pub reference-element : (c : Code) (cs : List Code) (o : Option (Forest × List Code)) → c.value ≡ 38
+  pub reference-element : (c : Code) (cs : List Code) (o : Option (Forest × List Code)) → c.value ≡ byte "&"
       → (provided s.options.constructs.character_reference >> reference s.references) (c ∷ cs) ≡ o → text_element s end earlier previous (c ∷ cs) ≡ element_here c cs o
   unfolding tries tried
-  reference-element c cs o e h = one-row 38 s.options.constructs.character_reference (reference s.references) c cs o e refl refl refl h
+  reference-element c cs o e h = one-row (byte "&") s.options.constructs.character_reference (reference s.references) c cs o e refl refl refl h
 
   -- A `<`.
 
   angle_row : Reading Element
   angle_row = either (switched s.options.constructs.autolink (as_plain autolink)) (switched s.options.constructs.html_text (as_plain html))
 
-  angle-at : (c : Code) (cs : List Code) → c.value ≡ 60 → text_element s end earlier previous (c ∷ cs) ≡ either angle_row data_code (c ∷ cs)
+  angle-at : (c : Code) (cs : List Code) → c.value ≡ byte "<" → text_element s end earlier previous (c ∷ cs) ≡ either angle_row data_code (c ∷ cs)
   unfolding tries tried angle_row
-  angle-at c cs e = text-row 60 _ c cs e refl refl
+  angle-at c cs e = text-row (byte "<") _ c cs e refl refl
 
-  pub autolink-element : (c : Code) (cs : List Code) (t : Forest) (rest : List Code) → c.value ≡ 60
+  pub autolink-element : (c : Code) (cs : List Code) (t : Forest) (rest : List Code) → c.value ≡ byte "<"
       → (provided s.options.constructs.autolink >> autolink) (c ∷ cs) ≡ Some (t, rest) → text_element s end earlier previous (c ∷ cs) ≡ Some (plain t, rest)
   unfolding angle_row plain_of
   autolink-element c cs t rest e h =
       angle-at c cs e
-      ∙ plain-or-data angle_row c cs (Some (t, rest)) (value-other 60 c e refl)
+      ∙ plain-or-data angle_row c cs (Some (t, rest)) (value-other (byte "<") c e refl)
       (either-some (switched s.options.constructs.autolink (as_plain autolink)) _ (c ∷ cs) (plain t, rest) (plain-switched s.options.constructs.autolink autolink (c ∷ cs) ∙ ap plain_of h))
 
-  pub html-element : (c : Code) (cs : List Code) (o : Option (Forest × List Code)) → c.value ≡ 60
+  pub html-element : (c : Code) (cs : List Code) (o : Option (Forest × List Code)) → c.value ≡ byte "<"
       → (provided s.options.constructs.autolink >> autolink) (c ∷ cs) ≡ None → (provided s.options.constructs.html_text >> html) (c ∷ cs) ≡ o
       → text_element s end earlier previous (c ∷ cs) ≡ element_here c cs o
   unfolding angle_row plain_of
   html-element c cs o e none h =
       angle-at c cs e
-      ∙ plain-or-data angle_row c cs o (value-other 60 c e refl)
+      ∙ plain-or-data angle_row c cs o (value-other (byte "<") c e refl)
       (either-second (switched s.options.constructs.autolink (as_plain autolink)) _ (c ∷ cs) (plain-switched s.options.constructs.autolink autolink (c ∷ cs) ∙ ap plain_of none)
       ∙ plain-switched s.options.constructs.html_text html (c ∷ cs) ∙ ap plain_of h)
 
@@ -211,25 +212,25 @@ module _ (s : Setting) (end : ℕ) (earlier : List Element) (previous : Option C
   slash_row : Reading Element
   slash_row = either (switched s.options.constructs.character_escape (as_plain escape)) (switched s.options.constructs.hard_break_escape (as_plain hard_break_escape))
 
-  slash-at : (c : Code) (cs : List Code) → c.value ≡ 92 → text_element s end earlier previous (c ∷ cs) ≡ either slash_row data_code (c ∷ cs)
+  slash-at : (c : Code) (cs : List Code) → c.value ≡ byte "\\" → text_element s end earlier previous (c ∷ cs) ≡ either slash_row data_code (c ∷ cs)
   unfolding tries tried slash_row
-  slash-at c cs e = text-row 92 _ c cs e refl refl
+  slash-at c cs e = text-row (byte "\\") _ c cs e refl refl
 
-  pub escape-element : (c : Code) (cs : List Code) (t : Forest) (rest : List Code) → c.value ≡ 92
+  pub escape-element : (c : Code) (cs : List Code) (t : Forest) (rest : List Code) → c.value ≡ byte "\\"
       → (provided s.options.constructs.character_escape >> escape) (c ∷ cs) ≡ Some (t, rest) → text_element s end earlier previous (c ∷ cs) ≡ Some (plain t, rest)
   unfolding slash_row plain_of
   escape-element c cs t rest e h =
       slash-at c cs e
-      ∙ plain-or-data slash_row c cs (Some (t, rest)) (value-other 92 c e refl)
+      ∙ plain-or-data slash_row c cs (Some (t, rest)) (value-other (byte "\\") c e refl)
       (either-some (switched s.options.constructs.character_escape (as_plain escape)) _ (c ∷ cs) (plain t, rest) (plain-switched s.options.constructs.character_escape escape (c ∷ cs) ∙ ap plain_of h))
 
-  pub break-element : (c : Code) (cs : List Code) (o : Option (Forest × List Code)) → c.value ≡ 92
+  pub break-element : (c : Code) (cs : List Code) (o : Option (Forest × List Code)) → c.value ≡ byte "\\"
       → (provided s.options.constructs.character_escape >> escape) (c ∷ cs) ≡ None → (provided s.options.constructs.hard_break_escape >> hard_break_escape) (c ∷ cs) ≡ o
       → text_element s end earlier previous (c ∷ cs) ≡ element_here c cs o
   unfolding slash_row plain_of
   break-element c cs o e none h =
       slash-at c cs e
-      ∙ plain-or-data slash_row c cs o (value-other 92 c e refl)
+      ∙ plain-or-data slash_row c cs o (value-other (byte "\\") c e refl)
       (either-second (switched s.options.constructs.character_escape (as_plain escape)) _ (c ∷ cs) (plain-switched s.options.constructs.character_escape escape (c ∷ cs) ∙ ap plain_of none)
       ∙ plain-switched s.options.constructs.hard_break_escape hard_break_escape (c ∷ cs) ∙ ap plain_of h)
 
@@ -237,7 +238,7 @@ module _ (s : Setting) (end : ℕ) (earlier : List Element) (previous : Option C
 
   -- the row of a marker: its run, where that is read
   abbrev IsRunRow : ℕ → Type 0
-  IsRunRow v = ((v == 10) ≡ false) × (((v == 91) ≡ false) × (tried (tries s end earlier previous) v ≡ switched (begins_run s.options.constructs v) (attention_run v)))
+  IsRunRow v = ((v == byte "\n") ≡ false) × (((v == byte "[") ≡ false) × (tried (tries s end earlier previous) v ≡ switched (begins_run s.options.constructs v) (attention_run v)))
 
   run-row : (v : ℕ) → is_marker v ≡ true → IsRunRow v
   unfolding tries tried
@@ -250,7 +251,7 @@ module _ (s : Setting) (end : ℕ) (earlier : List Element) (previous : Option C
       text-row v (switched (begins_run s.options.constructs v) (attention_run v)) c cs e r.1.0 r.1.1 ∙ either-some (switched (begins_run s.options.constructs v) (attention_run v)) data_code (c ∷ cs) (plain t, rest) h
 
   -- a row that does not hold
-  row-none : (v : ℕ) (row : Reading Element) (c : Code) (cs : List Code) → c.value ≡ v → (v == 10) ≡ false → (v == 91) ≡ false → tried (tries s end earlier previous) v ≡ row → row (c ∷ cs) ≡ None
+  row-none : (v : ℕ) (row : Reading Element) (c : Code) (cs : List Code) → c.value ≡ v → (v == byte "\n") ≡ false → (v == byte "[") ≡ false → tried (tries s end earlier previous) v ≡ row → row (c ∷ cs) ≡ None
       → text_element s end earlier previous (c ∷ cs) ≡ Some (plain (code_leaf c), cs)
   row-none v row c cs e k n r h = text-row v row c cs e n r ∙ either-second row data_code (c ∷ cs) h ∙ data-alone c cs (value-other v c e k)
 
@@ -265,25 +266,25 @@ module _ (s : Setting) (end : ℕ) (earlier : List Element) (previous : Option C
 
   -- a code of one of two values, whose rows are the same
   two-rows : (v a b : ℕ) (on : Bool) (k : Reading Forest) (c : Code) (cs : List Code) (o : Option (Forest × List Code)) → c.value ≡ v → (v == a || v == b) ≡ true
-      → (a == 10 || b == 10) ≡ false → (a == 91 || b == 91) ≡ false → tried (tries s end earlier previous) a ≡ switched on (as_plain k) → tried (tries s end earlier previous) b ≡ switched on (as_plain k)
+      → (a == byte "\n" || b == byte "\n") ≡ false → (a == byte "[" || b == byte "[") ≡ false → tried (tries s end earlier previous) a ≡ switched on (as_plain k) → tried (tries s end earlier previous) b ≡ switched on (as_plain k)
       → (provided on >> k) (c ∷ cs) ≡ o → text_element s end earlier previous (c ∷ cs) ≡ element_here c cs o
   two-rows v a b on k c cs o e h lines brackets first second read =
-      let line = or_parts (a == 10) (b == 10) lines in
-      let bracket = or_parts (a == 91) (b == 91) brackets in
+      let line = or_parts (a == byte "\n") (b == byte "\n") lines in
+      let bracket = or_parts (a == byte "[") (b == byte "[") brackets in
       elim (or_cases (v == a) (v == b) h) [
         | inl x ↦ one-row a on k c cs o (e ∙ eqb-true v a x) line.0 bracket.0 first read
         | inr x ↦ one-row b on k c cs o (e ∙ eqb-true v b x) line.1 bracket.1 second read
       ]
 
-  pub protocol-element : (v : ℕ) (c : Code) (cs : List Code) (o : Option (Forest × List Code)) → c.value ≡ v → (v == 72 || v == 104) ≡ true
+  pub protocol-element : (v : ℕ) (c : Code) (cs : List Code) (o : Option (Forest × List Code)) → c.value ≡ v → (v == byte "H" || v == byte "h") ≡ true
       → (provided s.options.constructs.gfm_autolink_literal >> protocol_literal s.bytes end previous) (c ∷ cs) ≡ o → text_element s end earlier previous (c ∷ cs) ≡ element_here c cs o
   unfolding tries tried
-  protocol-element v c cs o e h read = two-rows v 72 104 s.options.constructs.gfm_autolink_literal (protocol_literal s.bytes end previous) c cs o e h refl refl refl refl read
+  protocol-element v c cs o e h read = two-rows v (byte "H") (byte "h") s.options.constructs.gfm_autolink_literal (protocol_literal s.bytes end previous) c cs o e h refl refl refl refl read
 
-  pub www-element : (v : ℕ) (c : Code) (cs : List Code) (o : Option (Forest × List Code)) → c.value ≡ v → (v == 87 || v == 119) ≡ true
+  pub www-element : (v : ℕ) (c : Code) (cs : List Code) (o : Option (Forest × List Code)) → c.value ≡ v → (v == byte "W" || v == byte "w") ≡ true
       → (provided s.options.constructs.gfm_autolink_literal >> www_literal s.bytes end previous) (c ∷ cs) ≡ o → text_element s end earlier previous (c ∷ cs) ≡ element_here c cs o
   unfolding tries tried
-  www-element v c cs o e h read = two-rows v 87 119 s.options.constructs.gfm_autolink_literal (www_literal s.bytes end previous) c cs o e h refl refl refl refl read
+  www-element v c cs o e h read = two-rows v (byte "W") (byte "w") s.options.constructs.gfm_autolink_literal (www_literal s.bytes end previous) c cs o e h refl refl refl refl read
 
   -- Starts and ends of labels.
 
@@ -292,7 +293,7 @@ module _ (s : Setting) (end : ℕ) (earlier : List Element) (previous : Option C
       → text_element s end earlier previous (c ∷ cs) ≡ Some r
   row-some v row c cs r e none is h = text-at row c cs none (ap (tried (tries s end earlier previous)) e ∙ is) ∙ either-some row data_code (c ∷ cs) r h
 
-  row-data : (v : ℕ) (row : Reading Element) (c : Code) (cs : List Code) → c.value ≡ v → (v == 10) ≡ false → first_check s end earlier previous (c ∷ cs) ≡ None → tried (tries s end earlier previous) v ≡ row → row (c ∷ cs) ≡ None
+  row-data : (v : ℕ) (row : Reading Element) (c : Code) (cs : List Code) → c.value ≡ v → (v == byte "\n") ≡ false → first_check s end earlier previous (c ∷ cs) ≡ None → tried (tries s end earlier previous) v ≡ row → row (c ∷ cs) ≡ None
       → text_element s end earlier previous (c ∷ cs) ≡ Some (plain (code_leaf c), cs)
   row-data v row c cs e k none is h = text-at row c cs none (ap (tried (tries s end earlier previous)) e ∙ is) ∙ either-second row data_code (c ∷ cs) h ∙ data-alone c cs (value-other v c e k)
 
@@ -300,51 +301,51 @@ module _ (s : Setting) (end : ℕ) (earlier : List Element) (previous : Option C
   abbrev pub bang_row : Reading Element
   bang_row = switched s.options.constructs.label_start_image (image_start s.options.constructs.gfm_label_start_footnote)
 
-  pub image-element : (c : Code) (cs : List Code) (r : Element × List Code) → c.value ≡ 33 → bang_row (c ∷ cs) ≡ Some r → text_element s end earlier previous (c ∷ cs) ≡ Some r
+  pub image-element : (c : Code) (cs : List Code) (r : Element × List Code) → c.value ≡ byte "!" → bang_row (c ∷ cs) ≡ Some r → text_element s end earlier previous (c ∷ cs) ≡ Some r
   unfolding tries tried
-  image-element c cs r e h = row-some 33 bang_row c cs r e (no-check c cs (ap (λ x. x == 91) e)) refl h
+  image-element c cs r e h = row-some (byte "!") bang_row c cs r e (no-check c cs (ap (λ x. x == byte "[") e)) refl h
 
-  pub no-image-element : (c : Code) (cs : List Code) → c.value ≡ 33 → bang_row (c ∷ cs) ≡ None → text_element s end earlier previous (c ∷ cs) ≡ Some (plain (code_leaf c), cs)
+  pub no-image-element : (c : Code) (cs : List Code) → c.value ≡ byte "!" → bang_row (c ∷ cs) ≡ None → text_element s end earlier previous (c ∷ cs) ≡ Some (plain (code_leaf c), cs)
   unfolding tries tried
-  no-image-element c cs e h = row-data 33 bang_row c cs e refl (no-check c cs (ap (λ x. x == 91) e)) refl h
+  no-image-element c cs e h = row-data (byte "!") bang_row c cs e refl (no-check c cs (ap (λ x. x == byte "[") e)) refl h
 
   -- a `[`
   abbrev pub bracket_row : Reading Element
   bracket_row = either (switched s.options.constructs.gfm_label_start_footnote footnote_start) (switched s.options.constructs.label_start_link link_start)
 
-  pub bracket-element : (c : Code) (cs : List Code) (r : Element × List Code) → first_check s end earlier previous (c ∷ cs) ≡ None → c.value ≡ 91 → bracket_row (c ∷ cs) ≡ Some r → text_element s end earlier previous (c ∷ cs) ≡ Some r
+  pub bracket-element : (c : Code) (cs : List Code) (r : Element × List Code) → first_check s end earlier previous (c ∷ cs) ≡ None → c.value ≡ byte "[" → bracket_row (c ∷ cs) ≡ Some r → text_element s end earlier previous (c ∷ cs) ≡ Some r
   unfolding tries tried
-  bracket-element c cs r none e h = row-some 91 bracket_row c cs r e none refl h
+  bracket-element c cs r none e h = row-some (byte "[") bracket_row c cs r e none refl h
 
-  pub no-bracket-element : (c : Code) (cs : List Code) → first_check s end earlier previous (c ∷ cs) ≡ None → c.value ≡ 91 → bracket_row (c ∷ cs) ≡ None → text_element s end earlier previous (c ∷ cs) ≡ Some (plain (code_leaf c), cs)
+  pub no-bracket-element : (c : Code) (cs : List Code) → first_check s end earlier previous (c ∷ cs) ≡ None → c.value ≡ byte "[" → bracket_row (c ∷ cs) ≡ None → text_element s end earlier previous (c ∷ cs) ≡ Some (plain (code_leaf c), cs)
   unfolding tries tried
-  no-bracket-element c cs none e h = row-data 91 bracket_row c cs e refl none refl h
+  no-bracket-element c cs none e h = row-data (byte "[") bracket_row c cs e refl none refl h
 
   -- a `]`
-  pub end-element : (c : Code) (cs : List Code) (r : Element × List Code) → c.value ≡ 93 → s.options.constructs.label_end ≡ true → label_end s earlier (c ∷ cs) ≡ Some r → text_element s end earlier previous (c ∷ cs) ≡ Some r
+  pub end-element : (c : Code) (cs : List Code) (r : Element × List Code) → c.value ≡ byte "]" → s.options.constructs.label_end ≡ true → label_end s earlier (c ∷ cs) ≡ Some r → text_element s end earlier previous (c ∷ cs) ≡ Some r
   unfolding tries tried switched
   end-element c cs r e on h =
-      row-some 93 (provided s.options.constructs.label_end >> label_end s earlier) c cs r e (no-check c cs (ap (λ x. x == 91) e)) refl (switched-on (label_end s earlier) s.options.constructs.label_end (c ∷ cs) on ∙ h)
+      row-some (byte "]") (provided s.options.constructs.label_end >> label_end s earlier) c cs r e (no-check c cs (ap (λ x. x == byte "[") e)) refl (switched-on (label_end s earlier) s.options.constructs.label_end (c ∷ cs) on ∙ h)
 
-  pub no-end-element : (c : Code) (cs : List Code) → c.value ≡ 93 → s.options.constructs.label_end ≡ false → text_element s end earlier previous (c ∷ cs) ≡ Some (plain (code_leaf c), cs)
+  pub no-end-element : (c : Code) (cs : List Code) → c.value ≡ byte "]" → s.options.constructs.label_end ≡ false → text_element s end earlier previous (c ∷ cs) ≡ Some (plain (code_leaf c), cs)
   unfolding tries tried switched
   no-end-element c cs e off =
-      row-data 93 (provided s.options.constructs.label_end >> label_end s earlier) c cs e refl (no-check c cs (ap (λ x. x == 91) e)) refl (switched-off (label_end s earlier) s.options.constructs.label_end (c ∷ cs) off)
+      row-data (byte "]") (provided s.options.constructs.label_end >> label_end s earlier) c cs e refl (no-check c cs (ap (λ x. x == byte "[") e)) refl (switched-off (label_end s earlier) s.options.constructs.label_end (c ∷ cs) off)
 
   -- Codes that begin no construct.
 
   -- the codes of the definition's rows are line endings, and those at which something is tried
-  plain-tried : (v : ℕ) → (v == 10) ≡ false → list_any (λ n. v == n) text_markers ≡ false → tried (tries s end earlier previous) v ≡ data_code
+  plain-tried : (v : ℕ) → (v == byte "\n") ≡ false → list_any (λ n. v == n) text_markers ≡ false → tried (tries s end earlier previous) v ≡ data_code
   unfolding tries
-  plain-tried v e h = tried-data (tries s end earlier previous) v (or_from (v == 10) (list_any (λ n. v == n) text_markers) e h)
+  plain-tried v e h = tried-data (tries s end earlier previous) v (or_from (v == byte "\n") (list_any (λ n. v == n) text_markers) e h)
 
   ending-at : (c : Code) (cs : List Code) → is_line_ending c ≡ true → text_element s end earlier previous (c ∷ cs) ≡ Some (plain (code_leaf c), cs)
   unfolding tries tried
-  ending-at c cs e = text-row 10 line_ending c cs (eqb-true c.value 10 e) refl refl ∙ either-some line_ending data_code (c ∷ cs) (plain (code_leaf c), cs) (ending-alone c cs e)
+  ending-at c cs e = text-row (byte "\n") line_ending c cs (eqb-true c.value (byte "\n") e) refl refl ∙ either-some line_ending data_code (c ∷ cs) (plain (code_leaf c), cs) (ending-alone c cs e)
 
   data-at : (c : Code) (cs : List Code) → is_line_ending c ≡ false → is_among text_markers c ≡ false → text_element s end earlier previous (c ∷ cs) ≡ Some (plain (code_leaf c), cs)
   data-at c cs e h =
-      text-at data_code c cs (no-check c cs (none-of text_markers c.value 91 h refl)) (plain-tried c.value e h) ∙ either-some data_code data_code (c ∷ cs) (plain (code_leaf c), cs) (data-alone c cs e)
+      text-at data_code c cs (no-check c cs (none-of text_markers c.value (byte "[") h refl)) (plain-tried c.value e h) ∙ either-some data_code data_code (c ∷ cs) (plain (code_leaf c), cs) (data-alone c cs e)
 
   pub other-element : (c : Code) (cs : List Code) → is_among text_markers c ≡ false → text_element s end earlier previous (c ∷ cs) ≡ Some (plain (code_leaf c), cs)
   other-element c cs h = by_ending (is_line_ending c) refl

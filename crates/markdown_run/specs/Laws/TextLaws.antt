@@ -4,6 +4,7 @@ use Rattle.markdown_model.specs.CodeTests.{is_value, last_code, next_is}
 use Rattle.std.proofs.Common.{◌≡◌, ◌≢◌, ℕ, ◌+◌, ◌*◌, ◌<◌, ◌≤◌, ◌==◌, ◌||◌, Bool, true, false, if◌then◌else◌, Option, Some, None, List, [], ◌∷◌, refl, sym, ap, subst, ◌∙◌, arith, length, length-append, is_none, ◌&&◌, ◌++◌, append-nil}
 use Rattle.std.specs.List.{list_any}
 use Rattle.std.specs.Prelude.{codes}
+use Rattle.std.specs.Str.{byte}
 use Rattle.markdown_engine.specs.Codes.{Code, stop_of, document_start}
 use Rattle.markdown_engine.specs.NameIndex.{names_in_order}
 use Rattle.markdown_engine.specs.declared.event.Point.{Point}
@@ -274,15 +275,15 @@ ends-on T U r = by_switch (E.is_on T) refl
         no-reading (Some y) h k = cc
 
 -- where one makes none, its start is used up
-lost-there : (T : Tokenizer) → current_of T ≡ Some 93 → E.is_on T ≡ true → scratched (E.lost_fields T) T ≡ past_mark loses T
+lost-there : (T : Tokenizer) → current_of T ≡ Some (byte "]") → E.is_on T ≡ true → scratched (E.lost_fields T) T ≡ past_mark loses T
 unfolding past_mark
-lost-there T d on = ap (λ s. scratched s T) (if-true _ _ _ (ap (λ b. b && next_is (is_value 93) (ahead T)) on ∙ there))
+lost-there T d on = ap (λ s. scratched s T) (if-true _ _ _ (ap (λ b. b && next_is (is_value (byte "]")) (ahead T)) on ∙ there))
   where
-    there : next_is (is_value 93) (ahead T) ≡ true
-    there = let b : Begins 93 (ahead T) = ahead-some T 93 d in ap (next_is (is_value 93)) b.whole ∙ ap (λ v. v == 93) b.value
+    there : next_is (is_value (byte "]")) (ahead T) ≡ true
+    there = let b : Begins (byte "]") (ahead T) = ahead-some T (byte "]") d in ap (next_is (is_value (byte "]"))) b.whole ∙ ap (λ v. v == byte "]") b.value
 
 not-lost : (T : Tokenizer) → E.is_on T ≡ false → scratched (E.lost_fields T) T ≡ T
-not-lost T off = ap (λ s. scratched s T) (if-false _ _ _ (ap (λ b. b && next_is (is_value 93) (ahead T)) off)) ∙ scratched-same T
+not-lost T off = ap (λ s. scratched s T) (if-false _ _ _ (ap (λ b. b && next_is (is_value (byte "]")) (ahead T)) off)) ∙ scratched-same T
 
 lost-left : (T : Tokenizer) → codes_left (past_mark loses T) ≤ codes_left T
 unfolding past_mark
@@ -301,20 +302,20 @@ module _ (T : Tokenizer) (alone : T.attempts ≡ []) (ready : BeforeReady T) whe
   abbrev Before : Stepped → Type 0
   Before r = GoesIn inline (weight_at 8 T) (before_ends T) r
 
-  tries-span : (v : ℕ) → current_of T ≡ Some v → (v == 36 || v == 96) ≡ true → Before (trying RawTextStart TextBeforeData T)
+  tries-span : (v : ℕ) → current_of T ≡ Some v → (v == byte "$" || v == byte "`") ≡ true → Before (trying RawTextStart TextBeforeData T)
   tries-span v e h =
       try-law 8 T RawTextStart TextBeforeData (X.span_at T) alone ready.marked.spans (omega arith) ready.marked (λ ok U g. g) (λ t rest g. span-node T (ahead T) t rest g) (span-reads T v e h) (λ none. to-data 8 T v (omega arith) ready e (span-alone T v e h none))
 
-  tries-reference : current_of T ≡ Some 38 → Before (trying CharacterReferenceStart TextBeforeData T)
+  tries-reference : current_of T ≡ Some (byte "&") → Before (trying CharacterReferenceStart TextBeforeData T)
   tries-reference d =
-      try-law 8 T CharacterReferenceStart TextBeforeData (reference_here T) alone (at-rest-reference T ready.marked) (omega arith) ready.marked (λ ok U g. g) (λ t rest g. reference-node (is_on T).character_reference html_5_rows (ahead T) t rest g) (reference-reads T d) (λ none. to-data 8 T 38 (omega arith) ready d (reference-alone T d none))
+      try-law 8 T CharacterReferenceStart TextBeforeData (reference_here T) alone (at-rest-reference T ready.marked) (omega arith) ready.marked (λ ok U g. g) (λ t rest g. reference-node (is_on T).character_reference html_5_rows (ahead T) t rest g) (reference-reads T d) (λ none. to-data 8 T (byte "&") (omega arith) ready d (reference-alone T d none))
 
-  tries-autolink : current_of T ≡ Some 60 → Before (trying AutolinkStart TextBeforeHtml T)
+  tries-autolink : current_of T ≡ Some (byte "<") → Before (trying AutolinkStart TextBeforeHtml T)
   tries-autolink d =
       try-law 8 T AutolinkStart TextBeforeHtml (link_here T) alone (at-rest-reference T ready.marked).size (omega arith) ready.marked (λ ok U g. g) (λ t rest g. autolink-node (is_on T).autolink (ahead T) t rest g) (autolink-reads T d)
       (λ none. record { goes_on = record { before = ready; angle = d; no_autolink = none }; falls = omega arith; closed = λ ok V h. h })
 
-  tries-escape : current_of T ≡ Some 92 → Before (trying CharacterEscapeStart TextBeforeHardBreakEscape T)
+  tries-escape : current_of T ≡ Some (byte "\\") → Before (trying CharacterEscapeStart TextBeforeHardBreakEscape T)
   tries-escape d =
       try-law 8 T CharacterEscapeStart TextBeforeHardBreakEscape (escape_here T) alone tt (omega arith) ready.marked (λ ok U g. g) (λ t rest g. escape-node (is_on T).character_escape (ahead T) t rest g) (escape-reads T d)
       (λ none. record { goes_on = record { before = ready; slash = d; no_escape = none }; falls = omega arith; closed = λ ok V h. h })
@@ -330,28 +331,28 @@ module _ (T : Tokenizer) (alone : T.attempts ≡ []) (ready : BeforeReady T) whe
       (λ U now k. let r : Refuses (run_tree T) T.tokenize_state T U = k in
       rw (restored-fails false (Next TextBefore) (Next TextBeforeData) T.tokenize_state T U r.fails, scratched-same T) (to-data 8 T v (omega arith) ready e (run-alone T v e h r.refused)))
 
-  tries-protocol : (v : ℕ) → current_of T ≡ Some v → (v == 72 || v == 104) ≡ true → Before (trying GfmAutolinkLiteralProtocolStart TextBeforeData T)
+  tries-protocol : (v : ℕ) → current_of T ≡ Some v → (v == byte "H" || v == byte "h") ≡ true → Before (trying GfmAutolinkLiteralProtocolStart TextBeforeData T)
   tries-protocol v e h =
       try-law 8 T GfmAutolinkLiteralProtocolStart TextBeforeData (G.protocol_here T) alone ready.marked.literals (omega arith) ready.marked (λ ok U g. g)
       (λ t rest g. protocol-node (G.is_on T) (bytes_of T) (G.end_of T) (G.before_of T) (ahead T) t rest g) (protocol-reads T v ready.marked.last e h)
       (λ none. to-data 8 T v (omega arith) ready e (protocol-alone T v ready.marked.last e h none))
 
-  tries-www : (v : ℕ) → current_of T ≡ Some v → (v == 87 || v == 119) ≡ true → Before (trying GfmAutolinkLiteralWwwStart TextBeforeData T)
+  tries-www : (v : ℕ) → current_of T ≡ Some v → (v == byte "W" || v == byte "w") ≡ true → Before (trying GfmAutolinkLiteralWwwStart TextBeforeData T)
   tries-www v e h =
       try-law 8 T GfmAutolinkLiteralWwwStart TextBeforeData (G.www_here T) alone ready.marked.literals (omega arith) ready.marked (λ ok U g. g)
       (λ t rest g. www-node (G.is_on T) (bytes_of T) (G.end_of T) (G.before_of T) (ahead T) t rest g) (www-reads T v ready.marked.last e h)
       (λ none. to-data 8 T v (omega arith) ready e (www-alone T v ready.marked.last e h none))
 
-  tries-image : current_of T ≡ Some 33 → Before (trying LabelStartImageStart TextBeforeData T)
+  tries-image : current_of T ≡ Some (byte "!") → Before (trying LabelStartImageStart TextBeforeData T)
   tries-image d =
       Goes-attempt inline (weight_at 8 T) (before_ends T) (Retry LabelStartImageStart) refl (Next TextBefore) (Next TextBeforeData) T alone tt (omega arith)
       (λ U now k. let r : image_ends T true U = k in
       on-before (weight_at 8 T) T U (omega arith) ready.marked
       (subst (λ (x : Tokenizer). AreWithin x x.tokenize_state.label_starts) (sym r.left) (image-within T ready.marked.ends.text ready.marked.ends.within r.holds)) (image-advances T U r))
       (λ U now k. let r : image_ends T false U = k in
-      rw (restored-fails false (Next TextBefore) (Next TextBeforeData) T.tokenize_state T U (record { grown = r.grown; scratch = r.scratch }), scratched-same T) (to-data 8 T 33 (omega arith) ready d (image-alone T d r.refused)))
+      rw (restored-fails false (Next TextBefore) (Next TextBeforeData) T.tokenize_state T U (record { grown = r.grown; scratch = r.scratch }), scratched-same T) (to-data 8 T (byte "!") (omega arith) ready d (image-alone T d r.refused)))
 
-  tries-footnote : current_of T ≡ Some 91 → Before (trying GfmLabelStartFootnoteStart TextBeforeLabelStartLink T)
+  tries-footnote : current_of T ≡ Some (byte "[") → Before (trying GfmLabelStartFootnoteStart TextBeforeLabelStartLink T)
   tries-footnote d =
       Goes-attempt inline (weight_at 8 T) (before_ends T) (Retry GfmLabelStartFootnoteStart) refl (Next TextBefore) (Next TextBeforeLabelStartLink) T alone tt (omega arith)
       (λ U now k. let r : footnote_ends T true U = k in
@@ -362,12 +363,12 @@ module _ (T : Tokenizer) (alone : T.attempts ≡ []) (ready : BeforeReady T) whe
       (record { goes_on = record { before = ready; bracket = d; no_footnote = r.refused }; falls = omega arith; closed = λ ok V h. h }))
 
   -- an end that makes no label uses up its start, and its `]` begins data
-  to-lost : current_of T ≡ Some 93 → E.is_on T ≡ true → E.end_reading T (ahead T) ≡ None → (let F : Tokenizer = past_mark loses T in FollowsIn inline (weight_at 8 T) (before_ends T) (Next TextBeforeData) F)
+  to-lost : current_of T ≡ Some (byte "]") → E.is_on T ≡ true → E.end_reading T (ahead T) ≡ None → (let F : Tokenizer = past_mark loses T in FollowsIn inline (weight_at 8 T) (before_ends T) (Next TextBeforeData) F)
   to-lost d on none =
       let F : Tokenizer = past_mark loses T in
       let e : IsSame T F = same-lost T ready.marked.ends in
       record {
-        goes_on = record { marked = marked-past T F e (lost-left T) (lost-within T ready.marked.ends.within) ready.marked; some_code = λ h. some-none (current_of T) 93 d (sym (lost-current T) ∙ h) };
+        goes_on = record { marked = marked-past T F e (lost-left T) (lost-within T ready.marked.ends.within) ready.marked; some_code = λ h. some-none (current_of T) (byte "]") d (sym (lost-current T) ∙ h) };
         falls = omega (arith, lost-left T);
         closed = λ ok V h. lost-ends e ok V h;
       }
@@ -379,7 +380,7 @@ module _ (T : Tokenizer) (alone : T.attempts ≡ []) (ready : BeforeReady T) whe
           advances-finishes (text_choice_of T) text_passed T there.behind V (failed-advances T d on there.behind none there.data_read) there.finishes
       lost-ends e false V k = k
 
-  tries-end : current_of T ≡ Some 93 → Before (trying LabelEndStart TextBeforeData T)
+  tries-end : current_of T ≡ Some (byte "]") → Before (trying LabelEndStart TextBeforeData T)
   tries-end d =
       Goes-attempt inline (weight_at 8 T) (before_ends T) (Retry LabelEndStart) refl (Next TextBefore) (Next TextBeforeData) T alone ready.marked.ends (omega arith)
       (λ U now k. let r : E.Ends T U = k in
@@ -391,7 +392,7 @@ module _ (T : Tokenizer) (alone : T.attempts ≡ []) (ready : BeforeReady T) whe
       by_switch : (b : Bool) → E.is_on T ≡ b → E.end_reading T (ahead T) ≡ None → FollowsIn inline (weight_at 8 T) (before_ends T) (Next TextBeforeData) (scratched (E.lost_fields T) T)
       by_switch true on none = subst (λ (x : Tokenizer). FollowsIn inline (weight_at 8 T) (before_ends T) (Next TextBeforeData) x) (sym (lost-there T d on)) (to-lost d on none)
       by_switch false off none =
-          subst (λ (x : Tokenizer). FollowsIn inline (weight_at 8 T) (before_ends T) (Next TextBeforeData) x) (sym (not-lost T off)) (to-data 8 T 93 (omega arith) ready d (end-alone T d off))
+          subst (λ (x : Tokenizer). FollowsIn inline (weight_at 8 T) (before_ends T) (Next TextBeforeData) x) (sym (not-lost T off)) (to-data 8 T (byte "]") (omega arith) ready d (end-alone T d off))
 
   tries-none : (v : ℕ) → current_of T ≡ Some v → list_any (λ n. v == n) text_markers ≡ false → Before (stepped (Retry TextBeforeData) T)
   tries-none v e h =
@@ -404,16 +405,16 @@ module _ (T : Tokenizer) (alone : T.attempts ≡ []) (ready : BeforeReady T) whe
   IsTried construct otherwise v = current_of T ≡ Some v → Before (trying construct otherwise T)
 
   at-spans : EachOf (IsTried RawTextStart TextBeforeData) (codes "$`")
-  at-spans = (λ e. tries-span 36 e refl, (λ e. tries-span 96 e refl, tt))
+  at-spans = (λ e. tries-span (byte "$") e refl, (λ e. tries-span (byte "`") e refl, tt))
 
   at-runs : EachOf (IsTried AttentionStart TextBeforeData) (codes "*_~")
-  at-runs = (λ e. tries-run 42 e refl, (λ e. tries-run 95 e refl, (λ e. tries-run 126 e refl, tt)))
+  at-runs = (λ e. tries-run (byte "*") e refl, (λ e. tries-run (byte "_") e refl, (λ e. tries-run (byte "~") e refl, tt)))
 
   at-protocols : EachOf (IsTried GfmAutolinkLiteralProtocolStart TextBeforeData) (codes "Hh")
-  at-protocols = (λ e. tries-protocol 72 e refl, (λ e. tries-protocol 104 e refl, tt))
+  at-protocols = (λ e. tries-protocol (byte "H") e refl, (λ e. tries-protocol (byte "h") e refl, tt))
 
   at-www : EachOf (IsTried GfmAutolinkLiteralWwwStart TextBeforeData) (codes "Ww")
-  at-www = (λ e. tries-www 87 e refl, (λ e. tries-www 119 e refl, tt))
+  at-www = (λ e. tries-www (byte "W") e refl, (λ e. tries-www (byte "w") e refl, tt))
 
   tries : (v : ℕ) → current_of T ≡ Some v → Before (tries_at (first_try v) T)
   tries v =
@@ -439,7 +440,7 @@ html-ready T r = record { spaces = record { resting = r.look.resting; short = r.
 pub before_html-law : Law inline before_html_words
 before_html-law T alone r =
     try-law 6 T HtmlTextStart TextBeforeData (H.html_here T) alone (html-ready T r.before.marked) (omega arith) r.before.marked (λ ok U g. g) (λ t rest g. html-node (is_on T).html_text (ahead T) t rest g) (html-reads T r.angle r.no_autolink)
-    (λ none. to-data 6 T 60 (omega arith) r.before r.angle (html-alone T r.angle r.no_autolink none))
+    (λ none. to-data 6 T (byte "<") (omega arith) r.before r.angle (html-alone T r.angle r.no_autolink none))
 
 pub before_label_start_link-law : Law inline before_label_start_link_words
 before_label_start_link-law T alone r =
@@ -449,12 +450,12 @@ before_label_start_link-law T alone r =
     (subst (λ (x : Tokenizer). AreWithin x x.tokenize_state.label_starts) (sym h.left) (link-within T r.before.marked.ends.text r.before.marked.ends.within h.holds)) (link-advances T U r.before.unchecked r.no_footnote h))
     (λ U now k. let h : link_ends T false U = k in
     rw (restored-fails false (Next TextBefore) (Next TextBeforeData) T.tokenize_state T U (record { grown = h.grown; scratch = h.scratch }), scratched-same T)
-    (to-data 6 T 91 (omega arith) r.before r.bracket (bracket-alone T r.before.unchecked r.bracket r.no_footnote h.refused)))
+    (to-data 6 T (byte "[") (omega arith) r.before r.bracket (bracket-alone T r.before.unchecked r.bracket r.no_footnote h.refused)))
 
 pub before_hard_break_escape-law : Law inline before_hard_break_escape_words
 before_hard_break_escape-law T alone r =
     try-law 6 T HardBreakEscapeStart TextBeforeData (break_here T) alone tt (omega arith) r.before.marked (λ ok U g. g) (λ t rest g. break-node (is_on T).hard_break_escape (ahead T) t rest g) (break-reads T r.slash r.no_escape)
-    (λ none. to-data 6 T 92 (omega arith) r.before r.slash (break-alone T r.slash r.no_escape none))
+    (λ none. to-data 6 T (byte "\\") (omega arith) r.before r.slash (break-alone T r.slash r.no_escape none))
 
 pub before_data-law : Law inline before_data_words
 before_data-law T alone r =

@@ -2,6 +2,7 @@
 use Rattle.markdown_model.specs.Element.{first_check}
 use Rattle.markdown_model.specs.Grammar.{◌>>◌, provided, one}
 use Rattle.std.proofs.Common.{◌≡◌, ℕ, zero, suc, drop, ◌+◌, ◌≤◌, ◌==◌, ◌||◌, true, false, Option, Some, None, List, ◌∷◌, length, refl, sym, ap, ◌∙◌, Bool, ◌&&◌, is_none, []}
+use Rattle.std.specs.Str.{byte}
 use Rattle.std.specs.List.{list_any}
 use Rattle.markdown_engine.specs.Codes.{Code, stop_of, document_start}
 use Rattle.markdown_engine.specs.Lists.{first_of, rest_of}
@@ -76,61 +77,61 @@ alone-at reading T v e h none earlier previous c cs stands w =
 
 -- References, autolinks, escapes and hard breaks.
 
-pub reference-reads : (T : Tokenizer) → current_of T ≡ Some 38 → ReadsElements (reference_here T) T
+pub reference-reads : (T : Tokenizer) → current_of T ≡ Some (byte "&") → ReadsElements (reference_here T) T
 reference-reads T e =
-    at-hand (reference_here T) T 38 e (λ c cs t rest v holds earlier previous stands. reference-element (text_setting T) (end_in T) earlier previous c cs (Some (t, rest)) v holds)
+    at-hand (reference_here T) T (byte "&") e (λ c cs t rest v holds earlier previous stands. reference-element (text_setting T) (end_in T) earlier previous c cs (Some (t, rest)) v holds)
 
-pub reference-alone : (T : Tokenizer) → current_of T ≡ Some 38 → OrStandsAlone (reference_here T) T
+pub reference-alone : (T : Tokenizer) → current_of T ≡ Some (byte "&") → OrStandsAlone (reference_here T) T
 reference-alone T e =
-    alone-at (reference_here T) T 38 e (λ c cs v none earlier previous stands. reference-element (text_setting T) (end_in T) earlier previous c cs None v none)
+    alone-at (reference_here T) T (byte "&") e (λ c cs v none earlier previous stands. reference-element (text_setting T) (end_in T) earlier previous c cs None v none)
 
-pub autolink-reads : (T : Tokenizer) → current_of T ≡ Some 60 → ReadsElements (link_here T) T
+pub autolink-reads : (T : Tokenizer) → current_of T ≡ Some (byte "<") → ReadsElements (link_here T) T
 autolink-reads T e =
-    at-hand (link_here T) T 60 e (λ c cs t rest v holds earlier previous stands. autolink-element (text_setting T) (end_in T) earlier previous c cs t rest v holds)
+    at-hand (link_here T) T (byte "<") e (λ c cs t rest v holds earlier previous stands. autolink-element (text_setting T) (end_in T) earlier previous c cs t rest v holds)
 
 -- HTML where no autolink is
 no-link-at : (T : Tokenizer) (c : Code) (cs : List Code) → link_here T (ahead T) ≡ None → ahead T ≡ c ∷ cs → link_here T (c ∷ cs) ≡ None
 no-link-at T c cs none w = ap (link_here T) (sym w) ∙ none
 
-pub html-reads : (T : Tokenizer) → current_of T ≡ Some 60 → link_here T (ahead T) ≡ None → ReadsElements (html_here T) T
+pub html-reads : (T : Tokenizer) → current_of T ≡ Some (byte "<") → link_here T (ahead T) ≡ None → ReadsElements (html_here T) T
 html-reads T e none t rest holds earlier previous stands =
-    let b : Begins 60 (ahead T) = ahead-some T 60 e in
+    let b : Begins (byte "<") (ahead T) = ahead-some T (byte "<") e in
     ap (text_choice_of T earlier previous) b.whole
     ∙ html-element (text_setting T) (end_in T) earlier previous b.code (rest_of (ahead T)) (Some (t, rest)) b.value (no-link-at T b.code (rest_of (ahead T)) none b.whole) (ap (html_here T) (sym b.whole) ∙ holds)
 
-pub html-alone : (T : Tokenizer) → current_of T ≡ Some 60 → link_here T (ahead T) ≡ None → OrStandsAlone (html_here T) T
+pub html-alone : (T : Tokenizer) → current_of T ≡ Some (byte "<") → link_here T (ahead T) ≡ None → OrStandsAlone (html_here T) T
 html-alone T e none refused earlier previous c cs stands w =
-    html-element (text_setting T) (end_in T) earlier previous c cs None (value-here T 60 c cs e w) (no-link-at T c cs none w) (ap (html_here T) (sym w) ∙ refused)
+    html-element (text_setting T) (end_in T) earlier previous c cs None (value-here T (byte "<") c cs e w) (no-link-at T c cs none w) (ap (html_here T) (sym w) ∙ refused)
 
-pub escape-reads : (T : Tokenizer) → current_of T ≡ Some 92 → ReadsElements (escape_here T) T
+pub escape-reads : (T : Tokenizer) → current_of T ≡ Some (byte "\\") → ReadsElements (escape_here T) T
 escape-reads T e =
-    at-hand (escape_here T) T 92 e (λ c cs t rest v holds earlier previous stands. escape-element (text_setting T) (end_in T) earlier previous c cs t rest v holds)
+    at-hand (escape_here T) T (byte "\\") e (λ c cs t rest v holds earlier previous stands. escape-element (text_setting T) (end_in T) earlier previous c cs t rest v holds)
 
 -- a hard break where no escape is
 no-escape-at : (T : Tokenizer) (c : Code) (cs : List Code) → escape_here T (ahead T) ≡ None → ahead T ≡ c ∷ cs → escape_here T (c ∷ cs) ≡ None
 no-escape-at T c cs none w = ap (escape_here T) (sym w) ∙ none
 
-pub break-reads : (T : Tokenizer) → current_of T ≡ Some 92 → escape_here T (ahead T) ≡ None → ReadsElements (break_here T) T
+pub break-reads : (T : Tokenizer) → current_of T ≡ Some (byte "\\") → escape_here T (ahead T) ≡ None → ReadsElements (break_here T) T
 break-reads T e none t rest holds earlier previous stands =
-    let b : Begins 92 (ahead T) = ahead-some T 92 e in
+    let b : Begins (byte "\\") (ahead T) = ahead-some T (byte "\\") e in
     ap (text_choice_of T earlier previous) b.whole
     ∙ break-element (text_setting T) (end_in T) earlier previous b.code (rest_of (ahead T)) (Some (t, rest)) b.value (no-escape-at T b.code (rest_of (ahead T)) none b.whole) (ap (break_here T) (sym b.whole) ∙ holds)
 
-pub break-alone : (T : Tokenizer) → current_of T ≡ Some 92 → escape_here T (ahead T) ≡ None → OrStandsAlone (break_here T) T
+pub break-alone : (T : Tokenizer) → current_of T ≡ Some (byte "\\") → escape_here T (ahead T) ≡ None → OrStandsAlone (break_here T) T
 break-alone T e none refused earlier previous c cs stands w =
-    break-element (text_setting T) (end_in T) earlier previous c cs None (value-here T 92 c cs e w) (no-escape-at T c cs none w) (ap (break_here T) (sym w) ∙ refused)
+    break-element (text_setting T) (end_in T) earlier previous c cs None (value-here T (byte "\\") c cs e w) (no-escape-at T c cs none w) (ap (break_here T) (sym w) ∙ refused)
 
 -- Spans.
 
-is-span : (v n : ℕ) → v ≡ n → (n == 36 || n == 96) ≡ true → (v == 36 || v == 96) ≡ true
-is-span v n e h = ap (λ x. x == 36 || x == 96) e ∙ h
+is-span : (v n : ℕ) → v ≡ n → (n == byte "$" || n == byte "`") ≡ true → (v == byte "$" || v == byte "`") ≡ true
+is-span v n e h = ap (λ x. x == byte "$" || x == byte "`") e ∙ h
 
-pub span-reads : (T : Tokenizer) (v : ℕ) → current_of T ≡ Some v → (v == 36 || v == 96) ≡ true → ReadsElements (span_at T) T
+pub span-reads : (T : Tokenizer) (v : ℕ) → current_of T ≡ Some v → (v == byte "$" || v == byte "`") ≡ true → ReadsElements (span_at T) T
 span-reads T v e h =
     at-hand (span_at T) T v e (λ c cs t rest k holds earlier previous stands.
     span-element (text_setting T) (end_in T) earlier previous T c cs (Some (t, rest)) refl stands (is-span c.value v k h) holds)
 
-pub span-alone : (T : Tokenizer) (v : ℕ) → current_of T ≡ Some v → (v == 36 || v == 96) ≡ true → OrStandsAlone (span_at T) T
+pub span-alone : (T : Tokenizer) (v : ℕ) → current_of T ≡ Some v → (v == byte "$" || v == byte "`") ≡ true → OrStandsAlone (span_at T) T
 span-alone T v e h =
     alone-at (span_at T) T v e (λ c cs k none earlier previous stands.
     span-element (text_setting T) (end_in T) earlier previous T c cs None refl stands (is-span c.value v k h) none)
@@ -152,12 +153,12 @@ protocol-so : (T : Tokenizer) (v : ℕ) (earlier : List Element) (previous : Opt
     → (provided (is_on T) >> protocol_literal (bytes_of T) (end_in T) previous) cs ≡ protocol_here T cs
 protocol-so T v earlier previous cs last e k = λ i. (provided (is_on T) >> protocol_literal (bytes_of T) (sym (end-here T v last e) i) (sym k.before i)) cs
 
-pub protocol-reads : (T : Tokenizer) (v : ℕ) → EndsWithCodes T.cursor → current_of T ≡ Some v → (v == 72 || v == 104) ≡ true → ReadsElements (protocol_here T) T
+pub protocol-reads : (T : Tokenizer) (v : ℕ) → EndsWithCodes T.cursor → current_of T ≡ Some v → (v == byte "H" || v == byte "h") ≡ true → ReadsElements (protocol_here T) T
 protocol-reads T v last e h =
     at-hand (protocol_here T) T v e (λ c cs t rest k holds earlier previous stands.
     protocol-element (text_setting T) (end_in T) earlier previous v c cs (Some (t, rest)) k h (protocol-so T v earlier previous (c ∷ cs) last e stands ∙ holds))
 
-pub protocol-alone : (T : Tokenizer) (v : ℕ) → EndsWithCodes T.cursor → current_of T ≡ Some v → (v == 72 || v == 104) ≡ true → OrStandsAlone (protocol_here T) T
+pub protocol-alone : (T : Tokenizer) (v : ℕ) → EndsWithCodes T.cursor → current_of T ≡ Some v → (v == byte "H" || v == byte "h") ≡ true → OrStandsAlone (protocol_here T) T
 protocol-alone T v last e h =
     alone-at (protocol_here T) T v e (λ c cs k none earlier previous stands.
     protocol-element (text_setting T) (end_in T) earlier previous v c cs None k h (protocol-so T v earlier previous (c ∷ cs) last e stands ∙ none))
@@ -166,12 +167,12 @@ www-so : (T : Tokenizer) (v : ℕ) (earlier : List Element) (previous : Option C
     → (provided (is_on T) >> www_literal (bytes_of T) (end_in T) previous) cs ≡ www_here T cs
 www-so T v earlier previous cs last e k = λ i. (provided (is_on T) >> www_literal (bytes_of T) (sym (end-here T v last e) i) (sym k.before i)) cs
 
-pub www-reads : (T : Tokenizer) (v : ℕ) → EndsWithCodes T.cursor → current_of T ≡ Some v → (v == 87 || v == 119) ≡ true → ReadsElements (www_here T) T
+pub www-reads : (T : Tokenizer) (v : ℕ) → EndsWithCodes T.cursor → current_of T ≡ Some v → (v == byte "W" || v == byte "w") ≡ true → ReadsElements (www_here T) T
 www-reads T v last e h =
     at-hand (www_here T) T v e (λ c cs t rest k holds earlier previous stands.
     www-element (text_setting T) (end_in T) earlier previous v c cs (Some (t, rest)) k h (www-so T v earlier previous (c ∷ cs) last e stands ∙ holds))
 
-pub www-alone : (T : Tokenizer) (v : ℕ) → EndsWithCodes T.cursor → current_of T ≡ Some v → (v == 87 || v == 119) ≡ true → OrStandsAlone (www_here T) T
+pub www-alone : (T : Tokenizer) (v : ℕ) → EndsWithCodes T.cursor → current_of T ≡ Some v → (v == byte "W" || v == byte "w") ≡ true → OrStandsAlone (www_here T) T
 www-alone T v last e h =
     alone-at (www_here T) T v e (λ c cs k none earlier previous stands.
     www-element (text_setting T) (end_in T) earlier previous v c cs None k h (www-so T v earlier previous (c ∷ cs) last e stands ∙ none))
@@ -197,8 +198,8 @@ pub run-leaf : (T : Tokenizer) (v : ℕ) (t : Forest) (rest : List Code) → cur
 run-leaf T v t rest e m holds =
     run-node v (begins_run (switches_of T) v) (ahead T) t rest (no-ending v m) (run-some t rest v (begins_run (switches_of T) v) (ahead T) (run-at T v (ahead T) e ∙ holds))
   where
-    no-ending : (n : ℕ) → is_marker n ≡ true → (n == 10) ≡ false
-    no-ending n h = one-of (λ x. (x == 10) ≡ false) run_markers n (refl, (refl, (refl, tt))) h
+    no-ending : (n : ℕ) → is_marker n ≡ true → (n == byte "\n") ≡ false
+    no-ending n h = one-of (λ x. (x == byte "\n") ≡ false) run_markers n (refl, (refl, (refl, tt))) h
 
 -- Checks.
 
@@ -236,7 +237,7 @@ check-reads T v e =
 -- no check is read at no code
 pub no-check-at-end : (T : Tokenizer) → current_of T ≡ None → ReadsElements (check_here T) T
 unfolding task_check one
-no-check-at-end T e t rest holds earlier previous stands = absurd (no-end (check_here T []) (off-or-none (may_begin T) task_check [] (bind-none (one (is_value 91)) _ [] refl)) (ap (check_here T) (sym (ahead-none T e)) ∙ holds))
+no-check-at-end T e t rest holds earlier previous stands = absurd (no-end (check_here T []) (off-or-none (may_begin T) task_check [] (bind-none (one (is_value (byte "["))) _ [] refl)) (ap (check_here T) (sym (ahead-none T e)) ∙ holds))
   where
     no-end : (o : Option (Forest × List Code)) → o ≡ None → o ≡ Some (t, rest) → ⊥
     no-end None h k = cc

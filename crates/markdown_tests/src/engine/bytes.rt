@@ -1,11 +1,11 @@
 // Sets of bytes.
-ghost use Rattle.std.specs.Prelude.{◌≡◌, ◌∷◌, []};
+ghost use Rattle.std.specs.Prelude.{◌≡◌, codes};
 
 use markdown_engine::byte_set;
 use markdown_engine::bytes::ByteSet;
 
 fn hyphen_and_tab() -> ByteSet
-    ensures { result ≡ 45 ∷ 9 ∷ [] }
+    ensures { result ≡ codes "-\t" }
 {
     byte_set!(b'-', b'\t')
 }

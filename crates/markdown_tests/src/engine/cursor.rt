@@ -1,5 +1,5 @@
 // What a cursor reads, code by code.
-ghost use Rattle.std.specs.Prelude.{◌≡◌, ◌∷◌, []};
+ghost use Rattle.std.specs.Prelude.{◌≡◌, codes};
 
 use markdown_engine::byte_set;
 use markdown_engine::bytes::ByteSet;
@@ -120,7 +120,7 @@ fn reads_tabs(rt: HostRuntime) {
 }
 
 fn hyphen() -> ByteSet
-    ensures { result ≡ 45 ∷ [] }
+    ensures { result ≡ codes "-" }
 {
     byte_set!(b'-')
 }
