@@ -1,10 +1,11 @@
 -- The pairs of a container, by the numbers in it, are its pair list of the definition.
 use Rattle.std.proofs.Common.{◌≡◌, ℕ, ◌+◌, ◌-◌, ◌%◌, ◌<◌, ◌≤◌, Bool, true, false, not, cond, ◌&&◌, ◌||◌, eqb, ltb, List, [], ◌∷◌, ◌++◌, length, map, refl, sym, ◌∙◌, ap, subst, inl, inr, ◌⊎◌, arith}
-use Rattle.std.proofs.lemmas.Bool.{cases_eq, cases_lt, cases_order, cases_Bool, eq-eqb, eqb-true, ne_eqb, lt-ltb, le-ltb, and_parts}
+use Rattle.std.proofs.lemmas.Bool.{cases_eq, cases_lt, cases_order, cases_Bool, eq-eqb, eqb-true, ne_eqb, lt-ltb, le-ltb, and_parts, not-false, not_from_false, not-true}
 use Rattle.std.proofs.lemmas.List.{map_push}
 use Rattle.std.proofs.lemmas.List.Elements.{All-head, All-tail, All-push, All-nil}
 use Rattle.std.proofs.lemmas.List.Sums.{sum_by-cons}
 use Rattle.std.specs.Prelude.{All, sum_by, min}
+use Rattle.std.proofs.Math.Bool.{and-false}
 use Rattle.std.specs.List.{list_any}
 use Rattle.markdown_engine.specs.declared.configuration.ParseOptions.{ParseOptions}
 use Rattle.markdown_model.specs.Laws.{shape_of}
@@ -32,21 +33,6 @@ tilde options marker x y = eqb marker 126 && not (eqb x y && (eqb x 2 || (eqb x 
 and-assoc : (a b c : Bool) → ((a && b) && c) ≡ (a && (b && c))
 and-assoc true b c = refl
 and-assoc false b c = refl
-
-not-false : (b : Bool) → not b ≡ true → b ≡ false
-not-false true h = sym h
-not-false false h = refl
-
-not-true : (b : Bool) → b ≡ false → not b ≡ true
-not-true b e = ap not e
-
-not-not : (b : Bool) → not b ≡ false → b ≡ true
-not-not true h = refl
-not-not false h = sym h
-
-and-false : (b : Bool) → (b && false) ≡ false
-and-false true = refl
-and-false false = refl
 
 -- a run of tildes is whole or used up
 abbrev IsTildeWhole : Sequence → ℕ → Type 0
@@ -102,7 +88,7 @@ fit-rules options a b x y m lx ly wa wb h =
       | inr other ↦
           let t : eqb b.marker 126 ≡ false = ne_eqb b.marker 126 other in
           let open_to : not (three_refuses (a.may_close || b.may_open) (ruled_size options a.size x) (ruled_size options b.size y)) ≡ true = (let f = h in rw t at f) in (
-            sym (and-assoc (a.may_close || b.may_open) _ _) ∙ not-false _ open_to,
+            sym (and-assoc (a.may_close || b.may_open) _ _) ∙ not-true _ open_to,
             rw (m, t) refl,
           )
     ]
@@ -114,9 +100,9 @@ rules-fit options a b x y m no_three no_tilde =
     elim (cases_eq b.marker 126) [
       | inl is ↦
           let t : eqb b.marker 126 ≡ true = eq-eqb b.marker 126 is in
-          rw t (sym (tilde-same options x y) ∙ not-not _ (let f = no_tilde in rw (m, t) at f))
+          rw t (sym (tilde-same options x y) ∙ not-false _ (let f = no_tilde in rw (m, t) at f))
       | inr other ↦
-          rw (ne_eqb b.marker 126 other) (not-true _ (and-assoc (a.may_close || b.may_open) _ _ ∙ no_three))
+          rw (ne_eqb b.marker 126 other) (not_from_false _ (and-assoc (a.may_close || b.may_open) _ _ ∙ no_three))
     ]
 
 -- After pairs that follow each other, a run of tildes is whole or used up.

@@ -1,18 +1,16 @@
 -- The runs as they stand say what the pairs of each container took of them.
-use Rattle.std.proofs.Common.{◌≡◌, ◌≢◌, ℕ, ◌+◌, ◌*◌, ◌<◌, ◌≤◌, Bool, true, false, ◌&&◌, ◌||◌, eqb, ltb, List, [], ◌∷◌, ◌++◌, length, get_or, set, refl, sym, ◌∙◌, ap, inl, inr, arith, length-set}
+use Rattle.std.proofs.Common.{◌≡◌, ◌≢◌, ℕ, ◌+◌, ◌*◌, ◌<◌, ◌≤◌, false, ◌&&◌, ◌||◌, eqb, ltb, List, [], ◌∷◌, ◌++◌, length, get_or, set, refl, sym, ◌∙◌, ap, inl, inr, arith, length-set}
 use Rattle.std.proofs.lemmas.Bool.{eq-eqb, ne_eqb, cases_Bool, and_parts, ltb-true, le-ltb, and_right}
 use Rattle.std.proofs.lemmas.List.{get_or-set_same, get_or-set_other}
 use Rattle.std.proofs.lemmas.List.Elements.{All-weaker}
 use Rattle.std.proofs.lemmas.List.Folds.{list_any-append, list_any_none}
 use Rattle.std.proofs.lemmas.List.Sums.{sum_by_push, sum_by-set}
 use Rattle.std.specs.Prelude.{All}
+use Rattle.std.proofs.Math.Bool.{or-false}
 use Rattle.std.specs.List.{list_any}
 use Rattle.markdown_attention.specs.declared.attention.runs.Sequence.{Sequence}
 use Rattle.markdown_attention.specs.declared.attention.pairing.Pair.{Pair}
 use Rattle.markdown_attention.specs.Pairs.{run_at, no_run, size_of_pair, lower, after_taking, markers_left, taken, takes, is_shut, is_around}
-
-pub or_false : (b : Bool) → (b || false) ≡ b
-or_false b = elim b as (λ v. (v || false) ≡ v) [ true ↦ refl | false ↦ refl ]
 
 -- no pair is around a run that no closer is past
 pub not_shut_past : (turn : ℕ) (pairs : List Pair) → All (λ p. p.closer ≤ turn) pairs → is_shut pairs turn ≡ false
@@ -24,7 +22,7 @@ not_shut_past turn pairs h =
 
 pub shut_push : (pairs : List Pair) (q : Pair) (i : ℕ) → is_shut (pairs ++ q ∷ []) i ≡ (is_shut pairs i || is_around i q)
 unfolding is_shut
-shut_push pairs q i = list_any-append (is_around i) pairs (q ∷ []) ∙ ap (λ x. list_any (is_around i) pairs || x) (or_false (is_around i q))
+shut_push pairs q i = list_any-append (is_around i) pairs (q ∷ []) ∙ ap (λ x. list_any (is_around i) pairs || x) (or-false (is_around i q))
 
 pub taken_push : (pairs : List Pair) (q : Pair) (i : ℕ) → taken (pairs ++ q ∷ []) i ≡ taken pairs i + takes i q
 unfolding taken

@@ -1,5 +1,6 @@
 -- A text content ends with its last code.
 use Rattle.std.proofs.Common.{◌≡◌, ◌≢◌, ℕ, suc, ◌+◌, Bool, true, false, ◌&&◌, ◌||◌, not, if◌then◌else◌, Some, None, List, [], ◌∷◌, drop, slice_get, add-one, refl, sym, ap, subst, ◌∙◌}
+use Rattle.std.proofs.lemmas.Bool.{both_ways}
 use Rattle.markdown_engine.specs.Codes.{Code, is_line_ending, is_blank, place_of, point_at, stop_of, document_start}
 use Rattle.markdown_engine.specs.Content.{IsContent, IsTextContent, content_of, content_end, has_no_blank_line, is_text_codes}
 use Rattle.markdown_engine.specs.Standing.{IsStanding, is_open, followed}
@@ -10,10 +11,6 @@ use Rattle.markdown_engine.proofs.Standings.{open-row, line-last}
 use Rattle.markdown_engine.proofs.Steps.{stop_at, code_here}
 use Rattle.markdown_construct.proofs.ContentTexts.{Reached, reached, none-some, same-code}
 
-not-both : (b : Bool) → b ≡ true → b ≡ false → ⊥
-not-both true e h = cc
-not-both false e h = cc
-
 -- after a code that is no line ending, the next one stands in the same piece
 follows-on : (bytes : List ℕ) (pieces left : List Piece) (k n : ℕ) (p : Point) → IsStanding bytes pieces left p n → is_open (place_of p) left ≡ true → is_line_ending (code_here bytes p) ≡ false
     → (followed bytes k (stop_at bytes p) left).1 ≡ stop_at bytes p
@@ -23,7 +20,7 @@ follows-on bytes pieces (piece ∷ next ∷ more) k n p s o e = by_open (is_open
   where
     by_open : (b : Bool) → is_open (place_of (stop_at bytes p)) (piece ∷ []) ≡ b → (let f : ℕ × Point = if b then (k, stop_at bytes p) else (k + 1, point_at bytes next.start) in f.1 ≡ stop_at bytes p)
     by_open true h = refl
-    by_open false h = absurd (not-both _ (line-last bytes p piece next more (open-row bytes p piece (next ∷ more) s.is_point s.in_order s.within o) s.line h) e)
+    by_open false h = absurd (both_ways _ e (line-last bytes p piece next more (open-row bytes p piece (next ∷ more) s.is_point s.in_order s.within o) s.line h))
 
 -- behind the last code, where that is no line ending, the content ends
 last-stop : (bytes : List ℕ) (pieces : List Piece) (n : ℕ) (c : Code) → IsContent bytes pieces → slice_get (content_of bytes pieces) n ≡ Some c → slice_get (content_of bytes pieces) (suc n) ≡ None → is_line_ending c ≡ false

@@ -1,9 +1,9 @@
 -- A content is read as characters.
-use Rattle.std.proofs.Common.{◌≡◌, ℕ, zero, suc, ◌+◌, ◌<◌, ◌≤◌, ◌==◌, ◌&&◌, not, nat_lt, Bool, true, false, if◌then◌else◌, Option, Some, None, List, [], ◌∷◌, length, drop, get_or, slice_get, add-one, refl, sym, ap, subst, ◌∙◌, arith}
+use Rattle.std.proofs.Common.{◌≡◌, ℕ, zero, suc, ◌+◌, ◌<◌, ◌≤◌, ◌==◌, ◌&&◌, nat_lt, Bool, true, false, if◌then◌else◌, Option, Some, None, List, [], ◌∷◌, length, drop, get_or, slice_get, add-one, refl, sym, ap, subst, ◌∙◌, arith}
 use Rattle.std.specs.List.{All}
 use Rattle.std.specs.Str.{IsUtf8, IsCharBoundary}
 use Rattle.std.proofs.lemmas.Bool.Decides.{nat_tests}
-use Rattle.std.proofs.lemmas.Bool.{and_parts, eqb-true}
+use Rattle.std.proofs.lemmas.Bool.{and_parts, eqb-true, not-false}
 use Rattle.std.proofs.lemmas.List.{length-drop}
 use Rattle.std.proofs.lemmas.Str.{IsCharBoundary-start, IsCharBoundary-before_ascii, IsCharBoundary-after_ascii}
 use Rattle.markdown_engine.specs.Codes.{Code, is_line_ending_byte, line_ending_len, line_start, next_column, tab_value, place_of, point_at}
@@ -200,10 +200,6 @@ piece-ends bytes q [] p h o e = absurd (never o)
 piece-ends bytes q (piece ∷ more) p h o e =
     let same : q.index ≡ piece.end.0 = eqb-true q.index piece.end.0 (and_parts (q.index == piece.end.0) (q.vs == piece.end.1) (not-false _ e)).0 in
     subst (λ i. IsCharBoundary bytes i) (sym same) h.0.1
-  where
-    not-false : (b : Bool) → not b ≡ false → b ≡ true
-    not-false true x = refl
-    not-false false x = cc
 
 -- a code ends between characters, unless a later byte follows
 ends-at : (bytes : List ℕ) (pieces : List Piece) (n : ℕ) (c : Code) → IsContent bytes pieces → slice_get (content_of bytes pieces) n ≡ Some c → at_later (value_of (slice_get (content_of bytes pieces) (suc n))) ≡ false → IsCharBoundary bytes c.stop.index

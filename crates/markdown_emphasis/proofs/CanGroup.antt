@@ -1,5 +1,6 @@
 -- The edits of runs can be made.
-use Rattle.std.proofs.Common.{◌≡◌, ℕ, zero, suc, ◌+◌, ◌≤◌, Bool, true, false, List, [], ◌∷◌, ◌++◌, length, drop, if◌then◌else◌, refl, sym, ap, subst, ◌∙◌, arith, inl, inr, ◌⊎◌}
+use Rattle.std.proofs.Common.{◌≡◌, ℕ, zero, suc, ◌+◌, ◌≤◌, Bool, true, false, List, [], ◌∷◌, ◌++◌, length, drop, if◌then◌else◌, refl, sym, ap, subst, ◌∙◌, arith, inl, inr}
+use Rattle.std.proofs.lemmas.Bool.{both_ways, cases_Bool}
 use Rattle.std.proofs.lemmas.List.Elements.{All-nil, All-cons}
 use Rattle.std.specs.List.{All}
 use Rattle.markdown_engine.specs.Chain.{has_link, linked_at}
@@ -12,14 +13,6 @@ use Rattle.markdown_emphasis.specs.RunEdits.{edits_by, HaveRunEnds}
 use Rattle.markdown_emphasis.specs.Word.{begins_run}
 use Rattle.markdown_emphasis.proofs.LogFacts.{pass-log}
 use Rattle.markdown_emphasis.proofs.PassLaw.{stays-here}
-
-true-or : (b : Bool) → (b ≡ true) ⊎ (b ≡ false)
-true-or true = inl refl
-true-or false = inr refl
-
-clash : {A : Type 0} → (b : Bool) → b ≡ true → b ≡ false → A
-clash true h k = cc
-clash false h k = cc
 
 linked-drop : (k j : ℕ) (es : List Event) (i : ℕ) → i ≡ j + k → linked_at es i ≡ linked_at (drop j es) k
 linked-drop k zero es i e = let same : i ≡ k = omega (arith, e) in ap (linked_at es) same
@@ -56,7 +49,7 @@ module _ (comes : Sequence → List Event) (tildes : Bool) (bytes : List ℕ) wh
       let first : List Sequence = first_run tildes bytes n i w.container (e ∷ x ∷ es) in
       let rest : List Sequence = from (n + length first) (suc i) (where_after i e w) (x ∷ es) in
       let ih : Within m rest = within (x ∷ es) (n + length first) (suc i) (where_after i e w) m (omega (arith, l)) in
-      elim (true-or (opens_run e)) [
+      elim (cases_Bool (opens_run e)) [
         | inl o ↦
             let is : first ≡ r ∷ [] = ap (λ (b : Bool). if b then r ∷ [] else []) o in
             subst (λ (xs : List Sequence). Within m (xs ++ rest)) (sym is) (All-cons (λ e. e.at ≤ m) (record { at = i; remove = 2; events = comes r; before = false }) (edits_by comes rest) (omega (arith, l)) ih)
@@ -70,19 +63,19 @@ module _ (comes : Sequence → List Event) (tildes : Bool) (bytes : List ℕ) wh
 
   goes-unlinked : (es : List Event) (j : ℕ) → HaveRunPlaces bytes es → HaveRunEnds es → is_removed (log_of es) j ≡ true → linked_at es j ≡ false
   goes-unlinked es j p h r =
-      elim (true-or (begins_run (drop j es))) [
+      elim (cases_Bool (begins_run (drop j es))) [
         | inl b ↦ linked-drop 0 j es j (omega arith) ∙ first-unlinked (drop j es) b (ends-drop j es h)
         | inr b ↦ before j b r
       ]
     where
       before : (j : ℕ) → begins_run (drop j es) ≡ false → is_removed (log_of es) j ≡ true → linked_at es j ≡ false
-      before zero b r = clash (is_removed (log_of es) 0) r (stays-here es (log_of es) (λ k. added_at k (log_of es)) (pass-log comes tildes bytes es outermost p) 0 b (λ q e. absurd (omega (arith, e))))
+      before zero b r = absurd (both_ways (is_removed (log_of es) 0) (stays-here es (log_of es) (λ k. added_at k (log_of es)) (pass-log comes tildes bytes es outermost p) 0 b (λ q e. absurd (omega (arith, e)))) r)
       before (suc j) b r =
-          elim (true-or (begins_run (drop j es))) [
+          elim (cases_Bool (begins_run (drop j es))) [
             | inl d ↦ linked-drop 1 j es (suc j) (omega arith) ∙ second-unlinked (drop j es) d (ends-drop j es h)
             | inr d ↦
-                clash (is_removed (log_of es) (suc j)) r
-                (stays-here es (log_of es) (λ k. added_at k (log_of es)) (pass-log comes tildes bytes es outermost p) (suc j) b (λ q e. let same : q ≡ j = omega (arith, e) in ap (λ i. begins_run (drop i es)) same ∙ d))
+                absurd (both_ways (is_removed (log_of es) (suc j))
+                (stays-here es (log_of es) (λ k. added_at k (log_of es)) (pass-log comes tildes bytes es outermost p) (suc j) b (λ q e. let same : q ≡ j = omega (arith, e) in ap (λ i. begins_run (drop i es)) same ∙ d)) r)
           ]
 
   pub can-group : (es : List Event) → HaveRunPlaces bytes es → HaveRunEnds es → CanEdit (log_of es) es

@@ -1,5 +1,6 @@
 -- The runs of a tree's events, counted by its containers, and by its codes.
-use Rattle.std.proofs.Common.{◌≡◌, ℕ, ◌+◌, ◌≤◌, Bool, true, false, if◌then◌else◌, List, [], ◌∷◌, ◌++◌, length, filter, Option, None, refl, sym, ap, ◌∙◌, arith, inl, inr, ◌⊎◌, sum_by, length-append}
+use Rattle.std.proofs.Common.{◌≡◌, ℕ, ◌+◌, ◌≤◌, Bool, true, false, if◌then◌else◌, List, [], ◌∷◌, ◌++◌, length, filter, Option, None, refl, sym, ap, ◌∙◌, arith, inl, inr, sum_by, length-append}
+use Rattle.std.proofs.lemmas.Bool.{cases_Bool}
 use Rattle.std.specs.List.{count_by}
 use Rattle.std.proofs.lemmas.List.Sums.{sum_by-append, sum_by-cons, length-filter}
 use Rattle.std.proofs.lemmas.List.Elements.{filter-append}
@@ -19,10 +20,6 @@ use Rattle.markdown_attention.specs.Rows.{leaf_run, inner, as_text, text_count, 
 use Rattle.markdown_attention.specs.declared.attention.runs.Sequence.{Sequence}
 use Rattle.markdown_attention.proofs.RowLemmas.{leaf-shape}
 use Rattle.markdown_emphasis.proofs.RowWord.{runs-empty, runs-run, runs-leaf, runs-group, run-name}
-
-true-or : (b : Bool) → (b ≡ true) ⊎ (b ≡ false)
-true-or true = inl refl
-true-or false = inr refl
 
 -- a number that adds up over lists
 pub record AddsUp {A : Type 0} (F : List A → ℕ) : Type 0 where
@@ -82,7 +79,7 @@ module _ (tildes : Bool) (bytes : List ℕ) where
       let codes : length (cs ++ leaf_codes rest) ≡ length cs + length (leaf_codes rest) = length-append cs (leaf_codes rest) in
       let sum : markers_left (here ++ more) ≡ markers_left here + markers_left more = sum_by-append (λ (q : Sequence). q.remaining) here more in
       let size : length (here ++ more) ≡ length here + length more = length-append here more in
-      let one : (markers_left here ≤ length cs) × (length here ≤ length cs) = elim (true-or (is_run name)) [
+      let one : (markers_left here ≤ length cs) × (length here ≤ length cs) = elim (cases_Bool (is_run name)) [
         | inl e ↦
             let q : Sequence = sequence_at tildes bytes n i k (start_of cs) (stop_of document_start cs) in
             let is : here ≡ q ∷ [] = leaf-run-yes tildes bytes n i k name (start_of cs) (stop_of document_start cs) e in
@@ -125,7 +122,7 @@ module _ (s : Setting) (tildes : Bool) (bytes : List ℕ) (same : s.bytes ≡ by
       let r : in_rows rest ≡ G more = rows-counted rest (n + length here) (i + 2) m k h.1 in
       let b : sum_by F (rows_inside s (leaf_then name link cs rest)) ≡ sum_by F (rows_inside s rest) = ap (λ x. sum_by F x) (rows-leaf s name link cs rest) in
       let sum : G (here ++ more) ≡ G here + G more = g.append here more in
-      let first : F (runs_of s (leaf_then name link cs rest)) ≡ G here + F (runs_of s rest) = elim (true-or (is_run name)) [
+      let first : F (runs_of s (leaf_then name link cs rest)) ≡ G here + F (runs_of s rest) = elim (cases_Bool (is_run name)) [
         | inl e ↦
             let is : here ≡ sequence_at tildes bytes n i k (start_of cs) (stop_of document_start cs) ∷ [] = leaf-run-yes tildes bytes n i k name (start_of cs) (stop_of document_start cs) e in
             let a : F (runs_of s (leaf_then name link cs rest)) ≡ F (run_of s cs ∷ []) + F (runs_of s rest) =

@@ -1,5 +1,6 @@
 -- The events of a tree of stripes have the ends that the edits ask for.
-use Rattle.std.proofs.Common.{◌≡◌, ◌≢◌, ℕ, suc, ◌+◌, ◌-◌, Bool, true, false, List, [], ◌∷◌, ◌++◌, length, Option, Some, None, refl, sym, ap, subst, ◌∙◌, arith, append_assoc, append-nil, inl, inr, ◌⊎◌}
+use Rattle.std.proofs.Common.{◌≡◌, ◌≢◌, ℕ, suc, ◌+◌, ◌-◌, false, List, [], ◌∷◌, ◌++◌, length, Option, Some, None, refl, sym, ap, subst, ◌∙◌, arith, append_assoc, append-nil}
+use Rattle.std.proofs.lemmas.Bool.{both_ways}
 use Rattle.markdown_engine.specs.Codes.{Code, stop_of, document_start}
 use Rattle.markdown_engine.specs.Past.{appended_from}
 use Rattle.markdown_engine.specs.Tree.{Forest, empty, leaf_then, group_then, event, event_count, start_of}
@@ -13,14 +14,6 @@ use Rattle.markdown_emphasis.specs.Marks.{IsStripe, shifted}
 use Rattle.markdown_emphasis.specs.Trees.{HasStripes}
 use Rattle.markdown_emphasis.specs.RunEdits.{HaveRunEnds}
 use Rattle.markdown_emphasis.proofs.Stripes.{stripe-stop}
-
-clash : {A : Type 0} → (b : Bool) → b ≡ true → b ≡ false → A
-clash true h k = cc
-clash false h k = cc
-
-true-or : (b : Bool) → (b ≡ true) ⊎ (b ≡ false)
-true-or true = inl refl
-true-or false = inr refl
 
 no-link : {A : Type 0} → (c : Content) → ◌≡◌ {A = Option Content} (Some c) None → A
 no-link c e = cc
@@ -36,7 +29,7 @@ stripe-end (c ∷ cs) n h =
     is ∙ ap (shifted p) size
 
 other-event : (e : Event) (es : List Event) → opens_run e ≡ false → HaveRunEnds es → HaveRunEnds (e ∷ es)
-other-event e es o h = (λ y. clash (opens_run e) y o, h)
+other-event e es o h = (λ y. absurd (both_ways (opens_run e) o y), h)
 
 pub ends-row : (t : Forest) (n : ℕ) (previous : Option ℕ) (rest : List Event) → HasStripes t → HaveRunEnds rest → HaveRunEnds (appended_from n previous t ++ rest)
 ends-row empty n previous rest h r = r

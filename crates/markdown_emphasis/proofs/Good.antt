@@ -1,6 +1,6 @@
 -- Rows as the pass of runs wants them, and the groups of labels of such rows.
 use Rattle.std.proofs.Common.{◌≡◌, ℕ, Bool, true, false, ◌&&◌, ◌||◌, List, [], ◌∷◌, ◌++◌, length, drop, map, refl, Option, Some, None}
-use Rattle.std.proofs.lemmas.Bool.{or_parts}
+use Rattle.std.proofs.lemmas.Bool.{or_parts, both_ways}
 use Rattle.markdown_engine.specs.declared.event.Content.{Content}
 use Rattle.markdown_engine.specs.declared.event.Name.{Name}
 use Rattle.markdown_engine.specs.declared.event.Point.{Point}
@@ -16,10 +16,6 @@ use Rattle.markdown_emphasis.specs.Trees.{HasStripes}
 use Rattle.markdown_emphasis.specs.Word.{IsUnlinkedRow}
 use Rattle.markdown_emphasis.proofs.Quiet.{is_mark, is_linked, marks, IsQuiet, mark_laws}
 use Rattle.markdown_emphasis.proofs.Singles.{IsRunLeaf, IsPlaced}
-
-clash : {A : Type 0} → (b : Bool) → b ≡ true → b ≡ false → A
-clash true h k = cc
-clash false h k = cc
 
 -- each run of a row and inside it is a leaf that passes
 abbrev pub EachRun : (List Code → Type 0) → Forest → Type 0
@@ -70,7 +66,7 @@ module _ (b : Bool) where
   quiet-runs bytes empty h = tt
   quiet-runs bytes (leaf_then name link cs rest) h =
       let p = leaf-parts name link cs rest h in
-      (((quiet-run name p.0.0).1, λ e. clash (is_run name) e (quiet-run name p.0.0).0), quiet-runs bytes rest p.1)
+      (((quiet-run name p.0.0).1, λ e. absurd (both_ways (is_run name) (quiet-run name p.0.0).0 e)), quiet-runs bytes rest p.1)
   quiet-runs bytes (group_then name from to inside rest) h =
       let p = group-parts name from to inside rest h in
       (((quiet-run name p.0).0, λ e. quiet-none inside p.1.0), (quiet-runs bytes inside p.1.0, quiet-runs bytes rest p.1.1))
@@ -79,16 +75,16 @@ module _ (b : Bool) where
   quiet-stripes empty h = tt
   quiet-stripes (leaf_then name link cs rest) h =
       let p = leaf-parts name link cs rest h in
-      ((λ e. clash (is_run name) e (quiet-run name p.0.0).0), quiet-stripes rest p.1)
+      ((λ e. absurd (both_ways (is_run name) (quiet-run name p.0.0).0 e)), quiet-stripes rest p.1)
   quiet-stripes (group_then name from to inside rest) h =
       let p = group-parts name from to inside rest h in
-      (((quiet-run name p.0).0, λ e. clash (has_run inside) e (quiet-none inside p.1.0)), (quiet-stripes inside p.1.0, quiet-stripes rest p.1.1))
+      (((quiet-run name p.0).0, λ e. absurd (both_ways (has_run inside) (quiet-none inside p.1.0) e)), (quiet-stripes inside p.1.0, quiet-stripes rest p.1.1))
 
   pub quiet-each : (P : List Code → Type 0) (t : Forest) → marks b t ≡ false → EachRun P t
   quiet-each P empty h = tt
   quiet-each P (leaf_then name link cs rest) h =
       let p = leaf-parts name link cs rest h in
-      ((λ e. clash (is_run name) e (quiet-run name p.0.0).0), quiet-each P rest p.1)
+      ((λ e. absurd (both_ways (is_run name) (quiet-run name p.0.0).0 e)), quiet-each P rest p.1)
   quiet-each P (group_then name from to inside rest) h =
       let p = group-parts name from to inside rest h in
       (quiet-each P inside p.1.0, quiet-each P rest p.1.1)
@@ -115,7 +111,7 @@ pub good-leaf : (bytes : List ℕ) (name : Name) (cs : List Code) → is_mark na
 good-leaf bytes name [] m = (tt, (tt, (tt, tt)))
 good-leaf bytes name (c ∷ cs) m =
     let p = quiet-run name m in
-    (((p.1, λ e. clash (is_run name) e p.0), tt), (((λ e. clash (is_run name) e p.0), tt), ((refl, tt), ((λ e. clash (is_run name) e p.0), tt))))
+    (((p.1, λ e. absurd (both_ways (is_run name) p.0 e)), tt), (((λ e. absurd (both_ways (is_run name) p.0 e)), tt), ((refl, tt), ((λ e. absurd (both_ways (is_run name) p.0 e)), tt))))
 
 runs-join : (bytes : List ℕ) (x y : Forest) → HasRuns bytes x → HasRuns bytes y → HasRuns bytes (x ⊕ y)
 runs-join bytes empty y h k = k
@@ -206,7 +202,7 @@ module _ (bytes : List ℕ) (kind : LabelKind) (marker : List Code) (inside : Fo
       let none : has_run tail ≡ false = quiet-none false tail q in (
         ((name.0, λ e. none), (((refl, λ e. no-run-row), (good-row.0, quiet-runs false bytes tail q)), tt)),
         (
-          ((name.0, λ e. clash (has_run tail) e none), (((refl, λ e. good-row.1.1.0), (good-row.1.0, quiet-stripes false tail q)), tt)),
+          ((name.0, λ e. absurd (both_ways (has_run tail) none e)), (((refl, λ e. good-row.1.1.0), (good-row.1.0, quiet-stripes false tail q)), tt)),
           (tt, ((good-row.1.1.1, quiet-each false (IsPlaced bytes) tail q), tt)),
         ),
       )

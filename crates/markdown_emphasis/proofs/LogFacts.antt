@@ -1,6 +1,6 @@
 -- What the edits of runs collect at each place.
-use Rattle.std.proofs.Common.{◌≡◌, ℕ, zero, suc, ◌+◌, ◌<◌, ◌≤◌, ◌==◌, ◌&&◌, Bool, true, false, if◌then◌else◌, List, [], ◌∷◌, ◌++◌, length, drop, refl, sym, ap, subst, ◌∙◌, arith, append-nil, inl, inr, ◌⊎◌}
-use Rattle.std.proofs.lemmas.Bool.Decides.{nat_tests}
+use Rattle.std.proofs.Common.{◌≡◌, ℕ, zero, suc, ◌+◌, ◌<◌, ◌≤◌, ◌==◌, ◌&&◌, Bool, true, false, if◌then◌else◌, List, [], ◌∷◌, ◌++◌, length, drop, refl, sym, ap, subst, ◌∙◌, arith, append-nil, inl, inr}
+use Rattle.std.proofs.lemmas.Bool.{cases_Bool, ne_eqb, eq-eqb}
 use Rattle.markdown_engine.specs.Edits.{removed_at, front_at, back_at, added_at}
 use Rattle.markdown_engine.specs.declared.event.Event.{Event}
 use Rattle.markdown_engine.specs.declared.util.edit_map.Edit.{Edit}
@@ -9,12 +9,6 @@ use Rattle.markdown_attention.specs.Reading.{Container, opens_run, sequence_at, 
 use Rattle.markdown_attention.specs.declared.attention.runs.Sequence.{Sequence}
 use Rattle.markdown_emphasis.specs.RunEdits.{edits_by}
 use Rattle.markdown_emphasis.specs.Word.{begins_run, IsPassLog}
-
-same-test : (a b : ℕ) → a ≡ b → (a == b) ≡ true
-same-test a b h = grind (arith, nat_tests)
-
-other-test : (a b : ℕ) → (a ≡ b → ⊥) → (a == b) ≡ false
-other-test a b h = grind (arith, nat_tests)
 
 zero-more : (n : ℕ) → 0 + n ≡ n
 zero-more n = omega arith
@@ -57,24 +51,24 @@ module _ (comes : Sequence → List Event) where
   back-below n k [] h l = refl
   back-below n k (r ∷ rs) h l =
       let a = h.0 in
-      back-by k r rs false (other-test r.event k (λ e. omega (arith, a, l, e))) ∙ back-below (r.event + 1) k rs h.1 (omega (arith, a, l))
+      back-by k r rs false (ne_eqb r.event k (λ e. omega (arith, a, l, e))) ∙ back-below (r.event + 1) k rs h.1 (omega (arith, a, l))
 
   removed-below : (n k : ℕ) (rs : List Sequence) → AreFrom n rs → k < n → removed_at k (edits rs) ≡ 0
   removed-below n k [] h l = refl
   removed-below n k (r ∷ rs) h l =
       let a = h.0 in
-      removed-by k r rs false (other-test r.event k (λ e. omega (arith, a, l, e))) ∙ zero-more (removed_at k (edits rs)) ∙ removed-below (r.event + 1) k rs h.1 (omega (arith, a, l))
+      removed-by k r rs false (ne_eqb r.event k (λ e. omega (arith, a, l, e))) ∙ zero-more (removed_at k (edits rs)) ∙ removed-below (r.event + 1) k rs h.1 (omega (arith, a, l))
 
   -- at the event of a run
   pub back-run : (n k g : ℕ) (rs : List Sequence) → AreFrom n rs → g < length rs → (run_at rs g).event ≡ k → back_at k (edits rs) ≡ comes (run_at rs g)
   back-run n k g [] h l e = absurd (omega (arith, l))
   back-run n k zero (r ∷ rs) h l e =
-      back-by k r rs true (same-test r.event k e)
+      back-by k r rs true (eq-eqb r.event k e)
       ∙ ap (λ xs. comes r ++ xs) (back-below (r.event + 1) k rs h.1 (omega (arith, e)))
       ∙ append-nil (comes r)
   back-run n k (suc g) (r ∷ rs) h l e =
       let a : r.event + 1 ≤ k = at-least (r.event + 1) k g rs h.1 (omega (arith, l)) e in
-      back-by k r rs false (other-test r.event k (λ x. omega (arith, a, x))) ∙ back-run (r.event + 1) k g rs h.1 (omega (arith, l)) e
+      back-by k r rs false (ne_eqb r.event k (λ x. omega (arith, a, x))) ∙ back-run (r.event + 1) k g rs h.1 (omega (arith, l)) e
     where
       at-least : (n k g : ℕ) (rs : List Sequence) → AreFrom n rs → g < length rs → (run_at rs g).event ≡ k → n ≤ k
       at-least n k g [] h l e = absurd (omega (arith, l))
@@ -106,10 +100,6 @@ module _ (comes : Sequence → List Event) where
     none-begun n i c e [] o = refl
     none-begun n i c e (x ∷ es) o = ap (λ b. if b then sequence_at tildes bytes n i c e.point x.point ∷ [] else []) o
 
-    true-or : (b : Bool) → (b ≡ true) ⊎ (b ≡ false)
-    true-or true = inl refl
-    true-or false = inr refl
-
     abbrev rest_from : ℕ → ℕ → Around → Event → List Event → List Sequence
     rest_from n i w e es = from (n + length (first_run tildes bytes n i w.container (e ∷ es))) (suc i) (where_after i e w) es
 
@@ -118,7 +108,7 @@ module _ (comes : Sequence → List Event) where
     are-from (e ∷ es) n i w h =
         let rest : List Sequence = rest_from n i w e es in
         let later : AreFrom (suc i) rest = are-from es (n + length (first_run tildes bytes n i w.container (e ∷ es))) (suc i) (where_after i e w) h.1 in
-        elim (true-or (opens_run e)) [
+        elim (cases_Bool (opens_run e)) [
           | inl o ↦
               let b = begun n i w.container e es h o in
               let at = b.event in
@@ -134,11 +124,11 @@ module _ (comes : Sequence → List Event) where
         let rest : List Sequence = rest_from n i w x es in
         let later : AreFrom (suc i) rest = are-from es (n + length (first_run tildes bytes n i w.container (x ∷ es))) (suc i) (where_after i x w) h.1 in
         let none : removed_at k (edits rest) ≡ 0 = removed-below (suc i) k rest later (omega (arith, e)) in
-        elim (true-or (opens_run x)) [
+        elim (cases_Bool (opens_run x)) [
           | inl o ↦
               let b = begun n i w.container x es h o in
               ap (λ xs. removed_at k (edits (xs ++ rest))) b.is
-              ∙ removed-by k b.run rest true (let at = b.event in same-test b.run.event k (omega (arith, at, e)))
+              ∙ removed-by k b.run rest true (let at = b.event in eq-eqb b.run.event k (omega (arith, at, e)))
               ∙ ap (λ m. 2 + m) none
               ∙ ap (λ b. if b then 2 else 0) (sym o)
           | inr o ↦ ap (λ xs. removed_at k (edits (xs ++ rest))) (none-begun n i w.container x es o) ∙ none ∙ ap (λ b. if b then 2 else 0) (sym o)
@@ -147,11 +137,11 @@ module _ (comes : Sequence → List Event) where
         let rest : List Sequence = rest_from n i w x es in
         let ih : removed_at k (edits rest) ≡ (if begins_run (drop j es) then 2 else 0) =
         removed-place es (n + length (first_run tildes bytes n i w.container (x ∷ es))) (suc i) (where_after i x w) k j (omega (arith, e)) h.1 in
-        elim (true-or (opens_run x)) [
+        elim (cases_Bool (opens_run x)) [
           | inl o ↦
               let b = begun n i w.container x es h o in
               ap (λ xs. removed_at k (edits (xs ++ rest))) b.is
-              ∙ removed-by k b.run rest false (let at = b.event in other-test b.run.event k (λ y. omega (arith, at, e, y)))
+              ∙ removed-by k b.run rest false (let at = b.event in ne_eqb b.run.event k (λ y. omega (arith, at, e, y)))
               ∙ zero-more (removed_at k (edits rest))
               ∙ ih
           | inr o ↦ ap (λ xs. removed_at k (edits (xs ++ rest))) (none-begun n i w.container x es o) ∙ ih
@@ -167,11 +157,11 @@ module _ (comes : Sequence → List Event) where
         let rest : List Sequence = rest_from n i w x es in
         let ih : back_at k (edits rest) ≡ [] =
         back-place es (n + length (first_run tildes bytes n i w.container (x ∷ es))) (suc i) (where_after i x w) k j (omega (arith, e)) h.1 f in
-        elim (true-or (opens_run x)) [
+        elim (cases_Bool (opens_run x)) [
           | inl o ↦
               let b = begun n i w.container x es h o in
               ap (λ xs. back_at k (edits (xs ++ rest))) b.is
-              ∙ back-by k b.run rest false (let at = b.event in other-test b.run.event k (λ y. omega (arith, at, e, y)))
+              ∙ back-by k b.run rest false (let at = b.event in ne_eqb b.run.event k (λ y. omega (arith, at, e, y)))
               ∙ ih
           | inr o ↦ ap (λ xs. back_at k (edits (xs ++ rest))) (none-begun n i w.container x es o) ∙ ih
         ]
@@ -196,7 +186,7 @@ module _ (comes : Sequence → List Event) where
     numbered (e ∷ es) n i w g h l =
         let rest : List Sequence = rest_from n i w e es in
         let ih = numbered es (n + length (first_run tildes bytes n i w.container (e ∷ es))) (suc i) (where_after i e w) in
-        elim (true-or (opens_run e)) [
+        elim (cases_Bool (opens_run e)) [
           | inl o ↦
               let b = begun n i w.container e es h o in
               let size : length (first_run tildes bytes n i w.container (e ∷ es)) ≡ 1 = ap length b.is in

@@ -1,6 +1,6 @@
 -- What comes for each run of a tree are the events of its tokens.
-use Rattle.std.proofs.Common.{◌≡◌, ℕ, suc, ◌+◌, ◌-◌, ◌<◌, ◌≤◌, ◌||◌, Bool, true, false, cond, if◌then◌else◌, List, [], ◌∷◌, ◌++◌, length, map, reverse, Option, None, refl, sym, ap, subst, ◌∙◌, arith, append_assoc, append-nil, length-append, inl, inr, ◌⊎◌, sum_by}
-use Rattle.std.proofs.lemmas.Bool.{eq-eqb}
+use Rattle.std.proofs.Common.{◌≡◌, ℕ, suc, ◌+◌, ◌-◌, ◌<◌, ◌≤◌, ◌||◌, Bool, true, false, cond, if◌then◌else◌, List, [], ◌∷◌, ◌++◌, length, map, reverse, Option, None, refl, sym, ap, subst, ◌∙◌, arith, append_assoc, append-nil, length-append, inl, inr, sum_by}
+use Rattle.std.proofs.lemmas.Bool.{eq-eqb, both_ways, cases_Bool}
 use Rattle.markdown_engine.specs.Codes.{Code, stop_of, document_start}
 use Rattle.markdown_engine.specs.Tree.{Forest, empty, leaf_then, group_then, event_count, start_of}
 use Rattle.markdown_engine.specs.declared.event.Event.{Event}
@@ -44,13 +44,6 @@ place-behind k (x ∷ front) r back = by-test (is_in k x) (place-behind k front 
     by-test true e = ap suc e
     by-test false e = e
 
-true-or : (b : Bool) → (b ≡ true) ⊎ (b ≡ false)
-true-or true = inl refl
-true-or false = inr refl
-
-both : (b : Bool) → b ≡ true → b ≡ false → ⊥
-both b y z = cc
-
 or-left : (a b : Bool) → a || b ≡ false → a ≡ false
 or-left true b e = e
 or-left false b e = refl
@@ -69,8 +62,8 @@ module _ (s : Setting) (comes : ℕ → List Event) where
   logged-any empty n i j ps qs h l = tt
   logged-any (leaf_then name link cs rest) n i j ps qs h l =
       let other : is_run name ≡ false = or-left (is_run name) (has_run rest) h in (
-        (λ y. absurd (both (is_run name) y other)),
-        ((λ y. absurd (both (is_run name) y other)), λ y. logged-any rest (n + 2) i j ps qs (or-right (is_run name) (has_run rest) h) (l.1.1 other)),
+        (λ y. absurd (both_ways (is_run name) other y)),
+        ((λ y. absurd (both_ways (is_run name) other y)), λ y. logged-any rest (n + 2) i j ps qs (or-right (is_run name) (has_run rest) h) (l.1.1 other)),
       )
   logged-any (group_then name a b inside rest) n i j ps qs h l = (l.0, logged-any rest (n + 2 + event_count inside) i j ps qs h l.1)
 
@@ -154,14 +147,14 @@ module _ (s : Setting) (tildes : Bool) (bytes : List ℕ) (same : s.bytes ≡ by
         → Logged n (own k) (length (runs_in (row_around k) front)) t
     unfolding Lacks
     logged empty n m k R front back shapes h st pt low whole f b = tt
-    logged (leaf_then name link cs rest) n m k R front back shapes h st pt low whole f b = elim (true-or (is_run name)) [
+    logged (leaf_then name link cs rest) n m k R front back shapes h st pt low whole f b = elim (cases_Bool (is_run name)) [
       | inr e ↦
           let here : leaf_run tildes bytes (length front) n k name (start_of cs) (stop_of document_start cs) ≡ [] = ap (λ (y : Bool). if y then sequence_at tildes bytes (length front) n k (start_of cs) (stop_of document_start cs) ∷ [] else []) e in
           let none : length front + 0 ≡ length front = omega arith in
           let whole' : list ≡ front ++ (runs (length front) (n + 2) m k rest ++ back) =
           whole ∙ ap (λ xs. front ++ ((xs ++ runs (length front + length xs) (n + 2) m k rest) ++ back)) here ∙ ap (λ g. front ++ (runs g (n + 2) m k rest ++ back)) none in (
-            (λ y. absurd (both (is_run name) y e)),
-            ((λ y. absurd (both (is_run name) y e)), λ y. logged rest (n + 2) m k R front back shapes h.1 st.1 pt.1 low whole' f b),
+            (λ y. absurd (both_ways (is_run name) e y)),
+            ((λ y. absurd (both_ways (is_run name) e y)), λ y. logged rest (n + 2) m k R front back shapes h.1 st.1 pt.1 low whole' f b),
           )
       | inl e ↦
           let r : Sequence = sequence_at tildes bytes (length front) n k (start_of cs) (stop_of document_start cs) in
@@ -181,7 +174,7 @@ module _ (s : Setting) (tildes : Bool) (bytes : List ℕ) (same : s.bytes ≡ by
             (λ y. leaf-logged front (more ++ back) r k n cs R shapes whole1 refl (h.0.1 e) (st.0 e).1.1 (pt.0 e)),
             (
               (λ y. subst (λ (j : ℕ). Logged (n + 2) (own k) j rest) count (logged rest (n + 2) m k R (front ++ r ∷ []) back shapes h.1 st.1 pt.1 low whole2 front' b)),
-              λ y. absurd (both (is_run name) e y),
+              λ y. absurd (both_ways (is_run name) y e),
             ),
           )
     ]

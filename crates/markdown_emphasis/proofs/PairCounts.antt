@@ -1,8 +1,7 @@
 -- The pairs of all containers of a tree are as many as those of one scan over all runs.
 use Rattle.std.proofs.Common.{◌≡◌, ℕ, zero, suc, ◌+◌, ◌<◌, ◌≤◌, ◌==◌, Bool, true, false, if◌then◌else◌, cond, List, [], ◌∷◌, ◌++◌, length, map, Option, Some, None, refl, sym, ap, subst, ◌∙◌, arith, inl, inr, ◌⊎◌, sum_by}
 use Rattle.std.specs.Prelude.{All}
-use Rattle.std.proofs.lemmas.Bool.{cases_lt}
-use Rattle.std.proofs.lemmas.Bool.Decides.{nat_tests}
+use Rattle.std.proofs.lemmas.Bool.{cases_lt, eq-eqb, ne_eqb, cases_Bool}
 use Rattle.std.proofs.lemmas.List.{length-map}
 use Rattle.std.proofs.lemmas.List.Elements.{All-head, All-tail}
 use Rattle.std.proofs.lemmas.List.Sums.{sum_by-append, sum_by-cons}
@@ -27,20 +26,6 @@ use Rattle.markdown_attention.specs.declared.attention.runs.Sequence.{Sequence}
 use Rattle.markdown_attention.proofs.RowLemmas.{none-in, has-rows}
 use Rattle.markdown_emphasis.proofs.Counts.{rows-empty, rows-leaf, rows-group, leaf-run-yes, leaf-run-no}
 
-true-or : (b : Bool) → (b ≡ true) ⊎ (b ≡ false)
-true-or true = inl refl
-true-or false = inr refl
-
-clash : {A : Type 0} → (b : Bool) → b ≡ true → b ≡ false → A
-clash true h k = cc
-clash false h k = cc
-
-other-test : (a b : ℕ) → (a ≡ b → ⊥) → (a == b) ≡ false
-other-test a b h = grind (arith, nat_tests)
-
-same-test : (a b : ℕ) → a ≡ b → (a == b) ≡ true
-same-test a b h = grind (arith, nat_tests)
-
 -- Sums over the rows of texts.
 
 abbrev Texts : Type 0
@@ -59,10 +44,10 @@ abbrev hits : ℕ → Texts → ℕ
 hits r xs = sums (is_row r) xs
 
 row-yes : (r m : ℕ) → r ≡ m → is_row r m ≡ 1
-row-yes r m e = ap (λ (b : Bool). if b then 1 else 0) (same-test r m e)
+row-yes r m e = ap (λ (b : Bool). if b then 1 else 0) (eq-eqb r m e)
 
 row-no : (r m : ℕ) → (r ≡ m → ⊥) → is_row r m ≡ 0
-row-no r m e = ap (λ (b : Bool). if b then 1 else 0) (other-test r m e)
+row-no r m e = ap (λ (b : Bool). if b then 1 else 0) (ne_eqb r m e)
 
 row-few : (r m : ℕ) → is_row r m ≤ 1
 row-few r m = by_test (r == m)
@@ -106,7 +91,7 @@ group-sums f m name a b inside rest =
 
 -- its row is the next, if it is a text
 own-out : (r m : ℕ) (name : Name) (inside : Forest) → (r ≤ m) ⊎ (m + as_text name < r) → hits r (own m name inside) ≡ 0
-own-out r m name inside far = elim (true-or (is_text name)) [
+own-out r m name inside far = elim (cases_Bool (is_text name)) [
   | inl e ↦
       let one : as_text name ≡ 1 = ap (λ (b : Bool). if b then 1 else 0) e in
       let ne : r ≡ m + 1 → ⊥ = (λ k. elim far [ inl l ↦ omega (arith, l, k) | inr l ↦ omega (arith, l, k, one) ]) in
@@ -116,7 +101,7 @@ own-out r m name inside far = elim (true-or (is_text name)) [
 ]
 
 own-few : (r m : ℕ) (name : Name) (inside : Forest) → hits r (own m name inside) ≤ 1
-own-few r m name inside = elim (true-or (is_text name)) [
+own-few r m name inside = elim (cases_Bool (is_text name)) [
   | inl e ↦ let x : hits r (own m name inside) ≡ is_row r (m + 1) + 0 = own-yes (is_row r) m name inside e in omega (arith, x, row-few r (m + 1))
   | inr e ↦ let x : hits r (own m name inside) ≡ 0 = own-no (is_row r) m name inside e in omega (arith, x)
 ]
@@ -202,7 +187,7 @@ module _ (tildes : Bool) (bytes : List ℕ) where
   stays-tree (leaf_then name link cs rest) n i m k =
       let here : List Sequence = leaf_run tildes bytes n i k name (start_of cs) (stop_of document_start cs) in
       let P : Sequence → Type 0 = Stays (row_around k) (texts_of m rest) in
-      let one : Every P here = elim (true-or (is_run name)) [
+      let one : Every P here = elim (cases_Bool (is_run name)) [
         | inl e ↦ subst (λ (xs : List Sequence). Every P xs) (sym (leaf-run-yes tildes bytes n i k name (start_of cs) (stop_of document_start cs) e)) (inl refl, tt)
         | inr e ↦ subst (λ (xs : List Sequence). Every P xs) (sym (leaf-run-no tildes bytes n i k name (start_of cs) (stop_of document_start cs) e)) tt
       ] in
@@ -216,7 +201,7 @@ module _ (tildes : Bool) (bytes : List ℕ) where
       let back : List Sequence = tree_runs tildes bytes (n + length front) j past k rest in
       let P : Sequence → Type 0 = Stays (row_around k) whole in
       let parts : (r : ℕ) → hits r whole ≡ hits r (own m name inside) + (hits r (texts_of m' inside) + hits r (texts_of past rest)) = λ r. group-sums (is_row r) m name a b inside rest in
-      let outer : (q : Sequence) → row_of q.text ≡ row_around (inner i m k name) → P q = λ q e. elim (true-or (is_text name)) [
+      let outer : (q : Sequence) → row_of q.text ≡ row_around (inner i m k name) → P q = λ q e. elim (cases_Bool (is_text name)) [
         | inl x ↦
             let at : row_around (inner i m k name) ≡ m + 1 = ap (λ (b : Bool). row_around (if b then Some (record { event = i; number = m }) else k)) x in
             let one : hits (row_of q.text) (own m name inside) ≡ is_row (row_of q.text) (m + 1) + 0 = own-yes (is_row (row_of q.text)) m name inside x in
@@ -300,7 +285,7 @@ module _ (s : Setting) (tildes : Bool) (bytes : List ℕ) (same : s.bytes ≡ by
       let rows : sum_by count_of (rows_inside s (group_then name a b inside rest)) ≡ sum_by count_of (runs_of s inside ∷ rows_inside s inside) + sum_by count_of (rows_inside s rest) =
       ap (λ z. sum_by count_of z) (rows-group s name a b inside rest) ∙ sum_by-append count_of (runs_of s inside ∷ rows_inside s inside) (rows_inside s rest) in
       let first : sum_by count_of (runs_of s inside ∷ rows_inside s inside) ≡ count_of (runs_of s inside) + sum_by count_of (rows_inside s inside) = sum_by-cons count_of (runs_of s inside) (rows_inside s inside) in
-      let it : count_of (runs_of s inside) ≡ sums of_row (own m name inside) = elim (true-or (is_text name)) [
+      let it : count_of (runs_of s inside) ≡ sums of_row (own m name inside) = elim (cases_Bool (is_text name)) [
         | inl e ↦
             let z : EachText ((m, inside) ∷ []) = subst (λ (b : Bool). EachText (if b then (m, inside) ∷ [] else [])) e x.0 in
             let w : sums of_row (own m name inside) ≡ of_row (m + 1) + 0 = own-yes of_row m name inside e in

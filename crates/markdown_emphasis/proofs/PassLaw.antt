@@ -1,5 +1,5 @@
 -- What one edit for each run leaves of the events of a tree: those of the tree with its pairs grouped.
-use Rattle.std.proofs.Common.{◌≡◌, ℕ, suc, ◌+◌, ◌-◌, ◌≤◌, ◌&&◌, Bool, true, false, List, [], ◌∷◌, ◌++◌, length, take, drop, reverse, map, sum_by, Option, Some, None, if◌then◌else◌, cond, refl, sym, ap, subst, ◌∙◌, arith, append_assoc, append-nil, inl, inr, ◌⊎◌}
+use Rattle.std.proofs.Common.{◌≡◌, ℕ, suc, ◌+◌, ◌-◌, ◌≤◌, ◌&&◌, Bool, true, false, List, [], ◌∷◌, ◌++◌, length, take, drop, reverse, map, sum_by, Option, Some, None, if◌then◌else◌, cond, refl, sym, ap, subst, ◌∙◌, arith, append_assoc, append-nil, inl, inr}
 use Rattle.std.specs.Option.{option_map}
 use Rattle.std.proofs.lemmas.List.{drop_all}
 use Rattle.std.proofs.lemmas.Bool.{cases_lt}
@@ -88,10 +88,6 @@ two false = 0
 two-most : (b : Bool) → two b ≤ 2
 two-most true = omega arith
 two-most false = omega arith
-
-true-or : (b : Bool) → (b ≡ true) ⊎ (b ≡ false)
-true-or true = inl refl
-true-or false = inr refl
 
 begins-first : (xs : List Event) (e : Event) (rest : List Event) (b : Bool) → xs ≡ e ∷ rest → opens_run e ≡ b → begins_run xs ≡ b
 begins-first xs e rest b h o = ap begins_run h ∙ o

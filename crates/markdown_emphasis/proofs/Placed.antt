@@ -1,6 +1,7 @@
 -- The events of a tree of labels have the places of runs that the pass asks for.
-use Rattle.std.proofs.Common.{◌≡◌, ℕ, ◌+◌, Bool, true, false, List, [], ◌∷◌, ◌++◌, Option, Some, None, refl, sym, subst, append_assoc, append-nil, ◌*◌, ◌^◌, ◌<◌, ◌≤◌, length, arith}
+use Rattle.std.proofs.Common.{◌≡◌, ℕ, ◌+◌, false, List, [], ◌∷◌, ◌++◌, Option, Some, None, refl, sym, subst, append_assoc, append-nil, ◌*◌, ◌^◌, ◌<◌, ◌≤◌, length, arith}
 use Rattle.std.specs.Prelude.{IsUtf8}
+use Rattle.std.proofs.lemmas.Bool.{both_ways}
 use Rattle.markdown_engine.specs.Codes.{Code, stop_of, document_start}
 use Rattle.markdown_engine.specs.Content.{content_of, IsContent, document_limit}
 use Rattle.markdown_engine.specs.Past.{appended_from}
@@ -20,13 +21,9 @@ use Rattle.markdown_emphasis.proofs.Good.{EachRun, IsGood}
 use Rattle.markdown_emphasis.proofs.Singles.{IsPlaced, singles-content}
 use Rattle.markdown_emphasis.proofs.Striped.{good-tree}
 
-clash : {A : Type 0} → (b : Bool) → b ≡ true → b ≡ false → A
-clash true h k = cc
-clash false h k = cc
-
 module _ (bytes : List ℕ) (u : IsUtf8 bytes) where
   other-event : (e : Event) (es : List Event) → opens_run e ≡ false → HaveRunPlaces bytes es → HaveRunPlaces bytes (e ∷ es)
-  other-event e es o h = (λ y. clash (opens_run e) y o, h)
+  other-event e es o h = (λ y. absurd (both_ways (opens_run e) o y), h)
 
   pub places-row : (t : Forest) (n : ℕ) (previous : Option ℕ) (rest : List Event) → HasRuns bytes t → EachRun (IsPlaced bytes) t → HaveRunPlaces bytes rest → HaveRunPlaces bytes (appended_from n previous t ++ rest)
   places-row empty n previous rest g h r = r
@@ -55,7 +52,7 @@ module _ (bytes : List ℕ) (u : IsUtf8 bytes) (few : length bytes ≤ document_
       (omega (arith, low, wide, few), omega (arith, low, few))
 
   no-room : (e : Event) (es : List Event) → opens_run e ≡ false → HaveRunRoom es → HaveRunRoom (e ∷ es)
-  no-room e es o h = (λ y. clash (opens_run e) y o, h)
+  no-room e es o h = (λ y. absurd (both_ways (opens_run e) o y), h)
 
   room-row : (t : Forest) (n : ℕ) (previous : Option ℕ) (rest : List Event) → HasRuns bytes t → EachRun (IsPlaced bytes) t → HaveRunRoom rest → HaveRunRoom (appended_from n previous t ++ rest)
   room-row empty n previous rest g h r = r

@@ -2,8 +2,7 @@
 use Rattle.std.proofs.Common.{◌≡◌, ℕ, suc, ◌+◌, ◌<◌, ◌≤◌, Bool, true, false, ◌&&◌, ◌||◌, ◌==◌, nat_lt, nat_le, if◌then◌else◌, List, [], ◌∷◌, ◌++◌, length, refl, sym, ap, ◌∙◌, arith, inl, inr, ◌⊎◌, sum_by}
 use Rattle.std.proofs.lemmas.List.Sums.{sum_by-cons}
 use Rattle.std.proofs.lemmas.List.Folds.{list_any-append}
-use Rattle.std.proofs.lemmas.Bool.{cases_lt, or_parts, ltb-true, eqb-true}
-use Rattle.std.proofs.lemmas.Bool.Decides.{nat_tests}
+use Rattle.std.proofs.lemmas.Bool.{cases_lt, or_parts, ltb-true, eqb-true, false_from_ne_true, both_ways, and_right, and_left, and_from, ne_eqb, eq-eqb, lt-leb, le-leb, le-ltb, lt-ltb}
 use Rattle.std.specs.List.{list_any}
 use Rattle.markdown_model.specs.Setting.{Setting}
 use Rattle.markdown_model.specs.Runs.{Run, marker_of}
@@ -13,36 +12,6 @@ use Rattle.markdown_emphasis.specs.Marks.{total, AreSome}
 
 -- Tests of numbers.
 
-lt-yes : (a b : ℕ) → a < b → nat_lt a b ≡ true
-lt-yes a b h = grind (arith, nat_tests)
-
-lt-no : (a b : ℕ) → b ≤ a → nat_lt a b ≡ false
-lt-no a b h = grind (arith, nat_tests)
-
-le-yes : (a b : ℕ) → a ≤ b → nat_le a b ≡ true
-le-yes a b h = grind (arith, nat_tests)
-
-le-no : (a b : ℕ) → b < a → nat_le a b ≡ false
-le-no a b h = grind (arith, nat_tests)
-
-is-yes : (a b : ℕ) → a ≡ b → (a == b) ≡ true
-is-yes a b h = grind (arith, nat_tests)
-
-is-no : (a b : ℕ) → (a ≡ b → ⊥) → (a == b) ≡ false
-is-no a b h = grind (arith, nat_tests)
-
-and-yes : (a b : Bool) → a ≡ true → b ≡ true → a && b ≡ true
-and-yes true b h k = k
-and-yes false b h k = cc
-
-and-first : (a b : Bool) → a ≡ false → a && b ≡ false
-and-first true b h = cc
-and-first false b h = refl
-
-and-second : (a b : Bool) → b ≡ false → a && b ≡ false
-and-second true b h = h
-and-second false b h = refl
-
 and-left : (a b : Bool) → a && b ≡ true → a ≡ true
 and-left true b h = refl
 and-left false b h = cc
@@ -50,10 +19,6 @@ and-left false b h = cc
 and-right : (a b : Bool) → a && b ≡ true → b ≡ true
 and-right true b h = h
 and-right false b h = cc
-
-clash : (b : Bool) → b ≡ true → b ≡ false → ⊥
-clash true h k = cc
-clash false h k = cc
 
 -- f holds where g or h does, and these two not both
 abbrev pub Sorts : Bool → Bool → Bool → Type 0
@@ -78,14 +43,14 @@ sort-before o c n l =
     elim (cases_lt o n) [
       | inl a ↦
           elim (cases_lt n c) [
-            | inl b ↦ inr (inl (and-yes _ _ (lt-yes o n a) (le-yes n c (omega (arith, b))), (is-no c n (λ e. omega (arith, b, e)), and-yes _ _ (lt-yes o n a) (lt-yes n c b))))
+            | inl b ↦ inr (inl (and_from _ _ (lt-ltb o n a) (le-leb n c (omega (arith, b))), (ne_eqb c n (λ e. omega (arith, b, e)), and_from _ _ (lt-ltb o n a) (lt-ltb n c b))))
             | inr b ↦
                 elim (cases_lt c n) [
-                  | inl d ↦ inr (inr (and-second _ _ (le-no n c d), (is-no c n (λ e. omega (arith, d, e)), and-second _ _ (lt-no n c b))))
-                  | inr d ↦ inl (and-yes _ _ (lt-yes o n a) (le-yes n c d), (is-yes c n (omega (arith, b, d)), and-second _ _ (lt-no n c b)))
+                  | inl d ↦ inr (inr (and_right _ _ (lt-leb n c d), (ne_eqb c n (λ e. omega (arith, d, e)), and_right _ _ (le-ltb n c b))))
+                  | inr d ↦ inl (and_from _ _ (lt-ltb o n a) (le-leb n c d), (eq-eqb c n (omega (arith, b, d)), and_right _ _ (le-ltb n c b)))
                 ]
           ]
-      | inr a ↦ inr (inr (and-first _ _ (lt-no o n a), (is-no c n (λ e. omega (arith, a, e, l)), and-first _ _ (lt-no o n a))))
+      | inr a ↦ inr (inr (and_left _ _ (le-ltb o n a), (ne_eqb c n (λ e. omega (arith, a, e, l)), and_left _ _ (le-ltb o n a))))
     ]
 
 sort-after : (o c n : ℕ) → o < c → Sorts (nat_lt o (suc n) && nat_le (suc n) c) (o == n) (nat_lt o n && nat_lt n c)
@@ -93,13 +58,13 @@ sort-after o c n l =
     elim (cases_lt o n) [
       | inl a ↦
           elim (cases_lt n c) [
-            | inl b ↦ inr (inl (and-yes _ _ (lt-yes o (suc n) (omega (arith, a))) (le-yes (suc n) c (omega (arith, b))), (is-no o n (λ e. omega (arith, a, e)), and-yes _ _ (lt-yes o n a) (lt-yes n c b))))
-            | inr b ↦ inr (inr (and-second _ _ (le-no (suc n) c (omega (arith, b))), (is-no o n (λ e. omega (arith, a, e)), and-second _ _ (lt-no n c b))))
+            | inl b ↦ inr (inl (and_from _ _ (lt-ltb o (suc n) (omega (arith, a))) (le-leb (suc n) c (omega (arith, b))), (ne_eqb o n (λ e. omega (arith, a, e)), and_from _ _ (lt-ltb o n a) (lt-ltb n c b))))
+            | inr b ↦ inr (inr (and_right _ _ (lt-leb (suc n) c (omega (arith, b))), (ne_eqb o n (λ e. omega (arith, a, e)), and_right _ _ (le-ltb n c b))))
           ]
       | inr a ↦
           elim (cases_lt n o) [
-            | inl b ↦ inr (inr (and-first _ _ (lt-no o (suc n) (omega (arith, b))), (is-no o n (λ e. omega (arith, b, e)), and-first _ _ (lt-no o n a))))
-            | inr b ↦ inl (and-yes _ _ (lt-yes o (suc n) (omega (arith, b))) (le-yes (suc n) c (omega (arith, a, b, l))), (is-yes o n (omega (arith, a, b)), and-first _ _ (lt-no o n a)))
+            | inl b ↦ inr (inr (and_left _ _ (le-ltb o (suc n) (omega (arith, b))), (ne_eqb o n (λ e. omega (arith, b, e)), and_left _ _ (le-ltb o n a))))
+            | inr b ↦ inl (and_from _ _ (lt-ltb o (suc n) (omega (arith, b))) (le-leb (suc n) c (omega (arith, a, b, l))), (eq-eqb o n (omega (arith, a, b)), and_left _ _ (le-ltb o n a)))
           ]
     ]
 
@@ -149,11 +114,7 @@ module _ (R : List Run) where
 
   none-later : (g : Pair → Bool) (p : Pair) (ps : List Pair) → AllLater p ps → ((q : Pair) → Later p q → g q ≡ true → ⊥) → keys_where g ps ≡ []
   none-later g p [] a h = refl
-  none-later g p (q ∷ qs) a h = keys-no g q qs (not-true (g q) (h q a.0)) ∙ none-later g p qs a.1 h
-    where
-      not-true : (b : Bool) → (b ≡ true → ⊥) → b ≡ false
-      not-true true k = absurd (k refl)
-      not-true false k = refl
+  none-later g p (q ∷ qs) a h = keys-no g q qs (false_from_ne_true (g q) (h q a.0)) ∙ none-later g p qs a.1 h
 
   split-keys : (f g h : Pair → Bool) (ps : List Pair) → ((p : Pair) → Placed p → Sorts (f p) (g p) (h p)) → ((p q : Pair) → Later p q → h p ≡ true → g q ≡ true → ⊥) → AreRanked ps → keys_where f ps ≡ keys_where g ps ++ keys_where h ps
   split-keys f g h [] sorts apart r = refl
@@ -194,15 +155,15 @@ module _ (R : List Run) where
       let y : n < p.closer = ltb-true n p.closer (and-right (nat_lt p.opener n) (nat_lt n p.closer) a) in
       let low : p.opener < q.opener = omega (arith, x, e) in
       let high : q.opener < p.closer = omega (arith, y, e) in
-      clash (is_strictly_within q.opener p) (and-yes _ _ (lt-yes p.opener q.opener low) (lt-yes q.opener p.closer high)) l.1)
+      both_ways (is_strictly_within q.opener p) l.1 (and_from _ _ (lt-ltb p.opener q.opener low) (lt-ltb q.opener p.closer high)))
       r
 
   -- none is open at the start, nor at the end
   pub none-first : (ps : List Pair) → AreRanked ps → keys_where (spans 0) ps ≡ []
-  none-first ps r = none-where (spans 0) ps r (λ q h. and-first _ _ (lt-no q.opener 0 (omega arith)))
+  none-first ps r = none-where (spans 0) ps r (λ q h. and_left _ _ (le-ltb q.opener 0 (omega arith)))
 
   pub none-last : (n : ℕ) (ps : List Pair) → length R ≤ n → AreRanked ps → keys_where (spans n) ps ≡ []
-  none-last n ps l r = none-where (spans n) ps r (λ q h. let w = h.within in and-second _ _ (le-no n q.closer (omega (arith, w, l))))
+  none-last n ps l r = none-where (spans n) ps r (λ q h. let w = h.within in and_right _ _ (lt-leb n q.closer (omega (arith, w, l))))
 
   -- Sizes.
 

@@ -1,5 +1,6 @@
 -- The rows of a tree with its pair lists are flat.
-use Rattle.std.proofs.Common.{◌≡◌, ℕ, zero, suc, Bool, true, false, List, [], ◌∷◌, refl, sym, subst, inl, inr, ◌⊎◌}
+use Rattle.std.proofs.Common.{◌≡◌, ℕ, zero, suc, Bool, true, false, List, [], ◌∷◌, refl, sym, subst, inl, inr}
+use Rattle.std.proofs.lemmas.Bool.{cases_Bool}
 use Rattle.markdown_engine.specs.Codes.{Code}
 use Rattle.markdown_engine.specs.Tree.{Forest, empty, leaf_then, group_then, start_of}
 use Rattle.markdown_engine.specs.declared.event.Name.{Name}
@@ -22,10 +23,6 @@ abbrev AreMarked : List Run → Type 0
 AreMarked [] = Unit {0}
 AreMarked (r ∷ rs) = HasMarker (marker_of r.codes) r.codes × AreMarked rs
 
-true-or : (b : Bool) → (b ≡ true) ⊎ (b ≡ false)
-true-or true = inl refl
-true-or false = inr refl
-
 marked-at : (rs : List Run) (i : ℕ) → AreMarked rs → HasMarker (marker_of (run_at rs i).codes) (run_at rs i).codes
 marked-at [] i h = tt
 marked-at (r ∷ rs) zero h = h.0
@@ -34,7 +31,7 @@ marked-at (r ∷ rs) (suc i) h = marked-at rs i h.1
 module _ (s : Setting) where
   marked-row : (t : Forest) → HasStripes t → AreMarked (runs_of s t)
   marked-row empty h = subst (λ (rs : List Run). AreMarked rs) (sym (runs-empty s)) tt
-  marked-row (leaf_then name link cs rest) h = elim (true-or (is_run name)) [
+  marked-row (leaf_then name link cs rest) h = elim (cases_Bool (is_run name)) [
     | inl e ↦
         subst (λ (x : Name). AreMarked (runs_of s (leaf_then x link cs rest))) (sym (run-name name e))
         (subst (λ (rs : List Run). AreMarked rs) (sym (runs-run s link cs rest))

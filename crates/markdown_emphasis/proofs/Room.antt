@@ -1,5 +1,6 @@
 -- There is room for what comes for each run.
-use Rattle.std.proofs.Common.{◌≡◌, ℕ, zero, suc, ◌+◌, ◌-◌, ◌^◌, ◌<◌, Bool, true, false, if◌then◌else◌, List, [], ◌∷◌, ◌++◌, length, refl, sym, ap, subst, ◌∙◌, arith, inl, inr, ◌⊎◌}
+use Rattle.std.proofs.Common.{◌≡◌, ℕ, zero, suc, ◌+◌, ◌-◌, ◌^◌, ◌<◌, Bool, true, false, if◌then◌else◌, List, [], ◌∷◌, ◌++◌, length, sym, ap, subst, ◌∙◌, arith, inl, inr}
+use Rattle.std.proofs.lemmas.Bool.{cases_Bool}
 use Rattle.std.specs.List.{All}
 use Rattle.std.proofs.lemmas.List.Elements.{All-nil, All-cons}
 use Rattle.markdown_engine.specs.declared.event.Event.{Event}
@@ -17,10 +18,6 @@ use Rattle.markdown_emphasis.proofs.Whole.{sizes-sum}
 use Rattle.markdown_emphasis.specs.RunEdits.{HaveRunRoom}
 use Rattle.markdown_emphasis.specs.Sides.{side_of, HasRoomFor}
 
-true-or : (b : Bool) → (b ≡ true) ⊎ (b ≡ false)
-true-or true = inl refl
-true-or false = inr refl
-
 -- a run among these events, the first of which is event i
 record Fits (r : Sequence) (i : ℕ) (es : List Event) : Type 0 where
   at : ℕ
@@ -37,7 +34,7 @@ module _ (tildes : Bool) (bytes : List ℕ) where
   fits [] n i w g h k m l = absurd (omega (arith, l))
   fits (e ∷ []) n i w g h k m l = absurd (omega (arith, l))
   fits (e ∷ x ∷ es) n i w g h k m l =
-      elim (true-or (opens_run e)) [
+      elim (cases_Bool (opens_run e)) [
         | inl o ↦
             subst (λ (xs : List Sequence). g < length (all xs) → Fits (run_at (all xs) g) i (e ∷ x ∷ es)) (sym (yes-first o))
             (λ u. first g o u (λ j v. fits (x ∷ es) (n + 1) (suc i) next j h.1 k.1 m.1 v)) l

@@ -1,5 +1,6 @@
 -- The tokens of a row, cut by its pair list, are a word of brackets that match.
-use Rattle.std.proofs.Common.{◌≡◌, ◌≢◌, ℕ, zero, suc, ◌+◌, ◌-◌, ◌<◌, ◌≤◌, Bool, true, false, ◌||◌, List, [], ◌∷◌, ◌++◌, length, take, drop, reverse, map, Option, refl, sym, ap, subst, ◌∙◌, arith, append_assoc, inl, inr, ◌⊎◌, sum_by}
+use Rattle.std.proofs.Common.{◌≡◌, ◌≢◌, ℕ, zero, suc, ◌+◌, ◌-◌, ◌<◌, ◌≤◌, Bool, true, false, ◌||◌, List, [], ◌∷◌, ◌++◌, length, take, drop, reverse, map, Option, refl, sym, ap, subst, ◌∙◌, arith, append_assoc, inl, inr, sum_by}
+use Rattle.std.proofs.lemmas.Bool.{cases_Bool}
 use Rattle.std.proofs.lemmas.List.{length-take-le, length-drop, reverse-append}
 use Rattle.std.proofs.lemmas.List.Sums.{sum_by-cons}
 use Rattle.markdown_engine.specs.Codes.{Code}
@@ -122,10 +123,6 @@ run-match m ps n r keys w h s t l k =
 
 -- Rows.
 
-true-or : (b : Bool) → (b ≡ true) ⊎ (b ≡ false)
-true-or true = inl refl
-true-or false = inr refl
-
 pub run-name : (n : Name) → is_run n ≡ true → n ≡ N.AttentionSequence
 run-name N.AttentionSequence e = refl
 run-name _ e = cc
@@ -211,7 +208,7 @@ module _ (s : Setting) (pairs_of : List Run → List Pair) (R : List Run) (ps : 
   row-match : (t : Forest) (n : ℕ) → IsUnlinkedRow t → runs_of s t ≡ drop n R → Matches (open_at n) (tokens s pairs_of t ps n)
   row-match empty n h e =
       subst (λ (w : List Token). Matches (open_at n) w) (sym (tokens-empty s pairs_of ps n)) (none-last R n ps (drop-none R n (sym (runs-empty s) ∙ e)) cut.ranked)
-  row-match (leaf_then name link cs rest) n h e = elim (true-or (is_run name)) [
+  row-match (leaf_then name link cs rest) n h e = elim (cases_Bool (is_run name)) [
     | inr k ↦
         subst (λ (w : List Token). Matches (open_at n) w) (sym (tokens-leaf s pairs_of name link cs rest ps n k))
         ((h.0, tt), row-match rest n h.1 (sym (runs-leaf s name link cs rest k) ∙ e))

@@ -1,7 +1,6 @@
 -- What pairs take of a run, by its number in all and in its container.
-use Rattle.std.proofs.Common.{◌≡◌, ℕ, ◌+◌, ◌<◌, ◌==◌, ◌||◌, Bool, true, false, if◌then◌else◌, cond, List, [], ◌∷◌, length, map, refl, sym, ap, ◌∙◌, arith, inl, inr, ◌⊎◌, sum_by}
-use Rattle.std.proofs.lemmas.Bool.{cases_lt, eqb-true}
-use Rattle.std.proofs.lemmas.Bool.Decides.{nat_tests}
+use Rattle.std.proofs.Common.{◌≡◌, ℕ, ◌+◌, ◌<◌, ◌==◌, ◌||◌, Bool, true, false, if◌then◌else◌, cond, List, [], ◌∷◌, length, map, refl, sym, ap, ◌∙◌, arith, inl, inr, sum_by}
+use Rattle.std.proofs.lemmas.Bool.{cases_lt, eqb-true, both_ways, cases_Bool, ne_eqb, eq-eqb}
 use Rattle.std.proofs.lemmas.List.Sums.{sum_by-cons}
 use Rattle.markdown_model.specs.Groups.{closing_sizes, opening_sizes}
 use Rattle.markdown_model.specs.Pairs as Model
@@ -12,20 +11,6 @@ use Rattle.markdown_attention.specs.declared.attention.runs.Sequence.{Sequence}
 use Rattle.markdown_attention.proofs.Places.{place-order}
 use Rattle.markdown_emphasis.specs.RunEdits.{closed_sizes, opened_sizes}
 use Rattle.markdown_emphasis.specs.Marks.{total}
-
-same-test : (a b : ℕ) → a ≡ b → (a == b) ≡ true
-same-test a b h = grind (arith, nat_tests)
-
-other-test : (a b : ℕ) → (a ≡ b → ⊥) → (a == b) ≡ false
-other-test a b h = grind (arith, nat_tests)
-
-true-or : (b : Bool) → (b ≡ true) ⊎ (b ≡ false)
-true-or true = inl refl
-true-or false = inr refl
-
-clash : {A : Type 0} → (b : Bool) → b ≡ true → b ≡ false → A
-clash true h k = cc
-clash false h k = cc
 
 closing-yes : (i : ℕ) (q : Model.Pair) (qs : List Model.Pair) → (q.closer == i) ≡ true → closing_sizes i (q ∷ qs) ≡ q.size ∷ closing_sizes i qs
 closing-yes i q qs e = ap (λ (x : Bool). elim x as (λ y. List ℕ) [ true ↦ q.size ∷ closing_sizes i qs | false ↦ closing_sizes i qs ]) e
@@ -60,7 +45,7 @@ module _ (k : ℕ) (list : List Sequence) (g : ℕ) (within : g < length list) (
 
   apart : (j : ℕ) → j < length list → is_in k (run_at list j) ≡ true → (j ≡ g → ⊥) → (place_in k list j == place_in k list g) ≡ false
   apart j l e ne =
-      other-test (place_in k list j) (place_in k list g) (λ same.
+      ne_eqb (place_in k list j) (place_in k list g) (λ same.
       elim (cases_lt j g) [
         | inl low ↦ let o = place-order k list j g low within e in omega (arith, o, same)
         | inr high ↦
@@ -76,19 +61,19 @@ module _ (k : ℕ) (list : List Sequence) (g : ℕ) (within : g < length list) (
       let i : ℕ = place_in k list g in
       let ih : closing_sizes i (local ps) ≡ closed_sizes g ps = closing-local ps w.1 in
       let wp = w.0.within in
-      elim (true-or (p.closer == g)) [
+      elim (cases_Bool (p.closer == g)) [
         | inl hit ↦
             let e : p.closer ≡ g = eqb-true p.closer g hit in
             let row : in_row p ≡ true = ap (λ j. row_of (run_at list j).text == k) e ∙ inside in
             ap (closing_sizes i) (local-yes p ps row)
-            ∙ closing-yes i (placed k list p) (local ps) (same-test (place_in k list p.closer) i (ap (place_in k list) e))
+            ∙ closing-yes i (placed k list p) (local ps) (eq-eqb (place_in k list p.closer) i (ap (place_in k list) e))
             ∙ ap (λ xs. p.size ∷ xs) ih
             ∙ sym (closed-by g p ps true hit)
         | inr miss ↦
-            elim (true-or (in_row p)) [
+            elim (cases_Bool (in_row p)) [
               | inl row ↦
                   ap (closing_sizes i) (local-yes p ps row)
-                  ∙ closing-no i (placed k list p) (local ps) (apart p.closer wp row (λ e. clash (p.closer == g) (same-test p.closer g e) miss))
+                  ∙ closing-no i (placed k list p) (local ps) (apart p.closer wp row (λ e. absurd (both_ways (p.closer == g) miss (eq-eqb p.closer g e))))
                   ∙ ih
                   ∙ sym (closed-by g p ps false miss)
               | inr out ↦ ap (closing_sizes i) (local-no p ps out) ∙ ih ∙ sym (closed-by g p ps false miss)
@@ -103,19 +88,19 @@ module _ (k : ℕ) (list : List Sequence) (g : ℕ) (within : g < length list) (
       let wp = w.0.within in
       let wo = w.0.order in
       let within_opener : p.opener < length list = omega (arith, wp, wo) in
-      elim (true-or (p.opener == g)) [
+      elim (cases_Bool (p.opener == g)) [
         | inl hit ↦
             let e : p.opener ≡ g = eqb-true p.opener g hit in
             let row : in_row p ≡ true = ap (λ r. r == k) (sym w.0.row) ∙ ap (λ j. row_of (run_at list j).text == k) e ∙ inside in
             ap (opening_sizes i) (local-yes p ps row)
-            ∙ opening-yes i (placed k list p) (local ps) (same-test (place_in k list p.opener) i (ap (place_in k list) e))
+            ∙ opening-yes i (placed k list p) (local ps) (eq-eqb (place_in k list p.opener) i (ap (place_in k list) e))
             ∙ ap (λ xs. p.size ∷ xs) ih
             ∙ sym (opened-by g p ps true hit)
         | inr miss ↦
-            elim (true-or (in_row p)) [
+            elim (cases_Bool (in_row p)) [
               | inl row ↦
                   ap (opening_sizes i) (local-yes p ps row)
-                  ∙ opening-no i (placed k list p) (local ps) (apart p.opener within_opener (ap (λ r. r == k) w.0.row ∙ row) (λ e. clash (p.opener == g) (same-test p.opener g e) miss))
+                  ∙ opening-no i (placed k list p) (local ps) (apart p.opener within_opener (ap (λ r. r == k) w.0.row ∙ row) (λ e. absurd (both_ways (p.opener == g) miss (eq-eqb p.opener g e))))
                   ∙ ih
                   ∙ sym (opened-by g p ps false miss)
               | inr out ↦ ap (opening_sizes i) (local-no p ps out) ∙ ih ∙ sym (opened-by g p ps false miss)
@@ -134,16 +119,16 @@ module _ (k : ℕ) (list : List Sequence) (g : ℕ) (within : g < length list) (
       let in-no : in_row p ≡ false → sum_by (takes g) (pairs_in list k (p ∷ ps)) ≡ sum_by (takes g) (pairs_in list k ps) =
       λ e. ap (λ (b : Bool). sum_by (takes g) (cond b (p ∷ pairs_in list k ps) (pairs_in list k ps))) e in
       let wo = w.0.order in
-      elim (true-or (p.closer == g)) [
+      elim (cases_Bool (p.closer == g)) [
         | inl hit ↦
             let e : p.closer ≡ g = eqb-true p.closer g hit in
-            let not_opener : (p.opener == g) ≡ false = other-test p.opener g (λ x. omega (arith, x, e, wo)) in
+            let not_opener : (p.opener == g) ≡ false = ne_eqb p.opener g (λ x. omega (arith, x, e, wo)) in
             let a = in-yes (ap (λ j. row_of (run_at list j).text == k) e ∙ inside) in
             let b = takes-by p false true not_opener hit in
             let c = ap total (closed-by g p ps true hit) in
             let d = ap total (opened-by g p ps false not_opener) in
             omega (arith, a, b, c, d, ih)
-        | inr miss ↦ elim (true-or (p.opener == g)) [
+        | inr miss ↦ elim (cases_Bool (p.opener == g)) [
           | inl hit ↦
               let e : p.opener ≡ g = eqb-true p.opener g hit in
               let a = in-yes (ap (λ r. r == k) (sym w.0.row) ∙ ap (λ j. row_of (run_at list j).text == k) e ∙ inside) in
@@ -155,7 +140,7 @@ module _ (k : ℕ) (list : List Sequence) (g : ℕ) (within : g < length list) (
               let b = takes-by p false false neither miss in
               let c = ap total (closed-by g p ps false miss) in
               let d = ap total (opened-by g p ps false neither) in
-              elim (true-or (in_row p)) [ inl row ↦ (let a = in-yes row in omega (arith, a, b, c, d, ih)) | inr out ↦ (let a = in-no out in omega (arith, a, c, d, ih)) ]
+              elim (cases_Bool (in_row p)) [ inl row ↦ (let a = in-yes row in omega (arith, a, b, c, d, ih)) | inr out ↦ (let a = in-no out in omega (arith, a, c, d, ih)) ]
         ]
       ]
 

@@ -1,5 +1,6 @@
 -- How often a value stands among the codes of a content.
-use Rattle.std.proofs.Common.{◌≡◌, ℕ, ◌+◌, ◌-◌, ◌<◌, ◌==◌, nat_le, true, false, cond, Some, None, List, sym, ap, ◌∙◌, arith}
+use Rattle.std.proofs.Common.{◌≡◌, ℕ, ◌+◌, ◌-◌, ◌<◌, ◌==◌, nat_le, false, cond, Some, None, List, sym, ap, ◌∙◌, arith}
+use Rattle.std.proofs.lemmas.Bool.{ne_eqb, eq-eqb}
 use Rattle.std.proofs.lemmas.Bool.Decides.{nat_tests}
 use Rattle.std.proofs.lemmas.Grind.{common_steps}
 use Rattle.std.proofs.lemmas.List.Sums.{sum_by-cons}
@@ -23,25 +24,19 @@ count-here v w p h =
 pub left-one : (v times : ℕ) (cs : List Code) (left w : ℕ) (p q : Place) → AreLeft v times cs left p → 0 < left → code_at p ≡ Some w → w ≡ v → q ≡ moved p → AreLeft v times cs (left - 1) q
 left-one v times cs left w p q k some h e f =
     k
-    ∙ ap (nat_le left) (count-here v w p h ∙ ap (λ b. cond b 1 0 + count_of v (ahead_at (moved p))) (alike w v e))
+    ∙ ap (nat_le left) (count-here v w p h ∙ ap (λ b. cond b 1 0 + count_of v (ahead_at (moved p))) (eq-eqb w v e))
     ∙ fewer left (count_of v (ahead_at (moved p))) some
     ∙ ap (λ (x : Place). nat_le (left - 1) (count_of v (ahead_at x))) (sym f)
   where
-    alike : (a b : ℕ) → a ≡ b → (a == b) ≡ true
-    alike a b e = grind (arith, e)
-
     fewer : (n m : ℕ) → 0 < n → nat_le n (1 + m) ≡ nat_le (n - 1) m
     fewer n m h = grind (arith, nat_tests, common_steps, h)
 
 pub left-other : (v times : ℕ) (cs : List Code) (left w : ℕ) (p q : Place) → AreLeft v times cs left p → code_at p ≡ Some w → (w ≡ v → ⊥) → q ≡ moved p → AreLeft v times cs left q
 left-other v times cs left w p q k h e f =
     k
-    ∙ ap (nat_le left) (count-here v w p h ∙ ap (λ b. cond b 1 0 + count_of v (ahead_at (moved p))) (unlike w v e) ∙ none-more (count_of v (ahead_at (moved p))))
+    ∙ ap (nat_le left) (count-here v w p h ∙ ap (λ b. cond b 1 0 + count_of v (ahead_at (moved p))) (ne_eqb w v e) ∙ none-more (count_of v (ahead_at (moved p))))
     ∙ ap (λ (x : Place). nat_le left (count_of v (ahead_at x))) (sym f)
   where
-    unlike : (a b : ℕ) → (a ≡ b → ⊥) → (a == b) ≡ false
-    unlike a b e = grind (arith, e)
-
     none-more : (m : ℕ) → 0 + m ≡ m
     none-more m = omega arith
 

@@ -3,8 +3,8 @@ use Rattle.std.proofs.Common.{◌≡◌, ◌≢◌, ℕ, zero, suc, ◌+◌, ◌
 use Rattle.std.specs.List.{All}
 use Rattle.std.specs.Option.{option_map}
 use Rattle.std.proofs.lemmas.List.{length-append, length-drop, append-nil}
-use Rattle.std.proofs.lemmas.Bool.{ne_eqb, false≢true, or_left, or_right}
-use Rattle.std.proofs.lemmas.Bool.Decides.{nat_tests, eqb_tells, leb_tells}
+use Rattle.std.proofs.lemmas.Bool.{ne_eqb, false≢true, or_left, or_right, leb-true, lt-ltb, le-ltb}
+use Rattle.std.proofs.lemmas.Bool.Decides.{eqb_tells, leb_tells}
 use Rattle.markdown_engine.specs.declared.event.Event.{Event}
 use Rattle.markdown_engine.specs.declared.event.Link.{Link}
 use Rattle.markdown_engine.specs.declared.util.edit_map.Edit.{Edit}
@@ -16,16 +16,10 @@ use Rattle.markdown_engine.proofs.OpsLemmas.{and-left, and-right}
 
 -- Which events go.
 
-below-not : (a b : ℕ) → b ≤ a → nat_lt a b ≡ false
-below-not a b h = grind (arith, nat_tests)
-
-below-is : (a b : ℕ) → a < b → nat_lt a b ≡ true
-below-is a b h = grind (arith, nat_tests)
-
 none-removes : (log : List Edit) (j i : ℕ) → ((p : ℕ) → p ≤ i → p + removed_at p log ≤ j) → removed_by log j i ≡ false
-none-removes log j zero h = below-not j (removed_at 0 log) (let l = h 0 (omega arith) in omega arith)
+none-removes log j zero h = le-ltb j (removed_at 0 log) (let l = h 0 (omega arith) in omega arith)
 none-removes log j (suc i) h =
-    rw (below-not j (suc i + removed_at (suc i) log) (h (suc i) (omega arith))) (none-removes log j i (λ p l. h p (omega arith)))
+    rw (le-ltb j (suc i + removed_at (suc i) log) (h (suc i) (omega arith))) (none-removes log j i (λ p l. h p (omega arith)))
 
 -- an event stays if no range of a place up to it reaches past it
 pub stays-where : (log : List Edit) (j : ℕ) → ((p : ℕ) → p ≤ j → p + removed_at p log ≤ j) → is_removed log j ≡ false
@@ -34,10 +28,10 @@ stays-where log j h = none-removes log j j h
 removes-at : (log : List Edit) (j i p : ℕ) → p ≤ i → j < p + removed_at p log → removed_by log j i ≡ true
 removes-at log j zero p l h =
     let e : p ≡ 0 = omega arith in
-    below-is j (removed_at 0 log) (omega (arith, ap (λ n. removed_at n log) e))
+    lt-ltb j (removed_at 0 log) (omega (arith, ap (λ n. removed_at n log) e))
 removes-at log j (suc i) p l h =
     elim (eqb_tells p (suc i)) [
-      | inl t ↦ or_left (nat_lt j (suc i + removed_at (suc i) log)) (removed_by log j i) (below-is j (suc i + removed_at (suc i) log) (omega (arith, t.1, ap (λ n. removed_at n log) t.1)))
+      | inl t ↦ or_left (nat_lt j (suc i + removed_at (suc i) log)) (removed_by log j i) (lt-ltb j (suc i + removed_at (suc i) log) (omega (arith, t.1, ap (λ n. removed_at n log) t.1)))
       | inr f ↦ or_right (nat_lt j (suc i + removed_at (suc i) log)) (removed_by log j i) (removes-at log j i p (omega arith) h)
     ]
 
@@ -232,9 +226,6 @@ places_test n (e ∷ log) = nat_le e.at n && places_test n log
 abbrev pub can_edit : List Edit → List Event → Bool
 can_edit log es = places_test (length es) log && each_below (λ j. not (is_removed log j && linked_at es j)) (length es)
 
-le-from : (a b : ℕ) → nat_le a b ≡ true → a ≤ b
-le-from a b h = grind (arith, nat_tests)
-
 each-at : (p : ℕ → Bool) (n j : ℕ) → each_below p n ≡ true → j < n → p j ≡ true
 each-at p zero j h l = absurd (omega arith)
 each-at p (suc n) j h l =
@@ -245,7 +236,7 @@ each-at p (suc n) j h l =
 
 places-from : (n : ℕ) (log : List Edit) → places_test n log ≡ true → All (λ e. e.at ≤ n) log
 places-from n [] h = λ k d l. absurd (omega arith)
-places-from n (e ∷ log) h = λ k d l. places-step n e log (le-from e.at n (and-left (nat_le e.at n) (places_test n log) h)) (places-from n log (and-right (nat_le e.at n) (places_test n log) h)) k d l
+places-from n (e ∷ log) h = λ k d l. places-step n e log (leb-true e.at n (and-left (nat_le e.at n) (places_test n log) h)) (places-from n log (and-right (nat_le e.at n) (places_test n log) h)) k d l
   where
     places-step : (n : ℕ) (e : Edit) (log : List Edit) → e.at ≤ n → All (λ x. x.at ≤ n) log → (k : ℕ) (d : Edit) → k < length (e ∷ log) → (get_or (e ∷ log) k d).at ≤ n
     places-step n e log h g zero d l = h

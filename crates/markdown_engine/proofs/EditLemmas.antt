@@ -4,7 +4,7 @@ use Rattle.std.specs.List.{All, slice_get}
 use Rattle.std.specs.Option.{option_map}
 use Rattle.std.proofs.lemmas.List.{length-append, append-nil, drop_more, length-take, length-drop, get_or-take, get_or-drop}
 use Rattle.std.proofs.lemmas.Option.{get_or_from_slice_get, slice_get_within, slice_get-get_or}
-use Rattle.std.proofs.lemmas.Bool.{false≢true}
+use Rattle.std.proofs.lemmas.Bool.{false≢true, lt-ltb, le-ltb, eq-eqb, cases_Bool}
 use Rattle.std.proofs.lemmas.Bool.Decides.{nat_tests, eqb_tells, leb_tells}
 use Rattle.markdown_engine.specs.declared.event.Event.{Event}
 use Rattle.markdown_engine.specs.declared.event.Link.{Link}
@@ -309,10 +309,6 @@ moved-linked log e = has-previous (option_map (moved_number log) (previous_of e)
 unlinked-none : (x : Event) (q : ℕ) → IsUnlinked x → previous_of x ≡ Some q → ⊥
 unlinked-none x q u h = some-none q (sym (ap link_previous u) ∙ h)
 
-true-or-false : (b : Bool) → (b ≡ true) ⊎ (b ≡ false)
-true-or-false true = inl refl
-true-or-false false = inr refl
-
 -- what an event afterwards that names another was
 record Named (log : List Edit) (es : List Event) (k q : ℕ) : Type 0 where
   by : ℕ
@@ -338,7 +334,7 @@ module _ (log : List Edit) (es : List Event) (u : AddsUnlinked log) (can : CanEd
       zero-plus n = omega arith
 
   kept-linked : (p : ℕ) → linked_at es p ≡ true → is_removed log p ≡ false
-  kept-linked p h = elim (true-or-false (is_removed log p)) [ inl r ↦ absurd (false≢true (sym (can.unlinked p r) ∙ h)) | inr s ↦ s ]
+  kept-linked p h = elim (cases_Bool (is_removed log p)) [ inl r ↦ absurd (false≢true (sym (can.unlinked p r) ∙ h)) | inr s ↦ s ]
 
   pub linked-moved : (p : ℕ) → linked_at es p ≡ true → linked_at (edited log es) (moved_number log p) ≡ true
   linked-moved p h =
@@ -434,11 +430,8 @@ pub renumbered-moved : (log : List Edit) (es : List Event) (i : ℕ) (notes : Li
 renumbered-moved log es i notes e l r w n =
     ap (λ o. with_previous o e) (map-same (number_of notes) (moved_number log) (previous_of e) (λ p k. n p (previous-below es i p e l r w k) (w.linked i p (previous-read es i e l r ∙ k))))
 
-same-number : (i j : ℕ) → i ≡ j → (i == j) ≡ true
-same-number i j h = grind (arith, nat_tests)
-
 note-found : (e : Event) (i n j : ℕ) (notes : List (ℕ × ℕ)) → i ≡ j → has_link e.link ≡ true → number_of (noted e i n notes) j ≡ n
-note-found e i n j notes h g = ap (λ b. number_of (cond b ((i, n) ∷ notes) notes) j) g ∙ ap (λ b. cond b n (number_of notes j)) (same-number i j h)
+note-found e i n j notes h g = ap (λ b. number_of (cond b ((i, n) ∷ notes) notes) j) g ∙ ap (λ b. cond b n (number_of notes j)) (eq-eqb i j h)
 
 note-other : (e : Event) (i n j : ℕ) (notes : List (ℕ × ℕ)) → (i == j) ≡ false → number_of (noted e i n notes) j ≡ number_of notes j
 note-other e i n j notes h = over (has_link e.link) i n j notes h
@@ -504,16 +497,10 @@ below-range log i d l h =
     tested i r d l h = grind (arith, nat_tests)
 
 pub stays-from : (log : List Edit) (i d : ℕ) → i < 2 ^ 64 - 1 → EndsAt log i (i + 1) d → d ≤ i → is_removed log i ≡ false
-stays-from log i d l h k = below-range log i d l h ∙ not-below i d k
-  where
-    not-below : (i d : ℕ) → d ≤ i → nat_lt i d ≡ false
-    not-below i d h = grind (arith, nat_tests)
+stays-from log i d l h k = below-range log i d l h ∙ le-ltb i d k
 
 pub goes-from : (log : List Edit) (i d : ℕ) → i < 2 ^ 64 - 1 → EndsAt log i (i + 1) d → i < d → is_removed log i ≡ true
-goes-from log i d l h k = below-range log i d l h ∙ is-below i d k
-  where
-    is-below : (i d : ℕ) → i < d → nat_lt i d ≡ true
-    is-below i d h = grind (arith, nat_tests)
+goes-from log i d l h k = below-range log i d l h ∙ lt-ltb i d k
 
 module _ (log : List Edit) (es : List Event) (i : ℕ) (done put : List Event) (l : i < length es) (h : done ++ edited_from log i (drop i es) ≡ edited log es) (g : put ≡ done ++ added_at i log) where
   step : (e : Event) → e ≡ get_or es i e → edited log es ≡ put ++ (stay log (is_removed log i) e ++ edited_from log (i + 1) (drop (i + 1) es))

@@ -1,5 +1,5 @@
 -- Edits in the order of their places, passed place by place.
-use Rattle.std.proofs.Common.{suc, zero, nat_lt, Option, ◌≡◌, ◌≢◌, ℕ, ◌+◌, ◌-◌, ◌^◌, ◌<◌, ◌≤◌, ◌==◌, ◌&&◌, not, ◌⊎◌, inl, inr, Bool, true, false, cond, min, max, List, [], ◌∷◌, ◌++◌, length, take, drop, map, get_or, refl, sym, ap, subst, ◌∙◌, arith, append_assoc}
+use Rattle.std.proofs.Common.{suc, zero, Option, ◌≡◌, ◌≢◌, ℕ, ◌+◌, ◌-◌, ◌^◌, ◌<◌, ◌≤◌, ◌==◌, ◌&&◌, not, ◌⊎◌, inl, inr, Bool, true, false, cond, min, max, List, [], ◌∷◌, ◌++◌, length, take, drop, map, get_or, refl, sym, ap, subst, ◌∙◌, arith, append_assoc}
 use Rattle.std.specs.List.{All, filter}
 use Rattle.std.specs.List.Sorted.{IsPermutation, IsNonDecreasingBy, IsStableByKey, ties}
 use Rattle.std.specs.Ordering.{is_lt, nat_cmp}
@@ -7,7 +7,7 @@ use Rattle.std.proofs.lemmas.List.{get_or-map, get_or-drop, get_or-take, get_or_
 use Rattle.std.proofs.lemmas.List.Sorted.{All-permutation, IsPermutation-map, IsNonDecreasingBy-drop, IsNonDecreasingBy-push, IsNonDecreasingBy-short, IsNonDecreasingBy-take}
 use Rattle.std.proofs.Math.Seq.{take-append_seam, drop-append_seam}
 use Rattle.std.proofs.lemmas.List.Elements.{All-append, All-drop, All-map, All-push, All-take}
-use Rattle.std.proofs.lemmas.Bool.{ne_eqb}
+use Rattle.std.proofs.lemmas.Bool.{ne_eqb, le-ltb, eq-eqb}
 use Rattle.std.proofs.lemmas.Bool.Decides.{nat_tests}
 use Rattle.markdown_engine.specs.declared.event.Event.{Event}
 use Rattle.markdown_engine.specs.declared.util.edit_map.Edit.{Edit}
@@ -224,10 +224,7 @@ all-rise es k l up = subst (IsNonDecreasingBy (λ (e : Entry). e.at)) (take_all 
 
 -- what an edit puts behind others at a place
 pub comes-behind : (r : Edit) (i : ℕ) (xs : List Event) → r.at ≡ i → r.before ≡ false → xs ≡ r.events → xs ≡ cond (r.at == i && not r.before) r.events []
-comes-behind r i xs at b h = h ∙ sym (ap (λ x. cond (x && not r.before) r.events []) (same-place r.at i at) ∙ ap (λ x. cond (not x) r.events []) b)
-  where
-    same-place : (a i : ℕ) → a ≡ i → (a == i) ≡ true
-    same-place a i h = grind (arith, nat_tests)
+comes-behind r i xs at b h = h ∙ sym (ap (λ x. cond (x && not r.before) r.events []) (eq-eqb r.at i at) ∙ ap (λ x. cond (not x) r.events []) b)
 
 pub none-behind : (r : Edit) (i : ℕ) (ys : List Event) → r.before ≡ true → ys ≡ ys ++ cond (r.at == i && not r.before) r.events []
 none-behind r i ys b = none-part (r.at == i) r.before r.events ys b
@@ -439,9 +436,6 @@ rest-later n m log a l r h = record { ahead = h; rises = r.rises; plain = r.plai
 unlinked-moved : (log : List Edit) (e : Event) → IsUnlinked e → moved log e ≡ e
 unlinked-moved log e u = ap (λ (l : Option Link). record e { link = previous_link (option_map (moved_number log) (previous_of e)) l }) u ∙ ap (λ (l : Option Link). record e { link = l }) (sym u)
 
-not-below : (i d : ℕ) → d ≤ i → nat_lt i d ≡ false
-not-below i d h = grind (arith, nat_tests)
-
 -- events that stay, where nothing comes, and that carry no link
 until-plain : (log : List Edit) (i : ℕ) (xs : List Event) → ((j : ℕ) → i ≤ j → j < i + length xs → added_at j log ≡ []) → ((j : ℕ) → i ≤ j → j < i + length xs → is_removed log j ≡ false) → All IsUnlinked xs → edited_until log i xs ≡ xs
 until-plain log i [] a r u = refl
@@ -485,7 +479,7 @@ module _ (log rest : List Edit) (es : List Event) (n m d : ℕ) (le : n ≤ m) (
       let high = bounds.1 in
       let none = quiet-removed j l k in
       let after : range_end log (suc j) ≤ j = omega (arith, ap (range_end log) e) in
-      removed-test log j ∙ not-below j (range_end log (suc j)) after
+      removed-test log j ∙ le-ltb j (range_end log (suc j)) after
 
   size-stretch : length (take (m - n) (drop n es)) ≡ m - n
   size-stretch = omega (arith, length-take (m - n) (drop n es), length-drop n es)

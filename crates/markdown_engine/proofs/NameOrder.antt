@@ -6,7 +6,7 @@ use Rattle.std.specs.Ordering.{is_lt, nat_cmp, ordering_then, ordering_index, Ma
 use Rattle.std.proofs.Common.{Ordering, Less, Equal, Greater}
 use Rattle.std.specs.Cmp.Lexicographic.{slice_cmp}
 use Rattle.std.specs.Str.{bytes_eq}
-use Rattle.std.proofs.lemmas.Bool.{false≢true, eqb-true, and_parts, ltb-true, ltb-false}
+use Rattle.std.proofs.lemmas.Bool.{false≢true, eqb-true, and_parts, ltb-true, ltb-false, false_from_ne_true}
 use Rattle.std.proofs.lemmas.Bool.Decides.{Decides-eqb}
 use Rattle.std.proofs.lemmas.Cmp.{nat_cmp_total, nat_list_cmp_total, ranked, tied_itself, is_lt_index}
 use Rattle.std.proofs.lemmas.List.{get_or_default}
@@ -48,10 +48,6 @@ begins-after (x ∷ front) (y ∷ text) b =
     let same : x ≡ y = (Decides-eqb x y).0 ends.0 in
     subst (λ z. is_lt (ordering_then (nat_cmp z x) (slice_cmp nat_cmp text front)) ≡ false) same (ap (λ o. is_lt (ordering_then o (slice_cmp nat_cmp text front))) (tied_itself nat_cmp_total x) ∙ begins-after front text ends.1)
 
-not-true : (b : Bool) → (b ≡ true → ⊥) → b ≡ false
-not-true true h = absurd (h refl)
-not-true false h = refl
-
 -- names in order, from i on not before a text: the test of those that begin like the text is that of the first
 module _ {X : Type 0} (bytes : X → List ℕ) (xs : List X) (i : ℕ) (text : List ℕ)
     (sorted : IsSortedBy (λ a b. is_lt (slice_cmp nat_cmp (bytes a) (bytes b))) xs)
@@ -74,10 +70,10 @@ module _ {X : Type 0} (bytes : X → List ℕ) (xs : List X) (i : ℕ) (text : L
     where
       go : (b : Bool) → p (bytes (get_or xs i d)) ≡ b → b ≡ list_any (λ x. p (bytes x)) xs
       go true e = sym (list_any_at (λ x. p (bytes x)) xs i d inside e)
-      go false e = sym (list_any_none (λ x. p (bytes x)) xs (λ k c l. not-true _ (λ h. false≢true (sym e ∙ ap (λ x. p (bytes x)) (get_or_default xs i d c inside) ∙ (at-first k c l h).1))))
+      go false e = sym (list_any_none (λ x. p (bytes x)) xs (λ k c l. false_from_ne_true _ (λ h. false≢true (sym e ∙ ap (λ x. p (bytes x)) (get_or_default xs i d c inside) ∙ (at-first k c l h).1))))
 
   pub none : length xs ≤ i → false ≡ list_any (λ x. p (bytes x)) xs
-  none past = sym (list_any_none (λ x. p (bytes x)) xs (λ k c l. not-true _ (λ h. absurd (omega (arith, past, (at-first k c l h).0)))))
+  none past = sym (list_any_none (λ x. p (bytes x)) xs (λ k c l. false_from_ne_true _ (λ h. absurd (omega (arith, past, (at-first k c l h).0)))))
 
 -- a name that comes neither before a text nor after it is the text
 pub same-lists : (text name : List ℕ) → comes_before text name ≡ false → comes_before name text ≡ false → text ≡ name

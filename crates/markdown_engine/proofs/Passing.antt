@@ -1,5 +1,6 @@
 -- The pieces of a content, tested one after another.
 use Rattle.std.proofs.Common.{ℕ, ◌+◌, ◌<◌, Bool, true, false, not, ◌&&◌, ◌≡◌, arith, List, [], ◌∷◌, length, drop, get_or, filter, refl, sym, ap, subst, ◌∙◌, IsTrue, Option, Some, None}
+use Rattle.std.proofs.Math.Bool.{and-true}
 use Rattle.std.specs.List.{list_any}
 use Rattle.std.proofs.lemmas.List.{drop_more}
 use Rattle.std.proofs.lemmas.Bool.{both_ways, and_parts, and_from, and_left, and_right, not_from_true, not_from_false, false_from_ne_true}
@@ -136,10 +137,6 @@ pair-is bytes last next more h = rw h refl
 follow-is : (bytes : List ℕ) (last next : Piece) (s : Stretch) → IsPieceEnd bytes last s → may_follow bytes s.ends_line (place_of s.point) next.start ≡ may_follow bytes (ends_line (piece_codes (codes_of bytes) last)) last.end next.start
 follow-is bytes last next s h =
     ap (λ (b : Bool). may_follow bytes b (place_of s.point) next.start) h.ends ∙ ap (λ (x : ℕ × ℕ). may_follow bytes (ends_line (piece_codes (codes_of bytes) last)) x next.start) (last-place bytes s last h).0
-
-and-true : (b : Bool) → (b && true) ≡ b
-and-true true = refl
-and-true false = refl
 
 pub passing-next : (bytes : List ℕ) (all : List Piece) (next : Piece) (more : List Piece) (s t : Stretch) → IsPassing bytes all (next ∷ more) s → PassesNext bytes s.ends_line s.point next (Some t) → IsPassing bytes all more t
 passing-next bytes all next more s t h (may, end) = record {

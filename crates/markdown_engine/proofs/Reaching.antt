@@ -1,5 +1,6 @@
 -- A walk that finds out whether it ends at a place.
 use Rattle.std.proofs.Common.{ℕ, ◌+◌, ◌*◌, ◌<◌, ◌≤◌, Bool, true, false, ◌&&◌, ◌||◌, ◌==◌, ◌≡◌, arith, List, [], ◌∷◌, ◌++◌, length, refl, sym, ap, subst, ◌∙◌, inl, inr, Some, IsTrue}
+use Rattle.std.proofs.Math.Bool.{or-false}
 use Rattle.std.specs.List.{list_any}
 use Rattle.std.proofs.lemmas.Bool.{cases_Bool, or_left, or_right, and_from, eq-eqb, false_from_ne_true}
 use Rattle.std.proofs.lemmas.Bool.Decides.{nat_tests}
@@ -103,10 +104,6 @@ reaching-less bytes p q h lt stop =
     let less : codes_left_at bytes n < codes_left_at bytes p = falls (4 * length bytes) (4 * p.index + p.vs) (4 * n.index + n.vs) one.counts (few-less (4 * n.index) n.vs (4 * length bytes) few) in
     subst (λ (x : Point). codes_left_at bytes x < codes_left_at bytes p) (sym (stop ∙ one.next)) less
 
-or-none : (b : Bool) → (b || false) ≡ b
-or-none true = refl
-or-none false = refl
-
 -- at the place
 pub reaching-end : (bytes : List ℕ) (p : Point) (at : ℕ × ℕ) (s : Stretch) → IsReaching bytes p at s → s.point.index ≡ at.0 → s.point.vs ≡ at.1 → IsStretch bytes p at s
 reaching-end bytes p at s h i v =
@@ -116,7 +113,7 @@ reaching-end bytes p at s h i v =
     record {
       place = ap (λ (x : ℕ × ℕ). is_place bytes x) (sym same) ∙ place-point bytes s.point h.point;
       point = sym h.point.here ∙ ap (λ (x : ℕ × ℕ). point_at bytes x) same;
-      lines = sym (h.lines ∙ ap (λ (cs : List Code). s.has_line_ending || list_any is_line_ending cs) none ∙ or-none s.has_line_ending);
+      lines = sym (h.lines ∙ ap (λ (cs : List Code). s.has_line_ending || list_any is_line_ending cs) none ∙ or-false s.has_line_ending);
       ends = sym (h.ends ∙ ap (λ (cs : List Code). ends_with s.ends_line cs) none);
     }
 

@@ -1,5 +1,6 @@
 -- What an index of runs says of the codes that it was made of.
 use Rattle.std.proofs.Common.{◌≡◌, ℕ, zero, suc, ◌+◌, ◌==◌, ◌&&◌, not, nat_lt, Bool, true, false, cond, if◌then◌else◌, Option, Some, None, List, [], ◌∷◌, drop, refl, sym, ap, subst, ◌∙◌, arith}
+use Rattle.std.proofs.Math.Bool.{and-false}
 use Rattle.std.proofs.lemmas.Bool.{eqb-true}
 use Rattle.std.proofs.lemmas.Bool.Decides.{nat_tests}
 use Rattle.std.proofs.lemmas.Grind.{common_steps}
@@ -144,13 +145,9 @@ entry-is asked cs m n h = entries-are asked None 0 cs [] m n ∙ ap (λ b. answe
 pub none-known : (cs : List Code) → no_runs ≡ last_runs [] cs
 none-known cs = ap (λ es. record { asked = []; entries = es }) (sym (stays None 0 cs))
   where
-    never : (b : Bool) → (b && false) ≡ false
-    never true = refl
-    never false = refl
-
     stays : (before : Option ℕ) (at : ℕ) (cs : List Code) → entries_from [] before at cs [] ≡ []
     stays before at [] = refl
-    stays before at (c ∷ cs) = ap (λ b. entries_from [] (Some c.value) (suc at) cs (with_run b (c.value, leading c.value (c ∷ cs)) at [])) (never (not (is_same before c.value))) ∙ stays (Some c.value) (suc at) cs
+    stays before at (c ∷ cs) = ap (λ b. entries_from [] (Some c.value) (suc at) cs (with_run b (c.value, leading c.value (c ∷ cs)) at [])) (and-false (not (is_same before c.value))) ∙ stays (Some c.value) (suc at) cs
 
 -- no later answer, and none here
 pub later-none : (o : Option ℕ) (b : Bool) → later_or o b ≡ None → (o ≡ None) × (b ≡ false)

@@ -1,6 +1,6 @@
 -- Runs of one code: a walk from run to run.
 use Rattle.std.proofs.Common.{◌≡◌, ℕ, suc, ◌+◌, ◌-◌, ◌<◌, ◌==◌, ◌&&◌, not, Bool, true, false, Option, Some, None, List, [], ◌∷◌, length, drop, refl, sym, ap, subst, ◌∙◌, arith}
-use Rattle.std.proofs.lemmas.Bool.{eqb-true}
+use Rattle.std.proofs.lemmas.Bool.{eqb-true, ne_eqb}
 use Rattle.std.proofs.lemmas.List.{drop-drop, length-drop}
 use Rattle.markdown_engine.specs.Codes.{Code}
 use Rattle.markdown_engine.specs.Place.{Place, ahead_at, moved, code_at}
@@ -33,10 +33,7 @@ no-run : (v : ℕ) (p : Place) (o : Option ℕ) → code_at p ≡ o → (o ≡ S
 no-run v p None h other = ap (leading v) (ahead_none p h)
 no-run v p (Some w) h other =
     let a : IsAhead p w = ahead_some p w h in
-    ap (leading v) a.codes ∙ leading-none v a.code (ahead_at (moved p)) (ap (λ k. k == v) a.value ∙ unlike w v (λ e. other (ap (λ k. Some k) e)))
-  where
-    unlike : (k m : ℕ) → (k ≡ m → ⊥) → (k == m) ≡ false
-    unlike k m e = grind (arith, e)
+    ap (leading v) a.codes ∙ leading-none v a.code (ahead_at (moved p)) (ap (λ k. k == v) a.value ∙ ne_eqb w v (λ e. other (ap (λ k. Some k) e)))
 
 pub past-none : (v : ℕ) (p : Place) → (code_at p ≡ Some v → ⊥) → past_run v p ≡ p
 past-none v p other = ap (λ n. record p { at = n }) (omega (arith, no-run v p (code_at p) refl other))

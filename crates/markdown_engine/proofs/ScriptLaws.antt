@@ -4,7 +4,7 @@ use Rattle.std.specs.List.{All}
 use Rattle.std.specs.Option.{option_map}
 use Rattle.std.proofs.lemmas.List.{length-append, append-nil}
 use Rattle.std.proofs.lemmas.List.Elements.{All-nil, All-cons}
-use Rattle.std.proofs.lemmas.Bool.{ne_eqb}
+use Rattle.std.proofs.lemmas.Bool.{ne_eqb, both_ways}
 use Rattle.std.proofs.lemmas.Bool.Decides.{leb_tells, eqb_tells}
 use Rattle.markdown_engine.specs.Chain.{has_link, linked_at}
 use Rattle.markdown_engine.specs.Codes.{stop_of, document_start}
@@ -362,10 +362,6 @@ linked-none [] ys i l u = absurd (omega (arith, l))
 linked-none (x ∷ xs) ys zero l u = ap has_link u.0
 linked-none (x ∷ xs) ys (suc i) l u = linked-none xs ys i (omega (arith, l)) u.1
 
-clash : {A : Type 0} → (b : Bool) → b ≡ true → b ≡ false → A
-clash true h k = cc
-clash false h k = cc
-
 goes-unlinked : (log : List Edit) (parts : List Part) (n m : ℕ) (pre : List Event) → Rest log n m pre parts → GoUnlinked parts → (i j : ℕ) → i ≡ n + j → is_removed log i ≡ true → linked_at (before_from n parts) j ≡ false
 goes-unlinked log [] n m pre r u i j e h = refl
 goes-unlinked log (comes es ∷ parts) n m pre r u i j e h = goes-unlinked log parts n (m + length es) (pre ++ es) (rest-comes log n m pre es parts r) u i j e h
@@ -384,7 +380,7 @@ goes-unlinked log (keeps kind name p ∷ parts) n m pre r u i j e h =
       | inl t ↦
           linked-skip (event kind name p ∷ []) (before_from (n + 1) parts) j (j - 1) (omega (arith, t.1))
           ∙ goes-unlinked log parts (n + 1) (m + 1) [] (rest-after log (n + 1) (m + 1) parts b.after) u i (j - 1) (omega (arith, e, t.1)) h
-      | inr f ↦ clash (is_removed log i) h (b.stay i (omega (arith, e)) (omega (arith, e, f.1)))
+      | inr f ↦ absurd (both_ways (is_removed log i) (b.stay i (omega (arith, e)) (omega (arith, e, f.1))) h)
     ]
 goes-unlinked log (stays t ∷ parts) n m pre r u i j e h = elim (eqb_tells (event_count t) 0) [
   | inl z ↦ none t z.1 r (λ q. goes-unlinked log parts n m pre q u i j e h)
@@ -396,7 +392,7 @@ goes-unlinked log (stays t ∷ parts) n m pre r u i j e h = elim (eqb_tells (eve
         | inl l ↦
             linked-skip (appended_from n None t) (before_from (n + k) parts) j (j - k) (omega (arith, l.1, len))
             ∙ goes-unlinked log parts (n + k) (m + k) [] (rest-after log (n + k) (m + k) parts b.after) u i (j - k) (omega (arith, e, l.1)) h
-        | inr f ↦ clash (is_removed log i) h (b.stay i (omega (arith, e)) (omega (arith, e, f.1)))
+        | inr f ↦ absurd (both_ways (is_removed log i) (b.stay i (omega (arith, e)) (omega (arith, e, f.1))) h)
       ]
 ]
   where

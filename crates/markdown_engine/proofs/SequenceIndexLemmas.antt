@@ -1,5 +1,6 @@
 -- The walk that finds where sequences last begin, and what an index of them says of the codes that it was made of.
 use Rattle.std.proofs.Common.{◌≡◌, ℕ, zero, suc, ◌+◌, ◌==◌, ◌&&◌, ◌||◌, nat_lt, Bool, true, false, if◌then◌else◌, cond, slice_index_or, length, ◌<◌, Option, Some, None, List, [], ◌∷◌, drop, refl, sym, ap, ◌∙◌, arith}
+use Rattle.std.proofs.lemmas.Bool.{eq-eqb, ne_eqb}
 use Rattle.std.specs.List.{list_any}
 use Rattle.std.proofs.lemmas.Bool.Decides.{nat_tests}
 use Rattle.std.proofs.lemmas.Grind.{common_steps}
@@ -42,20 +43,14 @@ passing-end vs i start p less k h = sym (k ∙ ap (λ xs. stand_next xs (ahead_a
 
 pub passing-other : (vs : List ℕ) (i v : ℕ) (start p : Place) → i < length vs → IsPassing vs i start p → code_at p ≡ Some v → (v ≡ slice_index_or vs i 0 → ⊥) → false ≡ stand_next vs (ahead_at start)
 passing-other vs i v start p less k h e =
-    sym (k ∙ ap (λ xs. stand_next xs (ahead_at p)) (drop_more vs i 0 less) ∙ next-other (slice_index_or vs i 0) (drop (i + 1) vs) p v h (unlike v (slice_index_or vs i 0) e))
-  where
-    unlike : (a b : ℕ) → (a ≡ b → ⊥) → (a == b) ≡ false
-    unlike a b e = grind (arith, e)
+    sym (k ∙ ap (λ xs. stand_next xs (ahead_at p)) (drop_more vs i 0 less) ∙ next-other (slice_index_or vs i 0) (drop (i + 1) vs) p v h (ne_eqb v (slice_index_or vs i 0) e))
 
 pub passing-one : (vs : List ℕ) (i v : ℕ) (start p q : Place) → i < length vs → IsPassing vs i start p → code_at p ≡ Some v → v ≡ slice_index_or vs i 0 → q ≡ moved p → IsPassing vs (i + 1) start q
 passing-one vs i v start p q less k h e f =
     k
     ∙ ap (λ xs. stand_next xs (ahead_at p)) (drop_more vs i 0 less)
-    ∙ next-one (slice_index_or vs i 0) (drop (i + 1) vs) p v h (alike v (slice_index_or vs i 0) e)
+    ∙ next-one (slice_index_or vs i 0) (drop (i + 1) vs) p v h (eq-eqb v (slice_index_or vs i 0) e)
     ∙ ap (λ (x : Place). stand_next (drop (i + 1) vs) (ahead_at x)) (sym f)
-  where
-    alike : (a b : ℕ) → a ≡ b → (a == b) ≡ true
-    alike a b e = grind (arith, e)
 
 -- Whether parentheses close.
 

@@ -1,7 +1,7 @@
 -- A stretch of codes over which a state goes on by itself means as many steps.
 use Rattle.std.proofs.Common.{◌≡◌, ℕ, ◌==◌, Bool, true, false, if◌then◌else◌, List, [], ◌∷◌, Option, Some, None, refl, sym, ap, subst, arith, ◌∙◌}
 use Rattle.std.specs.List.{list_any}
-use Rattle.std.proofs.lemmas.Bool.{both_ways, not-true, eqb-true}
+use Rattle.std.proofs.lemmas.Bool.{both_ways, not-true, eqb-true, or_parts}
 use Rattle.markdown_engine.specs.Codes.{Code, line_feed}
 use Rattle.markdown_engine.specs.Ops.{current_of, ahead, applied, consumed}
 use Rattle.markdown_engine.specs.Place.{Place, ahead_at, moved}
@@ -16,7 +16,7 @@ use Rattle.markdown_engine.specs.declared.tokenizer.Tokenizer.{Tokenizer}
 use Rattle.markdown_engine.proofs.PlaceRules.{ahead_moved, code_at_end}
 use Rattle.markdown_engine.proofs.ReachLemmas.{Reaches-call}
 use Rattle.markdown_engine.proofs.RunLemmas.{goes-alone, reaches-alone}
-use Rattle.markdown_engine.proofs.Stretches.{past-none, past-one, or-none}
+use Rattle.markdown_engine.proofs.Stretches.{past-none, past-one}
 
 -- at this place
 unfoldable pub placed : Place → Tokenizer → Tokenizer
@@ -94,7 +94,7 @@ onward-stretch ready step ends weight known laws steady s set T alone r is =
 -- By the code at hand.
 
 free-of : (set : List ℕ) (v : ℕ) → is_free set (Some v) ≡ true → (v == line_feed ≡ false) × (list_any (λ n. v == n) set ≡ false)
-free-of set v h = or-none (v == line_feed) (list_any (λ n. v == n) set) (not-true (stops set v) h)
+free-of set v h = or_parts (v == line_feed) (list_any (λ n. v == n) set) (not-true (stops set v) h)
 
 steady-by : (set : List ℕ) (T : Tokenizer) (at : Option ℕ → Tokenizer → Stepped) (r : Stepped) (o : Option ℕ) → is_free set o ≡ true → ((v : ℕ) → (v == line_feed) ≡ false → list_any (λ n. v == n) set ≡ false → at (Some v) T ≡ r) → at o T ≡ r
 steady-by set T at r None free k = absurd (both_ways false refl free)
@@ -114,4 +114,4 @@ alone-is [] m set h = cc
 alone-is (k ∷ ks) m set h = one-by (m == k) m k set (alone_among ks m) (eqb-true m k) h (alone-is ks m set)
 
 pub alone-other : (v m : ℕ) (set : List ℕ) → set ≡ m ∷ [] → list_any (λ n. v == n) set ≡ false → (v == m) ≡ false
-alone-other v m set e h = (or-none (v == m) false (ap (λ (ns : List ℕ). list_any (λ n. v == n) ns) (sym e) ∙ h)).0
+alone-other v m set e h = (or_parts (v == m) false (ap (λ (ns : List ℕ). list_any (λ n. v == n) ns) (sym e) ∙ h)).0

@@ -1,8 +1,8 @@
 -- Past codes that mean themselves.
-use Rattle.std.proofs.Common.{ℕ, zero, suc, ◌+◌, ◌-◌, ◌<◌, ◌≤◌, Bool, true, false, ◌||◌, ◌==◌, ◌≡◌, arith, List, [], ◌∷◌, length, get_or, refl, sym, ap, subst, ◌∙◌, Option, Some, None, IsSome, inl, inr}
+use Rattle.std.proofs.Common.{ℕ, zero, suc, ◌+◌, ◌-◌, ◌<◌, ◌≤◌, true, false, ◌==◌, ◌≡◌, arith, List, [], ◌∷◌, length, get_or, refl, sym, ap, subst, ◌∙◌, Option, Some, None, IsSome, inl, inr}
 use Rattle.std.specs.List.{list_any}
 use Rattle.std.proofs.lemmas.List.{drop_all}
-use Rattle.std.proofs.lemmas.Bool.{both_ways, cases_lt, not-true, not-false}
+use Rattle.std.proofs.lemmas.Bool.{both_ways, cases_lt, not-true, not-false, or_parts}
 use Rattle.std.proofs.lemmas.Bool.Decides.{nat_tests}
 use Rattle.markdown_engine.specs.declared.event.Point.{Point}
 use Rattle.markdown_engine.specs.declared.parser.Piece.{Piece}
@@ -74,10 +74,6 @@ fewer ms p q r h e same forward =
 
 -- What is kept.
 
-pub or-none : (a b : Bool) → (a || b) ≡ false → (a ≡ false) × (b ≡ false)
-or-none true b h = cc
-or-none false b h = (refl, h)
-
 -- it is kept past each code that is neither a line ending nor one of the bytes
 abbrev pub IsKept : List ℕ → (Place → Type 0) → Type 0
 IsKept ms P = (p : Place) (v : ℕ) → code_at p ≡ Some v → (v == line_feed) ≡ false → list_any (λ n. v == n) ms ≡ false → P p → P (moved p)
@@ -88,7 +84,7 @@ kept-from ms P next (c ∷ cs) p e k =
     elim (stops ms c.value) as (λ b. stops ms c.value ≡ b → P (walked (stretch ms (c ∷ cs)) p)) [
       | true ↦ λ h. subst (λ (ds : List Code). P (walked ds p)) (sym (stretch-stops ms c cs h)) k
       | false ↦ λ h.
-          let free : ((c.value == line_feed) ≡ false) × (list_any (λ n. c.value == n) ms ≡ false) = or-none (c.value == line_feed) (list_any (λ n. c.value == n) ms) h in
+          let free : ((c.value == line_feed) ≡ false) × (list_any (λ n. c.value == n) ms ≡ false) = or_parts (c.value == line_feed) (list_any (λ n. c.value == n) ms) h in
           subst (λ (ds : List Code). P (walked ds p)) (sym (stretch-goes ms c cs h)) (kept-from ms P next cs (moved p) (ahead_moved p c cs e) (next p c.value (code_at_ahead p c cs e) free.0 free.1 k))
     ] refl
 

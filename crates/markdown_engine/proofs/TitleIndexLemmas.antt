@@ -1,8 +1,8 @@
 -- The walk that finds closing parentheses, and what an index of them says of the codes that it was made of.
-use Rattle.std.proofs.Common.{◌≡◌, ℕ, zero, suc, ◌+◌, ◌<◌, ◌≤◌, nat_lt, Bool, true, false, not, if◌then◌else◌, Option, Some, None, List, [], ◌∷◌, ◌++◌, length, drop, get_or, refl, sym, ap, subst, ◌∙◌, append-nil, arith}
+use Rattle.std.proofs.Common.{◌≡◌, ℕ, zero, suc, ◌+◌, ◌<◌, ◌≤◌, nat_lt, Bool, true, false, if◌then◌else◌, Option, Some, None, List, [], ◌∷◌, ◌++◌, length, drop, get_or, refl, sym, ap, subst, ◌∙◌, append-nil, arith}
 use Rattle.std.specs.List.{AllWithin}
 use Rattle.std.specs.List.Sorted.{IsNonDecreasingBy}
-use Rattle.std.proofs.lemmas.Bool.{le-ltb, lt-ltb}
+use Rattle.std.proofs.lemmas.Bool.{le-ltb, lt-ltb, not-true}
 use Rattle.std.proofs.lemmas.List.{append_assoc}
 use Rattle.markdown_engine.specs.Codes.{Code}
 use Rattle.markdown_engine.specs.Place.{Place, ahead_at, moved, code_at}
@@ -145,11 +145,7 @@ closer-behind (suc k) at slash (d ∷ cs) ds c here e =
 pub ruled-out : (index : Option (List Closer)) (cs ds : List Code) (c : Code) (k : ℕ) → IsRightFor cs index → rules_out index k ≡ true → drop k cs ≡ c ∷ ds → c.value ≡ 40 → closes_resource false ds ≡ false
 ruled-out None cs ds c k right h here e = cc
 ruled-out (Some closers) cs ds c k right h here e =
-    sym (ap (first_twice k) (right closers refl) ∙ ap (λ n. first_twice n (closers_of cs)) (omega arith) ∙ closer-behind k 0 false cs ds c here e) ∙ opposite (first_twice k closers) h
-  where
-    opposite : (b : Bool) → not b ≡ true → b ≡ false
-    opposite true h = cc
-    opposite false h = refl
+    sym (ap (first_twice k) (right closers refl) ∙ ap (λ n. first_twice n (closers_of cs)) (omega arith) ∙ closer-behind k 0 false cs ds c here e) ∙ not-true (first_twice k closers) h
 
 -- nothing is right for all codes
 pub right-unknown : (cs : List Code) (index : Option (List Closer)) → index ≡ None → IsRightFor cs index

@@ -1,6 +1,8 @@
 -- The laws of the states of a check of a task list item.
 use Rattle.std.proofs.Common.{◌≡◌, ℕ, ◌==◌, ◌&&◌, ◌||◌, ◌<◌, ◌≤◌, not, Bool, true, false, if◌then◌else◌, Option, Some, None, List, [], ◌∷◌, ◌++◌, length, refl, sym, ap, subst, ◌∙◌, arith, append-nil}
 use Rattle.std.specs.Prelude.{codes}
+use Rattle.std.proofs.Math.Bool.{and-false}
+use Rattle.std.proofs.lemmas.Bool.{or_from, or_left, or_right}
 use Rattle.markdown_engine.specs.Codes.{Code, is_blank, is_line_ending}
 use Rattle.markdown_engine.specs.Grown.{Grown, Fails}
 use Rattle.markdown_engine.specs.Lists.{rest_of}
@@ -33,7 +35,7 @@ use Rattle.markdown_construct.proofs.PlanLemmas.{EndsAs-plan}
 use Rattle.markdown_construct.proofs.WholeReadings.{Gives, Covers, IsSome, Gives-bind, Gives-before, Gives-switched, Gives-one, Gives-gives, Covers-group, Covers-row, Covers-leaf, some-first}
 use Rattle.markdown_gfm.specs.GfmTaskListItemCheck.{opening, value, closing, is_mark, is_space, may_begin, start_at, start_step, inside_at, close_at, space_asked, looked, after_at, after_space_or_tab_at, MayLook, IsOpened, check_here, start_ends, after_plan, close_plan, inside_plan, inside_ends, close_ends, after_ends, after_space_or_tab_ends, states, after_space_or_tab_words, after_words, close_words, inside_words, start_words}
 use Rattle.markdown_gfm.proofs.LookLemmas.{Goes-looked, goes-then}
-use Rattle.markdown_model.proofs.ReadingSteps.{span-takes, bind-some, bind-none, before-some, before-none, before-other, one-here, one-not, switched-on, switched-off, and-left, and-right, and-false, if-true, if-false}
+use Rattle.markdown_model.proofs.ReadingSteps.{span-takes, bind-some, bind-none, before-some, before-none, before-other, one-here, one-not, switched-on, switched-off, and-left, and-right, if-true, if-false}
 use Rattle.markdown_engine.specs.StateWords.{Words, Law, GoesIn, weight_in}
 use Rattle.markdown_construct.proofs.StateLaws.{GoesOn-map, Goes-end, Goes-next, Goes-yes, Goes-no}
 use Rattle.markdown_construct.specs.Within.{Within}
@@ -61,18 +63,6 @@ close-reading name a v (c ∷ cs) =
       | false ↦ λ e. ap tree_ops (bind-none _ _ _ (before-none _ _ _ (one-not (is_value 93) (c ∷ cs) e)))
     ] refl
 
-or-right : (a b : Bool) → b ≡ true → a || b ≡ true
-or-right true b e = refl
-or-right false b e = e
-
-or-left : (a b : Bool) → a ≡ true → a || b ≡ true
-or-left true b e = refl
-or-left false b e = cc
-
-or-none : (a b : Bool) → a ≡ false → b ≡ false → a || b ≡ false
-or-none true b e h = e
-or-none false b e h = h
-
 name-by : (read : List Code) (b : Bool) → next_is (is_among (codes "xX")) read ≡ b → check_name read ≡ (if b then N.GfmTaskListItemValueChecked else N.GfmTaskListItemValueUnchecked)
 name-by read true e = rw (e, check_name) refl
 name-by read false e = rw (e, check_name) refl
@@ -89,10 +79,10 @@ value-reading a (c ∷ cs) =
     let unchecked : Option (List Op) = preceded (value N.GfmTaskListItemValueUnchecked) (close_plan cs) in
     let P : Bool → Bool → Type 0 = λ m w. tree_ops (goes_on (a ∷ []) (c ∷ cs)) ≡ preceded opening (if m then checked else (if w then unchecked else None)) in
     elim (is_among (codes "xX") c) as (λ m. is_among (codes "xX") c ≡ m → P m (is_whitespace_code c)) [
-      | true ↦ λ e. value-here a c cs true e (or-right _ _ e)
+      | true ↦ λ e. value-here a c cs true e (or_right _ _ e)
       | false ↦ λ e. elim (is_whitespace_code c) as (λ w. is_whitespace_code c ≡ w → P false w) [
-        | true ↦ λ k. value-here a c cs false e (or-left _ _ k)
-        | false ↦ λ k. ap tree_ops (bind-none _ _ _ (one-not (λ d. is_whitespace_code d || is_among (codes "xX") d) (c ∷ cs) (or-none _ _ k e)))
+        | true ↦ λ k. value-here a c cs false e (or_left _ _ k)
+        | false ↦ λ k. ap tree_ops (bind-none _ _ _ (one-not (λ d. is_whitespace_code d || is_among (codes "xX") d) (c ∷ cs) (or_from _ _ k e)))
       ] refl
     ] refl
 
@@ -263,7 +253,7 @@ after-law W within T alone look =
     (λ c e. let b = ahead-some T c e in
     let more : List Code = rest_of (ahead T) in
     if-step P (c == 10) _ _
-    (λ h. Goes-yes W 4 0 after_plan [] T alone (ap after_plan b.whole ∙ if-true _ _ _ (or-left _ _ (ap (λ v. v == 10) b.value ∙ h))))
+    (λ h. Goes-yes W 4 0 after_plan [] T alone (ap after_plan b.whole ∙ if-true _ _ _ (or_left _ _ (ap (λ v. v == 10) b.value ∙ h))))
     (λ h. let line : is_line_ending b.code ≡ false = ap (λ v. v == 10) b.value ∙ h in
     if-step P (S.at_blank (Some c)) _ _
     (λ k. let blank : is_blank b.code ≡ true = ap (λ v. S.at_blank (Some v)) b.value ∙ k in
@@ -271,7 +261,7 @@ after-law W within T alone look =
     (ap begins_task_text b.whole ∙ blank-text b.code more line blank ∙ ap (λ cs. not (is_empty (span is_blank cs).1)) (sym b.whole)))
     (λ k. let blank : is_blank b.code ≡ false = ap (λ v. S.at_blank (Some v)) b.value ∙ k in
     Goes-no W 4 0 after_plan T alone
-    (ap after_plan b.whole ∙ if-false _ _ _ (or-none _ _ line (ap (λ x. x && not (is_empty (span is_blank more).1)) blank))))))
+    (ap after_plan b.whole ∙ if-false _ _ _ (or_from _ _ line (ap (λ x. x && not (is_empty (span is_blank more).1)) blank))))))
 
 pub after_space_or_tab-law : (W : Words) → Law W after_space_or_tab_words
 after_space_or_tab-law W T alone _ =

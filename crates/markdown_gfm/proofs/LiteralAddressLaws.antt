@@ -1,7 +1,7 @@
 -- The laws of the states in the domain and the path of a literal.
 use Rattle.std.proofs.Common.{◌≡◌, ℕ, ◌+◌, ◌<◌, ◌≤◌, ◌==◌, ◌&&◌, ◌||◌, not, Bool, true, false, if◌then◌else◌, Option, Some, None, List, [], ◌∷◌, refl, sym, ap, subst, ◌∙◌, arith}
 use Rattle.std.specs.Prelude.{codes, IsSome}
-use Rattle.std.proofs.lemmas.Bool.{eqb-true}
+use Rattle.std.proofs.lemmas.Bool.{eqb-true, or_left}
 use Rattle.std.proofs.lemmas.Bool.Decides.{nat_tests}
 use Rattle.markdown_engine.specs.Codes.{Code}
 use Rattle.markdown_engine.specs.Lists.{rest_of}
@@ -117,10 +117,6 @@ or-cases false false e = (refl, refl)
 no-mark : (v : ℕ) → among_values (codes "._") v ≡ false → ((v == 46) ≡ false) × ((v == 95) ≡ false)
 no-mark v e = or-cases (v == 46) (v == 95) e
 
-or-left : (a b : Bool) → a ≡ true → a || b ≡ true
-or-left true b e = refl
-or-left false b e = cc
-
 code-by : (bytes : List ℕ) (end : ℕ) (c : Code) (cs : List Code) → is_among (codes "._") c ≡ false → is_domain_code bytes end (c ∷ cs) ≡ ((is_value 45 c || is_later_byte c) || is_other (class_of (after_index bytes c.start.index)))
 code-by bytes end c cs e =
     ap (λ b. elim b as (λ _. Bool) [ true ↦ not (trails bytes end (c ∷ cs)) | false ↦ (is_value 45 c || is_later_byte c) || is_other (class_of (after_index bytes c.start.index)) ]) e
@@ -216,7 +212,7 @@ module _ (W : Words) (within : Within states W) where
       if-step P (c == 45) _ _
       (λ f. let hyphen : (b.code.value == 45) ≡ true = ap (λ v. v == 45) b.value ∙ f in
       Goes-kept W 5 0 p p (Consume ∷ []) (rested s) T (Next GfmAutolinkLiteralDomainInside) (within GfmAutolinkLiteralDomainInside) alone refl (some-codes T c e) (omega arith)
-      (ap p b.whole ∙ domain-more (bytes_of T) (end_of T) s s b.code more (code ∙ or-left _ _ (or-left _ _ hyphen)) (fields ∙ if-true _ _ _ hyphen) refl refl)
+      (ap p b.whole ∙ domain-more (bytes_of T) (end_of T) s s b.code more (code ∙ or_left _ _ (or_left _ _ hyphen)) (fields ∙ if-true _ _ _ hyphen) refl refl)
       (ready-passed T c on e) (λ ok U k. domain-passed T ok U k))
       (λ f. let hyphen : (b.code.value == 45) ≡ false = ap (λ v. v == 45) b.value ∙ f in
       let code2 : is_domain_code (bytes_of T) (end_of T) (b.code ∷ more) ≡ (later_value c || is_other (kind_here T)) =

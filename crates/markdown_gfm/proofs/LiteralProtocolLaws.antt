@@ -1,5 +1,6 @@
 -- The laws of the states of a literal with a protocol.
 use Rattle.std.proofs.Common.{◌≡◌, ℕ, ◌+◌, ◌==◌, ◌&&◌, ◌||◌, not, nat_le, Bool, true, false, if◌then◌else◌, Option, Some, None, List, [], ◌∷◌, refl, sym, ap, subst, ◌∙◌, arith}
+use Rattle.std.proofs.Math.Bool.{and-false}
 use Rattle.markdown_engine.specs.Codes.{Code}
 use Rattle.markdown_engine.specs.Lists.{rest_of}
 use Rattle.markdown_engine.specs.Ops.{Exit, Consume, ahead, applied, current_of, previous_of, done, scratched}
@@ -23,7 +24,7 @@ use Rattle.markdown_construct.proofs.TextPasses.{text-consumed}
 use Rattle.markdown_gfm.proofs.LiteralWhole.{leaf_ops, protocol-is, whole-protocol}
 use Rattle.markdown_gfm.proofs.LiteralAttempts.{Begins, begins-first, literal-law}
 use Rattle.markdown_gfm.proofs.LiteralAddressLaws.{domain-then}
-use Rattle.markdown_model.proofs.ReadingSteps.{if-true, if-false, and-left, and-right, and-false}
+use Rattle.markdown_model.proofs.ReadingSteps.{if-true, if-false, and-left, and-right}
 use Rattle.markdown_engine.specs.StateWords.{Words, Law, GoesIn}
 use Rattle.markdown_construct.proofs.StateLaws.{GoesOn-map, Goes-end, Goes-on, Goes-nok, Goes-no}
 use Rattle.markdown_construct.specs.Within.{Within}

@@ -25,10 +25,6 @@ use Rattle.markdown_model.proofs.ReadingSteps.{bind-some, bind-none, one-here, o
 abbrev pub is_seen : Code → Bool
 is_seen c = not (is_among (codes "._-") c)
 
-or-none : (a : Bool) → a || false ≡ a
-or-none true = refl
-or-none false = refl
-
 or-here : (a b : Bool) → a || (true || b) ≡ true
 or-here true b = refl
 or-here false b = refl

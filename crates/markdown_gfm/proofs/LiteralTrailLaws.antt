@@ -1,7 +1,7 @@
 -- The laws of the states in what may be trailing punctuation.
 use Rattle.std.proofs.Common.{◌≡◌, ℕ, ◌==◌, ◌||◌, nat_lt, Bool, true, false, Option, Some, None, List, [], ◌∷◌, refl, sym, ap, ◌∙◌, arith}
 use Rattle.std.specs.Prelude.{codes}
-use Rattle.std.proofs.lemmas.Bool.{eqb-true}
+use Rattle.std.proofs.lemmas.Bool.{eqb-true, or_left}
 use Rattle.std.proofs.lemmas.Bool.Decides.{nat_tests}
 use Rattle.markdown_engine.specs.Codes.{Code}
 use Rattle.markdown_engine.specs.Lists.{rest_of, first_of}
@@ -77,10 +77,6 @@ bracket-ahead : (cs : List Code) → ends_bracket (value_of (first_of cs)) ≡ (
 bracket-ahead [] = refl
 bracket-ahead (c ∷ cs) = refl
 
-or-true : (a b : Bool) → a ≡ true → a || b ≡ true
-or-true true b e = refl
-or-true false b e = cc
-
 or-false : (a b : Bool) → a ≡ false → a || b ≡ b
 or-false true b e = cc
 or-false false b e = refl
@@ -91,7 +87,7 @@ bracket_after-law W within T alone look =
     let test : Bool = trails_on (bytes_of T) (end_of T) (ahead T) in
     let here : ends_bracket (current_of T) ≡ _ = ap ends_bracket (current-ahead T) ∙ bracket-ahead (ahead T) in
     if-step P (ends_bracket (current_of T)) _ _
-    (λ h. look-ended W 2 test true T alone (sym (or-true _ _ (sym here ∙ h))))
+    (λ h. look-ended W 2 test true T alone (sym (or_left _ _ (sym here ∙ h))))
     (λ h. look-retry W 2 test _ GfmAutolinkLiteralTrail (within GfmAutolinkLiteralTrail) T alone (omega arith) (sym (or-false _ _ (sym here ∙ h))) look (λ ok U x. x))
 
 pub reference_start-law : (W : Words) → Within states W → Law W reference_start_words

@@ -1,6 +1,6 @@
 -- The laws of the states of a literal from `www.` on.
 use Rattle.std.proofs.Common.{◌≡◌, ℕ, ◌+◌, ◌≤◌, ◌==◌, ◌&&◌, ◌||◌, not, Bool, true, false, if◌then◌else◌, Option, Some, None, List, [], ◌∷◌, ◌++◌, refl, sym, ap, subst, ◌∙◌, arith}
-use Rattle.std.proofs.lemmas.Bool.{eqb-true}
+use Rattle.std.proofs.lemmas.Bool.{eqb-true, and_right, and_from}
 use Rattle.std.proofs.lemmas.Bool.Decides.{nat_tests}
 use Rattle.markdown_engine.specs.Codes.{Code}
 use Rattle.markdown_engine.specs.Grown.{Grown}
@@ -169,14 +169,6 @@ module _ (W : Words) (within : Within states W) where
   www-fails : (T : Tokenizer) (cs : List Code) → may_begin_www T && www_test 0 cs ≡ false → plan_of (www_here T) cs ≡ None
   www-fails T cs e = www-none (bytes_of T) (end_of T) (is_on T) (before_of T) cs (stands-by T cs ∙ e)
 
-  both-true : (a b : Bool) → a ≡ true → b ≡ true → a && b ≡ true
-  both-true true b e h = h
-  both-true false b e h = cc
-
-  second-false : (a b : Bool) → b ≡ false → a && b ≡ false
-  second-false true b e = e
-  second-false false b e = refl
-
   no-word : (a b w : Bool) → a && b ≡ false → (b ≡ false → w ≡ false) → a && w ≡ false
   no-word true b w e h = h e
   no-word false b w e h = refl
@@ -192,7 +184,7 @@ module _ (W : Words) (within : Within states W) where
       let size : s.size ≡ 0 = ap (λ (x : TokenizeState). x.size) (sym on.resting) in
       GoesOn-map W n F (www_start_ends T) (www_start_step T) (λ ok U k. EndsAs-plan (www_here T) (whole-www (bytes_of T) (end_of T) (is_on T) (before_of T)) s T ok U k)
       (code-step P (current_of T) (λ o. www_start_at (may_begin_www T) o T)
-      (λ e. Goes-no W 7 0 p T alone (ap p (ahead-none T e) ∙ www-fails T [] (second-false (may_begin_www T) (www_test 0 []) (www-other 0 [] (omega arith) refl))))
+      (λ e. Goes-no W 7 0 p T alone (ap p (ahead-none T e) ∙ www-fails T [] (and_right (may_begin_www T) (www_test 0 []) (www-other 0 [] (omega arith) refl))))
       (λ c e. let b = ahead-some T c e in
       let more : List Code = rest_of (ahead T) in
       if-step P (may_begin_www T && (c == 119 || c == 87)) _ _
@@ -201,14 +193,14 @@ module _ (W : Words) (within : Within states W) where
       (omega arith)
       (λ U now x. let k = x in
       let seen : www_test 0 (ahead T) ≡ true = ap (λ m. www_test m (ahead T)) (sym size) ∙ sym k.answer in
-      follows-here W 7 p q s T _ GfmAutolinkLiteralWwwPrefixAfter (within GfmAutolinkLiteralWwwPrefixAfter) (back-here T U _ true on.resting k) (omega arith) (www-stands T (ahead T) (both-true (may_begin_www T) (www_test 0 (ahead T)) may seen))
+      follows-here W 7 p q s T _ GfmAutolinkLiteralWwwPrefixAfter (within GfmAutolinkLiteralWwwPrefixAfter) (back-here T U _ true on.resting k) (omega arith) (www-stands T (ahead T) (and_from (may_begin_www T) (www_test 0 (ahead T)) may seen))
       on (λ ok U x. x))
       (λ U now x. let k = x in
       let seen : www_test 0 (ahead T) ≡ false = ap (λ m. www_test m (ahead T)) (sym size) ∙ sym k.answer in
       record {
         goes_on = tt;
         falls = omega arith;
-        closed = λ ok V z. no-fall T p (www-fails T (ahead T) (second-false (may_begin_www T) (www_test 0 (ahead T)) seen)) ok V (z.0, z.1 ∙ back-here T U _ false on.resting k);
+        closed = λ ok V z. no-fall T p (www-fails T (ahead T) (and_right (may_begin_www T) (www_test 0 (ahead T)) seen)) ok V (z.0, z.1 ∙ back-here T U _ false on.resting k);
       }))
       (λ h. Goes-no W 7 0 p T alone
       (ap p b.whole ∙ www-fails T (b.code ∷ more) (no-word (may_begin_www T) (c == 119 || c == 87) (www_test 0 (b.code ∷ more)) h (λ f. www-other 0 (b.code ∷ more) (omega arith) (ap (λ v. v == 119 || v == 87) b.value ∙ f)))))))

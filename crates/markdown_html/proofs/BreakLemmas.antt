@@ -1,5 +1,6 @@
 -- Whitespace with line endings in a text that a reading gives: it ends a line's data, and the data of the next line goes on.
 use Rattle.std.proofs.Common.{◌≡◌, ℕ, suc, ◌+◌, ◌≤◌, Bool, true, false, ◌&&◌, ◌||◌, Option, Some, None, List, [], ◌∷◌, ◌++◌, length, drop, refl, sym, ap, subst, ◌∙◌, append_assoc, arith}
+use Rattle.std.proofs.lemmas.Bool.{or_right}
 use Rattle.markdown_engine.specs.Codes.{Code, is_line_ending, is_blank}
 use Rattle.markdown_engine.specs.Ops.{Op, Exit, Consume, moves, stays}
 use Rattle.markdown_engine.specs.declared.event.Name.TheVariants as N
@@ -103,10 +104,6 @@ breaks-more r m n c cs front os one e k =
 whitespace-is : (c : Code) → is_blank c ≡ true → is_whitespace_code c ≡ true
 whitespace-is c e = ap (λ b. b || is_line_ending c) e
 
-or-second : (a b : Bool) → b ≡ true → a || b ≡ true
-or-second true b e = refl
-or-second false b e = e
-
 and-second : (a b : Bool) → a && b ≡ true → b ≡ true
 and-second true b e = e
 and-second false b e = cc
@@ -115,7 +112,7 @@ breaks-by : (ending blank : Bool) (r : Reading (List Code)) → Goes r → (m : 
 breaks-by true blank r g m c cs e h more =
     subst (λ os. Breaks r m (c ∷ cs) os) (sym (break-ending m c cs e))
     (breaks-more r m AtStart c cs (left_open m ++ ending_ops) (break_from AtStart cs) (moves-ending m)
-    (ap (text_from m) (g.skips c cs (or-second (is_blank c) _ e)) ∙ text-ending m c (r cs) e) (more AtStart))
+    (ap (text_from m) (g.skips c cs (or_right (is_blank c) _ e)) ∙ text-ending m c (r cs) e) (more AtStart))
 breaks-by false true r g m c cs e h more =
     subst (λ os. Breaks r m (c ∷ cs) os) (sym (break-blank m c cs e h))
     (breaks-more r m InBlank c cs (to_blank m ++ Consume ∷ []) (break_from InBlank cs) (moves-blank m)

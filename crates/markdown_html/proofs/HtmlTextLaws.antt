@@ -1,7 +1,7 @@
 -- The laws of the states of HTML in text.
 use Rattle.std.proofs.Common.{◌≡◌, ℕ, zero, suc, ◌+◌, ◌<◌, ◌≤◌, ◌==◌, ◌||◌, not, Bool, true, false, Some, None, List, [], ◌∷◌, ◌++◌, length, drop, refl, sym, ap, subst, ◌∙◌, arith}
 use Rattle.std.specs.Prelude.{codes}
-use Rattle.std.proofs.lemmas.Bool.{eqb-true}
+use Rattle.std.proofs.lemmas.Bool.{eqb-true, or_from}
 use Rattle.markdown_engine.specs.Codes.{Code}
 use Rattle.markdown_engine.specs.Lists.{rest_of}
 use Rattle.markdown_engine.specs.Ops.{Op, Exit, Consume, current_of, ahead, applied, done, scratched}
@@ -29,7 +29,7 @@ use Rattle.markdown_html.specs.HtmlText.{rested, with_marker, closing, is_hopele
 use Rattle.markdown_html.proofs.LineLemmas.{from-data}
 use Rattle.markdown_html.proofs.CodeReadings.{then-nothing, word-end, word-then, word-then-none}
 use Rattle.markdown_html.proofs.KindReadings.{end-here, end-none, comment-goes, comment-end, comment-dash, comment-other, comment-one-dash, comment-one-other, comment-two-end, comment-two-one, comment-inside-dash, comment-inside-none, cdata-goes, cdata-end, cdata-bracket, cdata-other, cdata-one-bracket, cdata-one-other, cdata-two-end, cdata-two-one, declaration-goes, declaration-end, declaration-here, declaration-other, instruction-goes, instruction-end, instruction-mark, instruction-other, instruction-one-end, instruction-one-other, spaces-first, spaces-none, closing-goes, name-on, name-none, name-first, name-not, marked-none, marked-dash, marked-letter, marked-bracket, open-none, open-letter, open-slash, open-question, open-bang}
-use Rattle.markdown_html.proofs.TagReadings.{or-left, or-right, or-none, among-each, rest-between, rest-refused, between-none, between-slash, between-first, name-rest-on, name-rest-end, name-after-equals, name-after-other, value-space, value-quote, value-end, value-none, value-plain, quoted-end, quoted-close, quoted-more, unquoted-more, unquoted-after, unquoted-none, between-goes, name-after-goes, value-goes, quoted-goes}
+use Rattle.markdown_html.proofs.TagReadings.{or-left, or-right, among-each, rest-between, rest-refused, between-none, between-slash, between-first, name-rest-on, name-rest-end, name-after-equals, name-after-other, value-space, value-quote, value-end, value-none, value-plain, quoted-end, quoted-close, quoted-more, unquoted-more, unquoted-after, unquoted-none, between-goes, name-after-goes, value-goes, quoted-goes}
 use Rattle.markdown_html.proofs.EndingLemmas.{hopeless-none, instruction-absent, declaration-absent, section-absent, comment-absent}
 use Rattle.markdown_html.proofs.HtmlTextReady.{quoted-next, quoted-broken, quoted-opened, quoted-closed, cdata-opened, cdata-next, cdata-closed, part-next}
 use Rattle.markdown_html.proofs.LineEndingLaws.{Within, next-at, next-end}
@@ -72,13 +72,13 @@ unquoted-true v h k =
     let tick = or-right (v == 61) _ equals in
     let slash = or-right (whitespace_value v) _ k in
     let close = or-right (v == 47) _ slash in
-    ap not (or-none (whitespace_value v || among_values (codes "\"'<=>`") v) (v == 47)
-    (or-none (whitespace_value v) _ (or-left (whitespace_value v) _ k)
-    (or-none (v == 34) _ (or-left (v == 34) _ h)
-    (or-none (v == 39) _ (or-left (v == 39) _ single)
-    (or-none (v == 60) _ (or-left (v == 60) _ less)
-    (or-none (v == 61) _ (or-left (v == 61) _ equals)
-    (or-none (v == 62) _ (or-left (v == 62) _ close) tick))))))
+    ap not (or_from (whitespace_value v || among_values (codes "\"'<=>`") v) (v == 47)
+    (or_from (whitespace_value v) _ (or-left (whitespace_value v) _ k)
+    (or_from (v == 34) _ (or-left (v == 34) _ h)
+    (or_from (v == 39) _ (or-left (v == 39) _ single)
+    (or_from (v == 60) _ (or-left (v == 60) _ less)
+    (or_from (v == 61) _ (or-left (v == 61) _ equals)
+    (or_from (v == 62) _ (or-left (v == 62) _ close) tick))))))
     (or-left (v == 47) _ slash))
 
 quote-plain : (v : ℕ) → quote_value v ≡ true → whitespace_value v ≡ false
@@ -362,7 +362,7 @@ module _ (W : Words) (within : Within W) where
       (λ h. part-broken-on W within TagCloseBetween T (omega arith) (closing-goes) alone r (e ∙ ap (λ v. Some v) (eqb-true c 10 h)))
       (λ h. if-step P (blank_value c) _ _
       (λ g. part-past W within TagCloseBetween TagCloseBetween T c alone r e (h) (spaces-first (word ">") b.code rest (at whitespace_value T c e ∙ blank-whitespace c g)))
-      (λ g. part-over W within TagCloseBetween End T alone r (omega arith) (spaces-none (word ">") (ahead T) (next-at whitespace_value T c e ∙ or-none (blank_value c) _ g h)))))
+      (λ g. part-over W within TagCloseBetween End T alone r (omega arith) (spaces-none (word ">") (ahead T) (next-at whitespace_value T c e ∙ or_from (blank_value c) _ g h)))))
 
   pub tag_open-law : Law W (part_words TagOpen)
   tag_open-law T alone r =
@@ -393,8 +393,8 @@ module _ (W : Words) (within : Within W) where
       (λ g. if-step P (c == 47) _ _
       (λ i. part-past W within TagOpenBetween End T c alone r e (h) (between-slash b.code rest (at (λ v. v == 47) T c e ∙ i)))
       (λ i. if-step P (attribute_first_value c) _ _
-      (λ j. part-past W within TagOpenBetween AttributeName T c alone r e (h) (between-first b.code rest (at whitespace_value T c e ∙ or-none (blank_value c) _ g h) (at attribute_first_value T c e ∙ j)))
-      (λ j. part-over W within TagOpenBetween End T alone r (omega arith) (between-none (ahead T) (next-at whitespace_value T c e ∙ or-none (blank_value c) _ g h) (next-at attribute_first_value T c e ∙ j) (next-at (λ v. v == 47) T c e ∙ i)))))))
+      (λ j. part-past W within TagOpenBetween AttributeName T c alone r e (h) (between-first b.code rest (at whitespace_value T c e ∙ or_from (blank_value c) _ g h) (at attribute_first_value T c e ∙ j)))
+      (λ j. part-over W within TagOpenBetween End T alone r (omega arith) (between-none (ahead T) (next-at whitespace_value T c e ∙ or_from (blank_value c) _ g h) (next-at attribute_first_value T c e ∙ j) (next-at (λ v. v == 47) T c e ∙ i)))))))
 
   pub tag_open_attribute_name-law : Law W (part_words AttributeName)
   tag_open_attribute_name-law T alone r =
@@ -422,7 +422,7 @@ module _ (W : Words) (within : Within W) where
       (λ g. part-past W within AttributeNameAfter AttributeNameAfter T c alone r e (h) (spaces-first name_next b.code rest (at whitespace_value T c e ∙ blank-whitespace c g)))
       (λ g. if-step P (c == 61) _ _
       (λ i. part-past W within AttributeNameAfter ValueBefore T c alone r e (h) (name-after-equals b.code rest (at (λ v. v == 61) T c e ∙ i)))
-      (λ i. part-over W within AttributeNameAfter TagOpenBetween T alone r (omega arith) (name-after-other (ahead T) (next-at whitespace_value T c e ∙ or-none (blank_value c) _ g h) (next-at (λ v. v == 61) T c e ∙ i))))))
+      (λ i. part-over W within AttributeNameAfter TagOpenBetween T alone r (omega arith) (name-after-other (ahead T) (next-at whitespace_value T c e ∙ or_from (blank_value c) _ g h) (next-at (λ v. v == 61) T c e ∙ i))))))
 
   -- into a quoted value
   quote-entered : (T : Tokenizer) (c : ℕ) → T.attempts ≡ [] → PartReady T → (e : current_of T ≡ Some c) → (c == 10) ≡ false → quote_value c ≡ true → GoesIn W (weight_at (rank_of ValueBefore) T) (part_ends ValueBefore T) (quote_passed c T)
@@ -452,7 +452,7 @@ module _ (W : Words) (within : Within W) where
       (λ g. part-past W within ValueBefore ValueBefore T c alone r e (h) (value-space b.code rest (at whitespace_value T c e ∙ blank-whitespace c g)))
       (λ g. if-step P (quote_value c) _ _
       (λ i. quote-entered T c alone r e h i)
-      (λ i. part-past W within ValueBefore ValueUnquoted T c alone r e (h) (value-plain b.code rest (at whitespace_value T c e ∙ or-none (blank_value c) _ g h) (at quote_value T c e ∙ i) (at starts_no_value T c e ∙ h0)))))))
+      (λ i. part-past W within ValueBefore ValueUnquoted T c alone r e (h) (value-plain b.code rest (at whitespace_value T c e ∙ or_from (blank_value c) _ g h) (at quote_value T c e ∙ i) (at starts_no_value T c e ∙ h0)))))))
 
   pub tag_open_attribute_value_quoted_after-law : Law W (part_words ValueQuotedAfter)
   tag_open_attribute_value_quoted_after-law T alone r =

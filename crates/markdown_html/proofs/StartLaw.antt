@@ -1,5 +1,6 @@
 -- The law of the start of HTML in text.
 use Rattle.std.proofs.Common.{◌≡◌, ◌≤◌, ◌==◌, ◌&&◌, Bool, true, [], ◌∷◌, length, refl, ap, ◌∙◌, arith}
+use Rattle.std.proofs.Math.Bool.{and-false}
 use Rattle.std.proofs.lemmas.Bool.{eqb-true}
 use Rattle.markdown_engine.specs.Lists.{rest_of}
 use Rattle.markdown_engine.specs.Ops.{current_of, ahead}
@@ -18,7 +19,7 @@ use Rattle.markdown_html.specs.Rests.{Open, open_rest}
 use Rattle.markdown_html.proofs.HtmlTextReady.{start-opened}
 use Rattle.markdown_html.proofs.HtmlTextWhole.{whole-html, html-opens, no-html}
 use Rattle.markdown_html.proofs.LineEndingLaws.{Within}
-use Rattle.markdown_model.proofs.ReadingSteps.{and-left, and-right, and-false}
+use Rattle.markdown_model.proofs.ReadingSteps.{and-left, and-right}
 use Rattle.markdown_engine.specs.StateWords.{Words, Law, GoesIn}
 use Rattle.markdown_construct.proofs.StateLaws.{GoesOn-map, Goes-next, Goes-no}
 

@@ -1,7 +1,7 @@
 -- What is still to be read of opening tags, from one code on.
 use Rattle.std.proofs.Common.{◌≡◌, ℕ, zero, suc, ◌==◌, Bool, true, false, ◌||◌, not, Option, Some, None, List, [], ◌∷◌, ◌++◌, length, refl, sym, ap, subst, ◌∙◌}
 use Rattle.std.specs.Prelude.{codes}
-use Rattle.std.proofs.lemmas.Bool.{eqb-true}
+use Rattle.std.proofs.lemmas.Bool.{eqb-true, or_from}
 use Rattle.markdown_engine.specs.Codes.{Code}
 use Rattle.markdown_model.specs.CodeTests.{is_value, is_among, is_letter, is_alphanumeric, is_whitespace_code, next_is}
 use Rattle.markdown_model.specs.Grammar.{Reading, either, one, any_number, before, span, with_first, word, gives, repeated, repeatedly, optional, ◌then_◌}
@@ -30,14 +30,6 @@ pub or-right : (a b : Bool) → a || b ≡ false → b ≡ false
 or-right true b e = cc
 or-right false b e = e
 
-pub or-none : (a b : Bool) → a ≡ false → b ≡ false → a || b ≡ false
-or-none true b e h = cc
-or-none false b e h = h
-
-pub or-second : (a b : Bool) → b ≡ true → a || b ≡ true
-or-second true b e = refl
-or-second false b e = e
-
 abbrev pub Each : (ℕ → Type 0) → List ℕ → Type 0
 Each P [] = Unit {0}
 Each P (n ∷ ns) = P n × Each P ns
@@ -54,7 +46,7 @@ among-each P v (n ∷ ns) h k = among-by P v n ns (v == n) refl h k.0 (λ e. amo
 -- no attribute's name goes on, so none starts
 not-first : (c : Code) → is_attribute_code c ≡ false → is_attribute_first c ≡ false
 not-first c e =
-    or-none (is_letter c) (is_among (codes ":_") c) (or-left (is_letter c) _ (or-left (is_alphanumeric c) _ e))
+    or_from (is_letter c) (is_among (codes ":_") c) (or-left (is_letter c) _ (or-left (is_alphanumeric c) _ e))
     (or-right (c.value == 46) _ (or-right (c.value == 45) _ (or-right (is_alphanumeric c) _ e)))
 
 not-first-next : (cs : List Code) → next_is is_attribute_code cs ≡ false → next_is is_attribute_first cs ≡ false
@@ -359,8 +351,8 @@ value-none c cs h =
 -- no test keeps it from an unquoted value
 plain-value : (c : Code) → is_whitespace_code c ≡ false → quote_value c.value ≡ false → starts_no_value c.value ≡ false → ends_value c ≡ false
 plain-value c e h k =
-    or-none (is_whitespace_code c) _ e
-    (or-none (c.value == 34) _ (or-left (c.value == 34) _ h) (or-none (c.value == 39) _ (or-left (c.value == 39) _ (or-right (c.value == 34) _ h)) k))
+    or_from (is_whitespace_code c) _ e
+    (or_from (c.value == 34) _ (or-left (c.value == 34) _ h) (or_from (c.value == 39) _ (or-left (c.value == 39) _ (or-right (c.value == 34) _ h)) k))
 
 pub value-plain : (c : Code) (cs : List Code) → is_whitespace_code c ≡ false → quote_value c.value ≡ false → starts_no_value c.value ≡ false → value_rest (c ∷ cs) ≡ with_first c (unquoted_rest cs)
 unfolding attribute_value unquoted_value

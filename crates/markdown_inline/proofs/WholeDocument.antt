@@ -1,9 +1,9 @@
 -- A whole document is a content.
-use Rattle.std.proofs.Common.{◌≡◌, ℕ, zero, suc, ◌<◌, ◌≤◌, Bool, true, false, ◌&&◌, ◌||◌, ◌==◌, List, [], ◌∷◌, length, refl, sym, inl, inr, arith, append-nil}
+use Rattle.std.proofs.Common.{◌≡◌, ℕ, zero, suc, ◌<◌, ◌≤◌, Bool, true, ◌&&◌, ◌||◌, ◌==◌, List, [], ◌∷◌, length, refl, sym, inl, inr, arith, append-nil}
 use Rattle.std.specs.Prelude.{IsUtf8, All}
 use Rattle.std.specs.List.{list_any}
 use Rattle.std.specs.Str.{IsCharBoundary}
-use Rattle.std.proofs.lemmas.Bool.{cases_lt}
+use Rattle.std.proofs.lemmas.Bool.{cases_lt, or_right}
 use Rattle.std.proofs.lemmas.Bool.Decides.{nat_tests}
 use Rattle.std.proofs.lemmas.Str.{IsCharBoundary-end, IsCharBoundary-from_drop}
 use Rattle.markdown_engine.specs.declared.event.Point.{Point}
@@ -51,19 +51,15 @@ end-vs bytes =
 ends-at : ℕ → Code → Bool
 ends-at n c = c.stop.index == n && c.stop.vs == 0
 
-or-true : (a b : Bool) → b ≡ true → (a || b) ≡ true
-or-true true b e = refl
-or-true false b e = e
-
 last-ends : (n : ℕ) (p : Point) (c : Code) (cs : List Code) → (stop_of p (c ∷ cs)).index ≡ n → (stop_of p (c ∷ cs)).vs ≡ 0 → list_any (ends-at n) (c ∷ cs) ≡ true
 unfolding ends-at
 last-ends n p c [] e f = grind (arith, nat_tests)
-last-ends n p c (d ∷ cs) e f = or-true (ends-at n c) (list_any (ends-at n) (d ∷ cs)) (last-ends n c.stop d cs e f)
+last-ends n p c (d ∷ cs) e f = or_right (ends-at n c) (list_any (ends-at n) (d ∷ cs)) (last-ends n c.stop d cs e f)
 
 end-place : (n : ℕ) (cs : List Code) → (stop_of document_start cs).index ≡ n → (stop_of document_start cs).vs ≡ 0 → ((n == 0 && 0 == 0) || list_any (ends-at n) cs) ≡ true
 unfolding ends-at
 end-place n [] e f = rw (← e) refl
-end-place n (c ∷ cs) e f = or-true (n == 0 && 0 == 0) (list_any (ends-at n) (c ∷ cs)) (last-ends n document_start c cs e f)
+end-place n (c ∷ cs) e f = or_right (n == 0 && 0 == 0) (list_any (ends-at n) (c ∷ cs)) (last-ends n document_start c cs e f)
 
 whole-end : (bytes : List ℕ) → is_place bytes (length bytes, 0) ≡ true
 unfolding ends-at end-of

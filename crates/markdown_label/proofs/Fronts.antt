@@ -2,6 +2,7 @@
 use Rattle.std.proofs.Common.{◌≡◌, ◌∙◌, sym, ap, refl, subst, ℕ, Bool, true, false, ◌&&◌, ◌==◌, List, [], ◌∷◌, ◌++◌, length, drop, append-nil, append_assoc, length-take, length-drop, ◌≤◌, ◌+◌, ◌-◌, take, Option, Some, None, arith}
 use Rattle.std.specs.List.{flat_map, filter, join_with_byte, onto_first, slice_split, starts_with, slice_range}
 use Rattle.std.specs.Prelude.{String, string_bytes}
+use Rattle.std.proofs.Math.Bool.{and-false}
 use Rattle.std.specs.Str.{IsUtf8, bytes_eq, chars, encode_utf8_all, IsCharBoundary}
 use Rattle.std.proofs.lemmas.Bool.{false≢true, or_parts, or_from}
 use Rattle.std.proofs.lemmas.Bool.Decides.{Decides-eqb}
@@ -16,7 +17,6 @@ use Rattle.markdown_util.specs.Identifier.{separates_words, is_nonempty, joined_
 use Rattle.markdown_engine.specs.declared.tokenizer.LabelKind.{LabelKind}
 use Rattle.markdown_model.specs.LabelEnd.{is_footnote, link_identifier}
 use Rattle.markdown_model.specs.Setting.{Setting, is_defined}
-use Rattle.markdown_model.proofs.ReadingSteps.{and-false}
 use Rattle.markdown_label.specs.Lookup.{AreCuts, IsKnownName, IsUnknown, begins_one, begins_defined}
 
 -- the second begins with the first

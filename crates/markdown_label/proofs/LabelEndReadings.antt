@@ -1,6 +1,7 @@
 -- What follows a label, by the codes at hand.
 use Rattle.std.proofs.Common.{◌≡◌, ℕ, ◌==◌, Bool, true, false, ◌&&◌, not, if◌then◌else◌, Option, Some, None, List, [], ◌∷◌, ◌++◌, refl, sym, ap, ◌∙◌, append-nil}
 use Rattle.std.specs.Prelude.{is_some}
+use Rattle.std.proofs.Math.Bool.{and-true, and-false}
 use Rattle.markdown_engine.specs.Codes.{Code}
 use Rattle.markdown_engine.specs.Tree.{Forest, empty, leaf, group, ◌⊕◌}
 use Rattle.markdown_engine.specs.declared.event.Name.TheVariants as N
@@ -12,7 +13,7 @@ use Rattle.markdown_model.specs.Grammar.{Reading, ◌>>=◌, ◌>>◌, gives, ei
 use Rattle.markdown_model.specs.LabelEnd.{is_footnote, full_reference, collapsed_reference, shortcut, shortcut_before_bracket, reference_after_label, after_label, link_kind, link_identifier}
 use Rattle.markdown_model.specs.Resource.{resource, label, reference_names}
 use Rattle.markdown_model.specs.Setting.{Setting, is_defined}
-use Rattle.markdown_model.proofs.ReadingSteps.{bind-some, bind-none, one-here, one-not, either-some, either-second, switched-on, switched-off, and-false}
+use Rattle.markdown_model.proofs.ReadingSteps.{bind-some, bind-none, one-here, one-not, either-some, either-second, switched-on, switched-off}
 use Rattle.markdown_resource.proofs.NextCodes.{next-takes, next-leaves}
 use Rattle.markdown_label.specs.LabelEnd.{outcome, collapsed_front, collapsed_back, collapsed_open_plan}
 
@@ -68,10 +69,6 @@ defined-either s cs e =
     option : Bool
     option = s.options.label_shortcut_before_bracket
 
-    and-on : (b : Bool) → b && true ≡ b
-    and-on true = refl
-    and-on false = refl
-
     off : (b : Bool) → b ≡ false → shortcut b cs ≡ None
     off b h = switched-off (gives empty) b cs h
 
@@ -83,7 +80,7 @@ defined-either s cs e =
     by-collapsed None h None k =
         either-second _ _ cs (switched-on collapsed_reference true cs refl ∙ h)
         ∙ unless-none _ _ cs (either-second _ _ cs h ∙ k)
-        ∙ ap (λ b. shortcut b cs) (sym (ap (λ x. option && not (is_some x)) k ∙ and-on option))
+        ∙ ap (λ b. shortcut b cs) (sym (ap (λ x. option && not (is_some x)) k ∙ and-true option))
         ∙ sym (either-second _ _ cs h)
     by-collapsed None h (Some r) k =
         either-second _ _ cs (switched-on collapsed_reference true cs refl ∙ h)

@@ -1,5 +1,6 @@
 -- The law of the start of a label's end.
 use Rattle.std.proofs.Common.{◌≡◌, ℕ, ◌+◌, ◌<◌, ◌==◌, Bool, true, false, ◌&&◌, not, Some, None, List, [], ◌∷◌, ◌++◌, length, slice_get, refl, sym, ap, subst, ◌∙◌, arith, length-append}
+use Rattle.std.proofs.Math.Bool.{and-false}
 use Rattle.markdown_engine.specs.Codes.{Code}
 use Rattle.markdown_engine.specs.Grown.{Fails}
 use Rattle.markdown_engine.specs.Lists.{rest_of}
@@ -229,13 +230,9 @@ module _ (W : Words) (within : Within states W) where
   start-law T alone k =
       let P : Stepped → Type 0 = GoesIn W (weight_at 3 T) (start_ends T) in
       code-step P (current_of T) (λ o. start_at o T)
-      (λ e. let h : is_on T && next_is (is_value 93) (ahead T) ≡ false = ap (λ b. is_on T && b) (at-none T 93 e) ∙ and-off (is_on T) in other-here T alone h (by-switch T (is_on T) refl h))
+      (λ e. let h : is_on T && next_is (is_value 93) (ahead T) ≡ false = ap (λ b. is_on T && b) (at-none T 93 e) ∙ and-false (is_on T) in other-here T alone h (by-switch T (is_on T) refl h))
       (λ c e.
       let b : Begins c (ahead T) = ahead-some T c e in
       if-step P (is_on T && (c == 93)) _ _
       (λ h. takes-start T alone k (and-left _ _ h) b.code (rest_of (ahead T)) b.whole (ap (λ v. v == 93) b.value ∙ and-right _ _ h) T.tokenize_state.label_starts refl k.within)
       (λ h. let g : is_on T && next_is (is_value 93) (ahead T) ≡ false = ap (λ y. is_on T && y) (at-value T c 93 (c == 93) e refl) ∙ h in other-here T alone g (by-switch T (is_on T) refl g)))
-    where
-      and-off : (b : Bool) → b && false ≡ false
-      and-off true = refl
-      and-off false = refl

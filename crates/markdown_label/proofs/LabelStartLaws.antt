@@ -1,5 +1,6 @@
 -- The laws of the states of the starts of labels.
 use Rattle.std.proofs.Common.{◌≡◌, ℕ, ◌+◌, ◌<◌, ◌≤◌, ◌==◌, Bool, true, false, ◌&&◌, not, Option, Some, None, List, [], ◌++◌, length, drop, refl, sym, ap, subst, ◌∙◌, arith}
+use Rattle.std.proofs.Math.Bool.{and-false}
 use Rattle.markdown_engine.specs.Codes.{Code}
 use Rattle.markdown_engine.specs.Grown.{Grown}
 use Rattle.markdown_engine.specs.Lists.{rest_of}
@@ -64,10 +65,6 @@ and-both a b e c = ap (λ x. x && c) e
 and-not : (a b : Bool) → a && b ≡ false → (c : Bool) → (a && b) && c ≡ false
 and-not a b e c = ap (λ x. x && c) e
 
-and-off : (a : Bool) → a && false ≡ false
-and-off true = refl
-and-off false = refl
-
 -- one code further
 ahead-one : (os : List Op) (T : Tokenizer) → moves os ≡ 1 → ahead (done os T) ≡ rest_of (ahead T)
 ahead-one os T e = ahead-done os T ∙ ap (λ n. drop n (ahead T)) e
@@ -84,7 +81,7 @@ module _ (W : Words) (within : Within states W) where
   link-law T alone _ =
       let P : Stepped → Type 0 = GoesIn W (weight_at 1 T) (link_ends T) in
       code-step P (current_of T) (λ o. link_at o T)
-      (λ e. goes-not W (weight_at 1 T) 0 LabelKind.Link 4 link_ops (link_test T) T alone (omega arith) (ap (λ b. links_on T && b) (at-none T 91 e) ∙ and-off (links_on T)))
+      (λ e. goes-not W (weight_at 1 T) 0 LabelKind.Link 4 link_ops (link_test T) T alone (omega arith) (ap (λ b. links_on T && b) (at-none T 91 e) ∙ and-false (links_on T)))
       (λ c e. let same : link_test T (ahead T) ≡ (links_on T && (c == 91)) = ap (λ b. links_on T && b) (at-value T c 91 (c == 91) e refl) in
       if-step P (links_on T && (c == 91)) _ _
       (λ h. goes-kept W (weight_at 1 T) 0 LabelKind.Link 4 link_ops (link_test T) T alone (omega arith) (same ∙ h))
@@ -106,7 +103,7 @@ module _ (W : Words) (within : Within states W) where
       let P : Stepped → Type 0 = GoesIn W n (footnote_ends T) in
       let after : Bool = footnote_open_test (rest_of (ahead T)) in
       code-step P (current_of T) (λ o. footnote_at o T)
-      (λ e. goes-not W n 0 LabelKind.GfmFootnote 6 os (footnote_test T) T alone (omega arith) (and-not (footnotes_on T) _ (ap (λ b. footnotes_on T && b) (at-none T 91 e) ∙ and-off (footnotes_on T)) after))
+      (λ e. goes-not W n 0 LabelKind.GfmFootnote 6 os (footnote_test T) T alone (omega arith) (and-not (footnotes_on T) _ (ap (λ b. footnotes_on T && b) (at-none T 91 e) ∙ and-false (footnotes_on T)) after))
       (λ c e. let same : (footnotes_on T && next_is (is_value 91) (ahead T)) ≡ (footnotes_on T && (c == 91)) = ap (λ b. footnotes_on T && b) (at-value T c 91 (c == 91) e refl) in
       if-step P (footnotes_on T && (c == 91)) _ _
       (λ h. goes-next W 2 0 LabelKind.GfmFootnote 6 footnote_front footnote_back (footnote_test T) footnote_open_test T GfmLabelStartFootnoteOpen (within GfmLabelStartFootnoteOpen) alone refl refl (some-codes T c e) (omega arith) (footnote-open-ready T)
@@ -144,7 +141,7 @@ module _ (W : Words) (within : Within states W) where
       let P : Stepped → Type 0 = GoesIn W n (image_ends T) in
       let after : Bool = image_open_test T (rest_of (ahead T)) in
       code-step P (current_of T) (λ o. image_at o T)
-      (λ e. goes-not W n 0 LabelKind.Image 6 os (image_test T) T alone (omega arith) (and-not (images_on T) _ (ap (λ b. images_on T && b) (at-none T 33 e) ∙ and-off (images_on T)) after))
+      (λ e. goes-not W n 0 LabelKind.Image 6 os (image_test T) T alone (omega arith) (and-not (images_on T) _ (ap (λ b. images_on T && b) (at-none T 33 e) ∙ and-false (images_on T)) after))
       (λ c e. let same : (images_on T && next_is (is_value 33) (ahead T)) ≡ (images_on T && (c == 33)) = ap (λ b. images_on T && b) (at-value T c 33 (c == 33) e refl) in
       if-step P (images_on T && (c == 33)) _ _
       (λ h. goes-next W 2 0 LabelKind.Image 6 image_front image_back (image_test T) (image_open_test (done image_front T)) T LabelStartImageOpen (within LabelStartImageOpen) alone refl refl (some-codes T c e) (omega arith) (image-open-ready T)

@@ -1,5 +1,6 @@
 -- the edits of brackets, label by label, do at each place what the parts say
 use Rattle.std.proofs.Common.{◌≡◌, ◌≢◌, ℕ, suc, ◌+◌, ◌<◌, ◌≤◌, ◌==◌, ◌&&◌, not, inl, inr, Bool, true, false, cond, List, [], ◌∷◌, ◌++◌, refl, sym, ap, ◌∙◌, arith, append_assoc}
+use Rattle.std.proofs.Math.Bool.{and-false}
 use Rattle.std.specs.List.{All}
 use Rattle.std.proofs.lemmas.List.{append-nil}
 use Rattle.std.proofs.lemmas.List.Elements.{All-nil, All-cons}
@@ -85,10 +86,6 @@ come n i es = cond (n == i && true) es []
 come-off : (n i : ℕ) (es : List Event) → n ≢ i → come n i es ≡ []
 come-off n i es h = ap (λ b. cond (b && true) es []) (ne_eqb n i h)
 
-and-not : (b : Bool) → b && false ≡ false
-and-not true = refl
-and-not false = refl
-
 back-low : (lo hi i : ℕ) (a : List Edit) → Within lo hi a → i < lo → back_at i a ≡ []
 back-low lo hi i [] g l = refl
 back-low lo hi i (e ∷ a) g l =
@@ -106,7 +103,7 @@ front-within lo hi i [] g = refl
 front-within lo hi i (e ∷ a) g =
     ap (λ x. x ++ cond (e.at == i && e.before) e.events []) (front-within lo hi i a g.1)
     ∙ ap (λ b. cond (e.at == i && b) e.events []) g.0.1.1
-    ∙ ap (λ b. cond b e.events []) (and-not (e.at == i))
+    ∙ ap (λ b. cond b e.events []) (and-false (e.at == i))
 
 pub within-labels : (n : ℕ) (b : Brackets) → Within n (n + count b + 1) (own_labels n b)
 within-labels n nothing = tt

@@ -1,6 +1,6 @@
 -- What may follow a label: where its reading holds.
 use Rattle.std.proofs.Common.{◌≡◌, ◌==◌, inl, inr, ◌&&◌, ◌||◌, Bool, true, false, Option, Some, None, List, [], ◌∷◌, ◌++◌, refl, sym, ap, subst, ◌∙◌}
-use Rattle.std.proofs.lemmas.Bool.{eqb-true}
+use Rattle.std.proofs.lemmas.Bool.{eqb-true, and_from}
 use Rattle.markdown_engine.specs.Codes.{Code}
 use Rattle.markdown_engine.specs.Tree.{Forest, empty, ◌⊕◌, leaf, group, leaf_codes}
 use Rattle.markdown_engine.specs.declared.event.Name.{Name}
@@ -14,7 +14,6 @@ use Rattle.markdown_model.proofs.ReadingLaws.{read-codes}
 use Rattle.markdown_model.proofs.ReadingSteps.{bind-some, after-some, one-here, either-some, either-second, provided-true, switched-on, and-left, and-right}
 use Rattle.markdown_laws.specs.LinkParts.{IsLabel}
 use Rattle.markdown_laws.specs.Resources.{Nothing, Mark, IsResource, NoneHere, ALabel, IsFull, IsCollapsed, IsShortcut, FollowsLabel, WhatFollowsIsFound}
-use Rattle.markdown_laws.proofs.TestParts.{both-true}
 use Rattle.markdown_laws.proofs.ReadBack.{Went, WentOne, bind-back, one-back, provided-back, gives-back, either-back, next-here, next-other}
 use Rattle.markdown_laws.proofs.LinkTexts.{label-back, label-found, marked-found}
 use Rattle.markdown_laws.proofs.ResourceLaws.{resource-back, resource-found}
@@ -227,7 +226,7 @@ module _ (s : Setting) (defined : Bool) where
           ∙ either-second (full_reference s) _ cs (no-full s cs b.2)
           ∙ either-second (provided defined >> collapsed_reference) _ cs (switched-on collapsed_reference defined cs d ∙ collapsed)
           ∙ unless-found (either collapsed_reference (label reference_names)) _ cs (either-second collapsed_reference (label reference_names) cs collapsed ∙ labels)
-          ∙ shortcut-found _ cs tree rest (both-true defined _ d b.0) i.is
+          ∙ shortcut-found _ cs tree rest (and_from defined _ d b.0) i.is
       by_next false false h k = next-other (is_value 40) _ _ cs h ∙ next-other (is_value 91) _ _ cs k ∙ here
 
   resource-follows : (cs : List Code) (tree : Forest) (rest : List Code) → IsResource cs tree rest → after_label s defined cs ≡ Some (tree, rest)

@@ -1,5 +1,6 @@
 -- Destinations: where their reading holds.
 use Rattle.std.proofs.Common.{◌≡◌, inl, inr, ℕ, not, Bool, true, false, Some, List, [], ◌∷◌, ◌++◌, refl, sym, ap, subst, ◌∙◌, arith}
+use Rattle.std.proofs.lemmas.Bool.{not-true}
 use Rattle.markdown_engine.specs.Codes.{Code}
 use Rattle.markdown_engine.specs.Tree.{Forest, leaf_codes}
 use Rattle.markdown_model.specs.CodeTests.{is_value, is_empty, next_is}
@@ -9,7 +10,6 @@ use Rattle.markdown_model.proofs.Readings.{covers_destination, takes_raw, itself
 use Rattle.markdown_model.proofs.ReadingLaws.{read-codes}
 use Rattle.markdown_model.proofs.ReadingSteps.{bind-some, after-some, provided-true}
 use Rattle.markdown_laws.specs.LinkParts.{opening, closing, IsEnclosed, IsRaw, Raw, enclosed_tree, raw_tree_of, IsDestination, DestinationsAreFound}
-use Rattle.markdown_string.proofs.BoolLemmas.{not-true}
 use Rattle.markdown_laws.proofs.EscapedTexts.{escapes-after}
 use Rattle.markdown_laws.proofs.ReadBack.{Went, bind-back, provided-back, gives-back, next-here, next-other}
 use Rattle.markdown_laws.proofs.LinkTexts.{enclosed-back, enclosed-found, marked-found}

@@ -1,14 +1,14 @@
 -- The codes of a text that is escaped: codes that mean themselves, and escapes.
 use Rattle.std.proofs.Common.{◌≡◌, ℕ, zero, suc, ◌+◌, ◌-◌, nat_lt, ◌==◌, Bool, true, false, ◌&&◌, ◌||◌, not, List, [], ◌∷◌, ◌++◌, length, take, drop, map, if◌then◌else◌, refl, sym, ap, subst, ◌∙◌, arith, inl, inr, append-nil}
 use Rattle.std.specs.Prelude.{slice_range}
+use Rattle.std.proofs.Math.Bool.{and-false}
 use Rattle.std.specs.List.{list_any, list_all}
 use Rattle.std.proofs.lemmas.List.{drop-drop}
-use Rattle.std.proofs.lemmas.Bool.{or_cases, or_parts, and_parts, eqb-true, both_ways, lt-ltb}
+use Rattle.std.proofs.lemmas.Bool.{or_cases, or_parts, and_parts, eqb-true, both_ways, lt-ltb, not-true}
 use Rattle.markdown_engine.specs.declared.event.Point.{Point}
 use Rattle.markdown_engine.specs.Codes.{Code, codes_from, codes_of_byte, codes_of_tab, tab_width, line_start, line_ending_len, next_column, stop_of, document_start, is_line_ending_byte, tab_value, line_feed, carriage_return}
 use Rattle.markdown_engine.specs.Slices.{byte_from}
 use Rattle.markdown_model.specs.CodeTests.{is_ascii_punctuation}
-use Rattle.markdown_model.proofs.ReadingSteps.{and-false}
 use Rattle.markdown_laws.specs.Escapes.{punctuation, is_punctuation, escaped, has_one_line}
 use Rattle.markdown_laws.proofs.SliceLaws.{codes_bytes, codes_bytes-append, slice-none}
 
@@ -109,10 +109,6 @@ plain-punctuation b h = (not-true (b == 10) (test 10 refl), not-true (b == 13) (
   where
     test : (m : ℕ) → list_all (λ n. not (n == m)) punctuation ≡ true → not (b == m) ≡ true
     test m k = of-list (λ n. not (n == m)) punctuation b k h
-
-    not-true : (t : Bool) → not t ≡ true → t ≡ false
-    not-true true e = cc
-    not-true false e = refl
 
 -- A text, byte by byte.
 
@@ -231,10 +227,6 @@ one-line b bs h =
     let parts = and_parts (not (is_line_ending_byte b)) (has_one_line bs) h in
     let tests = or_parts (b == line_feed) (b == carriage_return) (not-true (is_line_ending_byte b) parts.0) in
     (tests.0, tests.1, parts.1)
-  where
-    not-true : (t : Bool) → not t ≡ true → t ≡ false
-    not-true true e = cc
-    not-true false e = refl
 
 pub read : (all : List ℕ) (text : List ℕ) (before : ℕ) (p : Point) → has_one_line text ≡ true → IsHere all p (escaped text) → IsRead all p (codes_from before p (escaped text)) text
 read all [] before p one h = record { items = []; are = tt; codes = refl; bytes = refl; ends = record { index = omega (arith, h.size); vs = h.vs } }

@@ -1,11 +1,11 @@
 -- Texts in which a backslash escapes: what their reading gives, by the number of backslashes before each code.
 use Rattle.std.proofs.Common.{◌≡◌, ◌==◌, ◌&&◌, ◌||◌, not, Bool, true, false, Some, None, List, [], ◌∷◌, ◌++◌, length, reverse, refl, sym, ap, subst, ◌∙◌}
+use Rattle.std.proofs.lemmas.Bool.{or_right, or_left}
 use Rattle.std.proofs.lemmas.List.{reverse-append, reverse-reverse}
 use Rattle.markdown_engine.specs.Codes.{Code}
 use Rattle.markdown_model.specs.CodeTests.{is_value, next_is}
 use Rattle.markdown_model.specs.Grammar.{with_first, escaped_from, span}
 use Rattle.markdown_string.proofs.EscapeReadings.{Behind, first-some, text-end, text-taken, text-stops, text-refused, text-next, text}
-use Rattle.markdown_string.proofs.BoolLemmas.{or-first, or-second}
 use Rattle.markdown_laws.specs.LinkParts.{is_odd, escapes_next}
 
 -- Whether a code is escaped, from the front: after a code, by whether that one was.
@@ -124,8 +124,8 @@ module _ (stop takes refuses : Code → Bool) (slashes : (c : Code) → is_value
   found-by true y z slash c text rest e h k i f =
       text-taken stop takes refuses slash c (text ++ rest) e
       ∙ ap (with_first c) (f false (subst (λ s. Is s text) (taken-turned takes slash c e) (behind_first slash c text i)))
-  found-by false true z slash c text rest e h k i f = let no : slash && takes c ≡ true = i.inside [] text c refl (or-first (stop c) (refuses c) h) in cc
-  found-by false false true slash c text rest e h k i f = let no : slash && takes c ≡ true = i.inside [] text c refl (or-second (stop c) (refuses c) k) in cc
+  found-by false true z slash c text rest e h k i f = let no : slash && takes c ≡ true = i.inside [] text c refl (or_left (stop c) (refuses c) h) in cc
+  found-by false false true slash c text rest e h k i f = let no : slash && takes c ≡ true = i.inside [] text c refl (or_right (stop c) (refuses c) k) in cc
   found-by false false false slash c text rest e h k i f =
       text-next stop takes refuses slash c (text ++ rest) e h k
       ∙ ap (with_first c) (f (c.value == 92) (subst (λ s. Is s text) (next-turned takes slashes slash c e) (behind_first slash c text i)))

@@ -1,6 +1,6 @@
 -- Rows in which nothing is empty but the texts of labels.
 use Rattle.std.proofs.Common.{◌≡◌, ℕ, Bool, true, false, ◌&&◌, ◌||◌, not, List, [], ◌∷◌, ◌++◌, refl, sym, ◌∙◌}
-use Rattle.std.proofs.lemmas.Bool.{and_parts}
+use Rattle.std.proofs.lemmas.Bool.{and_parts, not-true}
 use Rattle.markdown_engine.specs.declared.event.Name.{Name}
 use Rattle.markdown_engine.specs.Codes.{Code}
 use Rattle.markdown_engine.specs.Tree.{Forest, empty, leaf_then, group_then, leaf, ◌⊕◌, leaf_codes}
@@ -32,15 +32,11 @@ either-text true b h k = refl
 either-text false true h k = h
 either-text false false h k = k
 
-full : (b : Bool) → not b ≡ true → b ≡ false
-full true h = cc
-full false h = refl
-
 pub made-filled : (f : Forest) → made f ≡ true → IsFilled f
 made-filled empty h = tt
 made-filled (leaf_then name link cs rest) h =
     let p = and_parts (not (is_empty cs)) (made rest) h in
-    (full (is_empty cs) p.0, made-filled rest p.1)
+    (not-true (is_empty cs) p.0, made-filled rest p.1)
 made-filled (group_then name enter exit inside rest) h =
     let p = and_parts (is_label_text name || not (is_nothing inside)) (not (is_pair name) && (made inside && made rest)) h in
     let q = and_parts (not (is_pair name)) (made inside && made rest) p.1 in

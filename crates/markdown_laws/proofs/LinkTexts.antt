@@ -1,6 +1,6 @@
 -- Titles, labels and destinations in angle brackets: where their readings hold.
 use Rattle.std.proofs.Common.{◌≡◌, ◌==◌, inl, inr, ℕ, ◌≤◌, nat_le, ◌||◌, not, Bool, true, false, codes, Some, None, List, [], ◌∷◌, ◌++◌, refl, sym, ap, ◌∙◌, arith}
-use Rattle.std.proofs.lemmas.Bool.{eqb-true}
+use Rattle.std.proofs.lemmas.Bool.{eqb-true, and_from, or_from, or_parts, or_right, or_left}
 use Rattle.std.proofs.lemmas.Grind.{common_steps}
 use Rattle.std.proofs.lemmas.Bool.Decides.{nat_tests}
 use Rattle.std.specs.List.{list_any}
@@ -14,8 +14,7 @@ use Rattle.markdown_model.proofs.Readings.{covers_label, covers_title, takes_up_
 use Rattle.markdown_model.proofs.ReadingLaws.{read-codes}
 use Rattle.markdown_model.proofs.ReadingSteps.{bind-some, bind-none, after-some, one-here, one-other, provided-true, either-some, either-second, and-left, and-right}
 use Rattle.markdown_laws.specs.LinkParts.{IsEscapedIn, IsLabel, IsBetween, IsTitle, IsEnclosed, Marked, enclosed_tree, TitlesAreFound, LabelsAreFound}
-use Rattle.markdown_string.proofs.BoolLemmas.{or-first, or-second}
-use Rattle.markdown_laws.proofs.TestParts.{or-parts, or-last, or-none, neither, both-true, other}
+use Rattle.markdown_laws.proofs.TestParts.{or-parts, or-last, other}
 use Rattle.markdown_laws.proofs.EscapedTexts.{Escaped, escapes-after, read, found}
 use Rattle.markdown_laws.proofs.ReadBack.{Went, WentOne, bind-back, one-back, provided-back, gives-back, either-back}
 
@@ -55,7 +54,7 @@ escaped-in marks stops takes text more i = record {
 escaped-of : (marks stops takes : Code → Bool) (text : List Code) → ((before after : List Code) (c : Code) → text ≡ before ++ (c ∷ after) → stops c ≡ true → (marks c ≡ true) × (takes c ≡ true))
     → IsEscapedIn marks text → Escaped stops takes false text
 escaped-of marks stops takes text less i = record {
-  inside = λ before after c e h. both-true _ _ (sym (escapes-after before) ∙ i.inside before after c e (less before after c e h).0) (less before after c e h).1;
+  inside = λ before after c e h. and_from _ _ (sym (escapes-after before) ∙ i.inside before after c e (less before after c e h).0) (less before after c e h).1;
   behind = sym (escapes-after text) ∙ i.behind;
 }
 
@@ -69,10 +68,10 @@ module _ (opener closer : ℕ) (names : StringNames) where
   never c = false
 
   slashes : (c : Code) → is_value 92 c ≡ true → takes c ≡ true
-  slashes c h = or-first _ _ h
+  slashes c h = or_left _ _ h
 
   stops : (c : Code) → is_value closer c ≡ true → takes c ≡ true
-  stops c h = or-second (c.value == 92) _ (or-first _ false h)
+  stops c h = or_right (c.value == 92) _ (or_left _ false h)
 
   between-back : (cs : List Code) (tree : Forest) (rest : List Code) → title_between opener closer names cs ≡ Some (tree, rest) → Marked (IsBetween opener closer) (between_markers names) cs tree rest
   unfolding title_between
@@ -90,7 +89,7 @@ module _ (opener closer : ℕ) (names : StringNames) where
         is = record {
           opens = a.passes;
           closes = d.passes;
-          escaped = escaped-in (is_value closer) (λ c. is_value closer c || never c) takes b.text (λ c h. or-first _ _ h) b.is;
+          escaped = escaped-in (is_value closer) (λ c. is_value closer c || never c) takes b.text (λ c h. or_left _ _ h) b.is;
           lines = p.0;
         };
         tree_is = g.0;
@@ -170,18 +169,18 @@ abbrev is_bracket : Code → Bool
 is_bracket c = is_value 93 c || is_value 91 c
 
 bracket_slashes : (c : Code) → is_value 92 c ≡ true → bracket_takes c ≡ true
-bracket_slashes c h = or-second (c.value == 91) _ (or-first _ _ h)
+bracket_slashes c h = or_right (c.value == 91) _ (or_left _ _ h)
 
 bracket_stops : (c : Code) → is_value 93 c ≡ true → bracket_takes c ≡ true
-bracket_stops c h = or-second (c.value == 91) _ (or-second (c.value == 92) _ (or-first _ false h))
+bracket_stops c h = or_right (c.value == 91) _ (or_right (c.value == 92) _ (or_left _ false h))
 
 to-bracket : (c : Code) → brackets c ≡ true → is_bracket c ≡ true
-to-bracket c h = elim (or-parts (c.value == 91) _ h) [ inl k ↦ or-second (c.value == 93) _ k | inr k ↦ or-first _ (c.value == 91) (or-last _ k) ]
+to-bracket c h = elim (or-parts (c.value == 91) _ h) [ inl k ↦ or_right (c.value == 93) _ k | inr k ↦ or_left _ (c.value == 91) (or-last _ k) ]
 
 from-bracket : (c : Code) → is_bracket c ≡ true → (brackets c ≡ true) × (bracket_takes c ≡ true)
 from-bracket c h = elim (or-parts (c.value == 93) _ h) [
-  | inl k ↦ (or-second (c.value == 91) _ (or-first _ false k), bracket_stops c k)
-  | inr k ↦ (or-first _ _ k, or-first _ _ k)
+  | inl k ↦ (or_right (c.value == 91) _ (or_left _ false k), bracket_stops c k)
+  | inr k ↦ (or_left _ _ k, or_left _ _ k)
 ]
 
 module _ (names : StringNames) where
@@ -249,31 +248,31 @@ abbrev is_angle : Code → Bool
 is_angle c = is_value 62 c || angle_refuses c
 
 angle_slashes : (c : Code) → is_value 92 c ≡ true → angle_takes c ≡ true
-angle_slashes c h = or-second (c.value == 60) _ (or-second (c.value == 62) _ (or-first _ false h))
+angle_slashes c h = or_right (c.value == 60) _ (or_right (c.value == 62) _ (or_left _ false h))
 
 angle_stops : (c : Code) → is_value 62 c ≡ true → angle_takes c ≡ true
-angle_stops c h = or-second (c.value == 60) _ (or-first _ _ h)
+angle_stops c h = or_right (c.value == 60) _ (or_left _ _ h)
 
 to-angle : (c : Code) → angles c ≡ true → is_angle c ≡ true
-to-angle c h = elim (or-parts (c.value == 60) _ h) [ inl k ↦ or-second (c.value == 62) _ (or-first _ (is_line_ending c) k) | inr k ↦ or-first _ (angle_refuses c) (or-last _ k) ]
+to-angle c h = elim (or-parts (c.value == 60) _ h) [ inl k ↦ or_right (c.value == 62) _ (or_left _ (is_line_ending c) k) | inr k ↦ or_left _ (angle_refuses c) (or-last _ k) ]
 
 -- a code of a list in which none passes does not pass
 pub none-passes : (p : Code → Bool) (before after : List Code) (c : Code) (text : List Code) → text ≡ before ++ (c ∷ after) → list_any p text ≡ false → p c ≡ false
 none-passes p before after c text e h = here before (sym (ap (list_any p) e) ∙ h)
   where
     here : (xs : List Code) → list_any p (xs ++ (c ∷ after)) ≡ false → p c ≡ false
-    here [] k = (or-none (p c) _ k).0
-    here (x ∷ xs) k = here xs (or-none (p x) _ k).1
+    here [] k = (or_parts (p c) _ k).0
+    here (x ∷ xs) k = here xs (or_parts (p x) _ k).1
 
 -- and where each does not pass, none does
 none-of : (p : Code → Bool) (text : List Code) → ((before after : List Code) (c : Code) → text ≡ before ++ (c ∷ after) → p c ≡ false) → list_any p text ≡ false
 none-of p [] f = refl
-none-of p (c ∷ text) f = neither (p c) (list_any p text) (f [] text c refl) (none-of p text (λ before after d e. f (c ∷ before) after d (ap (λ xs. c ∷ xs) e)))
+none-of p (c ∷ text) f = or_from (p c) (list_any p text) (f [] text c refl) (none-of p text (λ before after d e. f (c ∷ before) after d (ap (λ xs. c ∷ xs) e)))
 
 from-angle : (c : Code) → is_line_ending c ≡ false → is_angle c ≡ true → (angles c ≡ true) × (angle_takes c ≡ true)
 from-angle c n h = elim (or-parts (c.value == 62) _ h) [
-  | inl k ↦ (or-second (c.value == 60) _ (or-first _ false k), angle_stops c k)
-  | inr k ↦ elim (or-parts (c.value == 60) _ k) [ inl l ↦ (or-first _ _ l, or-first _ _ l) | inr l ↦ absurd (let no : true ≡ false = sym l ∙ n in cc) ]
+  | inl k ↦ (or_right (c.value == 60) _ (or_left _ false k), angle_stops c k)
+  | inr k ↦ elim (or-parts (c.value == 60) _ k) [ inl l ↦ (or_left _ _ l, or_left _ _ l) | inr l ↦ absurd (let no : true ≡ false = sym l ∙ n in cc) ]
 ]
 
 -- a line ending is none of the marks
@@ -304,7 +303,7 @@ module _ (names : DestinationNames) where
       }
     where
       by_test : {text : List Code} (before after : List Code) (c : Code) → text ≡ before ++ (c ∷ after) → (x : Bool) → is_line_ending c ≡ x → Escaped is_angle angle_takes false text → is_line_ending c ≡ false
-      by_test before after c k true h i = h ∙ ending-taken c true h (and-right _ _ (i.inside before after c k (or-second (c.value == 62) _ (or-second (c.value == 60) _ h))))
+      by_test before after c k true h i = h ∙ ending-taken c true h (and-right _ _ (i.inside before after c k (or_right (c.value == 62) _ (or_right (c.value == 60) _ h))))
       by_test before after c k false h i = h
 
   pub enclosed-found : (front : Code) (text : List Code) (back : Code) (rest : List Code) → IsEnclosed front text back

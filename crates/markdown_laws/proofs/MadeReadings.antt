@@ -1,5 +1,7 @@
 -- What constructs make: each leaf has a code, no group stands around nothing, and none is a pair's.
 use Rattle.std.proofs.Common.{◌≡◌, ℕ, ◌+◌, ◌≤◌, Bool, true, false, ◌&&◌, ◌||◌, not, List, [], ◌∷◌, ◌++◌, length, refl, sym, ◌∙◌, ap, arith, Option, Some, None}
+use Rattle.std.proofs.Math.Bool.{and-true}
+use Rattle.std.proofs.lemmas.Bool.{not-true}
 use Rattle.markdown_engine.specs.declared.event.Name.{Name}
 use Rattle.markdown_engine.specs.declared.event.Content.{Content}
 use Rattle.markdown_engine.specs.Codes.{Code, is_line_ending, is_blank}
@@ -20,7 +22,6 @@ use Rattle.markdown_model.proofs.Consuming.{Consumes, one_takes, some_takes, htm
 use Rattle.markdown_model.proofs.LinkFree.{Passes, Yields, yields_bind, yields_gives, yields_passed, yields_either, yields_before, yields_next, yields_unless, then_any}
 use Rattle.markdown_model.proofs.Readings.{Takes, takes_one, takes_some, takes_html_text, codes-lines, itself}
 use Rattle.markdown_model.proofs.ReadingLaws.{read-codes, read-shorter}
-use Rattle.markdown_model.proofs.ReadingSteps.{and-true}
 use Rattle.markdown_laws.specs.PairGroups.{is_pair}
 use Rattle.markdown_laws.specs.Filled.{is_label_text}
 
@@ -280,10 +281,6 @@ unfolding raw_destination
 makes_raw_destination max =
     then_any _ _ _ λ text. yields_provided _ _ _ λ h. yields_gives _ _ (raw text (not-true (is_empty text) h))
   where
-    not-true : (t : Bool) → not t ≡ true → t ≡ false
-    not-true true e = cc
-    not-true false e = refl
-
     raw : (text : List Code) → is_empty text ≡ false → made (group Name.ResourceDestination (group Name.ResourceDestinationRaw (group Name.ResourceDestinationString (linked Name.Data text)))) ≡ true
     raw [] k = cc
     raw (c ∷ cs) k = refl

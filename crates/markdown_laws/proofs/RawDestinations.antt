@@ -1,6 +1,6 @@
 -- Destinations without brackets: where their reading holds.
 use Rattle.std.proofs.Common.{◌≡◌, ◌==◌, ◌⊎◌, inl, inr, ℕ, zero, suc, ◌+◌, ◌-◌, ◌≤◌, ◌<◌, nat_lt, nat_le, ◌&&◌, ◌||◌, not, Bool, true, false, if◌then◌else◌, codes, Some, None, List, [], ◌∷◌, ◌++◌, refl, sym, ap, subst, ◌∙◌, arith}
-use Rattle.std.proofs.lemmas.Bool.{eqb-true}
+use Rattle.std.proofs.lemmas.Bool.{eqb-true, and_right, or_from, or_parts, or_right, or_left}
 use Rattle.std.proofs.lemmas.Grind.{common_steps}
 use Rattle.std.proofs.lemmas.Bool.Decides.{nat_tests}
 use Rattle.std.specs.List.{list_any}
@@ -12,8 +12,7 @@ use Rattle.markdown_model.proofs.ReadingSteps.{and-left, and-right}
 use Rattle.markdown_string.proofs.DestinationReadings.{raw-end, raw-open-end, raw-taken, raw-bare, raw-stop, raw-space, raw-control, raw-open, raw-deep, raw-close, raw-next}
 use Rattle.markdown_string.proofs.EscapeReadings.{Behind, first-some}
 use Rattle.markdown_laws.specs.LinkParts.{bare_after}
-use Rattle.markdown_string.proofs.BoolLemmas.{or-first, or-second}
-use Rattle.markdown_laws.proofs.TestParts.{or-parts, or-last, or-none, neither, other}
+use Rattle.markdown_laws.proofs.TestParts.{or-parts, or-last, other}
 use Rattle.markdown_laws.proofs.EscapedTexts.{turned, slash_after, after-last, escapes-after, taken-turned, next-turned}
 
 abbrev one_if : Bool → ℕ
@@ -67,17 +66,13 @@ slashes c h = is-paren c 92 h refl
 paren-part : (c : Code) → parens c ≡ true → no_part c ≡ false
 paren-part c h = by-parens (λ v. (((v == 32 || v == 9) || v == 10) || ((nat_le 1 v && nat_le v 31) || v == 127)) ≡ false) c h refl refl refl
 
-and-none : (a b : Bool) → b ≡ false → a && b ≡ false
-and-none true b e = e
-and-none false b e = refl
-
 -- a code of these, where the first is escaped or not, is not escaped
 not-escaped : (slash : Bool) (c : Code) → slash && parens c ≡ false → parens c ≡ true → slash ≡ false
 not-escaped true c e h = cc
 not-escaped false c e h = refl
 
 counts-none : (slash : Bool) (n : ℕ) (c : Code) → slash ≡ true → one_if (is_value n c && not slash) ≡ 0
-counts-none slash n c e = ap one_if (and-none (is_value n c) (not slash) (ap not e))
+counts-none slash n c e = ap one_if (and_right (is_value n c) (not slash) (ap not e))
 
 counts-other : (slash : Bool) (n : ℕ) (c : Code) → is_value n c ≡ false → one_if (is_value n c && not slash) ≡ 0
 counts-other slash n c e = ap (λ b. one_if (b && not slash)) e
@@ -93,7 +88,7 @@ module _ (max : ℕ) where
   onto : (slash : Bool) (c : Code) (depth more : ℕ) (text rest : List Code) → no_part c ≡ false → depth ≤ max
       → depth + one_if (is_value 40 c && not slash) ≡ more + one_if (is_value 41 c && not slash) → RawFrom max (turned slash c) more text rest → RawFrom max slash depth (c ∷ text) rest
   onto slash c depth more text rest p d e r = record {
-    plain = neither (no_part c) (list_any no_part text) p r.plain;
+    plain = or_from (no_part c) (list_any no_part text) p r.plain;
     nested = nested;
     balanced = omega (arith, e, r.balanced);
     ends = r.ends;
@@ -111,7 +106,7 @@ module _ (max : ℕ) where
   off : (slash : Bool) (c : Code) (depth more : ℕ) (text rest : List Code)
       → depth + one_if (is_value 40 c && not slash) ≡ more + one_if (is_value 41 c && not slash) → RawFrom max slash depth (c ∷ text) rest → RawFrom max (turned slash c) more text rest
   off slash c depth more text rest e r = record {
-    plain = (or-none (no_part c) (list_any no_part text) r.plain).1;
+    plain = (or_parts (no_part c) (list_any no_part text) r.plain).1;
     nested = λ before after k.
         let h : (bare_from 41 slash (c ∷ before) ≤ depth + bare_from 40 slash (c ∷ before)) × (depth + bare_from 40 slash (c ∷ before) ≤ bare_from 41 slash (c ∷ before) + max) = r.nested (c ∷ before) after (ap (λ xs. c ∷ xs) k) in
         (omega (arith, e, h.0), omega (arith, e, h.1));
@@ -163,17 +158,17 @@ module _ (max : ℕ) where
   by-tests false false false true true y z slash depth c cs r d e f t1 t2 t3 t4 t5 t6 t7 =
       let off : slash ≡ false = not-escaped slash c t1 (is-paren c 40 t4 refl) in
       let below : depth < max = grind (arith, nat_tests, common_steps) in
-      first slash false depth (suc depth) c cs r (sym (plain-start slash depth c cs t1 ∙ raw-open max depth c cs t2 t3 t4 t5) ∙ e) d (omega (arith, below)) (neither _ _ (or-none _ _ t2).0 t3)
+      first slash false depth (suc depth) c cs r (sym (plain-start slash depth c cs t1 ∙ raw-open max depth c cs t2 t3 t4 t5) ∙ e) d (omega (arith, below)) (or_from _ _ (or_parts _ _ t2).0 t3)
       (omega (arith, counts-one slash 40 c off t4, counts-other slash 41 c (other 40 41 c refl t4))) (next-turned parens slashes slash c t1 ∙ other 40 92 c refl t4) f
   by-tests false false false true false y z slash depth c cs r d e f t1 t2 t3 t4 t5 t6 t7 = let no : None ≡ Some r = sym (plain-start slash depth c cs t1 ∙ raw-deep max depth c cs t2 t3 t4 t5) ∙ e in cc
-  by-tests false false false false x true true slash depth c cs r d e f t1 t2 t3 t4 t5 t6 t7 = let no : false ≡ true = sym (or-none (is_whitespace_code c) (is_value 41 c && depth == 0) t2).1 ∙ (λ i. t6 i && t7 i) in cc
+  by-tests false false false false x true true slash depth c cs r d e f t1 t2 t3 t4 t5 t6 t7 = let no : false ≡ true = sym (or_parts (is_whitespace_code c) (is_value 41 c && depth == 0) t2).1 ∙ (λ i. t6 i && t7 i) in cc
   by-tests false false false false x true false slash zero c cs r d e f t1 t2 t3 t4 t5 t6 t7 = cc
   by-tests false false false false x true false slash (suc n) c cs r d e f t1 t2 t3 t4 t5 t6 t7 =
       let off : slash ≡ false = not-escaped slash c t1 (is-paren c 41 t6 refl) in
-      first slash false (suc n) (suc n - 1) c cs r (sym (plain-start slash (suc n) c cs t1 ∙ raw-close max (suc n) c cs t2 t3 t4 t6) ∙ e) d (omega (arith, d)) (neither _ _ (or-none _ _ t2).0 t3)
+      first slash false (suc n) (suc n - 1) c cs r (sym (plain-start slash (suc n) c cs t1 ∙ raw-close max (suc n) c cs t2 t3 t4 t6) ∙ e) d (omega (arith, d)) (or_from _ _ (or_parts _ _ t2).0 t3)
       (omega (arith, counts-one slash 41 c off t6, counts-other slash 40 c t4)) (next-turned parens slashes slash c t1 ∙ other 41 92 c refl t6) f
   by-tests false false false false x false z slash depth c cs r d e f t1 t2 t3 t4 t5 t6 t7 =
-      first slash (c.value == 92) depth depth c cs r (sym (plain-start slash depth c cs t1 ∙ raw-next max depth c cs t2 t3 t4 t6) ∙ e) d d (neither _ _ (or-none _ _ t2).0 t3)
+      first slash (c.value == 92) depth depth c cs r (sym (plain-start slash depth c cs t1 ∙ raw-next max depth c cs t2 t3 t4 t6) ∙ e) d d (or_from _ _ (or_parts _ _ t2).0 t3)
       (λ i. depth + (counts-other slash 40 c t4 ∙ sym (counts-other slash 41 c t6)) i) (next-turned parens slashes slash c t1) f
 
   pub raw-reads : (cs : List Code) → Reads cs
@@ -208,9 +203,9 @@ module _ (max : ℕ) where
       let none : one_if (is_value 41 c && not slash) ≡ 0 = counts-other slash 41 c (other 40 41 c refl t4) in
       let bound : depth + (one_if (is_value 40 c && not slash) + 0) ≤ (one_if (is_value 41 c && not slash) + 0) + max = (r.nested (c ∷ []) text refl).1 in
       let below : depth < max = omega (arith, one, none, bound) in
-      let part : (is_whitespace_code c ≡ false) × (is_control c ≡ false) = or-none _ _ (or-none _ _ r.plain).0 in
+      let part : (is_whitespace_code c ≡ false) × (is_control c ≡ false) = or_parts _ _ (or_parts _ _ r.plain).0 in
       plain-start slash depth c (text ++ rest) t1
-      ∙ raw-open max depth c (text ++ rest) (neither _ _ part.0 (ap (λ b. b && depth == 0) (other 40 41 c refl t4))) part.1 t4 (is_below depth below)
+      ∙ raw-open max depth c (text ++ rest) (or_from _ _ part.0 (ap (λ b. b && depth == 0) (other 40 41 c refl t4))) part.1 t4 (is_below depth below)
       ∙ goes-on false (suc depth) c text rest (f false (suc depth) (subst (λ s. RawFrom max s (suc depth) text rest) (next-turned parens slashes slash c t1 ∙ other 40 92 c refl t4) (off slash c depth (suc depth) text rest (omega (arith, one, none)) r)))
     where
       is_below : (n : ℕ) → n < max → nat_lt n max ≡ true
@@ -225,17 +220,17 @@ module _ (max : ℕ) where
       let bare : slash ≡ false = not-escaped slash c t1 (is-paren c 41 t6 refl) in
       let one : one_if (is_value 41 c && not slash) ≡ 1 = counts-one slash 41 c bare t6 in
       let none : one_if (is_value 40 c && not slash) ≡ 0 = counts-other slash 40 c t4 in
-      let part : (is_whitespace_code c ≡ false) × (is_control c ≡ false) = or-none _ _ (or-none _ _ r.plain).0 in
+      let part : (is_whitespace_code c ≡ false) × (is_control c ≡ false) = or_parts _ _ (or_parts _ _ r.plain).0 in
       plain-start slash (suc n) c (text ++ rest) t1
-      ∙ raw-close max (suc n) c (text ++ rest) (neither _ _ part.0 (and-none (is_value 41 c) (suc n == 0) (not-zero n))) part.1 t4 t6
+      ∙ raw-close max (suc n) c (text ++ rest) (or_from _ _ part.0 (and_right (is_value 41 c) (suc n == 0) (not-zero n))) part.1 t4 t6
       ∙ goes-on false (suc n - 1) c text rest (f false (suc n - 1) (subst (λ s. RawFrom max s (suc n - 1) text rest) (next-turned parens slashes slash c t1 ∙ other 41 92 c refl t6) (off slash c (suc n) (suc n - 1) text rest (omega (arith, one, none)) r)))
     where
       not-zero : (n : ℕ) → (suc n == 0) ≡ false
       not-zero n = grind (arith, nat_tests, common_steps)
   by-parts false false false slash depth c text rest r f t1 t4 t6 =
-      let part : (is_whitespace_code c ≡ false) × (is_control c ≡ false) = or-none _ _ (or-none _ _ r.plain).0 in
+      let part : (is_whitespace_code c ≡ false) × (is_control c ≡ false) = or_parts _ _ (or_parts _ _ r.plain).0 in
       plain-start slash depth c (text ++ rest) t1
-      ∙ raw-next max depth c (text ++ rest) (neither _ _ part.0 (ap (λ b. b && depth == 0) t6)) part.1 t4 t6
+      ∙ raw-next max depth c (text ++ rest) (or_from _ _ part.0 (ap (λ b. b && depth == 0) t6)) part.1 t4 t6
       ∙ goes-on (c.value == 92) depth c text rest (f (c.value == 92) depth (subst (λ s. RawFrom max s depth text rest) (next-turned parens slashes slash c t1) (off slash c depth depth text rest (λ i. depth + (counts-other slash 40 c t4 ∙ sym (counts-other slash 41 c t6)) i) r)))
 
   -- whitespace is no parenthesis and no backslash
@@ -243,7 +238,7 @@ module _ (max : ℕ) where
   white-plain c h = by_test (parens c) refl
     where
       by_test : (b : Bool) → parens c ≡ b → parens c ≡ false
-      by_test true k = let no : true ≡ false = sym h ∙ (or-none _ _ (paren-part c k)).0 in cc
+      by_test true k = let no : true ≡ false = sym h ∙ (or_parts _ _ (paren-part c k)).0 in cc
       by_test false k = k
 
   pub raw-found : (text rest : List Code) → Found text rest
@@ -258,6 +253,6 @@ module _ (max : ℕ) where
 
       by_end : EndsAt slash (c ∷ cs) → raw_from max slash depth (c ∷ cs) ≡ Some ([], c ∷ cs)
       by_end (inl e) = cc
-      by_end (inr (inl w)) = plain-start slash depth c cs (and-none slash (parens c) (white-plain c w)) ∙ raw-stop max depth c cs (or-first _ _ w) none_open
-      by_end (inr (inr k)) = plain-start slash depth c cs (ap (λ s. s && parens c) k.1) ∙ raw-stop max depth c cs (or-second _ _ (λ i. k.0 i && none_open i)) none_open
+      by_end (inr (inl w)) = plain-start slash depth c cs (and_right slash (parens c) (white-plain c w)) ∙ raw-stop max depth c cs (or_left _ _ w) none_open
+      by_end (inr (inr k)) = plain-start slash depth c cs (ap (λ s. s && parens c) k.1) ∙ raw-stop max depth c cs (or_right _ _ (λ i. k.0 i && none_open i)) none_open
   raw-found (c ∷ text) rest slash depth r = by-parts (slash && parens c) (is_value 40 c) (is_value 41 c) slash depth c text rest r (raw-found text rest) refl refl refl

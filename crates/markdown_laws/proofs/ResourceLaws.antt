@@ -1,6 +1,6 @@
 -- Resources: where their reading holds.
 use Rattle.std.proofs.Common.{◌≡◌, ◌==◌, ◌⊎◌, inl, inr, ◌+◌, ◌≤◌, ◌&&◌, ◌||◌, Bool, true, false, if◌then◌else◌, Some, None, List, [], ◌∷◌, ◌++◌, refl, sym, ap, subst, ◌∙◌, arith, codes}
-use Rattle.std.proofs.lemmas.Bool.{eqb-true}
+use Rattle.std.proofs.lemmas.Bool.{eqb-true, or_parts}
 use Rattle.markdown_engine.specs.Codes.{Code}
 use Rattle.markdown_engine.specs.Tree.{Forest, empty, ◌⊕◌, leaf, group, leaf_codes}
 use Rattle.markdown_engine.specs.declared.event.Name.{Name}
@@ -13,7 +13,6 @@ use Rattle.markdown_model.proofs.ReadingLaws.{read-codes}
 use Rattle.markdown_model.proofs.ReadingSteps.{bind-some, bind-none, one-here, before-some, before-other, before-none, either-some, either-second}
 use Rattle.markdown_laws.specs.LinkParts.{IsTitle, IsRaw, Marked, closing, opening, IsDestination}
 use Rattle.markdown_laws.specs.Resources.{Nothing, EitherOf, InTurn, Mark, Spacing, SomeSpacing, AfterDestination, IsResource, ResourcesAreFound}
-use Rattle.markdown_laws.proofs.TestParts.{or-none}
 use Rattle.markdown_laws.proofs.ReadBack.{Went, WentOne, bind-back, one-back, gives-back, either-back, before-back, next-here, next-other}
 use Rattle.markdown_laws.proofs.LinkTexts.{title-back, found-title, marked-found}
 use Rattle.markdown_laws.proofs.Destinations.{destination-back, destination-found}
@@ -142,7 +141,7 @@ record Begins (cs : List Code) : Type 0 where
 raw-begins : (text rest : List Code) → IsRaw 32 text rest → Begins (text ++ rest)
 raw-begins [] rest i = let no : true ≡ false = i.some in cc
 raw-begins (c ∷ text) rest i = record {
-  is = record { code = c; more = text ++ rest; is = refl; plain = (or-none _ _ (or-none _ _ i.plain).0).0 };
+  is = record { code = c; more = text ++ rest; is = refl; plain = (or_parts _ _ (or_parts _ _ i.plain).0).0 };
   other = by_test (is_value 41 c) refl;
 }
   where

@@ -1,6 +1,6 @@
 -- Whitespace between the parts of a resource: where its reading holds.
 use Rattle.std.proofs.Common.{◌≡◌, ◌==◌, ◌⊎◌, inl, inr, ◌+◌, ◌<◌, ◌||◌, not, Bool, true, false, Option, Some, None, List, [], ◌∷◌, ◌++◌, length, refl, sym, ap, subst, ◌∙◌, length-append, arith}
-use Rattle.std.proofs.lemmas.Bool.{eqb-true}
+use Rattle.std.proofs.lemmas.Bool.{eqb-true, or_parts}
 use Rattle.std.specs.List.{list_all}
 use Rattle.markdown_engine.specs.Codes.{Code, is_line_ending, is_blank}
 use Rattle.markdown_engine.specs.Tree.{Forest, empty, ◌⊕◌}
@@ -13,7 +13,6 @@ use Rattle.markdown_model.proofs.Leaves.{span-append}
 use Rattle.markdown_model.proofs.ReadingLaws.{span-all}
 use Rattle.markdown_model.proofs.ReadingSteps.{bind-some, bind-none, one-here, one-not, before-some, before-none, some-span, some-nothing, any-number-is, either-some, either-second, span-takes, span-none, and-left, and-right}
 use Rattle.markdown_laws.specs.Resources.{Spacing, SomeSpacing}
-use Rattle.markdown_laws.proofs.TestParts.{or-none}
 use Rattle.markdown_laws.proofs.ReadBack.{Went, WentOne, bind-back, one-back, gives-back, either-back, before-back}
 
 -- codes that pass, up to one that does not
@@ -113,13 +112,13 @@ pub record IsPlain (rest : List Code) : Type 0 where
   pub plain : is_whitespace_code code ≡ false
 
 no-blank : (rest : List Code) → IsPlain rest → next_is is_blank rest ≡ false
-no-blank rest h = ap (next_is is_blank) h.is ∙ (or-none _ _ h.plain).0
+no-blank rest h = ap (next_is is_blank) h.is ∙ (or_parts _ _ h.plain).0
 
 no-ending : (rest : List Code) → IsPlain rest → next_is is_line_ending rest ≡ false
-no-ending rest h = ap (next_is is_line_ending) h.is ∙ (or-none _ _ h.plain).1
+no-ending rest h = ap (next_is is_line_ending) h.is ∙ (or_parts _ _ h.plain).1
 
 filled-line : (rest : List Code) → IsPlain rest → begins_filled_line rest ≡ true
-filled-line rest h = ap begins_filled_line h.is ∙ ap not (or-none _ _ h.plain).1
+filled-line rest h = ap begins_filled_line h.is ∙ ap not (or_parts _ _ h.plain).1
 
 across-found : (front : List Code) (e : Code) (back rest : List Code) → list_all is_blank front ≡ true → is_line_ending e ≡ true → list_all is_blank back ≡ true → IsPlain rest
     → spaces_across None (front ++ (e ∷ (back ++ rest))) ≡ Some (linked_leaf Name.SpaceOrTab None front ⊕ linked_leaf Name.LineEnding None (e ∷ []) ⊕ linked_leaf Name.SpaceOrTab None back, rest)

@@ -1,5 +1,6 @@
 -- No blank code stands in data beside a line ending, nor first or last in a text.
 use Rattle.std.proofs.Common.{◌≡◌, ℕ, zero, suc, Bool, true, false, ◌&&◌, ◌||◌, nat_le, List, [], ◌∷◌, ◌++◌, length, reverse, refl, sym, ap, subst, ◌∙◌, append_assoc, append-nil, Option, Some, None}
+use Rattle.std.proofs.Math.Bool.{and-false}
 use Rattle.std.specs.List.{list_all}
 use Rattle.std.proofs.lemmas.Bool.{both_ways}
 use Rattle.std.proofs.lemmas.List.{reverse-append}
@@ -18,7 +19,6 @@ use Rattle.markdown_model.proofs.Leaves.{span-append}
 use Rattle.markdown_model.proofs.Literals.{IsFound, found}
 use Rattle.markdown_model.proofs.MergedData.{merged_data_is_apart}
 use Rattle.markdown_model.proofs.ReadingLaws.{span-stops}
-use Rattle.markdown_model.proofs.ReadingSteps.{and-false}
 use Rattle.markdown_laws.specs.Emails.{is_email}
 use Rattle.markdown_laws.specs.Trimming.{IsTight, DataIsTight}
 use Rattle.markdown_laws.proofs.EmailLeaves.{IsEmailLeaf, AnswerIsEmail, answer-email, reverse-first}

@@ -1,8 +1,7 @@
 -- The laws of the states of an autolink.
 use Rattle.std.proofs.Common.{◌≡◌, ℕ, ◌+◌, ◌<◌, ◌≤◌, ◌==◌, ◌&&◌, ◌||◌, nat_lt, Bool, true, false, Option, Some, None, List, [], ◌∷◌, length, drop, refl, sym, ap, subst, ◌∙◌, arith}
-use Rattle.std.proofs.lemmas.Bool.{eqb-true, or_left}
-use Rattle.std.proofs.lemmas.Bool.Decides.{nat_tests}
-use Rattle.std.proofs.lemmas.Grind.{common_steps}
+use Rattle.std.proofs.Math.Bool.{and-false}
+use Rattle.std.proofs.lemmas.Bool.{eqb-true, or_left, ltb-true, ltb-false}
 use Rattle.markdown_engine.specs.Codes.{Code}
 use Rattle.markdown_engine.specs.Lists.{rest_of}
 use Rattle.markdown_engine.specs.Ops.{Op, Consume, current_of, ahead, applied, done, scratched}
@@ -30,7 +29,7 @@ use Rattle.markdown_leaf.proofs.AutolinkWhole.{whole-link, ended-here, ended-oth
 use Rattle.markdown_construct.proofs.NamingLemmas.{renamed-entered, renamed-consumed, renamed-scratched, DoesAs-entered}
 use Rattle.markdown_construct.proofs.PlanLemmas.{EndsAs-plan, DoesAs-then, kept}
 use Rattle.markdown_leaf.proofs.RawTextReady.{some-event}
-use Rattle.markdown_model.proofs.ReadingSteps.{and-left, and-right, and-false}
+use Rattle.markdown_model.proofs.ReadingSteps.{and-left, and-right}
 use Rattle.markdown_engine.specs.StateWords.{Words, Law, GoesIn}
 use Rattle.markdown_construct.proofs.StateLaws.{GoesOn-map, Goes-to, Goes-inside, Goes-inside-kept, Goes-over, Goes-no, Goes-named, Goes-refused}
 use Rattle.markdown_construct.specs.Within.{Within}
@@ -72,12 +71,6 @@ left-test : (t a b : Bool) → (t && a) ≡ false → (t && b) ≡ false → (a 
 left-test false a b e f g = refl
 left-test true true b e f g = cc
 left-test true false b e f g = sym g ∙ f
-
-not-below : (k n : ℕ) → nat_lt k n ≡ false → n ≤ k
-not-below k n h = grind (arith, nat_tests, common_steps)
-
-below : (k n : ℕ) → nat_lt k n ≡ true → k < n
-below k n h = grind (arith, nat_tests, common_steps)
 
 -- Between the brackets.
 
@@ -173,12 +166,12 @@ module _ (W : Words) (within : Within states W) where
       (inside-kept T k.inside) (λ ok U x. x))
       (λ g. if-step P (scheme_value c && nat_lt n 32) _ _
       (λ h. let here : is_scheme_code b.code ≡ true = ap scheme_value b.value ∙ and-left (scheme_value c) _ h in
-      let less : n < 32 = below n 32 (and-right (scheme_value c) _ h) in
+      let less : n < 32 = ltb-true n 32 (and-right (scheme_value c) _ h) in
       Goes-inside W 2 1 (scheme_naming n) (scheme_naming (n + 1)) s (with_size (n + 1) T.tokenize_state) T (Next AutolinkSchemeInsideOrEmailAtext) (within AutolinkSchemeInsideOrEmailAtext) alone refl more (omega arith)
       (ap (scheme_naming n) b.whole ∙ or-both (Consume ∷ []) _ _ _ _ (bracket-next N.AutolinkProtocol (scheme_rest n) (scheme_rest (n + 1)) b.code cs (scheme-more n b.code cs here)) (bracket-next N.AutolinkEmail local_rest local_rest b.code cs (local-more b.code cs (scheme-local b.code.value here))))
       (record { inside = inside-next (with_size (n + 1) T.tokenize_state) T k.inside; least = omega (arith, k.least); most = omega (arith, less) }) (λ ok U x. x))
       (λ h. other (ap (scheme_rest n) b.whole ∙ (elim (is_scheme_code b.code) as (λ z. is_scheme_code b.code ≡ z → scheme_rest n (b.code ∷ cs) ≡ None) [
-        | true ↦ λ i. scheme-long n b.code cs i (not-below n 32 (ap (λ z. z && nat_lt n 32) (sym (sym (ap scheme_value b.value) ∙ i)) ∙ h))
+        | true ↦ λ i. scheme-long n b.code cs i (ltb-false n 32 (ap (λ z. z && nat_lt n 32) (sym (sym (ap scheme_value b.value) ∙ i)) ∙ h))
         | false ↦ λ i. scheme-other n (b.code ∷ cs) i (ap (λ v. v == 58) b.value ∙ g)
       ] refl)))))
 
@@ -259,20 +252,20 @@ module _ (W : Words) (within : Within states W) where
       let cs : List Code = rest_of (ahead T) in
       let more : 1 ≤ length (ahead T) = some-codes T c e in
       if-step P (nat_lt n 63 && alphanumeric_value c) _ _
-      (λ h. let less : n < 63 = below n 63 (and-left (nat_lt n 63) _ h) in
+      (λ h. let less : n < 63 = ltb-true n 63 (and-left (nat_lt n 63) _ h) in
       let here : is_alphanumeric b.code ≡ true = ap alphanumeric_value b.value ∙ and-right (nat_lt n 63) _ h in
       Goes-inside W 1 1 p (up_to_bracket N.AutolinkEmail (label_rest (n + 1) true)) s (with_size (n + 1) T.tokenize_state) T (Next AutolinkEmailLabel) (within AutolinkEmailLabel) alone refl more (omega arith)
       (ap p b.whole ∙ bracket-next N.AutolinkEmail (label_rest n well) (label_rest (n + 1) (is_alphanumeric b.code)) b.code cs (label-more n well b.code cs (ap (λ z. z || is_value 45 b.code) here)) ∙ ap (λ z. preceded_by (Consume ∷ []) (up_to_bracket N.AutolinkEmail (label_rest (n + 1) z) cs)) here)
       (record { inside = inside-next (with_size (n + 1) T.tokenize_state) T k.inside; most = omega (arith, less) }) (λ ok U x. x))
       (λ g. if-step P (nat_lt n 63 && (c == 45)) _ _
-      (λ h. let less : n < 63 = below n 63 (and-left (nat_lt n 63) _ h) in
+      (λ h. let less : n < 63 = ltb-true n 63 (and-left (nat_lt n 63) _ h) in
       let hyphen : is_value 45 b.code ≡ true = ap (λ v. v == 45) b.value ∙ and-right (nat_lt n 63) _ h in
       let other : is_alphanumeric b.code ≡ false = ap alphanumeric_value (eqb-true b.code.value 45 hyphen) in
       Goes-inside W 1 1 p (up_to_bracket N.AutolinkEmail (label_rest (n + 1) false)) s (with_size (n + 1) T.tokenize_state) T (Next AutolinkEmailValue) (within AutolinkEmailValue) alone refl more (omega arith)
       (ap p b.whole ∙ bracket-next N.AutolinkEmail (label_rest n well) (label_rest (n + 1) (is_alphanumeric b.code)) b.code cs (label-more n well b.code cs (ap (λ z. z || is_value 45 b.code) other ∙ hyphen)) ∙ ap (λ z. preceded_by (Consume ∷ []) (up_to_bracket N.AutolinkEmail (label_rest (n + 1) z) cs)) other)
       (record { inside = inside-next (with_size (n + 1) T.tokenize_state) T k.inside; most = omega (arith, less) }) (λ ok U x. x))
       (λ h. Goes-refused W 1 1 p s T alone (elim (is_label_code b.code) as (λ z. is_label_code b.code ≡ z → p (ahead T) ≡ None) [
-        | true ↦ λ i. ap p b.whole ∙ ap (ended N.AutolinkEmail) (label-long n well b.code cs i (not-below n 63 (left-test (nat_lt n 63) (alphanumeric_value c) (c == 45) g h (sym (ap (λ v. alphanumeric_value v || v == 45) b.value) ∙ i))))
+        | true ↦ λ i. ap p b.whole ∙ ap (ended N.AutolinkEmail) (label-long n well b.code cs i (ltb-false n 63 (left-test (nat_lt n 63) (alphanumeric_value c) (c == 45) g h (sym (ap (λ v. alphanumeric_value v || v == 45) b.value) ∙ i))))
         | false ↦ λ i. end (ap (λ xs. next_is is_label_code xs) b.whole ∙ i)
       ] refl))))
 

@@ -1,5 +1,6 @@
 -- The laws of the states of a character escape.
 use Rattle.std.proofs.Common.{◌≡◌, ◌==◌, ◌&&◌, Bool, true, false, if◌then◌else◌, Some, None, List, [], ◌∷◌, ◌++◌, refl, sym, ap, ◌∙◌, arith, append-nil}
+use Rattle.std.proofs.Math.Bool.{and-false}
 use Rattle.markdown_engine.specs.Codes.{Code}
 use Rattle.markdown_engine.specs.Lists.{rest_of}
 use Rattle.markdown_engine.specs.Ops.{current_of, ahead}
@@ -17,7 +18,7 @@ use Rattle.markdown_model.specs.Leaf.{escape, escape_tree}
 use Rattle.markdown_leaf.specs.CharacterEscape.{is_punctuation, is_on, opening, value, start_at, start_step, inside_at, escape_here, inside_plan, start_ends, inside_ends, states, inside_words, start_words}
 use Rattle.markdown_construct.specs.Plan.{preceded, tree_ops, plan_of, KeepsAs}
 use Rattle.markdown_construct.proofs.PlanLemmas.{EndsAs-plan}
-use Rattle.markdown_model.proofs.ReadingSteps.{bind-some, bind-none, one-here, one-not, switched-on, switched-off, and-left, and-right, and-false, if-true, if-false}
+use Rattle.markdown_model.proofs.ReadingSteps.{bind-some, bind-none, one-here, one-not, switched-on, switched-off, and-left, and-right, if-true, if-false}
 use Rattle.markdown_construct.proofs.WholeReadings.{Gives, Covers, IsSome, Gives-bind, Gives-switched, Gives-one, Gives-gives, Covers-group, Covers-row, Covers-leaf, some-first}
 use Rattle.markdown_engine.specs.StateWords.{Words, Law, GoesIn}
 use Rattle.markdown_construct.proofs.StateLaws.{GoesOn-map, Goes-next, Goes-yes, Goes-no}

@@ -1,6 +1,7 @@
 -- The laws of the states of a character reference.
 use Rattle.std.proofs.Common.{◌≡◌, ◌≢◌, ℕ, ◌+◌, ◌≤◌, ◌==◌, ◌&&◌, ◌||◌, nat_lt, Bool, true, false, List, [], ◌∷◌, ◌++◌, drop, refl, sym, ap, subst, ◌∙◌, arith, append-nil, inl, inr}
 use Rattle.std.specs.Prelude.{codes}
+use Rattle.std.proofs.Math.Bool.{or-false, and-false}
 use Rattle.markdown_engine.specs.Codes.{Code}
 use Rattle.markdown_engine.specs.Lists.{rest_of}
 use Rattle.markdown_engine.specs.Ops.{Op, Consume, applied, current_of, ahead, done, scratched}
@@ -23,7 +24,7 @@ use Rattle.markdown_leaf.specs.CharacterReference.{IsAtRest, IsOpened, IsValue, 
 use Rattle.markdown_construct.specs.Plan.{Plan, preceded, plan_of, DoesAs, KeepsAs}
 use Rattle.markdown_leaf.proofs.CharacterReferenceReading.{reference-start, no-reference, value-close, value-more, value-end, value-stop}
 use Rattle.markdown_construct.proofs.PlanLemmas.{EndsAs-plan, no-codes}
-use Rattle.markdown_model.proofs.ReadingSteps.{and-left, and-right, and-false, if-true, if-false}
+use Rattle.markdown_model.proofs.ReadingSteps.{and-left, and-right, if-true, if-false}
 use Rattle.markdown_construct.proofs.WholeReadings.{Gives, Covers, IsSome, IsNothing, Gives-bind, Gives-after, Gives-either, Gives-switched, Gives-one, Gives-some, Gives-test, Gives-gives, Covers-group, Covers-row, Covers-leaf, some-first}
 use Rattle.markdown_engine.specs.StateWords.{Words, Law, GoesIn}
 use Rattle.markdown_construct.proofs.StateLaws.{GoesOn-map, Goes-on, Goes-kept, Goes-next, Goes-ok, Goes-nok, Goes-no}
@@ -129,12 +130,8 @@ value-on : (T : Tokenizer) → IsValue T → (c : ℕ) → is_taken T.tokenize_s
 unfolding scratched applied
 value-on T v c e = record { value = v.value; whole = v.whole; marker = v.marker; size = taken-room T.tokenize_state.marker T.tokenize_state.size c e }
 
-or-none : (b : Bool) → b || false ≡ b
-or-none true = refl
-or-none false = refl
-
 sign-test : (c : Code) → is_among (codes "xX") c ≡ (c.value == 120) || (c.value == 88)
-sign-test c = ap (λ b. (c.value == 120) || b) (or-none (c.value == 88))
+sign-test c = ap (λ b. (c.value == 120) || b) (or-false (c.value == 88))
 
 -- The states.
 

@@ -2,6 +2,8 @@
 use Rattle.std.proofs.Common.{◌≡◌, ℕ, suc, ◌+◌, ◌≤◌, ◌==◌, ◌&&◌, ◌||◌, nat_le, nat_lt, Bool, true, false, if◌then◌else◌, Option, Some, None, List, [], ◌∷◌, ◌++◌, length, refl, sym, ap, subst, ◌∙◌, arith, append_assoc}
 use Rattle.std.specs.Char.{is_ascii_alphanumeric, is_ascii_digit, is_ascii_hexdigit}
 use Rattle.std.specs.Prelude.{codes}
+use Rattle.std.proofs.Math.Bool.{and-false}
+use Rattle.std.proofs.lemmas.Bool.{le-leb, eqb-true}
 use Rattle.markdown_engine.specs.Codes.{Code}
 use Rattle.markdown_engine.specs.Lists.{rest_of}
 use Rattle.markdown_engine.specs.Ops.{Op, Enter, Exit, Consume}
@@ -16,7 +18,7 @@ use Rattle.markdown_leaf.specs.CharacterReference.{opening, number_sign, hexadec
 use Rattle.markdown_construct.specs.Plan.{preceded, tree_ops, plan_of}
 use Rattle.markdown_leaf.proofs.NameLemmas.{name-short, length-values, same-code}
 use Rattle.markdown_construct.proofs.PlanLemmas.{preceded-twice}
-use Rattle.markdown_model.proofs.ReadingSteps.{bind-some, bind-none, after-some, after-none, provided-true, provided-false, one-here, one-not, some-span, some-nothing, either-first, either-second, switched-on, switched-off, and-left, and-right, left-true, right-true, and-false, if-true, if-false, span-takes, span-none}
+use Rattle.markdown_model.proofs.ReadingSteps.{bind-some, bind-none, after-some, after-none, provided-true, provided-false, one-here, one-not, some-span, some-nothing, either-first, either-second, switched-on, switched-off, and-left, and-right, left-true, right-true, if-true, if-false, span-takes, span-none}
 use Rattle.markdown_model.proofs.ReadingLaws.{span-agrees}
 
 -- Values.
@@ -30,15 +32,12 @@ byte-cases false false = refl
 semicolon-byte : (m : ℕ) → is_value_byte m 59 ≡ false
 semicolon-byte m = byte-cases (m == 38) (m == 35)
 
-eq-true : (a b : ℕ) → (a == b) ≡ true → a ≡ b
-eq-true a b e = grind arith
-
 between-size : (n max : ℕ) → nat_lt 0 n ≡ true → n ≤ max → is_between 1 max (n + 0) ≡ true
 between-size n max e h = grind arith
 
 pub value-close : (m n : ℕ) (c : Code) (cs : List Code) → (c.value == 59) ≡ true → nat_lt 0 n ≡ true → n ≤ value_size_max m → value_plan m n (c ∷ cs) ≡ Some closing
 value-close m n c cs e h l =
-    let other : is_value_code m c ≡ false = ap (is_value_byte m) (eq-true c.value 59 e) ∙ semicolon-byte m in
+    let other : is_value_code m c ≡ false = ap (is_value_byte m) (eqb-true c.value 59 e) ∙ semicolon-byte m in
     ap (value_of m n) (span-none (is_value_code m) (c ∷ cs) other)
     ∙ if-true _ (Some closing) None (rw (e, between-size n (value_size_max m) h l) refl)
 
@@ -206,13 +205,10 @@ begins-decimal c d v vs b = rw (append_assoc (consumes vs) value_end (Exit N.Cha
 begins-hexadecimal : (c d x : Code) → Begins (opening ++ number_sign ++ hexadecimal_sign) (hexadecimal_by c d x)
 begins-hexadecimal c d x v vs b = rw (append_assoc (consumes vs) value_end (Exit N.CharacterReference ∷ [])) refl
 
-le-test : (a b : ℕ) → a ≤ b → nat_le a b ≡ true
-le-test a b h = grind arith
-
 -- a name of the table and a `;`
 named-here : (c : Code) (cs : List Code) → (c.value == 38) ≡ true → begins_name cs ≡ true → part_ops (named_parts html_5_rows (c ∷ cs)) ≡ preceded opening (preceded value_start (value_plan 38 0 cs))
 named-here c cs e h =
-    let short : nat_le (length (span is_alphanumeric cs).0) 31 ≡ true = le-test _ 31 (subst (λ n. n ≤ 31) (length-values (span is_alphanumeric cs).0) (name-short _ (and-left _ _ h))) in
+    let short : nat_le (length (span is_alphanumeric cs).0) 31 ≡ true = le-leb _ 31 (subst (λ n. n ≤ 31) (length-values (span is_alphanumeric cs).0) (name-short _ (and-left _ _ h))) in
     ap part_ops (named-is c cs e)
     ∙ tail-plan 38 (opening ++ value_start) is_alphanumeric (is_name html_5_rows) (named_by c) (begins-named c) cs same-code (λ _. and-left _ _ h ∙ sym short)
     ∙ preceded-twice opening value_start (value_plan 38 0 cs)
@@ -242,7 +238,7 @@ no-digits c d x cs e h k =
 
 -- a number sign begins no name
 sign-letter : (v : ℕ) → (v == 35) ≡ true → is_ascii_alphanumeric v ≡ false
-sign-letter v e = ap is_ascii_alphanumeric (eq-true v 35 e)
+sign-letter v e = ap is_ascii_alphanumeric (eqb-true v 35 e)
 
 no-letters : (c d : Code) (cs : List Code) → (c.value == 38) ≡ true → (d.value == 35) ≡ true → named_parts html_5_rows (c ∷ d ∷ cs) ≡ None
 no-letters c d cs e h =

@@ -1,5 +1,7 @@
 -- Names of character references: what was passed of one, and how long it may be.
-use Rattle.std.proofs.Common.{◌≡◌, ℕ, zero, suc, ◌+◌, ◌<◌, ◌≤◌, ◌==◌, ◌&&◌, ◌||◌, nat_le, is_some, Bool, true, false, Option, Some, None, List, [], ◌∷◌, ◌++◌, length, take, IsTrue, refl, sym, ap, subst, ◌∙◌, arith, append_assoc, append-nil, length-append}
+use Rattle.std.proofs.Common.{◌≡◌, ℕ, zero, suc, ◌+◌, ◌<◌, ◌≤◌, ◌==◌, ◌&&◌, ◌||◌, is_some, Bool, true, false, Option, Some, None, List, [], ◌∷◌, ◌++◌, length, take, IsTrue, refl, sym, ap, subst, ◌∙◌, arith, append_assoc, append-nil, length-append}
+use Rattle.std.proofs.Math.Bool.{and-false, and-true}
+use Rattle.std.proofs.lemmas.Bool.{leb-true}
 use Rattle.std.proofs.Math.ListN.{length-set}
 use Rattle.std.proofs.lemmas.List.Folds.{list_all-append}
 use Rattle.markdown_engine.specs.Lists.{first_of, rest_of}
@@ -18,7 +20,7 @@ use Rattle.markdown_leaf.specs.CharacterReference.{is_name_code, IsPassing, HasP
 use Rattle.markdown_model.specs.Leaf.{is_name}
 use Rattle.markdown_util.specs.Reference.{Table, html_5_rows, is_value, named_value}
 use Rattle.markdown_util.proofs.Tables.{html_5_sound}
-use Rattle.markdown_model.proofs.ReadingSteps.{and-left, and-right, and-false, and-true, span-takes, span-none}
+use Rattle.markdown_model.proofs.ReadingSteps.{and-left, and-right, span-takes, span-none}
 use Rattle.markdown_model.proofs.ReadingLaws.{span-agrees}
 use Rattle.std.specs.Str.{IsUtf8, IsAscii, bytes_eq}
 
@@ -95,11 +97,8 @@ passed-end A p name n x k l e =
 eq-bytes : (xs ys : List ℕ) → bytes_eq xs ys ≡ true → xs ≡ ys
 eq-bytes xs ys e = (bytes_eq-Decides xs ys).0 e
 
-le-true : (a b : ℕ) → nat_le a b ≡ true → a ≤ b
-le-true a b e = grind arith
-
 value-short : (bs : List ℕ) → is_value 38 bs ≡ true → length bs ≤ 31
-value-short bs e = le-true (length bs) 31 (and-right _ _ (and-left _ _ e))
+value-short bs e = leb-true (length bs) 31 (and-right _ _ (and-left _ _ e))
 
 later-row : (b : Bool) (x : List ℕ) (o : Option (List ℕ)) → is_some (elim b as (λ _. Option (List ℕ)) [ true ↦ Some x | false ↦ o ]) ≡ true → b ≡ false → is_some o ≡ true
 later-row true x o e h = cc

@@ -1,5 +1,6 @@
 -- What the reading of a span gives, by what stands there.
 use Rattle.std.proofs.Common.{◌≡◌, ℕ, ◌+◌, ◌==◌, Bool, true, false, ◌&&◌, ◌||◌, not, nat_lt, if◌then◌else◌, Option, Some, None, List, [], ◌∷◌, ◌++◌, length, refl, sym, ap, ◌∙◌, arith, append_assoc}
+use Rattle.std.proofs.Math.Bool.{and-false}
 use Rattle.std.proofs.lemmas.Bool.{eqb-true, and_left}
 use Rattle.std.proofs.lemmas.Bool.Decides.{nat_tests}
 use Rattle.std.proofs.lemmas.Grind.{common_steps}
@@ -14,7 +15,7 @@ use Rattle.markdown_model.specs.CodeTests.{is_value, next_is, is_empty, is_some_
 use Rattle.markdown_model.specs.Grammar.{◌>>=◌, ◌>>◌, gives, provided, either, some, span}
 use Rattle.markdown_model.specs.Lines.{joins, stretches, line_leaf, line_leaves}
 use Rattle.markdown_model.specs.Leaf.{SpanNames, code_names, math_names, closing_run, closing, span_of, span_here}
-use Rattle.markdown_model.proofs.ReadingSteps.{bind-some, bind-none, switched-on, switched-off, either-first, either-second, span-takes, span-none, and-false}
+use Rattle.markdown_model.proofs.ReadingSteps.{bind-some, bind-none, switched-on, switched-off, either-first, either-second, span-takes, span-none}
 use Rattle.markdown_construct.proofs.StretchLemmas.{stretch-alone, stretch-span}
 use Rattle.markdown_construct.specs.Plan.{preceded, tree_ops, plan_of}
 use Rattle.markdown_leaf.specs.RawText.{closed_ops, inside_plan, is_data, data_plan, run_naming, opens, opening_plan}

@@ -1,5 +1,6 @@
 -- the domain of an email, code by code
 use Rattle.std.proofs.Common.{◌≡◌, ℕ, ◌==◌, ◌&&◌, ◌||◌, Bool, true, false, if◌then◌else◌, Option, Some, None, List, [], ◌∷◌, refl, sym, ap, ◌∙◌, inl, inr}
+use Rattle.std.proofs.lemmas.Bool.{both_ways}
 use Rattle.std.specs.List.{list_any}
 use Rattle.markdown_construct.specs.Values.{letter_value, alphanumeric_value}
 use Rattle.markdown_engine.specs.Codes.{Code, stop_of}
@@ -9,7 +10,7 @@ use Rattle.markdown_engine.proofs.Steps.{code_here}
 use Rattle.markdown_model.specs.CodeTests.{is_value, is_letter, is_alphanumeric, is_some_code, last_code, next_is}
 use Rattle.markdown_model.specs.Email.{email_domain}
 use Rattle.markdown_partial.specs.Trim.{between, is_same_place, IsStretch}
-use Rattle.markdown_partial.proofs.TrimWalks.{IsBegun, begun-where, ended-where, stretch-cases, bool-clash}
+use Rattle.markdown_partial.proofs.TrimWalks.{IsBegun, begun-where, ended-where, stretch-cases}
 use Rattle.markdown_mail.specs.Scan.{domain_value, passes, domain_end}
 
 -- the last code is a letter; where there is none, what was before
@@ -80,7 +81,7 @@ module _ (bytes : List ℕ) (p q : Point) (stretch : IsStretch bytes p q) where
   domain-begun slashes t e h =
       elim (stretch-cases bytes p q stretch) [
         | inl b ↦ b
-        | inr d ↦ bool-clash t h (e ∙ ap (passes slashes) d.none)
+        | inr d ↦ absurd (both_ways t (e ∙ ap (passes slashes) d.none) h)
       ]
 
   pub domain-step : (slashes t dot dots letter letters : Bool) (v : ℕ) (r : Point) → t ≡ passes slashes (between bytes p q) → t ≡ true → value_from bytes p ≡ Some v → r ≡ next_point bytes p → dots ≡ dot || v == 46 → letters ≡ letter_value v → domain_on slashes dots letters r (between bytes r q) ≡ domain_on slashes dot letter p (between bytes p q)

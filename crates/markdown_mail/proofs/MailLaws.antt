@@ -1,5 +1,7 @@
 -- the events of a tree, with its email literals
 use Rattle.std.proofs.Common.{◌≡◌, ◌≢◌, ℕ, zero, suc, ◌+◌, ◌==◌, ◌&&◌, not, Bool, true, false, List, [], ◌∷◌, ◌++◌, length, drop, Option, Some, None, if◌then◌else◌, cond, refl, sym, ap, subst, ◌∙◌, arith, append_assoc, append-nil}
+use Rattle.std.proofs.lemmas.Bool.{and_left}
+use Rattle.std.proofs.Math.Bool.{and-false}
 use Rattle.std.specs.Option.{option_map}
 use Rattle.std.proofs.lemmas.Bool.Decides.{nat_tests}
 use Rattle.std.proofs.lemmas.List.{drop_all}
@@ -77,9 +79,6 @@ links-inside N.Link links = plus-one links ∙ sym (and-false (links == 0))
     plus-one : (k : ℕ) → (k + 1 == 0) ≡ false
     plus-one k = grind (arith, nat_tests)
 
-    and-false : (b : Bool) → b && false ≡ false
-    and-false true = refl
-    and-false false = refl
 links-inside _ links = and-true (links == 0)
   where
     and-true : (b : Bool) → b ≡ b && true
@@ -281,13 +280,6 @@ module _ (bytes : List ℕ) (es : List Event) where
         fresh = subst (λ (i : ℕ). Fresh i) same h.fresh;
       }
 
-  opens-no : (b c : Bool) → b ≡ false → b && c ≡ false
-  opens-no b c h = ap (λ x. x && c) h
-
-  data-linked : (b : Bool) → b && false ≡ false
-  data-linked true = refl
-  data-linked false = refl
-
   -- a leaf that stays
   leaf-stays : (name : Name) (cs : List Code) (rest : Forest) (n m links : ℕ) (previous : Option ℕ) (tail : List Event) → Here n m links previous (leaf_then name None cs rest) tail → may_mail bytes links (event Enter name (start_of cs)) (event Exit name (stop_of document_start cs)) ≡ false → mail_row (links == 0) (leaf_then name None cs rest) ≡ leaf_then name None cs (mail_row (links == 0) rest) → Law rest → Mails n m links previous (leaf_then name None cs rest) tail
   leaf-stays name cs rest n m links previous tail h o is law =
@@ -316,7 +308,7 @@ module _ (bytes : List ℕ) (es : List Event) where
       let q : Option ℕ = option_map (moved_number log) previous in
       let e2 : Event = record { kind = Enter; name = name; point = start_of cs; link = Some (link_back q c) } in
       let R : Forest = mail_row (links == 0) rest in
-      let p : Pair n e x (appended_from (n + 2) (Some n) rest ++ tail) = pair n e x (appended_from (n + 2) (Some n) rest ++ tail) h.there (opens-not bytes (links_at n 0 es) (drop n es) e (x ∷ appended_from (n + 2) (Some n) rest ++ tail) h.there (data-linked (is_data name))) refl h.fresh in
+      let p : Pair n e x (appended_from (n + 2) (Some n) rest ++ tail) = pair n e x (appended_from (n + 2) (Some n) rest ++ tail) h.there (opens-not bytes (links_at n 0 es) (drop n es) e (x ∷ appended_from (n + 2) (Some n) rest ++ tail) h.there (and-false (is_data name))) refl h.fresh in
       let kept : links_at (n + 2) 0 es ≡ links = p.open_links ∙ links-closed name (links_at n 0 es) ∙ h.open_links in
       let r : Mails (n + 2) (m + 2) links (Some n) rest tail =
       law (n + 2) (m + 2) links (Some n) tail (record { there = p.there; open_links = kept; placed = omega (arith, p.placed, h.placed); fresh = p.fresh; has_parts = h.has_parts.1 }) in
@@ -381,7 +373,7 @@ module _ (bytes : List ℕ) (es : List Event) where
 
   leaf-other : (name : Name) (cs : List Code) (rest : Forest) → is_data name ≡ false → Law rest → Law (leaf_then name None cs rest)
   leaf-other name cs rest e law n m links previous tail h =
-      leaf-stays name cs rest n m links previous tail h (opens-not bytes links (event Enter name (start_of cs) ∷ event Exit name (stop_of document_start cs) ∷ []) (event Enter name (start_of cs)) (event Exit name (stop_of document_start cs) ∷ []) refl (opens-no (is_data name) true e)) (row-other (links == 0) name cs rest e) law
+      leaf-stays name cs rest n m links previous tail h (opens-not bytes links (event Enter name (start_of cs) ∷ event Exit name (stop_of document_start cs) ∷ []) (event Enter name (start_of cs)) (event Exit name (stop_of document_start cs) ∷ []) refl (and_left (is_data name) true e)) (row-other (links == 0) name cs rest e) law
 
   leaf-plain : (name : Name) (cs : List Code) (rest : Forest) (b : Bool) → is_data name ≡ b → Law rest → Law (leaf_then name None cs rest)
   leaf-plain name cs rest true e law = subst (λ (x : Name). Law (leaf_then x None cs rest)) (sym (data-name name e)) (leaf-data cs rest law)
@@ -401,7 +393,7 @@ module _ (bytes : List ℕ) (es : List Event) where
       let inner : List Event = appended_from (n + 1) None inside in
       let more : List Event = appended_from (n + 2 + ci) previous rest ++ tail in
       let apart : (inner ++ x ∷ appended_from (n + 2 + ci) previous rest) ++ tail ≡ inner ++ x ∷ more = append_assoc inner (x ∷ appended_from (n + 2 + ci) previous rest) tail in
-      let s1 : Step n e (inner ++ x ∷ more) = step n e (inner ++ x ∷ more) (h.there ∙ ap (λ xs. e ∷ xs) apart) (opens-not bytes (links_at n 0 es) (drop n es) e (inner ++ x ∷ more) (h.there ∙ ap (λ xs. e ∷ xs) apart) (opens-no (is_data name) true h.has_parts.0.0)) h.fresh in
+      let s1 : Step n e (inner ++ x ∷ more) = step n e (inner ++ x ∷ more) (h.there ∙ ap (λ xs. e ∷ xs) apart) (opens-not bytes (links_at n 0 es) (drop n es) e (inner ++ x ∷ more) (h.there ∙ ap (λ xs. e ∷ xs) apart) (and_left (is_data name) true h.has_parts.0.0)) h.fresh in
       let r1 : Mails (n + 1) (m + 1) deeper None inside (x ∷ more) =
       law_inside (n + 1) (m + 1) deeper None (x ∷ more) (record { there = s1.there; open_links = s1.open_links ∙ ap (λ l. links_behind l Enter name) h.open_links; placed = omega (arith, s1.placed, h.placed); fresh = s1.fresh; has_parts = h.has_parts.1.0 }) in
       let k : ℕ = n + 1 + ci in

@@ -1,7 +1,6 @@
 -- the edits of the email pass, one by one
 use Rattle.std.proofs.Common.{◌≡◌, ℕ, zero, suc, ◌+◌, ◌<◌, ◌≤◌, ◌==◌, ◌&&◌, not, Bool, true, false, List, [], ◌∷◌, ◌++◌, length, drop, get_or, refl, sym, ap, subst, ◌∙◌, arith, append_assoc, append-nil, inl, inr, if◌then◌else◌}
-use Rattle.std.proofs.lemmas.Bool.{cases_lt, cases_Bool}
-use Rattle.std.proofs.lemmas.Bool.Decides.{nat_tests}
+use Rattle.std.proofs.lemmas.Bool.{cases_lt, cases_Bool, eq-eqb, ne_eqb, both_ways}
 use Rattle.std.proofs.lemmas.List.Elements.{All-nil, All-cons}
 use Rattle.std.specs.List.{All}
 use Rattle.markdown_engine.specs.Chain.{has_link, linked_at, IsUnlinked}
@@ -14,7 +13,6 @@ use Rattle.markdown_partial.specs.Merge.{is_enter, is_data, opens_data}
 use Rattle.markdown_partial.specs.Trim.{between}
 use Rattle.markdown_partial.specs.TrimEvents.{HasPlaces}
 use Rattle.markdown_partial.proofs.TrimMarks.{head-drop}
-use Rattle.markdown_partial.proofs.TrimWalks.{bool-clash}
 use Rattle.markdown_mail.specs.Mail.{links_after, may_mail, mail, mail_first, mails}
 use Rattle.markdown_mail.specs.Scan.{has_sign, mail_events}
 use Rattle.markdown_mail.proofs.PlainRows.{plain-emails, plain-unlinked}
@@ -106,12 +104,6 @@ opens-where true true c h = refl
 opens-where true false c h = cc
 opens-where false b c h = cc
 
-differs : (n i : ℕ) → (n ≡ i → ⊥) → (n == i) ≡ false
-differs n i h = grind (arith, nat_tests)
-
-agrees : (n i : ℕ) → n ≡ i → (n == i) ≡ true
-agrees n i h = grind (arith, nat_tests)
-
 module _ (bytes : List ℕ) where
   front-by : (i n : ℕ) (e x : Event) (log : List Edit) (b : Bool) → front_at i log ≡ [] → front_at i ((if b then mail bytes n e x ∷ [] else []) ++ log) ≡ []
   front-by i n e x log true h = ap (λ xs. xs ++ (if (n == i) && false then mail_events bytes e.point x.point else [])) h ∙ no-front (n == i) (mail_events bytes e.point x.point)
@@ -148,14 +140,14 @@ module _ (bytes : List ℕ) where
   back-earlier i n links [] l = refl
   back-earlier i n links (e ∷ es) l =
       back-first i n links (e ∷ es) (mails bytes (suc n) (links_after links e) es)
-      ∙ ap (λ b. (if b then comes bytes links (e ∷ es) else []) ++ back_at i (mails bytes (suc n) (links_after links e) es)) (differs n i (λ h. omega (arith, h)))
+      ∙ ap (λ b. (if b then comes bytes links (e ∷ es) else []) ++ back_at i (mails bytes (suc n) (links_after links e) es)) (ne_eqb n i (λ h. omega (arith, h)))
       ∙ back-earlier i (suc n) (links_after links e) es (omega arith)
 
   removed-earlier : (i n links : ℕ) (es : List Event) → i < n → removed_at i (mails bytes n links es) ≡ 0
   removed-earlier i n links [] l = refl
   removed-earlier i n links (e ∷ es) l =
       removed-first i n links (e ∷ es) (mails bytes (suc n) (links_after links e) es)
-      ∙ ap (λ b. (if b then two (begins_mail bytes links (e ∷ es)) else 0) + removed_at i (mails bytes (suc n) (links_after links e) es)) (differs n i (λ h. omega (arith, h)))
+      ∙ ap (λ b. (if b then two (begins_mail bytes links (e ∷ es)) else 0) + removed_at i (mails bytes (suc n) (links_after links e) es)) (ne_eqb n i (λ h. omega (arith, h)))
       ∙ sym (zero-plus (removed_at i (mails bytes (suc n) (links_after links e) es)))
       ∙ removed-earlier i (suc n) (links_after links e) es (omega arith)
 
@@ -164,12 +156,12 @@ module _ (bytes : List ℕ) where
   back-place i n (suc k) links [] e = refl
   back-place i n zero links (x ∷ es) e =
       back-first i n links (x ∷ es) (mails bytes (suc n) (links_after links x) es)
-      ∙ ap (λ b. (if b then comes bytes links (x ∷ es) else []) ++ back_at i (mails bytes (suc n) (links_after links x) es)) (agrees n i (omega (arith, e)))
+      ∙ ap (λ b. (if b then comes bytes links (x ∷ es) else []) ++ back_at i (mails bytes (suc n) (links_after links x) es)) (eq-eqb n i (omega (arith, e)))
       ∙ ap (λ xs. comes bytes links (x ∷ es) ++ xs) (back-earlier i (suc n) (links_after links x) es (omega (arith, e)))
       ∙ append-nil (comes bytes links (x ∷ es))
   back-place i n (suc k) links (x ∷ es) e =
       back-first i n links (x ∷ es) (mails bytes (suc n) (links_after links x) es)
-      ∙ ap (λ b. (if b then comes bytes links (x ∷ es) else []) ++ back_at i (mails bytes (suc n) (links_after links x) es)) (differs n i (λ h. omega (arith, e, h)))
+      ∙ ap (λ b. (if b then comes bytes links (x ∷ es) else []) ++ back_at i (mails bytes (suc n) (links_after links x) es)) (ne_eqb n i (λ h. omega (arith, e, h)))
       ∙ back-place i (suc n) k (links_after links x) es (omega (arith, e))
 
   removed-place : (i n k links : ℕ) (es : List Event) → i ≡ n + k → removed_at i (mails bytes n links es) ≡ two (begins_mail bytes (links_at k links es) (drop k es))
@@ -177,12 +169,12 @@ module _ (bytes : List ℕ) where
   removed-place i n (suc k) links [] e = refl
   removed-place i n zero links (x ∷ es) e =
       removed-first i n links (x ∷ es) (mails bytes (suc n) (links_after links x) es)
-      ∙ ap (λ b. (if b then two (begins_mail bytes links (x ∷ es)) else 0) + removed_at i (mails bytes (suc n) (links_after links x) es)) (agrees n i (omega (arith, e)))
+      ∙ ap (λ b. (if b then two (begins_mail bytes links (x ∷ es)) else 0) + removed_at i (mails bytes (suc n) (links_after links x) es)) (eq-eqb n i (omega (arith, e)))
       ∙ ap (λ j. two (begins_mail bytes links (x ∷ es)) + j) (removed-earlier i (suc n) (links_after links x) es (omega (arith, e)))
       ∙ omega arith
   removed-place i n (suc k) links (x ∷ es) e =
       removed-first i n links (x ∷ es) (mails bytes (suc n) (links_after links x) es)
-      ∙ ap (λ b. (if b then two (begins_mail bytes links (x ∷ es)) else 0) + removed_at i (mails bytes (suc n) (links_after links x) es)) (differs n i (λ h. omega (arith, e, h)))
+      ∙ ap (λ b. (if b then two (begins_mail bytes links (x ∷ es)) else 0) + removed_at i (mails bytes (suc n) (links_after links x) es)) (ne_eqb n i (λ h. omega (arith, e, h)))
       ∙ sym (zero-plus (removed_at i (mails bytes (suc n) (links_after links x) es)))
       ∙ removed-place i (suc n) k (links_after links x) es (omega (arith, e))
 
@@ -258,11 +250,11 @@ module _ (bytes : List ℕ) where
       ]
     where
       unlinked-before : (j : ℕ) (es : List Event) → HasPlaces bytes es → is_removed (log_of es) j ≡ true → mails_at bytes j es ≡ false → linked_at es j ≡ false
-      unlinked-before zero es p h b = bool-clash (is_removed (log_of es) zero) h (stays-here zero es b (λ q e. absurd (omega (arith, e))))
+      unlinked-before zero es p h b = absurd (both_ways (is_removed (log_of es) zero) (stays-here zero es b (λ q e. absurd (omega (arith, e)))) h)
       unlinked-before (suc j) es p h b =
           elim (cases_Bool (mails_at bytes j es)) [
             | inl d ↦ linked-drop 1 j es (suc j) (omega arith) ∙ second-linked-none (links_at j 0 es) (drop j es) d (places-drop j es p)
-            | inr d ↦ bool-clash (is_removed (log_of es) (suc j)) h (stays-here (suc j) es b (λ q e. let same : q ≡ j = omega (arith, e) in ap (λ i. mails_at bytes i es) same ∙ d))
+            | inr d ↦ absurd (both_ways (is_removed (log_of es) (suc j)) (stays-here (suc j) es b (λ q e. let same : q ≡ j = omega (arith, e) in ap (λ i. mails_at bytes i es) same ∙ d)) h)
           ]
 
   pub can-mail : (es : List Event) → HasPlaces bytes es → CanEdit (log_of es) es

@@ -1,5 +1,6 @@
 -- No construct but a label reads a link or a footnote call.
 use Rattle.std.proofs.Common.{◌≡◌, ℕ, Bool, true, false, ◌&&◌, ◌||◌, not, List, [], ◌∷◌, refl, sym, ◌∙◌, ap, Option, Some, None}
+use Rattle.std.proofs.Math.Bool.{or-false}
 use Rattle.std.proofs.lemmas.Bool.{or_parts}
 use Rattle.markdown_engine.specs.declared.event.Name.{Name}
 use Rattle.markdown_engine.specs.declared.event.Content.{Content}
@@ -73,14 +74,10 @@ holds-lines_from name link later (s ∷ ss) = by_test (later && not (next_is is_
 pub holds-lines : (name : Name) (link : Option Content) (cs : List Code) → holds_link (lines name link cs) ≡ false
 holds-lines name link cs = holds-lines_from name link false (lines_of cs)
 
-or_false : (a : Bool) → (a || false) ≡ a
-or_false true = refl
-or_false false = refl
-
 pub holds-string_group : (name : Name) (f : Forest) → is_link name ≡ false → holds_link (string_group name f) ≡ holds_link f
 holds-string_group name empty h = refl
-holds-string_group name (leaf_then n l c r) h = (λ i. h i || or_false (holds_link r) i)
-holds-string_group name (group_then n a b i r) h = (λ k. h k || or_false (is_link n || (holds_link i || holds_link r)) k)
+holds-string_group name (leaf_then n l c r) h = (λ i. h i || or-false (holds_link r) i)
+holds-string_group name (group_then n a b i r) h = (λ k. h k || or-false (is_link n || (holds_link i || holds_link r)) k)
 
 holds-reference_string : (f : Forest) → holds_link (string_group Name.ReferenceString f) ≡ holds_link f
 holds-reference_string f = holds-string_group Name.ReferenceString f refl
@@ -212,7 +209,7 @@ free_span_of : (marker : ℕ) (names : SpanNames) (allowed : ℕ → Bool) → i
 unfolding span_of
 free_span_of marker names allowed h =
     then_any _ _ _ λ front. yields_passed _ _ _ (then_any _ _ _ λ inside. yields_gives _ _
-    ((λ i. h i || or_false (holds_link (leaf names.sequence front ⊕ line_leaves names.text inside.0 ⊕ leaf names.sequence inside.1)) i) ∙ simp link_laws))
+    ((λ i. h i || or-false (holds_link (leaf names.sequence front ⊕ line_leaves names.text inside.0 ⊕ leaf names.sequence inside.1)) i) ∙ simp link_laws))
 
 pub free_span_here : (marker : ℕ) (names : SpanNames) (allowed : ℕ → Bool) (escaped : Bool) (previous : Option Code) → is_link names.whole ≡ false → Free (span_here marker names allowed escaped previous)
 unfolding span_here

@@ -1,5 +1,7 @@
 -- A link or a footnote call does not stand inside another.
 use Rattle.std.proofs.Common.{◌≡◌, ℕ, Bool, true, false, ◌==◌, ◌&&◌, ◌||◌, not, List, [], ◌∷◌, ◌++◌, length, drop, map, refl, sym, ◌∙◌, ap, subst, Option, Some, None}
+use Rattle.std.proofs.Math.Bool.{or-false}
+use Rattle.std.proofs.lemmas.Bool.{not-true}
 use Rattle.std.specs.List.{list_any}
 use Rattle.markdown_engine.specs.declared.event.Name.{Name}
 use Rattle.markdown_engine.specs.declared.tokenizer.LabelKind.{LabelKind}
@@ -17,7 +19,7 @@ use Rattle.markdown_model.specs.Laws.{UnusedStart, with_link, unused_starts, IsL
 use Rattle.markdown_model.proofs.ElementLaws.{text_elements}
 use Rattle.markdown_model.proofs.UnusedStarts.{ends_take_the_nearest}
 use Rattle.markdown_model.proofs.LinkFree.{IsFree, Passes, Yields, Free, yields_bind, yields_gives, yields_either, then_any, holds-join, holds-leaf, free-apart, free_escape, free_hard_break_escape, free_reference, free_autolink, free_task_check, free_span_here, free_html, free_protocol, free_www, free_after_label, or_assoc}
-use Rattle.markdown_model.proofs.LinkPasses.{or_false, apart-leaf, apart-join, apart-merged, apart-trimmed, apart-mailed, apart-paired, any_holds, AllApart, any_holds-append, all_apart-append, holds-joined, apart-joined, holds-loose}
+use Rattle.markdown_model.proofs.LinkPasses.{apart-leaf, apart-join, apart-merged, apart-trimmed, apart-mailed, apart-paired, any_holds, AllApart, any_holds-append, all_apart-append, holds-joined, apart-joined, holds-loose}
 
 -- What an element is, where these starts before it are unused: no construct but a label is a link, and
 -- where an end makes one, none ended after its start.
@@ -57,17 +59,13 @@ footnote_image LabelKind.Link b h = refl
 footnote_image LabelKind.GfmFootnote b h = refl
 footnote_image LabelKind.GfmUndefinedFootnote b h = refl
 
-not_true : (b : Bool) → not b ≡ true → b ≡ false
-not_true true h = sym h
-not_true false h = refl
-
 allowed_outcome : (s : Setting) (u : UnusedStart) (l : Label) (back : List Code) → l.kind ≡ u.kind → is_barred l ≡ (not (is_image u.kind) && u.before_link)
     → Yields (IsAllowedOutcome u) (outcome_of s (Some l) back)
 unfolding outcome_of footnote_call link_or_image
 allowed_outcome s u l back same barred = record { at = λ cs. whole.at cs }
   where
     free_start : not (is_barred l) ≡ true → not (is_image l.kind) ≡ true → u.before_link ≡ false
-    free_start h k = not_after_link u.kind u.before_link (sym barred ∙ not_true (is_barred l) h) (subst (λ x. not (is_image x) ≡ true) same k)
+    free_start h k = not_after_link u.kind u.before_link (sym barred ∙ not-true (is_barred l) h) (subst (λ x. not (is_image x) ≡ true) same k)
 
     whole : Yields (IsAllowedOutcome u) (provided (not (is_barred l)) >> either (footnote_call s l back) (link_or_image s l back))
     whole = yields_passed_if _ _ _ λ h. yields_either _ _ _
@@ -270,8 +268,8 @@ holds-label_row kind marker inside back =
     holds-join (start_tree kind (start_marker kind marker)) _
     ∙ (λ i. holds-start_tree kind (start_marker kind marker) i
     || ((holds-join (leaf Name.Data (caret_of kind marker)) inside ∙ (λ j. holds-leaf Name.Data (caret_of kind marker) j || holds_link inside)) i
-    || (or_false (holds_link (leaf Name.LabelMarker back)) ∙ holds-leaf Name.LabelMarker back) i))
-    ∙ or_false (holds_link inside)
+    || (or-false (holds_link (leaf Name.LabelMarker back)) ∙ holds-leaf Name.LabelMarker back) i))
+    ∙ or-false (holds_link inside)
 
 apart-label_row : (kind : LabelKind) (marker : List Code) (inside : Forest) (back : List Code) → AreApart inside → AreApart (label_row kind marker inside back)
 apart-label_row kind marker inside back h =
@@ -283,11 +281,11 @@ apart-label_row kind marker inside back h =
 
 holds-inner : (kind : LabelKind) (marker : List Code) (inside : Forest) (back : List Code) (tail : Forest) → IsFree tail
     → holds_link (group Name.Label (label_row kind marker inside back) ⊕ tail) ≡ holds_link inside
-holds-inner kind marker inside back tail h = (λ i. holds-label_row kind marker inside back i || h i) ∙ or_false (holds_link inside)
+holds-inner kind marker inside back tail h = (λ i. holds-label_row kind marker inside back i || h i) ∙ or-false (holds_link inside)
 
 holds-label_group : (kind : LabelKind) (marker : List Code) (inside : Forest) (back : List Code) (tail : Forest) → IsFree tail
     → holds_link (label_group kind marker inside back tail) ≡ (not (is_image kind) || holds_link inside)
-holds-label_group kind marker inside back tail h = λ i. link_name kind i || (or_false _ ∙ holds-inner kind marker inside back tail h) i
+holds-label_group kind marker inside back tail h = λ i. link_name kind i || (or-false _ ∙ holds-inner kind marker inside back tail h) i
 
 apart-label_group : (kind : LabelKind) (marker : List Code) (inside : Forest) (back : List Code) (tail : Forest)
     → IsFree tail → (not (is_image kind) ≡ true → holds_link inside ≡ false) → AreApart inside → AreApart (label_group kind marker inside back tail)
@@ -306,9 +304,9 @@ apart-loose cs = (apart-leaf Name.Data cs, tt)
 holds-labelled : (start : Start) (inside : List Forest) (end : End) → TailFree end → any_holds (labelled start inside end) ≡ (new_link end || any_holds inside)
 holds-labelled start inside (marker, None) h =
     any_holds-append (loose start.1) (inside ++ loose marker)
-    ∙ (λ i. holds-loose start.1 i || (any_holds-append inside (loose marker) ∙ ap (λ x. any_holds inside || x) (holds-loose marker) ∙ or_false (any_holds inside)) i)
+    ∙ (λ i. holds-loose start.1 i || (any_holds-append inside (loose marker) ∙ ap (λ x. any_holds inside || x) (holds-loose marker) ∙ or-false (any_holds inside)) i)
 holds-labelled start inside (marker, Some outcome) h =
-    or_false _ ∙ holds-label_group outcome.0 start.1 (joined inside) marker outcome.1 h ∙ ap (λ x. not (is_image outcome.0) || x) (holds-joined inside)
+    or-false _ ∙ holds-label_group outcome.0 start.1 (joined inside) marker outcome.1 h ∙ ap (λ x. not (is_image outcome.0) || x) (holds-joined inside)
 
 apart-labelled : (start : Start) (inside : List Forest) (end : End) → TailFree end → (new_link end ≡ true → any_holds inside ≡ false) → AllApart inside → AllApart (labelled start inside end)
 apart-labelled start inside (marker, None) h k a = all_apart-append (loose start.1) (inside ++ loose marker) (apart-loose start.1) (all_apart-append inside (loose marker) a (apart-loose marker))
@@ -377,7 +375,7 @@ all_nested (u ∷ us) (ends marker None ∷ es) h =
     no e = cc
 all_nested (u ∷ us) (ends marker (Some outcome) ∷ es) h =
     let r = all_nested (map (with_link (not (is_image outcome.0))) us) es h.1 in
-    (tt, (r.0, r.1), (h.0.0, (λ e. or_false u.before_link ∙ h.0.1 e), earlier_link (not (is_image outcome.0)) (any_holds (nest_labels es).0) us (nest_labels es).1 r.2))
+    (tt, (r.0, r.1), (h.0.0, (λ e. or-false u.before_link ∙ h.0.1 e), earlier_link (not (is_image outcome.0)) (any_holds (nest_labels es).0) us (nest_labels es).1 r.2))
 
 apart-after_loose : (fs : Frames) → FramesApart fs → AllApart (after_loose labelled loose_start loose_end fs)
 apart-after_loose [] h = tt

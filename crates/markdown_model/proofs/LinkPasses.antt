@@ -1,5 +1,7 @@
 -- The passes neither make links nor put one into another.
 use Rattle.std.proofs.Common.{◌≡◌, ℕ, zero, suc, ◌-◌, ◌==◌, Bool, true, false, ◌&&◌, ◌||◌, List, [], ◌∷◌, ◌++◌, length, take, drop, reverse, map, sum_by, refl, sym, ◌∙◌, ap, Option, Some, None}
+use Rattle.std.proofs.Math.Bool.{or-false}
+use Rattle.std.proofs.lemmas.Bool.{both_ways}
 use Rattle.markdown_engine.specs.declared.event.Name.{Name}
 use Rattle.markdown_engine.specs.Codes.{Code, stop_of, document_start}
 use Rattle.markdown_engine.specs.Tree.{Forest, empty, leaf_then, group_then, leaf, ◌⊕◌, text_group, start_of}
@@ -12,10 +14,6 @@ use Rattle.markdown_model.specs.Groups.{Token, item, opens, closes, nest, nested
 use Rattle.markdown_model.specs.Passes.{data_onto, merged, begins_line_ending, is_nothing, trimmed_data, trimmed, mailed}
 use Rattle.markdown_model.specs.Laws.{is_link, holds_link, AreApart}
 use Rattle.markdown_model.proofs.LinkFree.{IsFree, holds-join, holds-leaf, free-apart, or_assoc}
-
-pub or_false : (a : Bool) → (a || false) ≡ a
-or_false true = refl
-or_false false = refl
 
 pub apart-leaf : (name : Name) (cs : List Code) → AreApart (leaf name cs)
 apart-leaf name [] = tt
@@ -213,28 +211,25 @@ holds-pair_row front inside back =
     holds-join (leaf (pair_names (marker_of front) (length front)).1 front) _
     ∙ (λ i. holds-leaf (pair_names (marker_of front) (length front)).1 front i
     || (no_link_text (marker_of front) (length front) i || (holds-joined inside i || holds-leaf (pair_names (marker_of front) (length front)).1 back i)))
-    ∙ or_false (any_holds inside)
+    ∙ or-false (any_holds inside)
 
 holds-pair_group : (front : List Code) (inside : List Forest) (back : List Code) → any_holds (pair_group front inside back) ≡ any_holds inside
 holds-pair_group front inside back =
-    or_false _ ∙ (λ i. no_link_pair (marker_of front) (length front) i || or_false (holds_link (pair_row front inside back)) i) ∙ holds-pair_row front inside back
-
-different : (b : Bool) → b ≡ true → b ≡ false → ⊥
-different b h k = cc
+    or-false _ ∙ (λ i. no_link_pair (marker_of front) (length front) i || or-false (holds_link (pair_row front inside back)) i) ∙ holds-pair_row front inside back
 
 apart-pair_group : (front : List Code) (inside : List Forest) (back : List Code) → AllApart inside → AllApart (pair_group front inside back)
 apart-pair_group front inside back h = (
   (
-    λ e. absurd (different _ e (no_link_pair (marker_of front) (length front))),
+    λ e. absurd (both_ways _ (no_link_pair (marker_of front) (length front)) e),
     apart-join (leaf (pair_names (marker_of front) (length front)).1 front) _ (apart-leaf _ front)
-        ((λ e. absurd (different _ e (no_link_text (marker_of front) (length front)))), apart-joined inside h, apart-leaf _ back),
+        ((λ e. absurd (both_ways _ (no_link_text (marker_of front) (length front)) e)), apart-joined inside h, apart-leaf _ back),
     tt,
   ),
   tt,
 )
 
 pub holds-loose : (cs : List Code) → any_holds (loose cs) ≡ false
-holds-loose cs = or_false _ ∙ holds-leaf Name.Data cs
+holds-loose cs = or-false _ ∙ holds-leaf Name.Data cs
 
 abbrev nest_pairs : List Token → List Forest × Frames
 nest_pairs ts = nest pair_group loose loose ts
@@ -347,7 +342,7 @@ module _ (s : Setting) (pairs_of : List Run → List Pair) where
   holds-tokens_of (leaf_then name link cs rest) pairs n = holds-tokens_of rest pairs n
   holds-tokens_of (group_then name enter exit inside rest) pairs n =
       or_assoc (is_link name) (holds_link (assembled (tokens_of s pairs_of inside (pairs_of (runs_of s inside)) 0)) || false) (token_holds (tokens_of s pairs_of rest pairs n))
-      ∙ (λ i. is_link name || ((or_false (holds_link (assembled (tokens_of s pairs_of inside (pairs_of (runs_of s inside)) 0)))
+      ∙ (λ i. is_link name || ((or-false (holds_link (assembled (tokens_of s pairs_of inside (pairs_of (runs_of s inside)) 0)))
       ∙ holds-assembled (tokens_of s pairs_of inside (pairs_of (runs_of s inside)) 0) ∙ holds-tokens_of inside (pairs_of (runs_of s inside)) 0) i || holds-tokens_of rest pairs n i))
 
   apart-tokens_of : (f : Forest) (pairs : List Pair) (n : ℕ) → AreApart f → TokensApart (tokens_of s pairs_of f pairs n)

@@ -3,8 +3,7 @@ use Rattle.std.proofs.Common.{◌≡◌, ◌≢◌, ℕ, zero, suc, ◌+◌, ◌
 use Rattle.std.proofs.lemmas.List.{append_assoc, append-nil, length-map}
 use Rattle.std.proofs.lemmas.List.Sums.{sum_by_push, sum_by-cons}
 use Rattle.std.proofs.lemmas.List.Folds.{list_any-append}
-use Rattle.std.proofs.lemmas.Bool.{cases_eq, or_parts, both_ways, and_from, lt-ltb, eq-eqb}
-use Rattle.std.proofs.lemmas.Bool.Decides.{eqb_tells}
+use Rattle.std.proofs.lemmas.Bool.{cases_eq, or_parts, both_ways, and_from, lt-ltb, eq-eqb, ne_eqb}
 use Rattle.std.specs.List.{list_any}
 use Rattle.std.specs.Prelude.{Contains}
 use Rattle.std.specs.Str.{byte}
@@ -31,11 +30,8 @@ taken_closer p = by_test (p.opener == p.closer) (p.closer == p.closer) (eq-eqb p
     by_test false false e = absurd (cc)
 
 taken_other : (p : Pair) (i : ℕ) → i ≢ p.opener → i ≢ p.closer → taken_by i p ≡ 0
-taken_other p i a b = by_test (p.opener == i) (p.closer == i) (not_equal p.opener i (λ e. a (sym e))) (not_equal p.closer i (λ e. b (sym e)))
+taken_other p i a b = by_test (p.opener == i) (p.closer == i) (ne_eqb p.opener i (λ e. a (sym e))) (ne_eqb p.closer i (λ e. b (sym e)))
   where
-    not_equal : (x y : ℕ) → x ≢ y → (x == y) ≡ false
-    not_equal x y h = ⊎_elim (λ e. absurd (h e.1)) (λ e. e.0) (eqb_tells x y)
-
     by_test : (x y : Bool) → x ≡ false → y ≡ false → (if x || y then p.size else 0) ≡ 0
     by_test true y e f = absurd (cc)
     by_test false true e f = absurd (cc)

@@ -1,6 +1,6 @@
 -- A container has exactly one pair list.
 use Rattle.std.proofs.Common.{◌≡◌, ℕ, zero, suc, ◌+◌, ◌-◌, ◌≤◌, ◌<◌, Bool, true, false, not, List, [], ◌∷◌, ◌++◌, length, ◌==◌, ◌⊎◌, ⊎_elim, zero-add, refl, sym, ◌∙◌, subst, arith, IsTrue, Option, Some, None, sum_by, nat_lt}
-use Rattle.std.proofs.lemmas.Bool.{ltb-true, lt-ltb, eq-eqb, eqb-true}
+use Rattle.std.proofs.lemmas.Bool.{ltb-true, lt-ltb, eq-eqb, eqb-true, both_ways}
 use Rattle.std.proofs.lemmas.List.Sums.{sum_by_push, sum_by-cons}
 use Rattle.std.specs.List.{list_any, list_all}
 use Rattle.markdown_model.specs.Setting.{Setting}
@@ -35,9 +35,6 @@ not_true false h = refl
 true_not : (b : Bool) → b ≡ false → IsTrue (not b)
 true_not true h = sym h
 true_not false h = refl
-
-different : (b : Bool) → b ≡ true → b ≡ false → ⊥
-different b h k = cc
 
 module _ (s : Setting) (runs : List Run) (earlier : List Pair) (o c : ℕ) where
   abbrev tests : List Bool
@@ -144,7 +141,7 @@ module _ (s : Setting) (runs : List Run) (earlier : List Pair) where
   Eligible o c = IsEligible s runs earlier o c
 
   refused : (o c : ℕ) → is_eligible s runs earlier o c ≡ false → Eligible o c → ⊥
-  refused o c e h = different _ (is-eligible s runs earlier o c h) e
+  refused o c e h = both_ways _ e (is-eligible s runs earlier o c h)
 
   -- the answer is the nearest eligible opener below n
   abbrev IsNearest : ℕ → ℕ → Option ℕ → Type 0

@@ -130,14 +130,6 @@ switched-off b on cs e = after-none (provided on) b cs (provided-false on cs e)
 
 -- Tests.
 
-pub and-true : (a : Bool) → a && true ≡ a
-and-true true = refl
-and-true false = refl
-
-pub and-false : (a : Bool) → a && false ≡ false
-and-false true = refl
-and-false false = refl
-
 pub if-true : {A : Type 0} (b : Bool) (x y : A) → b ≡ true → (if b then x else y) ≡ x
 if-true true x y e = refl
 if-true false x y e = cc

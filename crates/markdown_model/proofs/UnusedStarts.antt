@@ -1,5 +1,6 @@
 -- An end takes the nearest unused start.
-use Rattle.std.proofs.Common.{◌≡◌, ℕ, zero, suc, Bool, true, false, ◌&&◌, ◌||◌, not, List, [], ◌∷◌, map, drop, refl, sym, ◌∙◌, subst, Option, Some, None}
+use Rattle.std.proofs.Common.{◌≡◌, ℕ, zero, suc, Bool, false, ◌&&◌, ◌||◌, not, List, [], ◌∷◌, map, drop, refl, sym, ◌∙◌, subst, Option, Some, None}
+use Rattle.std.proofs.Math.Bool.{or-false}
 use Rattle.std.specs.List.{list_any}
 use Rattle.markdown_model.specs.LabelEnd.{Element, plain, starts, ends, Label, label_back, label_before, is_image, makes_link, is_barred}
 use Rattle.markdown_model.specs.Laws.{UnusedStart, with_link, unused_starts, IsLabelOf, EndsTakeTheNearest}
@@ -40,10 +41,6 @@ pub ends_take_the_nearest : EndsTakeTheNearest
 unfolding label_before is_barred
 ends_take_the_nearest earlier = as_label (unused_starts earlier) (label_back 0 [] earlier) (found 0 [] earlier)
   where
-    or_false : (a : Bool) → (a || false) ≡ a
-    or_false true = refl
-    or_false false = refl
-
     as_label : (us : List UnusedStart) (l : Option Label) → IsFound false us l → IsLabelOf us l
     as_label [] l h = h
-    as_label (u ∷ us) l h = (h.0, h.1, h.2, h.3, λ i. not (is_image (h.2 i)) && (h.4 ∙ or_false u.before_link) i)
+    as_label (u ∷ us) l h = (h.0, h.1, h.2, h.3, λ i. not (is_image (h.2 i)) && (h.4 ∙ or-false u.before_link) i)

@@ -1,5 +1,6 @@
 -- how codes are cut into lines and stretches of data
 use Rattle.std.proofs.Common.{◌≡◌, ℕ, Bool, true, false, ◌&&◌, ◌||◌, not, Some, None, List, [], ◌∷◌, refl, sym, ap, subst, ◌∙◌}
+use Rattle.std.proofs.lemmas.Bool.{not_from_false, not_from_true}
 use Rattle.markdown_engine.specs.Codes.{Code, is_line_ending}
 use Rattle.markdown_engine.specs.Past.{behind}
 use Rattle.markdown_engine.specs.Tree.{Forest, empty, leaf, ◌⊕◌}
@@ -61,14 +62,6 @@ pub record Stretched (markers : List ℕ) (c : Code) (cs : List Code) : Type 0 w
 abbrev Cut : List ℕ → Code → List Code × List Code → List Code × List Code → Type 0
 Cut markers c whole part = (lines_of (c ∷ whole.0) ≡ (c ∷ part.0) ∷ lines_of (up_to_marker markers part.1).0) × (whole.1 ≡ (up_to_marker markers part.1).1)
 
-not-true : (b : Bool) → b ≡ true → not b ≡ false
-not-true true e = refl
-not-true false e = cc
-
-not-false : (b : Bool) → b ≡ false → not b ≡ true
-not-false true e = cc
-not-false false e = refl
-
 plain-marker : (a b : Bool) → b ≡ true → not (a || b) ≡ false
 plain-marker true b e = refl
 plain-marker false true e = refl
@@ -87,10 +80,10 @@ pub plain-is : (markers : List ℕ) (c : Code) → is_line_ending c ≡ false �
 plain-is markers c e f = plain-none (is_line_ending c) (is_among markers c) e f
 
 marker-stops : (markers : List ℕ) (c : Code) (cs : List Code) → is_among markers c ≡ true → up_to_marker markers (c ∷ cs) ≡ ([], c ∷ cs)
-marker-stops markers c cs e = span-none (λ d. not (is_among markers d)) (c ∷ cs) (not-true (is_among markers c) e)
+marker-stops markers c cs e = span-none (λ d. not (is_among markers d)) (c ∷ cs) (not_from_true (is_among markers c) e)
 
 marker-takes : (markers : List ℕ) (c : Code) (cs : List Code) → is_among markers c ≡ false → up_to_marker markers (c ∷ cs) ≡ (c ∷ (up_to_marker markers cs).0, (up_to_marker markers cs).1)
-marker-takes markers c cs e = span-takes (λ d. not (is_among markers d)) c cs (not-false (is_among markers c) e)
+marker-takes markers c cs e = span-takes (λ d. not (is_among markers d)) c cs (not_from_false (is_among markers c) e)
 
 break-at-marker : (markers : List ℕ) (c : Code) (cs : List Code) → is_among markers c ≡ true → up_to_break markers (c ∷ cs) ≡ ([], c ∷ cs)
 break-at-marker markers c cs e = span-none (is_plain markers) (c ∷ cs) (plain-marker (is_line_ending c) (is_among markers c) e)
@@ -162,7 +155,7 @@ pub more-stops : (markers : List ℕ) (c : Code) (cs : List Code) → is_among m
 more-stops markers c cs e = ap (λ (s : List Code × List Code). Some (line_leaves N.Data (lines_of s.0), s.1)) (marker-stops markers c cs e)
 
 pub break-stops : (markers : List ℕ) (c : Code) (cs : List Code) → is_line_ending c || is_among markers c ≡ true → up_to_break markers (c ∷ cs) ≡ ([], c ∷ cs)
-break-stops markers c cs e = span-none (is_plain markers) (c ∷ cs) (not-true (is_line_ending c || is_among markers c) e)
+break-stops markers c cs e = span-none (is_plain markers) (c ∷ cs) (not_from_true (is_line_ending c || is_among markers c) e)
 
 pub break-goes : (markers : List ℕ) (c : Code) (cs : List Code) → is_line_ending c || is_among markers c ≡ false → up_to_break markers (c ∷ cs) ≡ (c ∷ (up_to_break markers cs).0, (up_to_break markers cs).1)
-break-goes markers c cs e = span-takes (is_plain markers) c cs (not-false (is_line_ending c || is_among markers c) e)
+break-goes markers c cs e = span-takes (is_plain markers) c cs (not_from_false (is_line_ending c || is_among markers c) e)

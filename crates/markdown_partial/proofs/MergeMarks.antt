@@ -1,5 +1,7 @@
 -- the edits of neighbouring data, one by one
-use Rattle.std.proofs.Common.{◌≡◌, ◌≢◌, ℕ, zero, suc, ◌+◌, ◌-◌, ◌<◌, ◌≤◌, ◌==◌, ◌&&◌, ◌||◌, not, nat_lt, Bool, true, false, List, [], ◌∷◌, ◌++◌, length, drop, get_or, refl, sym, ap, ◌∙◌, arith, append_assoc, append-nil, length-drop}
+use Rattle.std.proofs.Common.{◌≡◌, ◌≢◌, ℕ, zero, suc, ◌+◌, ◌-◌, ◌<◌, ◌≤◌, ◌&&◌, ◌||◌, not, nat_lt, Bool, true, false, List, [], ◌∷◌, ◌++◌, length, drop, get_or, refl, sym, ap, ◌∙◌, arith, append_assoc, append-nil, length-drop}
+use Rattle.std.proofs.Math.Bool.{or-false, and-false}
+use Rattle.std.proofs.lemmas.Bool.{both_ways, eq-eqb, ne_eqb}
 use Rattle.std.proofs.lemmas.List.{drop_more}
 use Rattle.std.proofs.lemmas.List.Elements.{All-nil, All-cons}
 use Rattle.std.proofs.lemmas.Bool.Decides.{nat_tests}
@@ -30,10 +32,6 @@ joint-found es i j k a b c x y z p q l e f g u v w =
 
 -- too few events for a joint
 
-one-short : (b : Bool) → b && false ≡ false
-one-short true = refl
-one-short false = refl
-
 two-short : (a b : Bool) → a && (b && false) ≡ false
 two-short true true = refl
 two-short true false = refl
@@ -45,7 +43,7 @@ none-marked n false log e f = f
 
 few : (n : ℕ) (es : List Event) → length es ≤ 2 → joints n es ≡ []
 few n [] l = refl
-few n (a ∷ []) l = none-marked (n + 1) (joint (a ∷ [])) [] (one-short (opens_data a)) refl
+few n (a ∷ []) l = none-marked (n + 1) (joint (a ∷ [])) [] (and-false (opens_data a)) refl
 few n (a ∷ b ∷ []) l = none-marked (n + 1) (joint (a ∷ b ∷ [])) (joints (suc n) (b ∷ [])) (two-short (opens_data a) (closes_data b)) (few (suc n) (b ∷ []) (omega arith))
 few n (a ∷ b ∷ c ∷ es) l = absurd (omega arith)
 
@@ -83,18 +81,12 @@ abbrev two : Bool → ℕ
 two true = 2
 two false = 0
 
-same-not : (a b : ℕ) → a ≢ b → (a == b) ≡ false
-same-not a b h = grind arith
-
-same-is : (a b : ℕ) → a ≡ b → (a == b) ≡ true
-same-is a b h = grind arith
-
 removed_at-marked : (i n : ℕ) (b : Bool) (log : List Edit) → n ≢ i → removed_at i (marked b n ++ log) ≡ removed_at i log
-removed_at-marked i n true log h = rw (same-not n i h) (omega arith)
+removed_at-marked i n true log h = rw (ne_eqb n i h) (omega arith)
 removed_at-marked i n false log h = refl
 
 removed_at-here : (i n : ℕ) (b : Bool) (log : List Edit) → n ≡ i → removed_at i (marked b n ++ log) ≡ two b + removed_at i log
-removed_at-here i n true log h = rw (same-is n i h) refl
+removed_at-here i n true log h = rw (eq-eqb n i h) refl
 removed_at-here i n false log h = omega arith
 
 none-before : (i n : ℕ) (es : List Event) → i ≤ n → removed_at i (joints n es) ≡ 0
@@ -125,10 +117,6 @@ reach-here : (j p : ℕ) (b : Bool) → p ≤ j → j < p + 2 → nat_lt j (p + 
 reach-here j p true l h = grind (arith, nat_tests)
 reach-here j p false l h = grind (arith, nat_tests)
 
-or-false : (a : Bool) → a || false ≡ a
-or-false true = refl
-or-false false = refl
-
 removed_by-step : (es : List Event) (j p : ℕ) → suc p ≤ j → j < suc p + 2 → removed_by (joints 0 es) j (suc p) ≡ joint (drop p es) || removed_by (joints 0 es) j p
 removed_by-step es j p l h =
     ap (λ m. nat_lt j (suc p + m) || removed_by (joints 0 es) j p) (at-place p es)
@@ -156,7 +144,7 @@ none-after : (a b : Bool) (e : Event) (es : List Event) → opens_data e ≡ fal
 none-after a b e es h = ap (λ x. a && (b && x)) h ∙ two-short a b
 
 none-next : (a : Bool) (e : Event) (es : List Event) → closes_data e ≡ false → a && closing (e ∷ es) ≡ false
-none-next a e es h = ap (λ x. a && (x && opening es)) h ∙ one-short a
+none-next a e es h = ap (λ x. a && (x && opening es)) h ∙ and-false a
 
 joint-before : (ds : List Event) (e : Event) (es : List Event) → rest_of ds ≡ e ∷ es → closes_data e ≡ false → joint ds ≡ false
 joint-before [] e es h k = refl
@@ -208,17 +196,13 @@ linked-opens : (a b l : Bool) → l ≡ true → a && (b && not l) ≡ false
 linked-opens a b true h = two-short a b
 linked-opens a b false h = cc
 
-true-not-false : (b : Bool) → b ≡ true → b ≡ false → ⊥
-true-not-false true h k = cc
-true-not-false false h k = cc
-
 stays-linked : (es : List Event) (j : ℕ) (ds : List Event) → drop j es ≡ ds → first_linked ds ≡ true → removed es j ≡ false
 unfolding first_linked
 stays-linked es j [] h l = cc
 stays-linked es j (e ∷ ds) h l = stays-other es j e ds h (linked-opens (is_enter e.kind) (is_data e.name) (has_link e.link) l) (linked-opens (not (is_enter e.kind)) (is_data e.name) (has_link e.link) l)
 
 not-both : (l r : Bool) → (l ≡ true → r ≡ false) → r ≡ true → l ≡ false
-not-both true r h k = absurd (true-not-false r k (h refl))
+not-both true r h k = absurd (both_ways r (h refl) k)
 not-both false r h k = refl
 
 goes-unlinked : (es : List Event) (j : ℕ) → is_removed (joints 0 es) j ≡ true → linked_at es j ≡ false

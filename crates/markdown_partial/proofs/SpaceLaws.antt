@@ -1,5 +1,6 @@
 -- the laws of the states of whitespace on one line
 use Rattle.std.proofs.Common.{◌≡◌, ℕ, zero, suc, ◌+◌, ◌-◌, ◌<◌, ◌&&◌, nat_lt, nat_le, Bool, true, false, Option, List, [], ◌∷◌, ◌++◌, length, drop, take, refl, sym, ap, subst, ◌∙◌, arith}
+use Rattle.std.proofs.lemmas.Bool.{ltb-true}
 use Rattle.markdown_engine.specs.Codes.{Code, is_blank}
 use Rattle.markdown_engine.specs.Ops.{current_of, consumed, exited, scratched, ahead, applied, Exit, Consume, IsOpen}
 use Rattle.markdown_engine.specs.Past.{EndsAs, entered_leaf, link_before, past, passed}
@@ -46,9 +47,6 @@ taken-more s c cs h e =
 lt-gap : (a b : ℕ) → nat_lt a b ≡ nat_lt 0 (b - a)
 lt-gap a b = grind arith
 
-lt-true : (a b : ℕ) → nat_lt a b ≡ true → a < b
-lt-true a b e = grind arith
-
 inside-more : (T : Tokenizer) → T.tokenize_state.space_or_tab_size < T.tokenize_state.space_or_tab_max → Here is_blank T → (ok : Bool) (U : Tokenizer) → inside_ends (more T) ok U → inside_ends T ok U
 unfolding scratched applied passed
 inside-more T l b ok U k =
@@ -82,7 +80,7 @@ inside-law W within T alone token =
     (λ h. let b : Here is_blank T = here is_blank T (sym (blank-ahead T) ∙ and-left _ _ h) in
     Goes-plain W n (inside_ends T) (Next SpaceOrTabInside) (within SpaceOrTabInside) (more T) (attempts-scratched _ (consumed T) ∙ attempts-applied Consume T ∙ alone) (open-still T token)
     (omega (arith, fewer is_blank T b, left-scratched (sized (s.space_or_tab_size + 1) s) (consumed T)))
-    (λ ok U k. inside-more T (lt-true _ _ (and-right _ _ h)) b ok U k))
+    (λ ok U k. inside-more T (ltb-true _ _ (and-right _ _ h)) b ok U k))
     (λ h. let none : taken s (ahead T) ≡ [] =
     taken-none (s.space_or_tab_max - s.space_or_tab_size) is_blank (ahead T) (ap (λ b. b && nat_lt 0 (s.space_or_tab_max - s.space_or_tab_size)) (sym (blank-ahead T)) ∙ ap (λ b. at_blank (current_of T) && b) (sym (lt-gap s.space_or_tab_size s.space_or_tab_max)) ∙ h) in
     let V : Tokenizer = exited s.space_or_tab_token T in
@@ -159,6 +157,6 @@ start-law W within T alone on =
     (λ h. let b : Here is_blank T = here is_blank T (sym (blank-ahead T) ∙ and-left _ _ h) in
     Goes-plain W n (start_ends T) (Retry SpaceOrTabInside) (within SpaceOrTabInside) E (entered-attempts s.space_or_tab_token s.space_or_tab_content s.space_or_tab_connect T ∙ alone) (open-entered T)
     (omega (arith, same))
-    (λ ok U k. start-inside T (lt-true _ _ (and-right _ _ h)) on.none_yet b ok U k))
+    (λ ok U k. start-inside T (ltb-true _ _ (and-right _ _ h)) on.none_yet b ok U k))
     (λ h. let none : take s.space_or_tab_max (span is_blank (ahead T)).0 ≡ [] = taken-none s.space_or_tab_max is_blank (ahead T) (ap (λ b. b && nat_lt 0 s.space_or_tab_max) (sym (blank-ahead T)) ∙ h) in
     Goes-plain W n (start_ends T) (Retry SpaceOrTabAfter) (within SpaceOrTabAfter) T alone tt (omega arith) (λ ok U k. start-after T on.none_yet none ok U k))

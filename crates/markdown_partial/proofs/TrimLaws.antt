@@ -25,11 +25,13 @@ use Rattle.markdown_partial.proofs.MergeLaws.{drop-part}
 use Rattle.markdown_engine.specs.Walk.{IsPoint}
 use Rattle.markdown_engine.specs.Codes.{codes_of, is_code_before, place_of, point_at}
 use Rattle.std.proofs.Common.{filter}
+use Rattle.std.proofs.Math.Bool.{and-false}
+use Rattle.std.proofs.lemmas.Bool.{and_left, both_ways}
 use Rattle.markdown_engine.proofs.Chain.{IsChain, chain-back, first-start, before_in-split, stop-later}
 use Rattle.markdown_engine.proofs.Points.{chain-split, point-split, after-split}
 use Rattle.markdown_partial.specs.Trim.{IsStretch}
 use Rattle.markdown_partial.specs.TrimEvents.{IsPart, HasPlaces}
-use Rattle.markdown_partial.proofs.TrimWalks.{forward-as, bool-clash}
+use Rattle.markdown_partial.proofs.TrimWalks.{forward-as}
 use Rattle.markdown_partial.proofs.TrimMarks.{begins_data, comes, flag, log_of, added-here, stays-here, goes-first, goes-second}
 use Rattle.markdown_partial.proofs.TrimRows.{three-leaves, kept_of, lead_of, tail_of}
 use Rattle.markdown_engine.proofs.OpRules.{drop-more}
@@ -151,10 +153,6 @@ unfolding trimmed_events
 events-are front back hard bytes p q = refl
 
 -- One event.
-
-data-linked : (b : Bool) → b && false ≡ false
-data-linked true = refl
-data-linked false = refl
 
 cut-first : (xs : List Event) (e : Event) (rest : List Event) → xs ≡ e ∷ rest → opens_data e ≡ false → begins_data xs ≡ false
 cut-first [] e rest h o = cc
@@ -320,15 +318,12 @@ module _ (bytes : List ℕ) (hard whole : Bool) (es : List Event) where
         fresh = subst (λ (i : ℕ). Fresh i) same h.fresh;
       }
 
-  opens-no : (b c : Bool) → b ≡ false → b && c ≡ false
-  opens-no b c h = ap (λ x. x && c) h
-
   leaf-other : (name : Name) (cs : List Code) (rest : Forest) → is_data name ≡ false → Law rest → Law (leaf_then name None cs rest)
   leaf-other name cs rest other law n m front w previous tail h =
       let e : Event = event Kind.Enter name (start_of cs) in
       let x : Event = event Kind.Exit name (stop_of document_start cs) in
       let q : Option ℕ = option_map (moved_number log) previous in
-      let p : Pair n e x (appended_from (n + 2) previous rest ++ tail) = pair n e x (appended_from (n + 2) previous rest ++ tail) h.there (opens-no (is_data name) true other) refl h.fresh in
+      let p : Pair n e x (appended_from (n + 2) previous rest ++ tail) = pair n e x (appended_from (n + 2) previous rest ++ tail) h.there (and_left (is_data name) true other) refl h.fresh in
       let r : Trims (n + 2) (m + 2) (is_ending name) w previous rest tail =
       law (n + 2) (m + 2) (is_ending name) w previous tail (record { there = p.there; flagged = p.flagged; placed = omega (arith, p.placed, h.placed); fresh = p.fresh; ends = h.ends; plain = h.plain; has_parts = h.has_parts.1 }) in
       let same : n + 2 + event_count rest ≡ n + (2 + event_count rest) = omega arith in
@@ -347,7 +342,7 @@ module _ (bytes : List ℕ) (hard whole : Bool) (es : List Event) where
       let x : Event = event Kind.Exit name (stop_of document_start cs) in
       let q : Option ℕ = option_map (moved_number log) previous in
       let e2 : Event = record { kind = Kind.Enter; name = name; point = start_of cs; link = Some (link_back q c) } in
-      let p : Pair n e x (appended_from (n + 2) (Some n) rest ++ tail) = pair n e x (appended_from (n + 2) (Some n) rest ++ tail) h.there (data-linked (is_data name)) refl h.fresh in
+      let p : Pair n e x (appended_from (n + 2) (Some n) rest ++ tail) = pair n e x (appended_from (n + 2) (Some n) rest ++ tail) h.there (and-false (is_data name)) refl h.fresh in
       let r : Trims (n + 2) (m + 2) (is_ending name) w (Some n) rest tail =
       law (n + 2) (m + 2) (is_ending name) w (Some n) tail (record { there = p.there; flagged = p.flagged; placed = omega (arith, p.placed, h.placed); fresh = p.fresh; ends = h.ends; plain = h.plain; has_parts = h.has_parts.1 }) in
       let same : n + 2 + event_count rest ≡ n + (2 + event_count rest) = omega arith in
@@ -410,7 +405,7 @@ module _ (bytes : List ℕ) (hard whole : Bool) (es : List Event) where
       let inner : List Event = appended_from (n + 1) None inside in
       let more : List Event = appended_from (n + 2 + ci) previous rest ++ tail in
       let apart : (inner ++ x ∷ appended_from (n + 2 + ci) previous rest) ++ tail ≡ inner ++ x ∷ more = append_assoc inner (x ∷ appended_from (n + 2 + ci) previous rest) tail in
-      let s1 : Step n e (inner ++ x ∷ more) = step n e (inner ++ x ∷ more) (h.there ∙ ap (λ xs. e ∷ xs) apart) (opens-no (is_data name) true h.has_parts.0.0) h.fresh in
+      let s1 : Step n e (inner ++ x ∷ more) = step n e (inner ++ x ∷ more) (h.there ∙ ap (λ xs. e ∷ xs) apart) (and_left (is_data name) true h.has_parts.0.0) h.fresh in
       let r1 : Trims (n + 1) (m + 1) false false None inside (x ∷ more) =
       law_inside (n + 1) (m + 1) false false None (x ∷ more) (record { there = s1.there; flagged = s1.flagged; placed = omega (arith, s1.placed, h.placed); fresh = s1.fresh; ends = refl; plain = refl; has_parts = h.has_parts.1.0 }) in
       let k : ℕ = n + 1 + ci in
@@ -470,7 +465,7 @@ trimmed-tree bytes hard whole t h es e =
 -- The data of such a tree has its places.
 
 places-other : (bytes : List ℕ) (e : Event) (es : List Event) → opens_data e ≡ false → HasPlaces bytes es → HasPlaces bytes (e ∷ es)
-places-other bytes e es h p = (λ o. bool-clash (opens_data e) o h, p)
+places-other bytes e es h p = (λ o. absurd (both_ways (opens_data e) h o), p)
 
 places-leaf : (bytes : List ℕ) (name : Name) (cs : List Code) (rest : List Event) (b : Bool) → is_data name ≡ b → (is_data name ≡ true → IsPart bytes cs) → HasPlaces bytes rest → HasPlaces bytes (event Kind.Enter name (start_of cs) ∷ event Kind.Exit name (stop_of document_start cs) ∷ rest)
 places-leaf bytes name cs rest true e h p = (λ o. ((part-of bytes cs (h e)).stretch, refl), places-other bytes (event Kind.Exit name (stop_of document_start cs)) rest refl p)
@@ -482,7 +477,7 @@ places-row bytes empty n previous rest h p = p
 places-row bytes (leaf_then name None cs t) n previous rest h p =
     places-leaf bytes name cs (appended_from (n + 2) previous t ++ rest) (is_data name) refl (λ e. h.0 e refl) (places-row bytes t (n + 2) previous rest h.1 p)
 places-row bytes (leaf_then name (Some c) cs t) n previous rest h p =
-    places-other bytes (record { kind = Kind.Enter; name = name; point = start_of cs; link = Some (link_back previous c) }) (event Kind.Exit name (stop_of document_start cs) ∷ appended_from (n + 2) (Some n) t ++ rest) (data-linked (is_data name))
+    places-other bytes (record { kind = Kind.Enter; name = name; point = start_of cs; link = Some (link_back previous c) }) (event Kind.Exit name (stop_of document_start cs) ∷ appended_from (n + 2) (Some n) t ++ rest) (and-false (is_data name))
     (places-other bytes (event Kind.Exit name (stop_of document_start cs)) (appended_from (n + 2) (Some n) t ++ rest) refl (places-row bytes t (n + 2) (Some n) rest h.1 p))
 places-row bytes (group_then name a b inside t) n previous rest h p =
     let m : ℕ = n + 2 + event_count inside in

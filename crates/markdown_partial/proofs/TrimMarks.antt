@@ -1,8 +1,7 @@
 -- the edits of data, one by one
 use Rattle.std.proofs.Common.{◌≡◌, ℕ, zero, suc, ◌+◌, ◌<◌, ◌≤◌, ◌==◌, ◌&&◌, not, Bool, true, false, List, [], ◌∷◌, ◌++◌, length, drop, get_or, refl, sym, ap, subst, ◌∙◌, arith, append_assoc, append-nil, inl, inr, if◌then◌else◌}
 use Rattle.std.proofs.lemmas.List.{drop_more, drop_all}
-use Rattle.std.proofs.lemmas.Bool.{cases_lt, cases_Bool}
-use Rattle.std.proofs.lemmas.Bool.Decides.{nat_tests}
+use Rattle.std.proofs.lemmas.Bool.{cases_lt, cases_Bool, eq-eqb, ne_eqb, both_ways}
 use Rattle.std.proofs.lemmas.List.Elements.{All-nil, All-cons}
 use Rattle.std.specs.List.{All}
 use Rattle.markdown_engine.specs.Chain.{has_link, linked_at}
@@ -13,7 +12,6 @@ use Rattle.markdown_engine.proofs.EditFacts.{stays-where, goes-where}
 use Rattle.markdown_partial.specs.Merge.{is_enter, is_data, opens_data}
 use Rattle.markdown_partial.specs.Trim.{trimmed_events}
 use Rattle.markdown_partial.specs.TrimEvents.{closes_ending, goes_before, trim, trim_first, trims, ClosesAt, FirstHasPlaces, HasPlaces}
-use Rattle.markdown_partial.proofs.TrimWalks.{bool-clash}
 
 -- At the first event.
 
@@ -143,24 +141,18 @@ module _ (bytes : List ℕ) (hard whole : Bool) where
   removed-first i n front (e ∷ []) log = zero-plus (removed_at i log) ∙ ap (λ k. k + removed_at i log) (sym (zero-if (n == i)))
   removed-first i n front (e ∷ x ∷ es) log = removed-by i n front e x es log (opens_data e)
 
-  differs : (n i : ℕ) → (n ≡ i → ⊥) → (n == i) ≡ false
-  differs n i h = grind (arith, nat_tests)
-
-  agrees : (n i : ℕ) → n ≡ i → (n == i) ≡ true
-  agrees n i h = grind (arith, nat_tests)
-
   back-earlier : (i n : ℕ) (front : Bool) (es : List Event) → i < n → back_at i (trims bytes hard whole n front es) ≡ []
   back-earlier i n front [] l = refl
   back-earlier i n front (e ∷ es) l =
       back-first i n front (e ∷ es) (trims bytes hard whole (suc n) (closes_ending e) es)
-      ∙ ap (λ b. (if b then comes bytes hard whole front (e ∷ es) else []) ++ back_at i (trims bytes hard whole (suc n) (closes_ending e) es)) (differs n i (λ h. omega (arith, h)))
+      ∙ ap (λ b. (if b then comes bytes hard whole front (e ∷ es) else []) ++ back_at i (trims bytes hard whole (suc n) (closes_ending e) es)) (ne_eqb n i (λ h. omega (arith, h)))
       ∙ back-earlier i (suc n) (closes_ending e) es (omega arith)
 
   removed-earlier : (i n : ℕ) (front : Bool) (es : List Event) → i < n → removed_at i (trims bytes hard whole n front es) ≡ 0
   removed-earlier i n front [] l = refl
   removed-earlier i n front (e ∷ es) l =
       removed-first i n front (e ∷ es) (trims bytes hard whole (suc n) (closes_ending e) es)
-      ∙ ap (λ b. (if b then two (begins_data (e ∷ es)) else 0) + removed_at i (trims bytes hard whole (suc n) (closes_ending e) es)) (differs n i (λ h. omega (arith, h)))
+      ∙ ap (λ b. (if b then two (begins_data (e ∷ es)) else 0) + removed_at i (trims bytes hard whole (suc n) (closes_ending e) es)) (ne_eqb n i (λ h. omega (arith, h)))
       ∙ sym (zero-plus (removed_at i (trims bytes hard whole (suc n) (closes_ending e) es)))
       ∙ removed-earlier i (suc n) (closes_ending e) es (omega arith)
 
@@ -169,12 +161,12 @@ module _ (bytes : List ℕ) (hard whole : Bool) where
   back-place i n (suc k) front [] e = refl
   back-place i n zero front (x ∷ es) e =
       back-first i n front (x ∷ es) (trims bytes hard whole (suc n) (closes_ending x) es)
-      ∙ ap (λ b. (if b then comes bytes hard whole front (x ∷ es) else []) ++ back_at i (trims bytes hard whole (suc n) (closes_ending x) es)) (agrees n i (omega (arith, e)))
+      ∙ ap (λ b. (if b then comes bytes hard whole front (x ∷ es) else []) ++ back_at i (trims bytes hard whole (suc n) (closes_ending x) es)) (eq-eqb n i (omega (arith, e)))
       ∙ ap (λ xs. comes bytes hard whole front (x ∷ es) ++ xs) (back-earlier i (suc n) (closes_ending x) es (omega (arith, e)))
       ∙ append-nil (comes bytes hard whole front (x ∷ es))
   back-place i n (suc k) front (x ∷ es) e =
       back-first i n front (x ∷ es) (trims bytes hard whole (suc n) (closes_ending x) es)
-      ∙ ap (λ b. (if b then comes bytes hard whole front (x ∷ es) else []) ++ back_at i (trims bytes hard whole (suc n) (closes_ending x) es)) (differs n i (λ h. omega (arith, e, h)))
+      ∙ ap (λ b. (if b then comes bytes hard whole front (x ∷ es) else []) ++ back_at i (trims bytes hard whole (suc n) (closes_ending x) es)) (ne_eqb n i (λ h. omega (arith, e, h)))
       ∙ back-place i (suc n) k (closes_ending x) es (omega (arith, e))
 
   removed-place : (i n k : ℕ) (front : Bool) (es : List Event) → i ≡ n + k → removed_at i (trims bytes hard whole n front es) ≡ two (begins_data (drop k es))
@@ -182,12 +174,12 @@ module _ (bytes : List ℕ) (hard whole : Bool) where
   removed-place i n (suc k) front [] e = refl
   removed-place i n zero front (x ∷ es) e =
       removed-first i n front (x ∷ es) (trims bytes hard whole (suc n) (closes_ending x) es)
-      ∙ ap (λ b. (if b then two (begins_data (x ∷ es)) else 0) + removed_at i (trims bytes hard whole (suc n) (closes_ending x) es)) (agrees n i (omega (arith, e)))
+      ∙ ap (λ b. (if b then two (begins_data (x ∷ es)) else 0) + removed_at i (trims bytes hard whole (suc n) (closes_ending x) es)) (eq-eqb n i (omega (arith, e)))
       ∙ ap (λ j. two (begins_data (x ∷ es)) + j) (removed-earlier i (suc n) (closes_ending x) es (omega (arith, e)))
       ∙ omega arith
   removed-place i n (suc k) front (x ∷ es) e =
       removed-first i n front (x ∷ es) (trims bytes hard whole (suc n) (closes_ending x) es)
-      ∙ ap (λ b. (if b then two (begins_data (x ∷ es)) else 0) + removed_at i (trims bytes hard whole (suc n) (closes_ending x) es)) (differs n i (λ h. omega (arith, e, h)))
+      ∙ ap (λ b. (if b then two (begins_data (x ∷ es)) else 0) + removed_at i (trims bytes hard whole (suc n) (closes_ending x) es)) (ne_eqb n i (λ h. omega (arith, e, h)))
       ∙ sym (zero-plus (removed_at i (trims bytes hard whole (suc n) (closes_ending x) es)))
       ∙ removed-place i (suc n) k (closes_ending x) es (omega (arith, e))
 
@@ -263,11 +255,11 @@ module _ (bytes : List ℕ) (hard whole : Bool) where
       ]
     where
       unlinked-before : (j : ℕ) (es : List Event) → HasPlaces bytes es → is_removed (log_of es) j ≡ true → begins_data (drop j es) ≡ false → linked_at es j ≡ false
-      unlinked-before zero es p h b = bool-clash (is_removed (log_of es) zero) h (stays-here zero es b (λ q e. absurd (omega (arith, e))))
+      unlinked-before zero es p h b = absurd (both_ways (is_removed (log_of es) zero) (stays-here zero es b (λ q e. absurd (omega (arith, e)))) h)
       unlinked-before (suc j) es p h b =
           elim (cases_Bool (begins_data (drop j es))) [
             | inl d ↦ linked-drop 1 j es (suc j) (omega arith) ∙ second-linked-none (drop j es) d (places-drop j es p)
-            | inr d ↦ bool-clash (is_removed (log_of es) (suc j)) h (stays-here (suc j) es b (λ q e. let same : q ≡ j = omega (arith, e) in ap (λ i. begins_data (drop i es)) same ∙ d))
+            | inr d ↦ absurd (both_ways (is_removed (log_of es) (suc j)) (stays-here (suc j) es b (λ q e. let same : q ≡ j = omega (arith, e) in ap (λ i. begins_data (drop i es)) same ∙ d)) h)
           ]
 
   pub can-trim : (es : List Event) → HasPlaces bytes es → CanEdit (log_of es) es

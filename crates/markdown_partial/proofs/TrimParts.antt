@@ -1,5 +1,6 @@
 -- What is left of data that is trimmed is part of the document, as the data was.
 use Rattle.std.proofs.Common.{◌≡◌, ◌≢◌, ℕ, ◌&&◌, ◌||◌, nat_le, Bool, true, false, List, [], ◌∷◌, ◌++◌, Some, None, length, refl, sym, ap, subst, ◌∙◌, append_assoc}
+use Rattle.std.proofs.lemmas.Bool.{both_ways}
 use Rattle.std.specs.List.{list_all}
 use Rattle.markdown_engine.specs.Codes.{Code}
 use Rattle.markdown_engine.specs.Tree.{Forest, empty, leaf_then, group_then, leaf, ◌⊕◌}
@@ -33,11 +34,7 @@ filled c cs e = cc
 
 parts-other : (bytes : List ℕ) (name : Name) (cs : List Code) → is_data name ≡ false → HasParts bytes (leaf name cs)
 parts-other bytes name [] h = tt
-parts-other bytes name (c ∷ cs) h = (λ e l. absurd (clash (is_data name) e h), tt)
-  where
-    clash : (b : Bool) → b ≡ true → b ≡ false → ⊥
-    clash true e k = cc
-    clash false e k = cc
+parts-other bytes name (c ∷ cs) h = (λ e l. absurd (both_ways (is_data name) h e), tt)
 
 parts-data : (bytes : List ℕ) (a b c : List Code) → IsPart bytes (a ++ (b ++ c)) → HasParts bytes (leaf N.Data b)
 parts-data bytes a [] c h = tt

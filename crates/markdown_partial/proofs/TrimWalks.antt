@@ -1,7 +1,7 @@
 -- walks over the codes of a stretch
 use Rattle.std.proofs.Common.{◌≡◌, ℕ, suc, ◌+◌, ◌*◌, ◌<◌, ◌≤◌, ◌==◌, ◌&&◌, not, nat_le, Bool, true, false, List, [], ◌∷◌, length, Some, IsTrue, refl, sym, ap, subst, ◌∙◌, arith, ◌⊎◌, inl, inr, if◌then◌else◌, filter}
 use Rattle.std.specs.List.{list_all}
-use Rattle.std.proofs.lemmas.Bool.{cases_Bool}
+use Rattle.std.proofs.lemmas.Bool.{cases_Bool, both_ways, not-true}
 use Rattle.std.proofs.lemmas.Bool.Decides.{nat_tests}
 use Rattle.markdown_engine.specs.Codes.{Code, codes_of, is_blank, is_code_before, is_at_or_after, place_of, stop_of, point_at}
 use Rattle.markdown_engine.specs.Walk.{codes_after, IsPoint, next_point, value_from}
@@ -27,10 +27,6 @@ pub record IsBegun (bytes : List ℕ) (p q : Point) : Type 0 where
 
 pub forward-as : (p q : Point) → is_before (place_of q) (place_of p) ≡ false → IsTrue (is_at_or_after (place_of p) (place_of q))
 forward-as p q h = at_or_after-is (place_of p) (place_of q) ∙ ap (λ b. not b) h
-
-not-true : (b : Bool) → not b ≡ true → b ≡ false
-not-true true h = cc
-not-true false h = refl
 
 pub backward : (bytes : List ℕ) (p q : Point) → IsStretch bytes p q → is_before (place_of q) (place_of p) ≡ false
 backward bytes p q s = not-true (is_before (place_of q) (place_of p)) (sym (at_or_after-is (place_of p) (place_of q)) ∙ s.forward)
@@ -81,21 +77,17 @@ same-numbers a b c d h = grind (arith, nat_tests)
 same-both : (a b c d : ℕ) → a ≡ c → b ≡ d → (a == c && b == d) ≡ true
 same-both a b c d e f = grind (arith, nat_tests)
 
-pub bool-clash : {A : Type 0} → (b : Bool) → b ≡ true → b ≡ false → A
-bool-clash true h k = cc
-bool-clash false h k = cc
-
 pub begun-where : (bytes : List ℕ) (p q : Point) → IsStretch bytes p q → is_same_place p q ≡ false → IsBegun bytes p q
 begun-where bytes p q s h =
     elim (stretch-cases bytes p q s) [
       | inl b ↦ b
-      | inr e ↦ bool-clash (is_same_place p q) (same-both p.index p.vs q.index q.vs e.index e.vs) h
+      | inr e ↦ absurd (both_ways (is_same_place p q) h (same-both p.index p.vs q.index q.vs e.index e.vs))
     ]
 
 same-is : (bytes : List ℕ) (p q : Point) → IsStretch bytes p q → is_same_place p q ≡ true → is_before (place_of p) (place_of q) ≡ false
 same-is bytes p q s h =
     elim (cases_Bool (is_before (place_of p) (place_of q))) [
-      | inl e ↦ bool-clash (is_same_place p q) h (same-numbers p.index p.vs q.index q.vs e)
+      | inl e ↦ absurd (both_ways (is_same_place p q) (same-numbers p.index p.vs q.index q.vs e) h)
       | inr e ↦ e
     ]
 

@@ -1,5 +1,6 @@
 -- The laws of the states of a resource.
 use Rattle.std.proofs.Common.{◌≡◌, ℕ, ◌+◌, ◌<◌, ◌==◌, Bool, true, false, ◌||◌, Option, Some, None, List, [], ◌∷◌, ◌++◌, length, refl, sym, ap, subst, ◌∙◌, arith, append_assoc}
+use Rattle.std.proofs.lemmas.Bool.{or_parts}
 use Rattle.markdown_engine.specs.Codes.{Code, is_blank, is_line_ending}
 use Rattle.markdown_engine.specs.Grown.{Grown}
 use Rattle.markdown_engine.specs.Lists.{rest_of}
@@ -93,18 +94,14 @@ no-ending : (cs : List Code) → next_is is_line_ending cs ≡ false → at_endi
 no-ending [] e = refl
 no-ending (c ∷ cs) e = if-false _ _ _ e
 
-pub or-parts : (a b : Bool) → (a || b) ≡ false → (a ≡ false) × (b ≡ false)
-or-parts true b e = cc
-or-parts false b e = (refl, e)
-
 pub no-space : (T : Tokenizer) (o : Option ℕ) → current_of T ≡ o → at_space o ≡ false → spacing None (ahead T) ≡ None
 no-space T None e h =
     let none : ahead T ≡ [] = ahead-none T e in
     spacing-none None (ahead T) (ap (next_is is_blank) none) ∙ no-ending (ahead T) (ap (next_is is_line_ending) none)
 no-space T (Some v) e h =
     let b : Begins v (ahead T) = ahead-some T v e in
-    let tab = or-parts (v == 9) (v == 10 || v == 32) h in
-    let rest = or-parts (v == 10) (v == 32) tab.1 in
+    let tab = or_parts (v == 9) (v == 10 || v == 32) h in
+    let rest = or_parts (v == 10) (v == 32) tab.1 in
     spacing-none None (ahead T) (ap (next_is is_blank) b.whole ∙ ap (λ x. x == 32 || x == 9) b.value ∙ (λ i. rest.1 i || tab.0 i))
     ∙ no-ending (ahead T) (ap (next_is is_line_ending) b.whole ∙ ap (λ x. x == 10) b.value ∙ rest.0)
 

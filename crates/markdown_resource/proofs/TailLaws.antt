@@ -1,5 +1,6 @@
 -- What may follow the end of a label is nothing or one group, all data of which is linked.
 use Rattle.std.proofs.Common.{◌≡◌, ℕ, Bool, true, false, ◌&&◌, not, Option, Some, None, List, [], ◌∷◌, refl}
+use Rattle.std.proofs.lemmas.Bool.{both_ways}
 use Rattle.markdown_engine.specs.Codes.{Code, is_line_ending, is_blank}
 use Rattle.markdown_engine.specs.Tree.{Forest, empty, leaf_then, group_then, leaf, linked, ◌⊕◌}
 use Rattle.markdown_engine.specs.declared.event.Content.{Content}
@@ -21,19 +22,16 @@ use Rattle.markdown_resource.specs.Tails.{IsSound}
 
 -- Leaves and groups.
 
-other : {A : Type 0} (b : Bool) → b ≡ true → b ≡ false → A
-other b e f = cc
-
 some-none : {A : Type 0} (c : Content) → Some c ≡ None → A
 some-none c e = cc
 
 leaf-lines : (name : Name) (cs : List Code) → is_data name ≡ false → HasLines (leaf name cs)
 leaf-lines name [] d = tt
-leaf-lines name (c ∷ cs) d = (λ e l. other (is_data name) e d, tt)
+leaf-lines name (c ∷ cs) d = (λ e l. absurd (both_ways (is_data name) d e), tt)
 
 plain-lines : (name : Name) (link : Option Content) (cs : List Code) → is_data name ≡ false → HasLines (linked_leaf name link cs)
 plain-lines name link [] d = tt
-plain-lines name link (c ∷ cs) d = (λ e l. other (is_data name) e d, tt)
+plain-lines name link (c ∷ cs) d = (λ e l. absurd (both_ways (is_data name) d e), tt)
 
 linked-lines : (name : Name) (k : Content) (cs : List Code) → HasLines (linked_leaf name (Some k) cs)
 linked-lines name k [] = tt

@@ -1,7 +1,8 @@
 -- Where the first closing parenthesis behind a title's start that is not escaped has no other one behind it, no resource ends behind that title.
 use Rattle.std.proofs.Common.{◌≡◌, ℕ, Bool, true, false, ◌&&◌, ◌||◌, ◌==◌, if◌then◌else◌, Option, Some, None, List, [], ◌∷◌, refl, sym, ap, subst, ◌∙◌}
-use Rattle.std.proofs.lemmas.Bool.{eqb-true, or_cases}
+use Rattle.std.proofs.lemmas.Bool.{eqb-true, or_cases, or_parts}
 use Rattle.std.proofs.Common.{inl, inr}
+use Rattle.std.proofs.Math.Bool.{and-false, and-true}
 use Rattle.markdown_engine.specs.Codes.{Code, is_blank, is_line_ending}
 use Rattle.markdown_engine.specs.Past.{behind}
 use Rattle.markdown_engine.specs.SequenceIndex.{closes_past_spacing, closes_twice, is_spacing, last_where}
@@ -13,10 +14,9 @@ use Rattle.markdown_model.specs.CodeTests.{is_among, is_empty, is_value, next_is
 use Rattle.markdown_model.specs.Grammar.{Reading, with_first, ◌>>=◌, ◌>>◌, gives, either, provided, before, one, some, any_number, span, escaped_from, up_to}
 use Rattle.markdown_model.specs.Resource.{begins_title, title, title_between, title_names}
 use Rattle.markdown_model.specs.Whitespace.{spacing, spaces_across, spaces_on_line, begins_filled_line}
-use Rattle.markdown_model.proofs.ReadingSteps.{if-true, and-false, and-left, and-true}
+use Rattle.markdown_model.proofs.ReadingSteps.{if-true, and-left}
 use Rattle.markdown_string.proofs.EscapeReadings.{text-end, text-next, text-stops, text-taken}
 use Rattle.markdown_resource.specs.Resource.{closes, or_without, and_then, after_title, between}
-use Rattle.markdown_resource.proofs.ResourceLaws.{or-parts}
 use Rattle.markdown_resource.proofs.ResourceReadings.{closes-none}
 
 -- What a reading leaves.
@@ -150,8 +150,8 @@ behind-slash c cs h =
 past-slash : (c : Code) (cs : List Code) (b : Bool) → takes c ≡ b → Rests NoEnd (titled false cs) → Rests NoEnd (titled true (c ∷ cs))
 past-slash c cs true e k = subst (Rests NoEnd) (sym (text-taken (is_value 41) takes (λ c. false) true c cs e)) (rests-first NoEnd c (titled false cs) k)
 past-slash c cs false e k =
-    let slash = or-parts (c.value == 92) (c.value == 41 || false) e in
-    let other = or-parts (c.value == 41) false slash.1 in
+    let slash = or_parts (c.value == 92) (c.value == 41 || false) e in
+    let other = or_parts (c.value == 41) false slash.1 in
     subst (Rests NoEnd) (sym (text-next (is_value 41) takes (λ c. false) true c cs e other.0 refl ∙ ap (λ b. with_first c (titled b cs)) slash.0))
     (rests-first NoEnd c (titled false cs) k)
 

@@ -1,6 +1,7 @@
 -- From one element of a content to the next.
 use Rattle.std.proofs.Common.{◌≡◌, ◌≢◌, ℕ, ◌+◌, ◌<◌, ◌≤◌, Bool, true, false, not, ◌&&◌, ◌||◌, List, [], ◌∷◌, ◌++◌, length, slice_get, Option, None, Some, refl, sym, ap, subst, ◌∙◌, arith, length-append, append_assoc, add-one, append-nil}
 use Rattle.std.specs.Prelude.{map}
+use Rattle.std.proofs.lemmas.Bool.{not-true}
 use Rattle.std.specs.List.{list_any}
 use Rattle.markdown_engine.specs.Codes.{Code, is_line_ending, document_start, stop_of}
 use Rattle.markdown_engine.specs.Lists.{first_of, rest_of}
@@ -143,10 +144,6 @@ past_code previous (c ∷ cs) = past_code (Some c) cs
 
 abbrev pub unmarked : List ℕ → List Code → List Code × List Code
 unmarked markers cs = span (λ d. not (is_among markers d)) cs
-
-not-true : (b : Bool) → not b ≡ true → b ≡ false
-not-true true e = cc
-not-true false e = refl
 
 -- one more code
 data-next : (choice : Choice) (earlier : List Element) (previous : Option Code) (c : Code) (cs : List Code) (es : List Element) → choice earlier previous (c ∷ cs) ≡ Some (plain (code_leaf c), cs) → AreElementsFrom choice (plain (code_leaf c) ∷ earlier) (Some c) cs es → AreElementsFrom choice earlier previous (c ∷ cs) (plain (code_leaf c) ∷ es)

@@ -11,7 +11,7 @@ use Rattle.markdown_engine.specs.declared.event.Name.TheVariants as N
 use Rattle.markdown_engine.specs.declared.tokenizer.Tokenizer.{Tokenizer}
 use Rattle.markdown_leaf.specs.RawText.{is_escape, span_at, single_dollar, follows_escape, code_just_before}
 use Rattle.std.specs.List.{list_any}
-use Rattle.std.proofs.lemmas.Bool.{eqb-true}
+use Rattle.std.proofs.lemmas.Bool.{eqb-true, or_from}
 use Rattle.markdown_model.specs.CodeTests.{is_empty, is_value, next_is, is_among}
 use Rattle.markdown_model.specs.Element.{attention_run, switched}
 use Rattle.markdown_model.specs.LabelEnd.{Element, plain, starts, ends}
@@ -265,10 +265,6 @@ www-node on bytes end previous = node-of _ (yields_passed IsNode on _ (www_yield
 abbrev AreMarkers : List Code → Type 0
 AreMarkers cs = (cs ≢ []) × (list_any is_line_ending cs ≡ false)
 
-either-false : (a b : Bool) → a ≡ false → b ≡ false → (a || b) ≡ false
-either-false true b e f = cc
-either-false false b e f = f
-
 -- a marker that is no line ending
 other-ending : (m : ℕ) (c : Code) → (m == 10) ≡ false → (c.value == m) ≡ true → is_line_ending c ≡ false
 other-ending m c e h = ap (λ v. v == 10) (eqb-true c.value m h) ∙ e
@@ -279,7 +275,7 @@ span-lines m (c ∷ cs) e = by_test (is_value m c) refl (span-lines m cs e)
   where
     by_test : (b : Bool) → is_value m c ≡ b → list_any is_line_ending (span (is_value m) cs).0 ≡ false
         → (let s : List Code × List Code = elim b [ true ↦ (c ∷ (span (is_value m) cs).0, (span (is_value m) cs).1) | false ↦ ([], c ∷ cs) ] in list_any is_line_ending s.0 ≡ false)
-    by_test true h k = either-false (is_line_ending c) (list_any is_line_ending (span (is_value m) cs).0) (other-ending m c e h) k
+    by_test true h k = or_from (is_line_ending c) (list_any is_line_ending (span (is_value m) cs).0) (other-ending m c e h) k
     by_test false h k = refl
 
 some_yields : (m : ℕ) → (m == 10) ≡ false → Yields AreMarkers (some (is_value m))

@@ -1,6 +1,6 @@
 -- What is true of the trees of a row is true of its grouped tree; and the codes of both.
 use Rattle.std.proofs.Common.{◌≡◌, ℕ, zero, suc, Bool, true, false, Some, None, List, [], ◌∷◌, ◌++◌, drop, take, length, refl, sym, ap, subst, ◌∙◌, append_assoc, append-nil}
-use Rattle.std.proofs.lemmas.Bool.{or_parts}
+use Rattle.std.proofs.lemmas.Bool.{or_parts, both_ways}
 use Rattle.std.specs.List.{list_any}
 use Rattle.markdown_engine.specs.Codes.{Code, is_line_ending, stop_of, document_start}
 use Rattle.markdown_engine.specs.Tree.{Forest, empty, leaf_then, group_then, leaf, ◌⊕◌, group, text_group, start_of, enter_of, exit_after, leaf_codes}
@@ -127,9 +127,6 @@ plain-not_run : (n : Name) → is_plain n ≡ true → is_run n ≡ false
 plain-not_run N.AttentionSequence e = cc
 plain-not_run _ e = refl
 
-false-true : (b : Bool) → b ≡ false → b ≡ true → ⊥
-false-true b e f = cc
-
 abbrev IsLine : List Code → Type 0
 IsLine cs = list_any is_line_ending cs ≡ false
 
@@ -144,7 +141,7 @@ line-data (c ∷ cs) h = ((λ e f. ((λ x. cc), h)), tt)
 
 line-leaf : (n : Name) (cs : List Code) → is_plain n ≡ true → HasLines (leaf n cs)
 line-leaf n [] e = tt
-line-leaf n (c ∷ cs) e = ((λ f g. absurd (false-true (makes_data n) (plain-data n e) f)), tt)
+line-leaf n (c ∷ cs) e = ((λ f g. absurd (both_ways (makes_data n) (plain-data n e) f)), tt)
 
 lines-kept : IsKept HasLines IsLine
 lines-kept = record {

@@ -1,6 +1,6 @@
 -- Past one tree and then another, and past a tree of which it is known whether a run of markers stands in it.
 use Rattle.std.proofs.Common.{◌≡◌, Bool, true, false, ◌||◌, ◌==◌, if◌then◌else◌, List, [], ◌∷◌, ◌++◌, length, None, refl, sym, ap, ◌∙◌}
-use Rattle.std.proofs.lemmas.Bool.{or_parts}
+use Rattle.std.proofs.lemmas.Bool.{or_parts, or_right}
 use Rattle.markdown_engine.specs.Codes.{Code}
 use Rattle.markdown_engine.specs.Ops.{ahead, is_registered, registered, resolver_number}
 use Rattle.markdown_engine.specs.Past.{past, last_link}
@@ -64,13 +64,9 @@ outer-runless (group_then name a b inside rest) h e = (h.0, outer-runless rest h
 
 -- The passes registered.
 
-or-right : (a b : Bool) → b ≡ true → (a || b) ≡ true
-or-right true b e = refl
-or-right false b e = e
-
 registered-last : (ns : List ResolveName) → is_registered R.Attention (ns ++ R.Attention ∷ []) ≡ true
 registered-last [] = refl
-registered-last (n ∷ ns) = or-right (resolver_number n == resolver_number R.Attention) (is_registered R.Attention (ns ++ R.Attention ∷ [])) (registered-last ns)
+registered-last (n ∷ ns) = or_right (resolver_number n == resolver_number R.Attention) (is_registered R.Attention (ns ++ R.Attention ∷ [])) (registered-last ns)
 
 once : (b : Bool) (ns : List ResolveName) → is_registered R.Attention ns ≡ b → is_registered R.Attention (if b then ns else ns ++ R.Attention ∷ []) ≡ true
 once true ns e = e

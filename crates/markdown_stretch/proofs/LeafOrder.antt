@@ -1,5 +1,6 @@
 -- The leaves of a tree over a content stand one after another.
 use Rattle.std.proofs.Common.{◌≡◌, ◌≢◌, ◌⊎◌, inl, inr, ℕ, Bool, true, false, not, cond, filter, IsTrue, List, [], ◌∷◌, ◌++◌, refl, sym, ap, subst, ◌∙◌, append_assoc, append-nil}
+use Rattle.std.proofs.lemmas.Bool.{not-true}
 use Rattle.std.specs.List.{All}
 use Rattle.std.proofs.lemmas.List.Elements.{All-nil, All-cons}
 use Rattle.markdown_engine.specs.Codes.{Code, codes_of, document_start, is_at_or_after, is_code_before, place_of, stop_of}
@@ -133,10 +134,6 @@ module _ (bytes : List ℕ) where
 
   from-start : (piece : Piece) → Each (NotBefore piece.start) (codes-in piece)
   from-start piece = each-map (λ c. is_in_piece piece c ≡ true) (NotBefore piece.start) (λ c h. not-true (is_code_before piece.start c) (and-left _ _ h)) (codes-in piece) (filter-passes (is_in_piece piece) (codes_of bytes))
-    where
-      not-true : (b : Bool) → not b ≡ true → b ≡ false
-      not-true true e = cc
-      not-true false e = refl
 
   to-end : (piece : Piece) → Each (λ c. is_before (place_of c.start) piece.end ≡ true) (codes-in piece)
   to-end piece = each-map (λ c. is_in_piece piece c ≡ true) (λ c. is_before (place_of c.start) piece.end ≡ true) (λ c h. and-right _ _ h) (codes-in piece) (filter-passes (is_in_piece piece) (codes_of bytes))

@@ -1,7 +1,7 @@
 -- Trees on lines: rows of them, and what merging, trimming and finding emails leave of them.
 use Rattle.std.proofs.Common.{◌≡◌, ◌≢◌, ℕ, zero, suc, Bool, true, false, ◌&&◌, ◌||◌, List, [], ◌∷◌, ◌++◌, length, reverse, Option, Some, None, refl, sym, ap, ◌∙◌}
 use Rattle.std.specs.List.{list_any}
-use Rattle.std.proofs.lemmas.Bool.{or_parts}
+use Rattle.std.proofs.lemmas.Bool.{or_parts, both_ways, or_from}
 use Rattle.std.proofs.lemmas.List.Folds.{list_any-append}
 use Rattle.markdown_engine.specs.Codes.{Code, is_blank, is_line_ending}
 use Rattle.markdown_engine.specs.Tree.{Forest, empty, leaf_then, group_then, leaf, leaf_codes, ◌⊕◌}
@@ -21,12 +21,8 @@ use Rattle.markdown_stretch.specs.Lined.{IsLine, IsSomeLine, IsOnLine, IsLined}
 pub line-both : (xs ys : List Code) → IsLine (xs ++ ys) → IsLine xs × IsLine ys
 line-both xs ys h = let p = or_parts (list_any is_line_ending xs) (list_any is_line_ending ys) (sym (list_any-append is_line_ending xs ys) ∙ h) in (p.0, p.1)
 
-or-none : (a b : Bool) → a ≡ false → b ≡ false → (a || b) ≡ false
-or-none true b h k = cc
-or-none false b h k = k
-
 pub line-join : (xs ys : List Code) → IsLine xs → IsLine ys → IsLine (xs ++ ys)
-line-join xs ys h k = list_any-append is_line_ending xs ys ∙ or-none (list_any is_line_ending xs) (list_any is_line_ending ys) h k
+line-join xs ys h k = list_any-append is_line_ending xs ys ∙ or_from (list_any is_line_ending xs) (list_any is_line_ending ys) h k
 
 pub on-line : (cs : List Code) → IsSomeLine cs → IsOnLine cs
 on-line [] h = h.0 refl
@@ -130,11 +126,7 @@ module _ (E : Point → Point → Type 0) where
 
   -- a code that is on a line as it is one
   pub lined-one : (name : Name) (c : Code) → makes_data name ≡ false → IsLined E (leaf name (c ∷ []))
-  lined-one name c h = ((tt, λ e. absurd (clash (makes_data name) e h)), tt)
-    where
-      clash : (b : Bool) → b ≡ true → b ≡ false → ⊥
-      clash true e k = cc
-      clash false e k = cc
+  lined-one name c h = ((tt, λ e. absurd (both_ways (makes_data name) h e)), tt)
 
   -- a group that begins with a leaf has a code
   pub lined-group : (name : Name) (a b : Point) (n : Name) (cs : List Code) (more : Forest) → cs ≢ [] → IsLined E (leaf n cs ⊕ more) → IsLined E (group_then name a b (leaf n cs ⊕ more) empty)

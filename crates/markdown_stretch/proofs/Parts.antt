@@ -1,7 +1,7 @@
 -- Codes of a content that stand on a line are part of the document.
-use Rattle.std.proofs.Common.{◌≡◌, ◌≢◌, ℕ, Bool, true, false, ◌||◌, List, [], ◌∷◌, ◌++◌, ◌⊎◌, inl, inr, refl, sym, ap, subst, ◌∙◌, append_assoc, append-nil}
+use Rattle.std.proofs.Common.{◌≡◌, ◌≢◌, ℕ, true, false, List, [], ◌∷◌, ◌++◌, ◌⊎◌, inl, inr, refl, sym, ap, subst, ◌∙◌, append_assoc, append-nil}
 use Rattle.std.specs.List.{list_any}
-use Rattle.std.proofs.lemmas.Bool.{both_ways, or_parts}
+use Rattle.std.proofs.lemmas.Bool.{both_ways, or_parts, or_from, or_left, or_right}
 use Rattle.markdown_engine.specs.Codes.{Code, codes_of, document_start, is_line_ending, stop_of}
 use Rattle.markdown_engine.specs.Content.{content_of, piece_codes, are_pieces, ends_line}
 use Rattle.markdown_engine.specs.Walk.{codes_after}
@@ -46,22 +46,10 @@ ends-back [] c cs h = h
 ends-back (d ∷ []) c cs h = h
 ends-back (d ∷ e ∷ front) c cs h = ends-back (e ∷ front) c cs h
 
-or-right : (a b : Bool) → b ≡ true → (a || b) ≡ true
-or-right true b h = refl
-or-right false b h = h
-
-or-left : (a b : Bool) → a ≡ true → (a || b) ≡ true
-or-left true b h = refl
-or-left false b h = cc
-
-or-none : (a b : Bool) → a ≡ false → b ≡ false → (a || b) ≡ false
-or-none true b h k = cc
-or-none false b h k = k
-
 ends-ending : (cs : List Code) → ends_line cs ≡ true → list_any is_line_ending cs ≡ true
 ends-ending [] h = cc
-ends-ending (c ∷ []) h = or-left (is_line_ending c) false h
-ends-ending (c ∷ d ∷ ds) h = or-right (is_line_ending c) (list_any is_line_ending (d ∷ ds)) (ends-ending (d ∷ ds) h)
+ends-ending (c ∷ []) h = or_left (is_line_ending c) false h
+ends-ending (c ∷ d ∷ ds) h = or_right (is_line_ending c) (list_any is_line_ending (d ∷ ds)) (ends-ending (d ∷ ds) h)
 
 -- no line ending stands before the last of these codes
 abbrev pub EndsOnLine : List Code → Type 0
@@ -72,8 +60,8 @@ EndsOnLine (c ∷ d ∷ cs) = (is_line_ending c ≡ false) × EndsOnLine (d ∷ 
 -- so there is none among those in front of one of them
 line-front : (xs : List Code) (d : Code) (more : List Code) → EndsOnLine (xs ++ d ∷ more) → IsLine xs
 line-front [] d more h = refl
-line-front (c ∷ []) d more h = or-none (is_line_ending c) false h.0 refl
-line-front (c ∷ x ∷ xs) d more h = or-none (is_line_ending c) (list_any is_line_ending (x ∷ xs)) h.0 (line-front (x ∷ xs) d more h.1)
+line-front (c ∷ []) d more h = or_from (is_line_ending c) false h.0 refl
+line-front (c ∷ x ∷ xs) d more h = or_from (is_line_ending c) (list_any is_line_ending (x ∷ xs)) h.0 (line-front (x ∷ xs) d more h.1)
 
 pub line-ends : (xs : List Code) → IsLine xs → EndsOnLine xs
 line-ends [] h = tt

@@ -1,5 +1,6 @@
 -- The laws of the states of a destination.
 use Rattle.std.proofs.Common.{◌≡◌, ℕ, ◌+◌, ◌-◌, ◌≤◌, ◌==◌, ◌&&◌, ◌||◌, nat_lt, Bool, true, false, Option, Some, None, List, [], ◌∷◌, length, drop, add-one, refl, sym, ap, subst, ◌∙◌, arith, if◌then◌else◌, suc}
+use Rattle.std.proofs.lemmas.Bool.{or_from, or_left}
 use Rattle.markdown_engine.specs.Codes.{Code}
 use Rattle.markdown_engine.specs.Lists.{rest_of}
 use Rattle.markdown_engine.specs.Ops.{Op, Consume, current_of, ahead, applied, done, scratched}
@@ -22,7 +23,7 @@ use Rattle.markdown_string.specs.Destination.{refused, raw_on, raw_plain, raw_op
 use Rattle.markdown_string.specs.LinkedOps.{plan_of}
 use Rattle.markdown_string.proofs.DestinationReadings.{enclosed-none, enclosed-close, enclosed-refused, enclosed-next, enclosed-taken, enclosed-bare, text-first, destination-bracket, raw-end, raw-open-end, raw-taken, raw-bare, stops, raw-stop, raw-space, raw-control, raw-open, raw-deep, raw-close, raw-next, destination-raw, destination-end, destination-stops, destination-control, destination-covers}
 use Rattle.markdown_string.proofs.LinkedLemmas.{EndsAs-linked}
-use Rattle.markdown_string.proofs.BoolLemmas.{same-value, or-left, or-right, or-first}
+use Rattle.markdown_string.proofs.BoolLemmas.{same-value, or-left, or-right}
 use Rattle.markdown_model.proofs.ReadingSteps.{if-true, if-false}
 use Rattle.markdown_engine.specs.StateWords.{Words, Law, GoesIn}
 use Rattle.markdown_construct.proofs.StateLaws.{GoesOn-map, Goes-on, Goes-kept, Goes-next, Goes-ok, Goes-yes, Goes-nok, Goes-no}
@@ -55,10 +56,6 @@ unfolding applied scratched
 nested-past n T h = h
 
 -- Tests.
-
-or-false : (a b : Bool) → a ≡ false → b ≡ false → a || b ≡ false
-or-false false b e f = f
-or-false true b e f = cc
 
 stops-from : (a b c d z : Bool) → z && (a || (b || (c || d))) ≡ true → ((c || a) || b) || (d && z) ≡ true
 stops-from a b c d false e = cc
@@ -115,9 +112,9 @@ refused-by : (w : Bool) (max depth : ℕ) (c : Code) (cs : List Code) → white_
 unfolding white_value
 refused-by true max depth c cs e h k g =
     let closed : (depth == 0) ≡ false = not-both (depth == 0) (stops_value c.value) h (white-stops (c.value == 9) (c.value == 10) (c.value == 32) (c.value == 41) e) in
-    raw-space max depth c cs (or-first _ _ e) closed
+    raw-space max depth c cs (or_left _ _ e) closed
 refused-by false max depth c cs e h k g =
-    let goes : stops max depth c ≡ false = or-false _ _ e (ap (λ b. b && depth == 0) k) in
+    let goes : stops max depth c ≡ false = or_from _ _ e (ap (λ b. b && depth == 0) k) in
     raw-control max depth c cs goes (or-first (control_value c.value) (c.value == 32) g (or-left _ _ (or-left _ _ e))) where
       or-first : (a b : Bool) → a || b ≡ true → b ≡ false → a ≡ true
       or-first true b h e = refl
@@ -225,7 +222,7 @@ module _ (W : Words) (within : Within states W) where
       (ap p b.whole ∙ ap at (refused-by (white_value b.code.value) max depth b.code cs refl (tested (λ v. depth == 0 && stops_value v) ∙ h) closer (tested (λ v. control_value v || v == 32) ∙ j))))
       (λ j.
       let plain : control_value b.code.value || b.code.value == 32 ≡ false = tested (λ v. control_value v || v == 32) ∙ j in
-      let goes : stops max depth b.code ≡ false = or-false (white_value b.code.value) (is_value 41 b.code && depth == 0) (plain-value b.code.value plain) (ap (λ x. x && depth == 0) closer) in
+      let goes : stops max depth b.code ≡ false = or_from (white_value b.code.value) (is_value 41 b.code && depth == 0) (plain-value b.code.value plain) (ap (λ x. x && depth == 0) closer) in
       let next : raw_from max false depth (b.code ∷ cs) ≡ with_first b.code (raw_from max (b.code.value == 92) depth cs) =
       raw-next max depth b.code cs goes (or-left (control_value b.code.value) (b.code.value == 32) plain) (tested (λ v. v == 40) ∙ g) closer in
       let reads : (x : Bool) → (c == 92) ≡ x → p (ahead T) ≡ preceded (Consume ∷ []) (raw_plan names max x depth cs) =
@@ -383,8 +380,8 @@ module _ (W : Words) (within : Within states W) where
       let plain : control_value v ≡ false = or-left (control_value v) (v == 32 || v == 41) bars in
       let others : (v == 32 || v == 41) ≡ false = or-right (control_value v) (v == 32 || v == 41) bars in
       let closer : is_value 41 b.code ≡ false = or-right (v == 32) (v == 41) others in
-      let white : white_value v ≡ false = plain-value v (or-false (control_value v) (v == 32) plain (or-left (v == 32) (v == 41) others)) in
+      let white : white_value v ≡ false = plain-value v (or_from (control_value v) (v == 32) plain (or-left (v == 32) (v == 41) others)) in
       Goes-kept W 4 0 p (raw_plan names max false 0) (raw_opening names) s T (Retry DestinationRaw) (within DestinationRaw) alone refl (no-codes T) (omega arith)
-      (ap p b.whole ∙ destination-raw max names b.code cs (ap (λ v. v == 60) b.value ∙ h) (or-false (white_value v) (is_value 41 b.code && true) white (ap (λ x. x && true) closer)) plain closer ∙ ap (λ xs. preceded (raw_opening names) (raw_plan names max false 0 xs)) (sym b.whole))
+      (ap p b.whole ∙ destination-raw max names b.code cs (ap (λ v. v == 60) b.value ∙ h) (or_from (white_value v) (is_value 41 b.code && true) white (ap (λ x. x && true) closer)) plain closer ∙ ap (λ xs. preceded (raw_opening names) (raw_plan names max false 0 xs)) (sym b.whole))
       (opened-raw T)
       (λ ok U x. raw-says T k ok U x)))))

@@ -1,5 +1,6 @@
 -- Labels: what their reading gives, by the next code.
 use Rattle.std.proofs.Common.{◌≡◌, ◌≢◌, ℕ, suc, ◌+◌, ◌==◌, ◌&&◌, ◌||◌, not, nat_le, codes, Bool, true, false, if◌then◌else◌, Option, Some, None, List, [], ◌∷◌, ◌++◌, refl, sym, ap, subst, ◌∙◌, arith}
+use Rattle.std.proofs.Math.Bool.{or-true, or-false}
 use Rattle.std.proofs.lemmas.Bool.{eqb-true}
 use Rattle.std.proofs.lemmas.Bool.Decides.{nat_tests}
 use Rattle.std.proofs.lemmas.Grind.{common_steps}
@@ -42,10 +43,6 @@ or-assoc : (a b c : Bool) → a || (b || c) ≡ (a || b) || c
 or-assoc true b c = refl
 or-assoc false b c = refl
 
-or-none : (a : Bool) → a || false ≡ a
-or-none true = refl
-or-none false = refl
-
 counted-ending : (indent : Bool) (c : Code) (cs : List Code) → is_line_ending c ≡ true → counted indent (c ∷ cs) ≡ counted true cs
 counted-ending indent c cs e =
     ap (λ b. elim b as (λ _. ℕ) [ true ↦ counted true cs | false ↦ elim (indent && is_blank c) as (λ _. ℕ) [ true ↦ counted true cs | false ↦ suc (counted false cs) ] ]) e
@@ -67,7 +64,7 @@ all-three : (a b c x y z : Bool) → a ≡ x → b ≡ y → c ≡ z → a && (b
 all-three a b c x y z e f g = ap (λ p. p && (b && c)) e ∙ ap (λ p. x && (p && c)) f ∙ ap (λ p. x && (y && p)) g
 
 white-code : (c : Code) → is_line_ending c ≡ false → is_whitespace_code c ≡ is_blank c
-white-code c e = ap (λ b. is_blank c || b) e ∙ or-none (is_blank c)
+white-code c e = ap (λ b. is_blank c || b) e ∙ or-false (is_blank c)
 
 -- data begins or goes on
 pub fits-data : (size : ℕ) (seen : Bool) (c : Code) (text : List Code) → is_line_ending c ≡ false → fits size seen (c ∷ text) ≡ fits (size + 1) (seen || not (is_blank c)) text
@@ -90,10 +87,7 @@ counted-begins [] b = refl
 counted-begins (c ∷ text) b = counted-data true c text b.0 b.1 ∙ sym (counted-data false c text b.0 refl)
 
 ending-white : (c : Code) → is_line_ending c ≡ true → is_whitespace_code c ≡ true
-ending-white c e = ap (λ b. is_blank c || b) e ∙ or-true (is_blank c) where
-  or-true : (a : Bool) → a || true ≡ true
-  or-true true = refl
-  or-true false = refl
+ending-white c e = ap (λ b. is_blank c || b) e ∙ or-true (is_blank c)
 
 -- a line ending, and the blank codes behind it
 pub fits-ending : (size : ℕ) (seen : Bool) (c : Code) (ws text : List Code) → is_line_ending c ≡ true → AreBlank ws → Begins text → fits size seen (c ∷ ws ++ text) ≡ fits size seen text

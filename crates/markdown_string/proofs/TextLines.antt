@@ -1,5 +1,6 @@
 -- The lines of a text, and the operations that pass their leaves.
 use Rattle.std.proofs.Common.{◌≡◌, ◌&&◌, ◌||◌, not, Bool, true, false, List, [], ◌∷◌, ◌++◌, refl, sym, ap, subst, ◌∙◌, append_assoc}
+use Rattle.std.proofs.lemmas.Bool.{not_from_false}
 use Rattle.markdown_engine.specs.Codes.{Code, is_line_ending, is_blank}
 use Rattle.markdown_engine.specs.Ops.{Enter, Exit, Consume}
 use Rattle.markdown_engine.specs.Tree.{Forest, leaf_then, ◌⊕◌}
@@ -15,7 +16,6 @@ use Rattle.markdown_model.proofs.Readings.{codes-lines}
 use Rattle.markdown_string.specs.LinkedOps.{enter_op, linked_ops, IsRow}
 use Rattle.markdown_string.specs.Text.{string, enter_text, break_ops, line_of, inside_ops}
 use Rattle.markdown_string.proofs.LinkedLemmas.{CoversRow}
-use Rattle.markdown_string.proofs.BoolLemmas.{negated}
 use Rattle.markdown_model.proofs.ReadingLaws.{lines_of-ending}
 use Rattle.markdown_model.proofs.ReadingSteps.{span-takes, span-none}
 
@@ -34,7 +34,7 @@ join-is c d e = join-by (is_line_ending c) (is_line_ending d) e
 
 -- the first line, from a code of it on
 first-line : (c : Code) (text : List Code) → is_line_ending c ≡ false → lines_of (c ∷ text) ≡ (c ∷ (line_of text).0) ∷ lines_of (line_of text).1
-first-line c text e = stretch-span (λ x. true) goes_on join-is c text (negated (is_line_ending c) e)
+first-line c text e = stretch-span (λ x. true) goes_on join-is c text (not_from_false (is_line_ending c) e)
 
 line-leaf : (c : Code) (cs : List Code) → is_line_ending c ≡ false → line_leaf N.Data string (c ∷ cs) ≡ linked_leaf N.Data string (c ∷ cs)
 line-leaf c cs e = ap (λ (b : Bool). let t : Forest = elim b [ true ↦ linked_leaf N.LineEnding string (c ∷ cs) | false ↦ linked_leaf N.Data string (c ∷ cs) ] in t) e
@@ -70,11 +70,11 @@ span-over p c cs xs ys e h = span-takes p c cs e ∙ ap (λ (s : List Code × Li
 
 blank-line : (ws text : List Code) → AreBlank ws → line_of (ws ++ text) ≡ (ws ++ (line_of text).0, (line_of text).1)
 blank-line [] text k = refl
-blank-line (w ∷ ws) text k = span-over goes_on w (ws ++ text) (ws ++ (line_of text).0) (line_of text).1 (negated (is_line_ending w) k.0.1) (blank-line ws text k.1)
+blank-line (w ∷ ws) text k = span-over goes_on w (ws ++ text) (ws ++ (line_of text).0) (line_of text).1 (not_from_false (is_line_ending w) k.0.1) (blank-line ws text k.1)
 
 line-begins : (text : List Code) → Begins text → Begins (line_of text).0
 line-begins [] k = tt
-line-begins (c ∷ text) k = subst (λ (s : List Code × List Code). Begins s.0) (sym (span-takes goes_on c text (negated (is_line_ending c) k.0))) k
+line-begins (c ∷ text) k = subst (λ (s : List Code × List Code). Begins s.0) (sym (span-takes goes_on c text (not_from_false (is_line_ending c) k.0))) k
 
 blank-span : (ws text : List Code) → AreBlank ws → Begins text → span is_blank (ws ++ text) ≡ (ws, text)
 blank-span [] [] k b = refl
@@ -96,7 +96,7 @@ indented-first c cs ys e ws text k b same =
 data-first : (text : List Code) → Begins text → linked_leaf N.Data string (line_of text).0 ⊕ lines N.Data string (line_of text).1 ≡ lines N.Data string text
 data-first [] b = refl
 data-first (c ∷ text) b =
-    ap (λ (s : List Code × List Code). linked_leaf N.Data string s.0 ⊕ lines N.Data string s.1) (span-takes goes_on c text (negated (is_line_ending c) b.0))
+    ap (λ (s : List Code × List Code). linked_leaf N.Data string s.0 ⊕ lines N.Data string s.1) (span-takes goes_on c text (not_from_false (is_line_ending c) b.0))
     ∙ sym (lines-data c text b.0)
 
 later-lines : (ws text : List Code) → AreBlank ws → Begins text → lines_from N.Data string true (lines_of (ws ++ text)) ≡ linked_leaf N.SpaceOrTab string ws ⊕ lines N.Data string text
@@ -135,7 +135,7 @@ break-ending connect c ws text e k b =
 
 -- in data
 pub inside-more : (c : Code) (text : List Code) → is_line_ending c ≡ false → inside_ops (c ∷ text) ≡ (Consume ∷ []) ++ inside_ops text
-inside-more c text e = ap (λ (s : List Code × List Code). consumes s.0 ++ Exit N.Data ∷ break_ops true s.1) (span-takes goes_on c text (negated (is_line_ending c) e))
+inside-more c text e = ap (λ (s : List Code × List Code). consumes s.0 ++ Exit N.Data ∷ break_ops true s.1) (span-takes goes_on c text (not_from_false (is_line_ending c) e))
 
 -- a text that does not go on on the line
 abbrev pub Ended : List Code → Type 0

@@ -1,5 +1,6 @@
 -- Texts that are read as strings: the operations that they ask for, by the next code.
 use Rattle.std.proofs.Common.{◌≡◌, ◌==◌, ◌||◌, not, Bool, true, false, if◌then◌else◌, Option, Some, None, List, [], ◌∷◌, ◌++◌, refl, sym, ap, subst, ◌∙◌, append_assoc}
+use Rattle.std.proofs.lemmas.Bool.{not-false, not-true, or_right, or_left}
 use Rattle.markdown_engine.specs.Codes.{Code, is_line_ending, is_blank}
 use Rattle.markdown_engine.specs.Ops.{Op, Exit, Consume}
 use Rattle.markdown_engine.specs.declared.event.Name.TheVariants as N
@@ -11,7 +12,7 @@ use Rattle.markdown_string.specs.LinkedOps.{linked_ops}
 use Rattle.markdown_string.specs.Text.{enter_text, break_ops, inside_ops, ends_filled, answer}
 use Rattle.markdown_string.proofs.EscapeReadings.{Behind, first-some, text-end, text-taken, text-stops, text-refused, text-next, text-bare, text}
 use Rattle.markdown_string.proofs.TextLines.{Begins, AreBlank, Ended, break-data, ending_leaves, break-ending, inside-more, inside-end}
-use Rattle.markdown_string.proofs.BoolLemmas.{same-value, not-true, not-false, or-first, or-second}
+use Rattle.markdown_string.proofs.BoolLemmas.{same-value}
 use Rattle.markdown_model.proofs.Leaves.{span-append}
 use Rattle.markdown_model.proofs.ReadingSteps.{span-takes, span-none}
 
@@ -188,13 +189,13 @@ module _ (stop takes refuses : Code → Bool) (plain : (c : Code) → is_whitesp
 
   reads-blank : (ws cs : List Code) → AreBlank ws → reads false (ws ++ cs) ≡ with_all ws (reads false cs)
   reads-blank [] cs k = refl
-  reads-blank (w ∷ ws) cs k = reads-white w (ws ++ cs) (or-first (is_blank w) (is_line_ending w) k.0.0) ∙ ap (with_first w) (reads-blank ws cs k.1)
+  reads-blank (w ∷ ws) cs k = reads-white w (ws ++ cs) (or_left (is_blank w) (is_line_ending w) k.0.0) ∙ ap (with_first w) (reads-blank ws cs k.1)
 
   reads-ending : (c : Code) (cs : List Code) → is_line_ending c ≡ true → reads false (c ∷ cs) ≡ with_all (c ∷ (span is_blank cs).0) (reads false (span is_blank cs).1)
   reads-ending c cs h =
       let s : List Code × List Code = span is_blank cs in
       ap (λ xs. reads false (c ∷ xs)) (sym (span-append is_blank cs))
-      ∙ reads-white c (s.0 ++ s.1) (or-second (is_blank c) (is_line_ending c) h)
+      ∙ reads-white c (s.0 ++ s.1) (or_right (is_blank c) (is_line_ending c) h)
       ∙ ap (with_first c) (reads-blank s.0 s.1 (blank-front cs))
 
   pub breaks-ending : (check : List Code → Bool) (connect : Bool) (c : Code) (cs : List Code) → is_line_ending c ≡ true → begins_filled_line (span is_blank cs).1 ≡ true → ((ws text : List Code) → AreBlank ws → Begins text → check (c ∷ ws ++ text) ≡ check text) → breaks check connect (c ∷ cs) ≡ preceded (linked_ops connect (ending_leaves c (span is_blank cs).0)) (breaks check true (span is_blank cs).1)
@@ -210,7 +211,7 @@ module _ (stop takes refuses : Code → Bool) (plain : (c : Code) → is_whitesp
   blank-check check c ws [] unfilled f r x = let no : None ≡ Some r = sym (text-end stop takes refuses false) ∙ x in cc
   blank-check check c ws (d ∷ rest) unfilled f r x =
       let h : is_line_ending d ≡ true = not-false (is_line_ending d) unfilled in
-      let b : Behind d (reads false rest) r = first-some d (reads false rest) r (sym (reads-white d rest (or-second (is_blank d) (is_line_ending d) h)) ∙ x) in
+      let b : Behind d (reads false rest) r = first-some d (reads false rest) r (sym (reads-white d rest (or_right (is_blank d) (is_line_ending d) h)) ∙ x) in
       ap (λ (y : List Code × List Code). check (c ∷ ws ++ y.0)) b.is ∙ f d b.others.0 h
 
   pub breaks-blank : (check : List Code → Bool) (connect : Bool) (c : Code) (cs : List Code) → is_line_ending c ≡ true → begins_filled_line (span is_blank cs).1 ≡ false → ((ws : List Code) (d : Code) (text : List Code) → AreBlank ws → is_line_ending d ≡ true → check (c ∷ ws ++ d ∷ text) ≡ false) → breaks check connect (c ∷ cs) ≡ None

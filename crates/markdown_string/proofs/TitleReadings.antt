@@ -1,5 +1,6 @@
 -- Titles: what their readings give, by the next code.
 use Rattle.std.proofs.Common.{◌≡◌, ◌≢◌, ℕ, ◌==◌, ◌&&◌, ◌||◌, not, Bool, true, false, if◌then◌else◌, Option, Some, None, List, [], ◌∷◌, ◌++◌, refl, sym, ap, subst, ◌∙◌, append_assoc}
+use Rattle.std.proofs.Math.Bool.{or-true}
 use Rattle.std.proofs.lemmas.Bool.{eqb-true}
 use Rattle.markdown_engine.specs.Codes.{Code, is_line_ending, is_blank}
 use Rattle.markdown_engine.specs.Content.{has_no_blank_line}
@@ -18,7 +19,7 @@ use Rattle.markdown_string.specs.Title.{opening, is_closer, text_from, begin_pla
 use Rattle.markdown_string.proofs.EscapeReadings.{Text, text-stops, text, Gives-text}
 use Rattle.markdown_string.proofs.LinkedLemmas.{CoversRow, Row-leaf, Row-last, Row-string, Row-whole}
 use Rattle.markdown_string.proofs.TextLines.{text-group, Row-lines}
-use Rattle.markdown_string.proofs.BoolLemmas.{same-value, or-true}
+use Rattle.markdown_string.proofs.BoolLemmas.{same-value}
 use Rattle.markdown_model.proofs.ReadingSteps.{bind-some, bind-none, after-some, after-none, one-here, one-not, provided-true, provided-false, either-first, either-second}
 
 -- The closing markers.

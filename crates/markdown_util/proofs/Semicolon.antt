@@ -1,20 +1,13 @@
 -- A text up to its first `;`, and the bytes of a value in front of it.
-use Rattle.std.proofs.Common.{◌≡◌, ◌∙◌, sym, ap, refl, ℕ, zero, suc, ◌+◌, ◌≤◌, Bool, true, false, cond, ◌&&◌, ◌||◌, eqb, List, [], ◌∷◌, ◌++◌, length, take, drop, arith}
+use Rattle.std.proofs.Common.{◌≡◌, ◌∙◌, sym, ap, refl, ℕ, zero, suc, ◌+◌, ◌≤◌, Bool, true, false, cond, ◌||◌, eqb, List, [], ◌∷◌, ◌++◌, length, take, drop, arith}
+use Rattle.std.proofs.Math.Bool.{or-true}
 use Rattle.std.specs.List.{list_all, list_any, prefix_len, position_or_len, before_first, after_first}
 use Rattle.std.proofs.Math.Seq.{take-append_seam, drop-append-add}
-use Rattle.std.proofs.lemmas.Bool.{false≢true, eqb-true}
+use Rattle.std.proofs.lemmas.Bool.{false≢true, eqb-true, and_parts}
 use Rattle.std.proofs.lemmas.List.{length-take}
 use Rattle.std.proofs.lemmas.List.Sums.{prefix_len-le-length}
 use Rattle.markdown_util.specs.Reference.{is_semicolon}
 use Rattle.markdown_util.proofs.ParsedLemmas.{eqb_off}
-
-pub and_parts : (a b : Bool) → (a && b) ≡ true → (a ≡ true) × (b ≡ true)
-and_parts true b h = (refl, h)
-and_parts false b h = absurd (false≢true h)
-
-or_true : (b : Bool) → (b || true) ≡ true
-or_true true = refl
-or_true false = refl
 
 one_more : (n : ℕ) → 1 + n ≡ suc n
 one_more n = omega arith
@@ -45,7 +38,7 @@ after-semicolon xs rest h = ap (λ n. drop (n + 1) (xs ++ 59 ∷ rest)) (place x
 
 pub any-semicolon : (xs rest : List ℕ) → list_any is_semicolon (xs ++ 59 ∷ rest) ≡ true
 any-semicolon [] rest = refl
-any-semicolon (x ∷ xs) rest = rw (any-semicolon xs rest) (or_true (is_semicolon x))
+any-semicolon (x ∷ xs) rest = rw (any-semicolon xs rest) (or-true (is_semicolon x))
 
 -- a text with a `;`, parted at the first one
 pub record Parted (bs : List ℕ) : Type 0 where

@@ -1,5 +1,5 @@
 -- A table in the order of its names: each name stands once, a binary search finds its row, and a cut between two parts tells in which a name would stand.
-use Rattle.std.proofs.Common.{◌≡◌, ◌∙◌, sym, ap, refl, subst, ℕ, zero, suc, ◌+◌, ◌<◌, ◌≤◌, add-one, get_or, Bool, true, false, not, ◌&&◌, ◌||◌, List, [], ◌∷◌, ◌++◌, length, map, Option, Some, None, Bor, Result, Ok, Err, inl, inr, arith}
+use Rattle.std.proofs.Common.{◌≡◌, ◌∙◌, sym, ap, refl, subst, ℕ, zero, suc, ◌+◌, ◌<◌, ◌≤◌, add-one, get_or, Bool, true, false, not, ◌||◌, List, [], ◌∷◌, ◌++◌, length, map, Option, Some, None, Bor, Result, Ok, Err, inl, inr, arith}
 use Rattle.std.specs.Cmp.Lexicographic.{slice_cmp, same_text}
 use Rattle.std.specs.List.{list_all}
 use Rattle.std.specs.List.Sorted.{IsSortedBy, IsBinarySearchResult, IsSearchInRange, IsPartitionPoint}
@@ -8,7 +8,7 @@ use Rattle.std.specs.Str.{bytes_eq, byte}
 use Rattle.std.specs.declared.cmp.Ordering.{Ordering}
 use Rattle.std.specs.declared.cmp.Ordering.TheVariants.{Less, Equal, Greater}
 use Rattle.std.specs.Result.{MatchResult}
-use Rattle.std.proofs.lemmas.Bool.{false≢true, cases_lt}
+use Rattle.std.proofs.lemmas.Bool.{false≢true, cases_lt, and_from, and_parts}
 use Rattle.std.proofs.lemmas.Cmp.{nat_list_cmp_total}
 use Rattle.std.proofs.lemmas.List.Folds.{list_all-append}
 use Rattle.std.proofs.lemmas.List.Sorted.{searchable_from_sorted}
@@ -16,11 +16,6 @@ use Rattle.std.proofs.lemmas.Map.Text.{is_eq-slice_cmp}
 use Rattle.std.proofs.lemmas.Slice.Eq.{bytes_eq-Decides}
 use Rattle.markdown_util.specs.Reference.{Table, rows_of, is_value, named_value, has_name, has_distinct_names, is_below, is_below_first, is_sorted}
 use Rattle.markdown_util.specs.TableParts.{IsPart}
-use Rattle.markdown_util.proofs.Semicolon.{and_parts}
-
-and_true : (a b : Bool) → a ≡ true → b ≡ true → (a && b) ≡ true
-and_true true b h k = k
-and_true false b h k = h
 
 less : (r : Ordering) → is_lt r ≡ true → r ≡ Less
 less Less h = refl
@@ -73,7 +68,7 @@ above : (rows : Table) (name : List ℕ) → is_sorted rows ≡ true → is_belo
 above [] name s h = refl
 above (row ∷ rows) name s h =
     let parts = and_parts (is_below_first row.0 rows) (is_sorted rows) s in
-    and_true _ _ h (above rows name parts.1 (further name row.0 rows h parts.0))
+    and_from _ _ h (above rows name parts.1 (further name row.0 rows h parts.0))
 
 none-above : (rows : Table) (name : List ℕ) → is_sorted rows ≡ true → is_below_first name rows ≡ true → named_value rows name ≡ None
 none-above rows name s h = none-passes (is_below name) rows name (above rows name s h) (not-itself name)
@@ -82,7 +77,7 @@ pub distinct : (rows : Table) → is_sorted rows ≡ true → has_distinct_names
 distinct [] s = refl
 distinct (row ∷ rows) s =
     let parts = and_parts (is_below_first row.0 rows) (is_sorted rows) s in
-    and_true _ _ (ap not (no-name rows row.0 (none-above rows row.0 parts.1 parts.0))) (distinct rows parts.1)
+    and_from _ _ (ap not (no-name rows row.0 (none-above rows row.0 parts.1 parts.0))) (distinct rows parts.1)
 
 -- A table in two parts.
 
@@ -119,11 +114,11 @@ pub record IsInOrder (part : Table) (from next : List ℕ) : Type 0 where
 
 sorted-join : (cut : List ℕ) (low high : Table) → is_sorted low ≡ true → list_all (λ row. is_below row.0 cut) low ≡ true → is_below_first cut high ≡ true → is_sorted high ≡ true → is_sorted (low ++ high) ≡ true
 sorted-join cut [] high s all first t = t
-sorted-join cut (row ∷ []) high s all first t = and_true _ _ (further row.0 cut high (and_parts (is_below row.0 cut) true all).0 first) t
+sorted-join cut (row ∷ []) high s all first t = and_from _ _ (further row.0 cut high (and_parts (is_below row.0 cut) true all).0 first) t
 sorted-join cut (row ∷ next ∷ low) high s all first t =
     let parts = and_parts (is_below row.0 next.0) (is_sorted (next ∷ low)) s in
     let rest = and_parts (is_below row.0 cut) (list_all (λ r. is_below r.0 cut) (next ∷ low)) all in
-    and_true _ _ parts.0 (sorted-join cut (next ∷ low) high parts.1 rest.1 first t)
+    and_from _ _ parts.0 (sorted-join cut (next ∷ low) high parts.1 rest.1 first t)
 
 all-join : (p : List ℕ × List ℕ → Bool) (low high : Table) → list_all p low ≡ true → list_all p high ≡ true → list_all p (low ++ high) ≡ true
 all-join p low high h k = rw (list_all-append p low high, h) k
@@ -132,7 +127,7 @@ all-below : (cut next : List ℕ) (rows : Table) → is_below cut next ≡ true 
 all-below cut next [] h k = refl
 all-below cut next (row ∷ rows) h k =
     let parts = and_parts (is_below row.0 cut) (list_all (λ r. is_below r.0 cut) rows) k in
-    and_true _ _ (below-trans row.0 cut next parts.0 h) (all-below cut next rows h parts.1)
+    and_from _ _ (below-trans row.0 cut next parts.0 h) (all-below cut next rows h parts.1)
 
 filled-join : (low high : Table) → has_rows low ≡ true → has_rows (low ++ high) ≡ true
 filled-join [] high h = absurd (false≢true h)

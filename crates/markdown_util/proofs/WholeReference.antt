@@ -11,13 +11,13 @@ use Rattle.std.proofs.lemmas.List.{take-append-drop, length-take, get_or-take}
 use Rattle.std.proofs.lemmas.List.Sums.{prefix_len-le-length, prefix_len_passes}
 use Rattle.std.proofs.lemmas.Int.Digits.{digits_value-lt}
 use Rattle.std.proofs.lemmas.Str.{IsUtf8-past_char, encode_ascii, IsCharBoundary-start, IsCharBoundary-after_ascii}
-use Rattle.std.proofs.lemmas.Bool.{false≢true, eqb-false, ltb-true, leb-true}
+use Rattle.std.proofs.lemmas.Bool.{false≢true, eqb-false, ltb-true, leb-true, and_parts}
 use Rattle.std.proofs.lemmas.Bool.Decides.{nat_tests}
 use Rattle.markdown_util.specs.Reference.{Table, IsTable, IsMarker, IsNumber, named_value, decoded, is_value, is_value_byte, value_size_max, radix_of, reference_text, inner_text, numbered_text, number_text, is_semicolon}
 use Rattle.markdown_util.specs.Parts.{IsMarked, LacksFirst}
 use Rattle.markdown_util.proofs.FirstByte.{utf8-behind}
 use Rattle.markdown_util.proofs.ParsedLemmas.{eqb_off}
-use Rattle.markdown_util.proofs.Semicolon.{and_parts, NoSemicolon, parted, before-semicolon, after-semicolon, any-semicolon, passing_none, passing_len, passing_front, prefix-le}
+use Rattle.markdown_util.proofs.Semicolon.{NoSemicolon, parted, before-semicolon, after-semicolon, any-semicolon, passing_none, passing_len, passing_front, prefix-le}
 
 abbrev pick : Bool → Option (List ℕ) → Option (List ℕ) → Option (List ℕ)
 pick b x y = elim b [ true ↦ x | false ↦ y ]

@@ -1,5 +1,6 @@
 -- Which element of a string stands where.
 use Rattle.std.proofs.Common.{◌≡◌, Bool, true, false, ◌&&◌, ◌||◌, List, ◌∷◌, Option, None, Some, refl, ap, ◌∙◌}
+use Rattle.std.proofs.Math.Bool.{and-false}
 use Rattle.std.specs.Str.{byte}
 use Rattle.markdown_engine.specs.Codes.{Code, is_line_ending}
 use Rattle.markdown_engine.specs.Tree.{Forest}
@@ -14,7 +15,7 @@ use Rattle.markdown_model.proofs.DataLaws.{code_leaf}
 use Rattle.markdown_util.specs.Reference.{html_5_rows}
 use Rattle.markdown_construct.specs.Plan.{tree_ops}
 use Rattle.markdown_leaf.proofs.CharacterReferenceReading.{no-reference}
-use Rattle.markdown_model.proofs.ReadingSteps.{and-false, bind-none, either-second, either-some, one-other, switched-off, switched-on}
+use Rattle.markdown_model.proofs.ReadingSteps.{bind-none, either-second, either-some, one-other, switched-off, switched-on}
 use Rattle.markdown_text.specs.Settings.{setting_of}
 use Rattle.markdown_text.specs.StringSteps.{string_markers}
 use Rattle.markdown_run.specs.Laws.TextElements.{plain_of, plain-switched, data-alone, ending-alone}
