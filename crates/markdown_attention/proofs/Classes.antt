@@ -3,7 +3,7 @@ use Rattle.std.proofs.Common.{◌≡◌, ℕ, ◌+◌, ◌%◌, ◌<◌, Bool, t
 use Rattle.std.proofs.lemmas.Bool.{cases_eq, cases_Bool, eq-eqb, ne_eqb, and_right}
 use Rattle.markdown_attention.specs.declared.attention.runs.Sequence.{Sequence}
 use Rattle.markdown_engine.specs.declared.configuration.ParseOptions.{ParseOptions}
-use Rattle.markdown_attention.specs.Pairs.{sizes_fit, ruled_size, tilde_allows}
+use Rattle.markdown_attention.specs.Pairs.{sizes_fit, ruled_size, is_tilde_pair}
 use Rattle.markdown_attention.specs.Open.{class_of}
 
 mod_same : (x y y' : ℕ) → y % 3 ≡ y' % 3 → (x + y) % 3 ≡ (x + y') % 3
@@ -23,14 +23,14 @@ tilde_class y = cond (eqb y 1) 1 (cond (eqb y 2) 2 0)
 tilde_other : (y : ℕ) → (y ≡ 1 → ⊥) → (y ≡ 2 → ⊥) → tilde_class y ≡ 0
 tilde_other y a b = rw (ne_eqb y 1 a, ne_eqb y 2 b) refl
 
-tilde_none : (options : ParseOptions) (x y : ℕ) → (y ≡ 1 → ⊥) → (y ≡ 2 → ⊥) → tilde_allows options x y ≡ false
+tilde_none : (options : ParseOptions) (x y : ℕ) → (y ≡ 1 → ⊥) → (y ≡ 2 → ⊥) → is_tilde_pair options x y ≡ false
 tilde_none options x y a b = rw (ne_eqb y 1 a, ne_eqb y 2 b) (and_right (eqb x y) false refl)
 
-tilde_same : (options : ParseOptions) (x y y' : ℕ) → tilde_class y ≡ tilde_class y' → tilde_allows options x y ≡ tilde_allows options x y'
+tilde_same : (options : ParseOptions) (x y y' : ℕ) → tilde_class y ≡ tilde_class y' → is_tilde_pair options x y ≡ is_tilde_pair options x y'
 tilde_same options x y y' e =
     elim (cases_eq y 1) [
       | inl one ↦ elim (cases_eq y' 1) [
-        | inl one' ↦ ap (λ z. tilde_allows options x z) (one ∙ sym one')
+        | inl one' ↦ ap (λ z. is_tilde_pair options x z) (one ∙ sym one')
         | inr n ↦
             let e1 : tilde_class 1 ≡ tilde_class y' = subst (λ z. tilde_class z ≡ tilde_class y') one e in
             elim (cases_eq y' 2) [
@@ -42,7 +42,7 @@ tilde_same options x y y' e =
         | inl two ↦
             let e1 : tilde_class 2 ≡ tilde_class y' = subst (λ z. tilde_class z ≡ tilde_class y') two e in
             elim (cases_eq y' 2) [
-              | inl two' ↦ ap (λ z. tilde_allows options x z) (two ∙ sym two')
+              | inl two' ↦ ap (λ z. is_tilde_pair options x z) (two ∙ sym two')
               | inr n2 ↦ elim (cases_eq y' 1) [
                 | inl one' ↦ (let e2 : tilde_class 2 ≡ tilde_class 1 = subst (λ z. tilde_class 2 ≡ tilde_class z) one' e1 in absurd (omega (arith, e2)))
                 | inr n1 ↦ (let z = tilde_other y' n1 n2 in absurd (omega (arith, e1, z)))

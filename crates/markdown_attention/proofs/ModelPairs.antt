@@ -13,7 +13,7 @@ use Rattle.markdown_model.specs.Pairs as Model
 use Rattle.markdown_model.specs.Runs.{Run, marker_of}
 use Rattle.markdown_model.specs.Setting.{Setting}
 use Rattle.markdown_attention.specs.Containers.{whole_shape, is_in, runs_in, place_in, placed, ArePairLists}
-use Rattle.markdown_attention.specs.Pairs.{row_of, Eligible, IsNext, PairsFrom, left, run_at, taken, takes, is_shut, is_around, sizes_fit, ruled_size, size_of_pair, tilde_allows, three_refuses, AreItsPairs, pairs_in}
+use Rattle.markdown_attention.specs.Pairs.{row_of, Eligible, IsNext, PairsFrom, left, run_at, taken, takes, is_shut, is_around, sizes_fit, ruled_size, size_of_pair, is_tilde_pair, is_refused_by_three, AreItsPairs, pairs_in}
 use Rattle.markdown_attention.specs.declared.attention.pairing.Pair.{Pair}
 use Rattle.markdown_attention.specs.declared.attention.runs.Sequence.{Sequence}
 use Rattle.markdown_attention.proofs.Standing.{taken_push, takes_opener, takes_closer, takes_other}
@@ -43,7 +43,7 @@ read-whole : (options : ParseOptions) (size x : ℕ) → x ≡ size → ruled_si
 read-whole options size x e = elim (cases_Bool options.attention_first_lengths) [ inl w ↦ rw w (sym e) | inr r ↦ rw r refl ]
 
 -- what sizes of tildes the rule for them allows
-tilde-sizes : (options : ParseOptions) (x y : ℕ) → tilde_allows options x y ≡ true → (x ≡ y) × ((y ≡ 2) ⊎ (y ≡ 1))
+tilde-sizes : (options : ParseOptions) (x y : ℕ) → is_tilde_pair options x y ≡ true → (x ≡ y) × ((y ≡ 2) ⊎ (y ≡ 1))
 tilde-sizes options x y h =
     let p = and_parts (eqb x y) (eqb y 2 || (eqb y 1 && options.gfm_strikethrough_single_tilde)) h in (
       eqb-true x y p.0,
@@ -59,14 +59,14 @@ three-equal x y e (inl two) = λ z. omega arith
 three-equal x y e (inr one) = λ z. omega arith
 
 -- the rule of three never refuses what the rule for tildes allows
-three-tilde : (options : ParseOptions) (a b : Sequence) (x y : ℕ) → x ≡ a.size → y ≡ b.size → tilde_allows options x y ≡ true → three options a b x y ≡ false
+three-tilde : (options : ParseOptions) (a b : Sequence) (x y : ℕ) → x ≡ a.size → y ≡ b.size → is_tilde_pair options x y ≡ true → three options a b x y ≡ false
 three-tilde options a b x y ea eb h =
     let t = tilde-sizes options x y h in
     let none : eqb ((ruled_size options a.size x + ruled_size options b.size y) % 3) 0 ≡ false =
     rw (read-whole options a.size x ea, read-whole options b.size y eb) (ne_eqb ((x + y) % 3) 0 (three-equal x y t.0 t.1)) in
     rw none (ap (λ z. (a.may_close || b.may_open) && z) (and-false (not (eqb (ruled_size options b.size y % 3) 0))) ∙ and-false (a.may_close || b.may_open))
 
-tilde-same : (options : ParseOptions) (x y : ℕ) → (eqb x y && (eqb x 2 || (eqb x 1 && options.gfm_strikethrough_single_tilde))) ≡ tilde_allows options x y
+tilde-same : (options : ParseOptions) (x y : ℕ) → (eqb x y && (eqb x 2 || (eqb x 1 && options.gfm_strikethrough_single_tilde))) ≡ is_tilde_pair options x y
 tilde-same options x y =
     elim (cases_eq x y) [
       | inl e ↦ rw (eq-eqb x y e) (ap (λ z. eqb z 2 || (eqb z 1 && options.gfm_strikethrough_single_tilde)) e)
@@ -81,13 +81,13 @@ fit-rules options a b x y m lx ly wa wb h =
     elim (cases_eq b.marker 126) [
       | inl is ↦
           let t : eqb b.marker 126 ≡ true = eq-eqb b.marker 126 is in
-          let allowed : tilde_allows options x y ≡ true = (let f = h in rw t at f) in (
+          let allowed : is_tilde_pair options x y ≡ true = (let f = h in rw t at f) in (
             three-tilde options a b x y (wa (m ∙ is) lx) (wb is ly) allowed,
             rw (m, t) (ap not (tilde-same options x y ∙ allowed)),
           )
       | inr other ↦
           let t : eqb b.marker 126 ≡ false = ne_eqb b.marker 126 other in
-          let open_to : not (three_refuses (a.may_close || b.may_open) (ruled_size options a.size x) (ruled_size options b.size y)) ≡ true = (let f = h in rw t at f) in (
+          let open_to : not (is_refused_by_three (a.may_close || b.may_open) (ruled_size options a.size x) (ruled_size options b.size y)) ≡ true = (let f = h in rw t at f) in (
             sym (and-assoc (a.may_close || b.may_open) _ _) ∙ not-true _ open_to,
             rw (m, t) refl,
           )
@@ -123,7 +123,7 @@ module _ (options : ParseOptions) (runs : List Sequence) (k : ℕ) where
       → (p.size ≡ left runs done p.opener) × (p.size ≡ left runs done p.closer)
   unfolding sizes_fit
   sizes-pair done last p n is =
-      let fit : tilde_allows options (left runs done p.opener) (left runs done p.closer) ≡ true = (let f = n.eligible.fit in rw (eq-eqb (run_at runs p.closer).marker 126 is) at f) in
+      let fit : is_tilde_pair options (left runs done p.opener) (left runs done p.closer) ≡ true = (let f = n.eligible.fit in rw (eq-eqb (run_at runs p.closer).marker 126 is) at f) in
       let t = tilde-sizes options (left runs done p.opener) (left runs done p.closer) fit in
       let all = n.size ∙ size-all (left runs done p.opener) (left runs done p.closer) t.0 t.1 in
       (all, all ∙ t.0)

@@ -40,18 +40,18 @@ abbrev pub ruled_size : ParseOptions → ℕ → ℕ → ℕ
 ruled_size options whole remaining = if options.attention_first_lengths then whole else remaining
 
 -- one of the two may open and close, the closer's size is no multiple of 3 and the sum is
-abbrev pub three_refuses : Bool → ℕ → ℕ → Bool
-three_refuses both x y = both && not (y % 3 == 0) && ((x + y) % 3 == 0)
+abbrev pub is_refused_by_three : Bool → ℕ → ℕ → Bool
+is_refused_by_three both x y = both && not (y % 3 == 0) && ((x + y) % 3 == 0)
 
 -- for tildes: two equal sizes, of two markers, or of one where that is allowed
-abbrev pub tilde_allows : ParseOptions → ℕ → ℕ → Bool
-tilde_allows options x y = (x == y) && ((y == 2) || (y == 1) && options.gfm_strikethrough_single_tilde)
+abbrev pub is_tilde_pair : ParseOptions → ℕ → ℕ → Bool
+is_tilde_pair options x y = (x == y) && ((y == 2) || (y == 1) && options.gfm_strikethrough_single_tilde)
 
 -- whether the sizes let two runs pair, of which x and y markers are left
 unfoldable pub sizes_fit : ParseOptions → Sequence → Sequence → ℕ → ℕ → Bool
 sizes_fit options a b x y =
-    if b.marker == byte "~" then tilde_allows options x y
-    else not (three_refuses (a.may_close || b.may_open) (ruled_size options a.size x) (ruled_size options b.size y))
+    if b.marker == byte "~" then is_tilde_pair options x y
+    else not (is_refused_by_three (a.may_close || b.may_open) (ruled_size options a.size x) (ruled_size options b.size y))
 
 -- two where both have two, else one
 abbrev pub size_of_pair : ℕ → ℕ → ℕ

@@ -10,20 +10,20 @@ use Rattle.markdown_engine.specs.declared.state.State.{State}
 use Rattle.markdown_engine.specs.declared.state.State.TheVariants.{Next, Retry, Ok, Nok}
 use Rattle.markdown_engine.specs.declared.tokenizer.TokenizeState.{TokenizeState}
 use Rattle.markdown_engine.specs.declared.tokenizer.Tokenizer.{Tokenizer}
-use Rattle.markdown_engine.proofs.Laws as L
+use Rattle.markdown_engine.proofs.Laws as Laws
 use Rattle.markdown_engine.proofs.OpRules.{attempts-scratched, left-scratched}
 use Rattle.markdown_engine.proofs.OpsLemmas.{attempts-done, left-done, scratch-done}
 use Rattle.markdown_construct.specs.Plan.{Plan, preceded, depth_after, DoesAs, KeepsAs}
 use Rattle.markdown_construct.specs.Renaming.{Naming, NamesAs, renamed, opened, under, preceded_by}
-use Rattle.markdown_construct.proofs.NamingLemmas as N
+use Rattle.markdown_construct.proofs.NamingLemmas as NamingLemmas
 use Rattle.markdown_construct.proofs.NamingLemmas.{DoesAs-entered, NamesAs-next, NamesAs-same, NamesAs-under, ahead-renamed, left-renamed}
-use Rattle.markdown_construct.proofs.PlanLemmas as P
+use Rattle.markdown_construct.proofs.PlanLemmas as PlanLemmas
 use Rattle.markdown_construct.proofs.PlanLemmas.{DoesAs-then, kept}
 use Rattle.markdown_construct.proofs.RenamingLemmas.{attempts-renamed}
 
 -- what the run after an attempt has to meet
 abbrev pub FollowsIn : Words → ℕ → (Bool → Tokenizer → Type 0) → State → Tokenizer → Type 0
-FollowsIn W n E st U = L.Follows W.ready W.ends (weight_in W) n E st U
+FollowsIn W n E st U = Laws.Follows W.ready W.ends (weight_in W) n E st U
 
 module _ (W : Words) where
   -- What the layer says of a state, by its words.
@@ -49,17 +49,17 @@ module _ (W : Words) where
   -- Any step.
 
   pub GoesOn-map : (n : ℕ) (E F : Bool → Tokenizer → Type 0) (r : Stepped) → ((ok : Bool) (U : Tokenizer) → E ok U → F ok U) → GoesIn W n E r → GoesIn W n F r
-  GoesOn-map = P.GoesOn-map W.ready W.ends (weight_in W)
+  GoesOn-map = PlanLemmas.GoesOn-map W.ready W.ends (weight_in W)
 
   -- a step that opens no attempt
   pub Goes-plain : (n : ℕ) (E : Bool → Tokenizer → Type 0) (st : State) {w : StateWords} → words_at W st ≡ w → (T : Tokenizer) → T.attempts ≡ [] → w.ready T → weight_at w.rank T < n → ((ok : Bool) (U : Tokenizer) → w.ends T ok U → E ok U) → GoesIn W n E (stepped st T)
   Goes-plain n E st {w} e T alone on falls closed =
-      L.Goes-plain W.ready W.ends (weight_in W) n E st T alone (said-ready st w e T on) (omega (arith, falls, said-weight st w e T)) (λ ok U x. closed ok U (said-ends st w e T ok U x))
+      Laws.Goes-plain W.ready W.ends (weight_in W) n E st T alone (said-ready st w e T on) (omega (arith, falls, said-weight st w e T)) (λ ok U x. closed ok U (said-ends st w e T ok U x))
 
   -- a step that ends a run
   pub Goes-end : (n : ℕ) (E : Bool → Tokenizer → Type 0) (ok : Bool) (T : Tokenizer) → T.attempts ≡ [] → 0 < n → ((b : Bool) (U : Tokenizer) → (b ≡ ok) × (U ≡ T) → E b U) → GoesIn W n E (stepped (if ok then Ok else Nok) T)
-  Goes-end n E true T alone high closed = L.Goes-plain W.ready W.ends (weight_in W) n E Ok T alone tt high closed
-  Goes-end n E false T alone high closed = L.Goes-plain W.ready W.ends (weight_in W) n E Nok T alone tt high closed
+  Goes-end n E true T alone high closed = Laws.Goes-plain W.ready W.ends (weight_in W) n E Ok T alone tt high closed
+  Goes-end n E false T alone high closed = Laws.Goes-plain W.ready W.ends (weight_in W) n E Nok T alone tt high closed
 
   -- after operations
   pub Goes-ops : (n : ℕ) (E : Bool → Tokenizer → Type 0) (st : State) {w : StateWords} → words_at W st ≡ w → (os : List Op) (T : Tokenizer) → T.attempts ≡ [] → w.ready (done os T) → weight_at w.rank (done os T) < n → ((ok : Bool) (U : Tokenizer) → w.ends (done os T) ok U → E ok U) → GoesIn W n E (stepped st (done os T))
@@ -73,12 +73,12 @@ module _ (W : Words) where
   -- a step that opens one attempt
   pub Goes-attempt : (n : ℕ) (E : Bool → Tokenizer → Type 0) (st : State) {w : StateWords} → words_at W st ≡ w → (ok nok : State) (T : Tokenizer) → T.attempts ≡ [] → w.ready T → weight_at w.rank T < n → ((U : Tokenizer) → U.attempts ≡ [] → w.ends T true U → FollowsIn W n E ok U) → ((U : Tokenizer) → U.attempts ≡ [] → w.ends T false U → FollowsIn W n E nok (restored (frame_of false ok nok T) U)) → GoesIn W n E (stepped st (attempted false ok nok T))
   Goes-attempt n E st {w} e ok nok T alone on falls if_ok if_nok =
-      L.Goes-attempt W.ready W.ends (weight_in W) n E st ok nok T alone (said-ready st w e T on) (omega (arith, falls, said-weight st w e T)) (λ U now x. if_ok U now (said-ends st w e T true U x)) (λ U now x. if_nok U now (said-ends st w e T false U x))
+      Laws.Goes-attempt W.ready W.ends (weight_in W) n E st ok nok T alone (said-ready st w e T on) (omega (arith, falls, said-weight st w e T)) (λ U now x. if_ok U now (said-ends st w e T true U x)) (λ U now x. if_nok U now (said-ends st w e T false U x))
 
   -- a step that opens one check: an Ok restores too
   pub Goes-check : (n : ℕ) (E : Bool → Tokenizer → Type 0) (st : State) {w : StateWords} → words_at W st ≡ w → (ok nok : State) (T : Tokenizer) → T.attempts ≡ [] → w.ready T → weight_at w.rank T < n → ((U : Tokenizer) → U.attempts ≡ [] → w.ends T true U → FollowsIn W n E ok (restored (frame_of true ok nok T) U)) → ((U : Tokenizer) → U.attempts ≡ [] → w.ends T false U → FollowsIn W n E nok (restored (frame_of true ok nok T) U)) → GoesIn W n E (stepped st (attempted true ok nok T))
   Goes-check n E st {w} e ok nok T alone on falls if_ok if_nok =
-      L.Goes-check W.ready W.ends (weight_in W) n E st ok nok T alone (said-ready st w e T on) (omega (arith, falls, said-weight st w e T)) (λ U now x. if_ok U now (said-ends st w e T true U x)) (λ U now x. if_nok U now (said-ends st w e T false U x))
+      Laws.Goes-check W.ready W.ends (weight_in W) n E st ok nok T alone (said-ready st w e T on) (omega (arith, falls, said-weight st w e T)) (λ U now x. if_ok U now (said-ends st w e T true U x)) (λ U now x. if_nok U now (said-ends st w e T false U x))
 
   -- By plans.
 
@@ -104,17 +104,17 @@ module _ (W : Words) where
 
   -- all is done
   pub Goes-ok : (k d : ℕ) (p : Plan) (os : List Op) (s : TokenizeState) (T : Tokenizer) → T.attempts ≡ [] → p (ahead T) ≡ Some os → GoesIn W (weight_at k T) (DoesAs d p s T) (stepped Ok (scratched s (done os T)))
-  Goes-ok = P.Goes-ok W.ready W.ends (weight_in W)
+  Goes-ok = PlanLemmas.Goes-ok W.ready W.ends (weight_in W)
 
   pub Goes-yes : (k d : ℕ) (p : Plan) (os : List Op) (T : Tokenizer) → T.attempts ≡ [] → p (ahead T) ≡ Some os → GoesIn W (weight_at k T) (KeepsAs d p T) (stepped Ok (done os T))
-  Goes-yes = P.Goes-yes W.ready W.ends (weight_in W)
+  Goes-yes = PlanLemmas.Goes-yes W.ready W.ends (weight_in W)
 
   -- it does not hold
   pub Goes-nok : (k d : ℕ) (p : Plan) (s : TokenizeState) (T : Tokenizer) → T.attempts ≡ [] → p (ahead T) ≡ None → GoesIn W (weight_at k T) (DoesAs d p s T) (stepped Nok (scratched s T))
-  Goes-nok = P.Goes-nok W.ready W.ends (weight_in W)
+  Goes-nok = PlanLemmas.Goes-nok W.ready W.ends (weight_in W)
 
   pub Goes-no : (k d : ℕ) (p : Plan) (T : Tokenizer) → T.attempts ≡ [] → p (ahead T) ≡ None → GoesIn W (weight_at k T) (KeepsAs d p T) (stepped Nok T)
-  Goes-no = P.Goes-no W.ready W.ends (weight_in W)
+  Goes-no = PlanLemmas.Goes-no W.ready W.ends (weight_in W)
 
   -- In a leaf whose name is settled at its end.
 
@@ -149,8 +149,8 @@ module _ (W : Words) where
 
   -- the leaf and the construct end
   pub Goes-named : (k d : ℕ) (p : Naming) (n : Name) (os : List Op) (s : TokenizeState) (T : Tokenizer) → T.attempts ≡ [] → p (ahead T) ≡ Some (n, os) → GoesIn W (weight_at k T) (NamesAs d p s T) (stepped Ok (scratched s (done os (renamed n T))))
-  Goes-named = N.Goes-named W.ready W.ends (weight_in W)
+  Goes-named = NamingLemmas.Goes-named W.ready W.ends (weight_in W)
 
   -- the construct does not hold
   pub Goes-refused : (k d : ℕ) (p : Naming) (s : TokenizeState) (T : Tokenizer) → T.attempts ≡ [] → p (ahead T) ≡ None → GoesIn W (weight_at k T) (NamesAs d p s T) (stepped Nok (scratched s T))
-  Goes-refused = N.Goes-refused W.ready W.ends (weight_in W)
+  Goes-refused = NamingLemmas.Goes-refused W.ready W.ends (weight_in W)

@@ -27,7 +27,7 @@ use Rattle.markdown_model.specs.Grammar.{Reading, ◌>>◌, ◌>>=◌, provided,
 use Rattle.markdown_model.specs.Leaf.{task_check, begins_task_text, check_name}
 use Rattle.markdown_model.specs.Lines.{linked_leaf}
 use Rattle.markdown_model.specs.Whitespace.{space_or_tab}
-use Rattle.markdown_partial.specs.SpaceSteps as S
+use Rattle.markdown_partial.specs.SpaceSteps as SpaceSteps
 use Rattle.markdown_partial.specs.SpaceSteps.{most, rested}
 use Rattle.markdown_partial.proofs.SpacingLemmas.{space-all}
 use Rattle.markdown_construct.specs.Plan.{Plan, preceded, tree_ops, plan_of, KeepsAs}
@@ -195,7 +195,7 @@ back-there : (s : TokenizeState) (T : Tokenizer) → rested s ≡ s → T.tokeni
 unfolding scratched
 back-there s T e h = ap (λ (x : TokenizeState). scratched x T) (e ∙ sym h) ∙ scratched-same T
 
-spaced : (T U : Tokenizer) → MayLook T → next_is is_blank (ahead T) ≡ true → S.start_ends (scratched (space_asked T.tokenize_state) T) true U → Spaced T U
+spaced : (T U : Tokenizer) → MayLook T → next_is is_blank (ahead T) ≡ true → SpaceSteps.start_ends (scratched (space_asked T.tokenize_state) T) true U → Spaced T U
 unfolding scratched rest_read
 spaced T U look h k =
     let s : TokenizeState = T.tokenize_state in
@@ -211,11 +211,11 @@ spaced T U look h k =
 some-none : (o : Option (Forest × List Code)) (r : Forest × List Code) → o ≡ Some r → o ≡ None → ⊥
 some-none o r e h = cc
 
-never-refused : (T U : Tokenizer) → MayLook T → next_is is_blank (ahead T) ≡ true → S.start_ends (scratched (space_asked T.tokenize_state) T) false U → ⊥
+never-refused : (T U : Tokenizer) → MayLook T → next_is is_blank (ahead T) ≡ true → SpaceSteps.start_ends (scratched (space_asked T.tokenize_state) T) false U → ⊥
 unfolding scratched
 never-refused T U look h k = some-none _ _ (space-there T h look.short) k.refused
 
-space-ready : (T : Tokenizer) → MayLook T → S.StartReady (scratched (space_asked T.tokenize_state) T)
+space-ready : (T : Tokenizer) → MayLook T → SpaceSteps.StartReady (scratched (space_asked T.tokenize_state) T)
 unfolding scratched
 space-ready T look = record { none_yet = ap (λ (s : TokenizeState). s.space_or_tab_size) (sym look.resting); linked = λ h. cc }
 
@@ -255,11 +255,11 @@ after-law W within T alone look =
     if-step P (c == 10) _ _
     (λ h. Goes-yes W 4 0 after_plan [] T alone (ap after_plan b.whole ∙ if-true _ _ _ (or_left _ _ (ap (λ v. v == 10) b.value ∙ h))))
     (λ h. let line : is_line_ending b.code ≡ false = ap (λ v. v == 10) b.value ∙ h in
-    if-step P (S.at_blank (Some c)) _ _
-    (λ k. let blank : is_blank b.code ≡ true = ap (λ v. S.at_blank (Some v)) b.value ∙ k in
+    if-step P (SpaceSteps.at_blank (Some c)) _ _
+    (λ k. let blank : is_blank b.code ≡ true = ap (λ v. SpaceSteps.at_blank (Some v)) b.value ∙ k in
     look-law W within T alone look (ap (next_is is_blank) b.whole ∙ blank)
     (ap begins_task_text b.whole ∙ blank-text b.code more line blank ∙ ap (λ cs. not (is_empty (span is_blank cs).1)) (sym b.whole)))
-    (λ k. let blank : is_blank b.code ≡ false = ap (λ v. S.at_blank (Some v)) b.value ∙ k in
+    (λ k. let blank : is_blank b.code ≡ false = ap (λ v. SpaceSteps.at_blank (Some v)) b.value ∙ k in
     Goes-no W 4 0 after_plan T alone
     (ap after_plan b.whole ∙ if-false _ _ _ (or_from _ _ line (ap (λ x. x && not (is_empty (span is_blank more).1)) blank))))))
 

@@ -10,7 +10,7 @@ use Rattle.markdown_model.specs.Grammar.{◌>>◌, provided}
 use Rattle.markdown_model.specs.Leaf.{task_check, begins_task_text}
 use Rattle.markdown_construct.specs.Values.{among_values}
 use Rattle.markdown_construct.specs.Plan.{Plan, preceded, KeepsAs}
-use Rattle.markdown_partial.specs.SpaceSteps as S
+use Rattle.markdown_partial.specs.SpaceSteps as SpaceSteps
 use Rattle.markdown_partial.specs.SpaceSteps.{most, asked, rested, at_blank}
 use Rattle.markdown_engine.specs.declared.event.Name.{Name}
 use Rattle.markdown_engine.specs.declared.event.Name.TheVariants as N
@@ -167,5 +167,5 @@ states other GfmTaskListItemCheckInside = inside_words
 states other GfmTaskListItemCheckClose = close_words
 states other GfmTaskListItemCheckAfter = after_words
 states other GfmTaskListItemCheckAfterSpaceOrTab = after_space_or_tab_words
-states other SpaceOrTabStart = S.start_words
+states other SpaceOrTabStart = SpaceSteps.start_words
 states other s = other s

@@ -9,7 +9,7 @@ use Rattle.markdown_engine.specs.declared.tokenizer.TokenizeState.{TokenizeState
 use Rattle.markdown_engine.specs.declared.tokenizer.Tokenizer.{Tokenizer}
 use Rattle.markdown_engine.proofs.OpRules.{stack-applied}
 use Rattle.markdown_engine.proofs.OpsLemmas.{left-done, scratch-done, codes-done}
-use Rattle.markdown_partial.specs.SpaceSteps as S
+use Rattle.markdown_partial.specs.SpaceSteps as SpaceSteps
 use Rattle.markdown_construct.proofs.OpenLemmas.{second-open}
 use Rattle.markdown_construct.specs.Scratch.{AreOpen, with_size}
 use Rattle.markdown_html.specs.LineOps.{Mode, InLine, AtStart, InBlank, takes_blank, left_open, to_data, to_blank, ending_ops, break_from}
@@ -80,7 +80,7 @@ open-broken T cs h =
 
 pub spaces-done : (os : List Op) (T : Tokenizer) → moves os ≤ length (ahead T) → SpacesReady T → SpacesReady (done os T)
 spaces-done os T h k =
-    record { resting = subst (λ (s : TokenizeState). S.rested s ≡ s) (sym (scratch-done os T)) k.resting; short = omega (arith, left-done os T h, k.short) }
+    record { resting = subst (λ (s : TokenizeState). SpaceSteps.rested s ≡ s) (sym (scratch-done os T)) k.resting; short = omega (arith, left-done os T h, k.short) }
 
 -- What is known of sequences.
 
@@ -125,7 +125,7 @@ quoted-broken T k =
     }
 
 -- with other scratch fields, where those of whitespace are at rest, and the same is known of sequences
-pub inside-scratched : (r : TokenizeState) (T : Tokenizer) → S.rested r ≡ r → r.sequences ≡ T.tokenize_state.sequences → InsideReady T → InsideReady (scratched r T)
+pub inside-scratched : (r : TokenizeState) (T : Tokenizer) → SpaceSteps.rested r ≡ r → r.sequences ≡ T.tokenize_state.sequences → InsideReady T → InsideReady (scratched r T)
 unfolding scratched
 inside-scratched r T e same k =
     record { stand_open = k.stand_open; spaces = record { resting = e; short = k.spaces.short }; indexed = λ last known. k.indexed last (sym same ∙ known) }

@@ -15,7 +15,7 @@ use Rattle.markdown_model.proofs.Readings.{itself, takes_html_text, codes-lines}
 use Rattle.markdown_model.proofs.Consuming.{html_text_takes}
 use Rattle.markdown_model.proofs.ReadingLaws.{read-codes, read-shorter}
 use Rattle.markdown_construct.specs.Plan.{preceded, tree_ops, plan_of}
-use Rattle.markdown_construct.proofs.WholeReadings as W
+use Rattle.markdown_construct.proofs.WholeReadings as WholeReadings
 use Rattle.markdown_construct.proofs.WholeReadings.{Gives, IsSome, Gives-bind, Gives-switched, Gives-gives, Covers-group}
 use Rattle.markdown_html.specs.HtmlText.{opening}
 use Rattle.markdown_html.specs.LineOps.{InLine, text_from, text_of}
@@ -53,16 +53,16 @@ solid-lines name later (s ∷ ss) =
       | false ↦ IsSolid-row _ _ (solid-line name s) (solid-lines name (next_is is_line_ending s) ss)
     ]
 
-whole-text : Gives W.Covers html
+whole-text : Gives WholeReadings.Covers html
 unfolding html
 whole-text =
-    Gives-bind html_text _ IsSome W.Covers text-gives (λ text ws p.
+    Gives-bind html_text _ IsSome WholeReadings.Covers text-gives (λ text ws p.
     Gives-gives (group N.HtmlText (lines N.HtmlTextData None text)) _
-    (subst (λ (us : List Code). W.Covers (group N.HtmlText (lines N.HtmlTextData None text)) us) (p.0 ∙ sym (append-nil ws))
+    (subst (λ (us : List Code). WholeReadings.Covers (group N.HtmlText (lines N.HtmlTextData None text)) us) (p.0 ∙ sym (append-nil ws))
     (Covers-group N.HtmlText (lines N.HtmlTextData None text) text p.1 (solid-lines N.HtmlTextData false (lines_of text), codes-lines N.HtmlTextData None text))))
 
-pub whole-html : (on : Bool) → Gives W.Covers (provided on >> html)
-whole-html on = Gives-switched on html W.Covers whole-text
+pub whole-html : (on : Bool) → Gives WholeReadings.Covers (provided on >> html)
+whole-html on = Gives-switched on html WholeReadings.Covers whole-text
 
 -- After `<`.
 

@@ -22,7 +22,7 @@ use Rattle.markdown_model.specs.CodeTests.{next_is}
 use Rattle.markdown_model.specs.Grammar.{span}
 use Rattle.markdown_model.specs.Lines.{linked_leaf}
 use Rattle.markdown_model.specs.Whitespace.{space_or_tab}
-use Rattle.markdown_partial.specs.SpaceSteps as S
+use Rattle.markdown_partial.specs.SpaceSteps as SpaceSteps
 use Rattle.markdown_partial.specs.SpaceSteps.{most}
 use Rattle.markdown_partial.proofs.AskedLaws.{asked-ready, asked-ends}
 use Rattle.markdown_partial.proofs.SpacingLemmas.{space-all}
@@ -44,7 +44,7 @@ pub record Within (W : Words) : Type 1 where
   pub before : words_in W H.HtmlTextLineEndingBefore ≡ line_ending_before_words
   pub after : words_in W H.HtmlTextLineEndingAfter ≡ line_ending_after_words
   pub prefix : words_in W H.HtmlTextLineEndingAfterPrefix ≡ line_ending_after_prefix_words
-  pub space : words_in W H.SpaceOrTabStart ≡ S.start_words
+  pub space : words_in W H.SpaceOrTabStart ≡ SpaceSteps.start_words
 
 -- Breaks, by what stands there.
 

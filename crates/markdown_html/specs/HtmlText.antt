@@ -17,7 +17,7 @@ use Rattle.markdown_engine.specs.declared.tokenizer.TokenizeState.{TokenizeState
 use Rattle.markdown_engine.specs.declared.tokenizer.Tokenizer.{Tokenizer}
 use Rattle.markdown_model.specs.Grammar.{◌>>◌, provided}
 use Rattle.markdown_model.specs.Html.{html}
-use Rattle.markdown_partial.specs.SpaceSteps as S
+use Rattle.markdown_partial.specs.SpaceSteps as SpaceSteps
 use Rattle.markdown_partial.specs.SpaceSteps.{most, asked}
 use Rattle.markdown_construct.specs.Values.{letter_value, among_values}
 use Rattle.markdown_construct.specs.Plan.{DoesAs, KeepsAs}
@@ -386,7 +386,7 @@ line_ending_after_prefix_step T = line_ending_after_prefix_at (current_of T) T
 
 -- the fields of whitespace are at rest, and fewer codes are left than a `usize` counts
 pub record SpacesReady (T : Tokenizer) : Type 0 where
-  pub resting : S.rested T.tokenize_state ≡ T.tokenize_state
+  pub resting : SpaceSteps.rested T.tokenize_state ≡ T.tokenize_state
   pub short : codes_left T ≤ most
 
 -- what is known of the sequences that end HTML is right; it may be nothing

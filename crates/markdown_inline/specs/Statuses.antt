@@ -1,7 +1,7 @@
 -- The faults that the program ends with, and their statuses.
 use Rattle.std.specs.Prelude.{ℕ}
 use Rattle.std.specs.declared.io.ErrorKind.{ErrorKind}
-use Rattle.std.specs.declared.io.ErrorKind.TheVariants as K
+use Rattle.std.specs.declared.io.ErrorKind.TheVariants as ErrorKind
 use Rattle.markdown_inline.specs.declared.program.Fault.{Fault}
 
 abbrev pub status_of : Fault → ℕ
@@ -14,5 +14,5 @@ status_of Fault.Write = 6
 
 -- the fault that an error of this kind is: refused memory is that wherever it comes
 abbrev pub fault_of : ErrorKind → Fault → Fault
-fault_of K.OutOfMemory otherwise = Fault.OutOfMemory
+fault_of ErrorKind.OutOfMemory otherwise = Fault.OutOfMemory
 fault_of _ otherwise = otherwise

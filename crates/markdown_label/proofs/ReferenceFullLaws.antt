@@ -27,7 +27,7 @@ use Rattle.markdown_model.specs.Resource.{label, reference_names}
 use Rattle.markdown_model.specs.Setting.{Setting, is_defined}
 use Rattle.markdown_model.proofs.LinkFree.{Passes}
 use Rattle.markdown_model.proofs.ReadingSteps.{bind-some, bind-none, switched-on, switched-off}
-use Rattle.markdown_string.specs.Label as SL
+use Rattle.markdown_string.specs.Label as Label
 use Rattle.markdown_label.specs.LabelEnd.{names_set, label_seen, reference_name, ReferenceIsAround, FullReady, FullFails, reference_full_ends, reference_full_after_ends, reference_full_missing_ends, states, reference_full_words, reference_full_after_words, reference_full_missing_words}
 use Rattle.markdown_resource.specs.Parts.{names_rested, rested, PartReady}
 use Rattle.markdown_label.specs.Settings.{setting_in, IsListed}
@@ -43,10 +43,10 @@ names-back s e = ap names_rested (sym e) ∙ e
 seen-rest : (s : TokenizeState) → rested s ≡ s → label_seen false s ≡ s
 seen-rest s e = ap (label_seen false) (sym e) ∙ e
 
-label-rest : (s : TokenizeState) → rested s ≡ s → SL.rested (names_set s) ≡ names_set s
-label-rest s e = ap (λ q. SL.rested (names_set q)) (sym e) ∙ ap names_set e
+label-rest : (s : TokenizeState) → rested s ≡ s → Label.rested (names_set s) ≡ names_set s
+label-rest s e = ap (λ q. Label.rested (names_set q)) (sym e) ∙ ap names_set e
 
-label-ready : (T : Tokenizer) → PartReady T → SL.StartReady (scratched (names_set T.tokenize_state) T)
+label-ready : (T : Tokenizer) → PartReady T → Label.StartReady (scratched (names_set T.tokenize_state) T)
 unfolding scratched
 label-ready T k =
     record {
@@ -75,11 +75,11 @@ full-missing s cs e = bind-none (label reference_names) _ cs e
 LabelRead : Tokenizer → Tokenizer → Type 0
 LabelRead T U = Reads (label reference_names) None (names_set T.tokenize_state) (scratched (names_set T.tokenize_state) T) U
 
-label-read : (T U : Tokenizer) → SL.start_ends (scratched (names_set T.tokenize_state) T) true U → Reads (label reference_names) None (names_set T.tokenize_state) (scratched (names_set T.tokenize_state) T) U
+label-read : (T U : Tokenizer) → Label.start_ends (scratched (names_set T.tokenize_state) T) true U → Reads (label reference_names) None (names_set T.tokenize_state) (scratched (names_set T.tokenize_state) T) U
 unfolding scratched
 label-read T U k = k
 
-label-refused : (T U : Tokenizer) → SL.start_ends (scratched (names_set T.tokenize_state) T) false U → (label reference_names (ahead T) ≡ None) × Fails (names_set T.tokenize_state) (scratched (names_set T.tokenize_state) T) U
+label-refused : (T U : Tokenizer) → Label.start_ends (scratched (names_set T.tokenize_state) T) false U → (label reference_names (ahead T) ≡ None) × Fails (names_set T.tokenize_state) (scratched (names_set T.tokenize_state) T) U
 unfolding scratched
 label-refused T U k = (k.refused, k.fails)
 

@@ -28,8 +28,8 @@ use Rattle.markdown_model.specs.LabelEnd.{is_footnote, bytes_between, full_refer
 use Rattle.markdown_model.specs.Resource.{label, reference_names}
 use Rattle.markdown_model.specs.Setting.{Setting, is_defined}
 use Rattle.markdown_resource.specs.Parts.{names_rested, PartReady}
-use Rattle.markdown_resource.specs.Resource as P
-use Rattle.markdown_string.specs.Label as SL
+use Rattle.markdown_resource.specs.Resource as Resource
+use Rattle.markdown_string.specs.Label as Label
 use Rattle.markdown_util.specs.Identifier.{identifier_of}
 use Rattle.markdown_label.specs.Fields.{bars, with_kind, tried, labelled, loosened}
 use Rattle.markdown_label.specs.Settings.{setting_in, IsListed}
@@ -419,6 +419,6 @@ states other LabelEndReferenceFullMissing = reference_full_missing_words
 states other LabelEndReferenceNotFull = reference_not_full_words
 states other LabelEndReferenceCollapsed = reference_collapsed_words
 states other LabelEndReferenceCollapsedOpen = reference_collapsed_open_words
-states other LabelEndResourceStart = P.start_words
-states other LabelStart = SL.start_words
+states other LabelEndResourceStart = Resource.start_words
+states other LabelStart = Label.start_words
 states other s = other s

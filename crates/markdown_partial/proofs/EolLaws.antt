@@ -22,7 +22,7 @@ use Rattle.markdown_model.specs.CodeTests.{next_is}
 use Rattle.markdown_model.specs.Grammar.{span}
 use Rattle.markdown_model.specs.Lines.{linked_leaf}
 use Rattle.markdown_model.specs.Whitespace.{space_or_tab, spacing, begins_filled_line}
-use Rattle.markdown_partial.specs.SpaceSteps as S
+use Rattle.markdown_partial.specs.SpaceSteps as SpaceSteps
 use Rattle.markdown_partial.specs.SpaceSteps.{most, at_blank, rested}
 use Rattle.markdown_partial.specs.EolSteps.{space_asked, eol_rested, held, joins, joined, at_line_ending, ending_entered, goes_on_line, EolReady, AfterFirstReady, indent, at_ending, start_ends, after_first_ends, at_eol_ends, after_eol_ends, after_more_ends, states, after_eol_words, after_first_words, after_more_words, at_eol_words, start_words}
 use Rattle.markdown_partial.proofs.RunLemmas.{EndsAs-same}
@@ -47,7 +47,7 @@ eol-held : (T : Tokenizer) → EolReady T → EolReady (scratched (held T.tokeni
 unfolding scratched
 eol-held T r = record { short = r.short; resting = ap held r.resting; linked = r.linked; contents = r.contents }
 
-space-ready : (T : Tokenizer) → EolReady T → S.StartReady (scratched (space_asked T.tokenize_state) T)
+space-ready : (T : Tokenizer) → EolReady T → SpaceSteps.StartReady (scratched (space_asked T.tokenize_state) T)
 unfolding scratched
 space-ready T r = record { none_yet = ap (λ (s : TokenizeState). s.space_or_tab_size) (sym r.resting); linked = r.linked }
 
@@ -79,7 +79,7 @@ read_of : Option (Forest × List Code) → Forest × List Code
 read_of None = (empty, [])
 read_of (Some r) = r
 
-spaced : (T U : Tokenizer) → EolReady T → next_is is_blank (ahead T) ≡ true → S.start_ends (scratched (space_asked T.tokenize_state) T) true U → Spaced T U
+spaced : (T U : Tokenizer) → EolReady T → next_is is_blank (ahead T) ≡ true → SpaceSteps.start_ends (scratched (space_asked T.tokenize_state) T) true U → Spaced T U
 unfolding scratched read_of
 spaced T U r h k =
     let s : TokenizeState = T.tokenize_state in
@@ -91,7 +91,7 @@ spaced T U r h k =
 some-none : (o : Option (Forest × List Code)) (r : Forest × List Code) → o ≡ Some r → o ≡ None → ⊥
 some-none o r e h = cc
 
-never-refused : (T U : Tokenizer) → EolReady T → next_is is_blank (ahead T) ≡ true → S.start_ends (scratched (space_asked T.tokenize_state) T) false U → ⊥
+never-refused : (T U : Tokenizer) → EolReady T → next_is is_blank (ahead T) ≡ true → SpaceSteps.start_ends (scratched (space_asked T.tokenize_state) T) false U → ⊥
 unfolding scratched
 never-refused T U r h k = some-none _ _ (space-there T T.tokenize_state.space_or_tab_eol_content h r.short) k.refused
 

@@ -9,7 +9,7 @@ use Rattle.markdown_engine.specs.Weights.{codes_left}
 use Rattle.markdown_model.specs.Grammar.{span}
 use Rattle.markdown_model.specs.Lines.{linked_leaf}
 use Rattle.markdown_model.specs.Whitespace.{spacing, begins_filled_line}
-use Rattle.markdown_partial.specs.SpaceSteps as S
+use Rattle.markdown_partial.specs.SpaceSteps as SpaceSteps
 use Rattle.markdown_partial.specs.SpaceSteps.{most, asked, rested, at_blank, ended}
 use Rattle.markdown_engine.specs.declared.event.Content.{Content}
 use Rattle.markdown_engine.specs.declared.event.Name.TheVariants as N
@@ -180,5 +180,5 @@ states other SpaceOrTabEolAfterFirst = after_first_words
 states other SpaceOrTabEolAtEol = at_eol_words
 states other SpaceOrTabEolAfterEol = after_eol_words
 states other SpaceOrTabEolAfterMore = after_more_words
-states other SpaceOrTabStart = S.start_words
+states other SpaceOrTabStart = SpaceSteps.start_words
 states other s = other s

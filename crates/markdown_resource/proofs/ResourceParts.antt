@@ -23,7 +23,7 @@ use Rattle.markdown_engine.proofs.EndsLemmas.{left-read, scratched-same}
 use Rattle.markdown_engine.proofs.Laws.{Grown-refl, if-step, restored-fails}
 use Rattle.markdown_engine.proofs.OpRules.{Begins, ahead-none, ahead-some, attempts-scratched, left-scratched}
 use Rattle.markdown_engine.proofs.OpsLemmas.{and-left, and-right, attempts-done}
-use Rattle.markdown_engine.proofs.SequenceIndexLemmas as S
+use Rattle.markdown_engine.proofs.SequenceIndexLemmas as SequenceIndexLemmas
 use Rattle.markdown_engine.proofs.SolidLemmas.{IsSolid-leaf}
 use Rattle.markdown_engine.proofs.TitleIndexLemmas.{ruled-out}
 use Rattle.markdown_engine.proofs.TreeLemmas.{ahead-past, ops-past}
@@ -36,8 +36,8 @@ use Rattle.markdown_model.proofs.ReadingSteps.{bind-some, one-here, if-true, if-
 use Rattle.markdown_construct.specs.Within.{Within}
 use Rattle.markdown_construct.proofs.StateLaws.{FollowsIn, follows, GoesOn-map, Goes-attempt, Goes-end, Goes-plain}
 use Rattle.markdown_partial.specs.EolSteps.{WhitespaceAtRest}
-use Rattle.markdown_string.specs.Destination as SD
-use Rattle.markdown_string.specs.Title as ST
+use Rattle.markdown_string.specs.Destination as Destination
+use Rattle.markdown_string.specs.Title as Title
 use Rattle.markdown_resource.specs.Parts.{PartReady, rested, names_rested}
 use Rattle.markdown_resource.specs.Resource.{destination_asked, destination_rested, title_asked, front_ops, at_space, at_close, at_title, at_parenthesis, is_hopeless, spaced, destination_put, destination_after_step, title_put, title_after_step, RowReads, RowEnds, closes, or_without, and_then, after_title, between, after_destination_of, after_destination, opened, InReady, open_ends, destination_after_ends, missing_ends, between_ends, title_after_ends, end_ends, open_words, destination_after_words, missing_words, between_words, title_after_words, end_words, states}
 use Rattle.markdown_resource.proofs.NextCodes.{at-value, at-none}
@@ -129,7 +129,7 @@ hopeless-between T p h = by-codes (ahead T) refl (sym (parenthesis-here T (curre
     by-codes (c ∷ cs) e here =
         ap between e
         ∙ no-title c cs here (elim (or_cases (rules_out s.sequences ResourceEnd T.cursor.at) _ (and-right (at_parenthesis (current_of T)) _ h)) [
-          | inl g ↦ none-twice c cs (ap (last_where closes_twice) (sym e) ∙ S.ruled-out s.sequences T.cursor.codes ResourceEnd T.cursor.at p.part.indexed g)
+          | inl g ↦ none-twice c cs (ap (last_where closes_twice) (sym e) ∙ SequenceIndexLemmas.ruled-out s.sequences T.cursor.codes ResourceEnd T.cursor.at p.part.indexed g)
           | inr g ↦ ruled-out s.titles T.cursor.codes cs c T.cursor.at p.part.titled g e (eqb-true c.value 40 here)
         ])
 
@@ -145,27 +145,27 @@ size-rest : (T : Tokenizer) → InReady T → (scratched (destination_asked T.to
 unfolding scratched
 size-rest T p = ap (λ (s : TokenizeState). s.size) (sym p.part.rest)
 
-title-ready : (T : Tokenizer) → InReady T → ST.StartReady (scratched (title_asked T.tokenize_state) T)
+title-ready : (T : Tokenizer) → InReady T → Title.StartReady (scratched (title_asked T.tokenize_state) T)
 unfolding scratched
 title-ready T p =
     record {
       text = record { short = p.part.short; resting = record { space = ap title_asked p.part.spaces.space; eol = ap title_asked p.part.spaces.eol } };
-      rest = ap (λ s. ST.rested (title_asked s)) (sym p.part.rest) ∙ ap title_asked p.part.rest;
+      rest = ap (λ s. Title.rested (title_asked s)) (sym p.part.rest) ∙ ap title_asked p.part.rest;
     }
 
-destination-read : (T U : Tokenizer) → SD.start_ends (scratched (destination_asked T.tokenize_state) T) true U → Reads (destination 32 resource_names) None (destination_asked T.tokenize_state) (scratched (destination_asked T.tokenize_state) T) U
+destination-read : (T U : Tokenizer) → Destination.start_ends (scratched (destination_asked T.tokenize_state) T) true U → Reads (destination 32 resource_names) None (destination_asked T.tokenize_state) (scratched (destination_asked T.tokenize_state) T) U
 unfolding scratched
 destination-read T U k = k
 
-destination-refused : (T U : Tokenizer) → SD.start_ends (scratched (destination_asked T.tokenize_state) T) false U → (destination 32 resource_names (ahead T) ≡ None) × Fails (destination_asked T.tokenize_state) (scratched (destination_asked T.tokenize_state) T) U
+destination-refused : (T U : Tokenizer) → Destination.start_ends (scratched (destination_asked T.tokenize_state) T) false U → (destination 32 resource_names (ahead T) ≡ None) × Fails (destination_asked T.tokenize_state) (scratched (destination_asked T.tokenize_state) T) U
 unfolding scratched
 destination-refused T U k = (k.refused, k.fails)
 
-title-read : (T U : Tokenizer) → ST.start_ends (scratched (title_asked T.tokenize_state) T) true U → Reads (title title_names) None (title_asked T.tokenize_state) (scratched (title_asked T.tokenize_state) T) U
+title-read : (T U : Tokenizer) → Title.start_ends (scratched (title_asked T.tokenize_state) T) true U → Reads (title title_names) None (title_asked T.tokenize_state) (scratched (title_asked T.tokenize_state) T) U
 unfolding scratched
 title-read T U k = k
 
-title-refused : (T U : Tokenizer) → ST.start_ends (scratched (title_asked T.tokenize_state) T) false U → (title title_names (ahead T) ≡ None) × Fails (title_asked T.tokenize_state) (scratched (title_asked T.tokenize_state) T) U
+title-refused : (T U : Tokenizer) → Title.start_ends (scratched (title_asked T.tokenize_state) T) false U → (title title_names (ahead T) ≡ None) × Fails (title_asked T.tokenize_state) (scratched (title_asked T.tokenize_state) T) U
 unfolding scratched
 title-refused T U k = (k.refused, k.fails)
 

@@ -21,10 +21,10 @@ use Rattle.markdown_model.specs.CodeTests.{is_value, next_is}
 use Rattle.markdown_model.specs.Grammar.{◌>>=◌, gives, one}
 use Rattle.markdown_model.specs.Resource.{begins_title, destination, resource, resource_names, title, title_names}
 use Rattle.markdown_model.specs.Whitespace.{spacing}
-use Rattle.markdown_partial.specs.EolSteps as E
+use Rattle.markdown_partial.specs.EolSteps as EolSteps
 use Rattle.markdown_partial.specs.EolSteps.{eol_asked}
-use Rattle.markdown_string.specs.Destination as SD
-use Rattle.markdown_string.specs.Title as ST
+use Rattle.markdown_string.specs.Destination as Destination
+use Rattle.markdown_string.specs.Title as Title
 use Rattle.markdown_resource.specs.Parts.{names_rested, PartReady}
 
 -- The scratch fields.
@@ -239,7 +239,7 @@ states other LabelEndResourceDestinationMissing = missing_words
 states other LabelEndResourceBetween = between_words
 states other LabelEndResourceTitleAfter = title_after_words
 states other LabelEndResourceEnd = end_words
-states other SpaceOrTabEolStart = E.start_words
-states other DestinationStart = SD.start_words
-states other TitleStart = ST.start_words
+states other SpaceOrTabEolStart = EolSteps.start_words
+states other DestinationStart = Destination.start_words
+states other TitleStart = Title.start_words
 states other s = other s

@@ -18,11 +18,11 @@ use Rattle.markdown_engine.proofs.RunIndexFacts.{none-known}
 use Rattle.markdown_construct.specs.Characters.{bytes_of, IsText, ReadsText}
 use Rattle.markdown_construct.proofs.ContentTexts.{content-text}
 use Rattle.markdown_construct.proofs.ContentEnds.{content-ends}
-use Rattle.markdown_gfm.specs.GfmAutolinkLiteral as G
-use Rattle.markdown_leaf.specs.RawText as X
+use Rattle.markdown_gfm.specs.GfmAutolinkLiteral as GfmAutolinkLiteral
+use Rattle.markdown_leaf.specs.RawText as RawText
 use Rattle.markdown_partial.proofs.AskedLaws.{asked-ready, eol-asked-ready}
-use Rattle.markdown_partial.specs.EolSteps as L
-use Rattle.markdown_partial.specs.SpaceSteps as W
+use Rattle.markdown_partial.specs.EolSteps as EolSteps
+use Rattle.markdown_partial.specs.SpaceSteps as SpaceSteps
 use Rattle.markdown_partial.specs.SpaceSteps.{most}
 use Rattle.markdown_text.specs.TextSteps.{EndsWithCodes}
 
@@ -33,8 +33,8 @@ start-fits bytes pieces T k e = omega (arith, codes-fit bytes pieces k, ap left_
 pub unknown-runs : (s : TokenizeState) (cs : List Code) → s.runs ≡ no_runs → s.runs ≡ last_runs s.runs.asked cs
 unknown-runs s cs e = e ∙ none-known cs ∙ ap (λ (x : LastRuns). last_runs x.asked cs) (sym e)
 
-pub start-spans : (T : Tokenizer) → T.tokenize_state ≡ at_rest → codes_left T ≤ most → X.StartReady T
-start-spans T e fits = record { rest = e ∙ ap X.rested (sym e); fits = omega (arith, fits); indexed = unknown-runs T.tokenize_state T.cursor.codes (ap (λ (s : TokenizeState). s.runs) e) }
+pub start-spans : (T : Tokenizer) → T.tokenize_state ≡ at_rest → codes_left T ≤ most → RawText.StartReady T
+start-spans T e fits = record { rest = e ∙ ap RawText.rested (sym e); fits = omega (arith, fits); indexed = unknown-runs T.tokenize_state T.cursor.codes (ap (λ (s : TokenizeState). s.runs) e) }
 
 -- Literals.
 
@@ -44,7 +44,7 @@ unfolding start_of_content
 start-reads bytes pieces T content input place =
     subst (λ (bs : List ℕ). IsText bs T.cursor) (sym input) (subst (λ (p : Place). IsText bytes p) (sym place) (content-text bytes pieces 0 content))
 
-pub start-literals : (bytes : List ℕ) (pieces : List Piece) (T : Tokenizer) → IsContent bytes pieces → bytes_of T ≡ bytes → T.cursor ≡ start_of_content bytes pieces → G.rested T.tokenize_state ≡ T.tokenize_state → G.StartReady T
+pub start-literals : (bytes : List ℕ) (pieces : List Piece) (T : Tokenizer) → IsContent bytes pieces → bytes_of T ≡ bytes → T.cursor ≡ start_of_content bytes pieces → GfmAutolinkLiteral.rested T.tokenize_state ≡ T.tokenize_state → GfmAutolinkLiteral.StartReady T
 start-literals bytes pieces T content input place resting = record { text = start-reads bytes pieces T content input place; resting = resting; short = start-fits bytes pieces T content place }
 
 -- a text content that has codes ends with the last of them
@@ -54,12 +54,12 @@ start-last bytes pieces p text place = subst EndsWithCodes (sym place) (λ some.
 
 -- Whitespace that is asked for, where nothing is.
 
-pub start-space : (min max : ℕ) (T : Tokenizer) → T.tokenize_state ≡ at_rest → W.StartReady (scratched (W.asked min max N.SpaceOrTab false None T.tokenize_state) T)
-start-space min max T e = asked-ready min max N.SpaceOrTab false None T (ap W.rested e ∙ sym e) (λ h. cc)
+pub start-space : (min max : ℕ) (T : Tokenizer) → T.tokenize_state ≡ at_rest → SpaceSteps.StartReady (scratched (SpaceSteps.asked min max N.SpaceOrTab false None T.tokenize_state) T)
+start-space min max T e = asked-ready min max N.SpaceOrTab false None T (ap SpaceSteps.rested e ∙ sym e) (λ h. cc)
 
-pub start-spacing : (T : Tokenizer) → T.tokenize_state ≡ at_rest → codes_left T ≤ most → L.StartReady (scratched (L.eol_asked false None T.tokenize_state) T)
+pub start-spacing : (T : Tokenizer) → T.tokenize_state ≡ at_rest → codes_left T ≤ most → EolSteps.StartReady (scratched (EolSteps.eol_asked false None T.tokenize_state) T)
 start-spacing T e fits =
-    eol-asked-ready false None T fits (record { space = ap W.rested e ∙ sym e; eol = ap L.eol_rested e ∙ sym e }) (λ h. cc) (λ h. cc) (λ h. refl)
+    eol-asked-ready false None T fits (record { space = ap SpaceSteps.rested e ∙ sym e; eol = ap EolSteps.eol_rested e ∙ sym e }) (λ h. cc) (λ h. cc) (λ h. refl)
 
 pub past-fits : (o : Option ℕ) (T : Tokenizer) → o ≡ current_of T → is_some o ≡ true → codes_left T ≤ most → codes_left (applied Consume T) ≤ most
 past-fits None T e h fits = cc

@@ -15,11 +15,11 @@ use Rattle.markdown_engine.specs.declared.resolve.ResolveName.TheVariants as R
 use Rattle.markdown_engine.specs.declared.tokenizer.TokenizeState.{TokenizeState}
 use Rattle.markdown_engine.specs.declared.tokenizer.Tokenizer.{Tokenizer}
 use Rattle.markdown_engine.proofs.SequenceIndexLemmas.{right-unknown}
-use Rattle.markdown_engine.proofs.TitleIndexLemmas as Titles
+use Rattle.markdown_engine.proofs.TitleIndexLemmas as TitleIndexLemmas
 use Rattle.markdown_label.proofs.ListedNames.{listed-unknown}
-use Rattle.markdown_gfm.specs.GfmAutolinkLiteral as G
-use Rattle.markdown_leaf.specs.RawText as X
-use Rattle.markdown_partial.specs.SpaceSteps as W
+use Rattle.markdown_gfm.specs.GfmAutolinkLiteral as GfmAutolinkLiteral
+use Rattle.markdown_leaf.specs.RawText as RawText
+use Rattle.markdown_partial.specs.SpaceSteps as SpaceSteps
 use Rattle.markdown_model.specs.Element.{AreElements, AreElementsFrom, text_choice}
 use Rattle.markdown_model.specs.Inline.{text_events}
 use Rattle.markdown_model.specs.Setting.{Setting}
@@ -31,7 +31,7 @@ use Rattle.markdown_run.proofs.PassesRun.{text_finish, text-trims}
 use Rattle.markdown_engine.specs.Codes.{Code}
 use Rattle.markdown_label.specs.LabelEnd.{AreWithin}
 use Rattle.markdown_label_pass.specs.Brackets.{grouped}
-use Rattle.markdown_partial.specs.EolSteps as L
+use Rattle.markdown_partial.specs.EolSteps as EolSteps
 use Rattle.markdown_resource.specs.Parts as Parts
 use Rattle.markdown_engine.specs.Tree.{Forest}
 use Rattle.markdown_emphasis.specs.Pass.{IsProbed}
@@ -72,12 +72,12 @@ text-ready p pieces first T text k =
     let fits : codes_left T ≤ most = start-fits p.bytes.now pieces T content k.place in
     let input : T.parse_state.now.bytes.now ≡ p.bytes.now = ap (λ (x : ParseState). x.bytes.now) k.input in
     record {
-      spans = record { rest = k.fields ∙ sym (ap X.rested k.fields); fits = omega (arith, fits); indexed = unknown-runs T.tokenize_state T.cursor.codes (ap (λ (s : TokenizeState). s.runs) k.fields) };
-      look = record { resting = ap W.rested k.fields ∙ sym k.fields; short = fits };
-      literals = start-literals p.bytes.now pieces T content input k.place (ap G.rested k.fields ∙ sym k.fields);
+      spans = record { rest = k.fields ∙ sym (ap RawText.rested k.fields); fits = omega (arith, fits); indexed = unknown-runs T.tokenize_state T.cursor.codes (ap (λ (s : TokenizeState). s.runs) k.fields) };
+      look = record { resting = ap SpaceSteps.rested k.fields ∙ sym k.fields; short = fits };
+      literals = start-literals p.bytes.now pieces T content input k.place (ap GfmAutolinkLiteral.rested k.fields ∙ sym k.fields);
       last = start-last p.bytes.now pieces T.cursor text k.place;
       ends = record {
-        part = record { short = fits; indexed = right-unknown T.cursor.codes T.tokenize_state.sequences (ap (λ (s : TokenizeState). s.sequences) k.fields); titled = Titles.right-unknown T.cursor.codes T.tokenize_state.titles (ap (λ (s : TokenizeState). s.titles) k.fields); spaces = record { space = ap W.rested k.fields ∙ sym k.fields; eol = ap L.eol_rested k.fields ∙ sym k.fields }; rest = ap Parts.rested k.fields ∙ sym k.fields };
+        part = record { short = fits; indexed = right-unknown T.cursor.codes T.tokenize_state.sequences (ap (λ (s : TokenizeState). s.sequences) k.fields); titled = TitleIndexLemmas.right-unknown T.cursor.codes T.tokenize_state.titles (ap (λ (s : TokenizeState). s.titles) k.fields); spaces = record { space = ap SpaceSteps.rested k.fields ∙ sym k.fields; eol = ap EolSteps.eol_rested k.fields ∙ sym k.fields }; rest = ap Parts.rested k.fields ∙ sym k.fields };
         listed = listed-unknown T (ap (λ (s : TokenizeState). s.names) k.fields);
         text = start-reads p.bytes.now pieces T content input k.place;
         within = subst (λ (s : TokenizeState). AreWithin T s.label_starts) (sym k.fields) tt;

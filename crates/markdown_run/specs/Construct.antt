@@ -6,19 +6,19 @@ use Rattle.markdown_engine.specs.Past.{TreeReading, Reads, link_before}
 use Rattle.markdown_engine.specs.Tree.{Forest}
 use Rattle.markdown_engine.specs.declared.configuration.Constructs.{Constructs}
 use Rattle.markdown_engine.specs.declared.resolve.ResolveName.{ResolveName}
-use Rattle.markdown_engine.specs.declared.resolve.ResolveName.TheVariants as P
+use Rattle.markdown_engine.specs.declared.resolve.ResolveName.TheVariants as R
 use Rattle.markdown_engine.specs.declared.state.StateName.{StateName}
 use Rattle.markdown_engine.specs.declared.state.StateName.TheVariants.{AttentionStart, AutolinkStart, CharacterEscapeStart, CharacterReferenceStart, DataStart, DestinationStart, LabelStart, TitleStart, GfmAutolinkLiteralProtocolStart, GfmAutolinkLiteralWwwStart, GfmLabelStartFootnoteStart, GfmTaskListItemCheckStart, HardBreakEscapeStart, HtmlTextStart, LabelEndStart, LabelStartImageStart, LabelStartLinkStart, RawTextStart, SpaceOrTabStart, SpaceOrTabEolStart}
 use Rattle.markdown_engine.specs.declared.tokenizer.LabelKind.{LabelKind}
 use Rattle.markdown_engine.specs.declared.tokenizer.TokenizeState.{TokenizeState}
 use Rattle.markdown_engine.specs.declared.tokenizer.Tokenizer.{Tokenizer}
-use Rattle.markdown_attention.specs.Attention as AT
-use Rattle.markdown_gfm.specs.GfmAutolinkLiteral as G
-use Rattle.markdown_gfm.specs.GfmTaskListItemCheck as C
-use Rattle.markdown_html.specs.HtmlText as H
-use Rattle.markdown_label.specs.LabelEnd as LE
-use Rattle.markdown_leaf.specs.CharacterReference as R
-use Rattle.markdown_leaf.specs.RawText as X
+use Rattle.markdown_attention.specs.Attention as Attention
+use Rattle.markdown_gfm.specs.GfmAutolinkLiteral as GfmAutolinkLiteral
+use Rattle.markdown_gfm.specs.GfmTaskListItemCheck as GfmTaskListItemCheck
+use Rattle.markdown_html.specs.HtmlText as HtmlText
+use Rattle.markdown_label.specs.LabelEnd as LabelEnd
+use Rattle.markdown_leaf.specs.CharacterReference as CharacterReference
+use Rattle.markdown_leaf.specs.RawText as RawText
 use Rattle.markdown_model.specs.Element.{switched, image_start, footnote_start, link_start}
 use Rattle.markdown_model.specs.Grammar.{Reading, ◌>>◌, provided}
 use Rattle.markdown_model.specs.LabelEnd.{Element, starts}
@@ -26,13 +26,13 @@ use Rattle.markdown_model.specs.Leaf.{escape, reference, hard_break_escape, auto
 use Rattle.markdown_model.specs.Lines.{data_up_to}
 use Rattle.markdown_model.specs.Whitespace.{space_or_tab, spacing}
 use Rattle.markdown_model.specs.Resource.{destination, title, label}
-use Rattle.markdown_partial.specs.EolSteps as L
-use Rattle.markdown_partial.specs.SpaceSteps as W
+use Rattle.markdown_partial.specs.EolSteps as EolSteps
+use Rattle.markdown_partial.specs.SpaceSteps as SpaceSteps
 use Rattle.markdown_row.specs.Row.{begins, makes, past_mark}
-use Rattle.markdown_string.specs.Destination as SD
-use Rattle.markdown_string.specs.Title as ST
-use Rattle.markdown_string.specs.Label as SL
-use Rattle.markdown_string.specs.Text as SX
+use Rattle.markdown_string.specs.Destination as Destination
+use Rattle.markdown_string.specs.Title as Title
+use Rattle.markdown_string.specs.Label as Label
+use Rattle.markdown_string.specs.Text as Text
 use Rattle.markdown_util.specs.Reference.{html_5_rows}
 
 -- The states that start a construct, each with what it asks for: the scratch fields that it counts in are at rest. A span, whitespace with a
@@ -43,25 +43,25 @@ use Rattle.markdown_util.specs.Reference.{html_5_rows}
 -- linked, no blank code is at hand.
 abbrev pub IsConstruct : StateName → Tokenizer → Type 0
 IsConstruct CharacterEscapeStart T = Unit {0}
-IsConstruct CharacterReferenceStart T = R.IsAtRest T
+IsConstruct CharacterReferenceStart T = CharacterReference.IsAtRest T
 IsConstruct HardBreakEscapeStart T = Unit {0}
 IsConstruct AutolinkStart T = T.tokenize_state.size ≡ 0
-IsConstruct DestinationStart T = SD.StartReady T
-IsConstruct TitleStart T = ST.StartReady T
-IsConstruct LabelStart T = SL.StartReady T
-IsConstruct HtmlTextStart T = H.StartReady T
-IsConstruct RawTextStart T = X.StartReady T
+IsConstruct DestinationStart T = Destination.StartReady T
+IsConstruct TitleStart T = Title.StartReady T
+IsConstruct LabelStart T = Label.StartReady T
+IsConstruct HtmlTextStart T = HtmlText.StartReady T
+IsConstruct RawTextStart T = RawText.StartReady T
 IsConstruct DataStart T = Unit {0}
-IsConstruct AttentionStart T = AT.StartReady T
-IsConstruct GfmTaskListItemCheckStart T = C.MayLook T
-IsConstruct GfmAutolinkLiteralProtocolStart T = G.StartReady T
-IsConstruct GfmAutolinkLiteralWwwStart T = G.StartReady T
+IsConstruct AttentionStart T = Attention.StartReady T
+IsConstruct GfmTaskListItemCheckStart T = GfmTaskListItemCheck.MayLook T
+IsConstruct GfmAutolinkLiteralProtocolStart T = GfmAutolinkLiteral.StartReady T
+IsConstruct GfmAutolinkLiteralWwwStart T = GfmAutolinkLiteral.StartReady T
 IsConstruct LabelStartImageStart T = Unit {0}
 IsConstruct LabelStartLinkStart T = Unit {0}
 IsConstruct GfmLabelStartFootnoteStart T = Unit {0}
-IsConstruct LabelEndStart T = LE.StartReady T
-IsConstruct SpaceOrTabStart T = W.StartReady T
-IsConstruct SpaceOrTabEolStart T = L.StartReady T
+IsConstruct LabelEndStart T = LabelEnd.StartReady T
+IsConstruct SpaceOrTabStart T = SpaceSteps.StartReady T
+IsConstruct SpaceOrTabEolStart T = EolSteps.StartReady T
 IsConstruct _ T = ⊥
 
 -- what is read: what stands in the standard under the construct's name, where it is looked for; data up to the next marker; or the
@@ -71,16 +71,16 @@ construct_reading CharacterEscapeStart T = provided T.parse_state.now.options.no
 construct_reading CharacterReferenceStart T = provided T.parse_state.now.options.now.constructs.character_reference >> reference html_5_rows
 construct_reading HardBreakEscapeStart T = provided T.parse_state.now.options.now.constructs.hard_break_escape >> hard_break_escape
 construct_reading AutolinkStart T = provided T.parse_state.now.options.now.constructs.autolink >> autolink
-construct_reading DestinationStart T = destination T.tokenize_state.size_b (SD.names_in T.tokenize_state)
-construct_reading TitleStart T = title (SX.names_in T.tokenize_state)
-construct_reading LabelStart T = label (SX.names_in T.tokenize_state)
-construct_reading HtmlTextStart T = H.html_here T
-construct_reading RawTextStart T = X.span_at T
-construct_reading AttentionStart T = AT.run_tree T
+construct_reading DestinationStart T = destination T.tokenize_state.size_b (Destination.names_in T.tokenize_state)
+construct_reading TitleStart T = title (Text.names_in T.tokenize_state)
+construct_reading LabelStart T = label (Text.names_in T.tokenize_state)
+construct_reading HtmlTextStart T = HtmlText.html_here T
+construct_reading RawTextStart T = RawText.span_at T
+construct_reading AttentionStart T = Attention.run_tree T
 construct_reading DataStart T = data_up_to T.tokenize_state.markers
-construct_reading GfmTaskListItemCheckStart T = C.check_here T
-construct_reading GfmAutolinkLiteralProtocolStart T = G.protocol_here T
-construct_reading GfmAutolinkLiteralWwwStart T = G.www_here T
+construct_reading GfmTaskListItemCheckStart T = GfmTaskListItemCheck.check_here T
+construct_reading GfmAutolinkLiteralProtocolStart T = GfmAutolinkLiteral.protocol_here T
+construct_reading GfmAutolinkLiteralWwwStart T = GfmAutolinkLiteral.www_here T
 construct_reading SpaceOrTabStart T =
     let s : TokenizeState = T.tokenize_state in
     space_or_tab s.space_or_tab_token s.space_or_tab_content s.space_or_tab_min s.space_or_tab_max
@@ -95,13 +95,13 @@ chain_before _ T = None
 
 -- the scratch fields after: whitespace puts its own to rest, the others leave all as they were
 abbrev pub fields_after : StateName → TokenizeState → TokenizeState
-fields_after SpaceOrTabStart s = W.rested s
-fields_after SpaceOrTabEolStart s = L.eol_rested s
+fields_after SpaceOrTabStart s = SpaceSteps.rested s
+fields_after SpaceOrTabEolStart s = EolSteps.eol_rested s
 fields_after _ s = s
 
 -- the pass that is registered after: that of runs after a run of markers
 abbrev pub pass_after : StateName → Option ResolveName
-pass_after AttentionStart = Some P.Attention
+pass_after AttentionStart = Some R.Attention
 pass_after _ = None
 
 -- where it is looked for
@@ -134,8 +134,8 @@ BeginsOrStays reading T false U = (reading (ahead T) ≡ None) × (U ≡ T)
 -- T but for the scratch fields: where a `]` stands here and ends are on, the last start is used up
 abbrev pub EndsOrLoses : Tokenizer → Bool → Tokenizer → Type 0
 EndsOrLoses T true U =
-    (back : List Code) × ((kind : LabelKind) × ((tail : Forest) × ((LE.end_reading T (ahead T) ≡ Some ((back, (kind, tail)), ahead U)) × (U ≡ past_mark (makes back kind tail) T))))
-EndsOrLoses T false U = (LE.end_reading T (ahead T) ≡ None) × (U ≡ scratched (LE.lost_fields T) T)
+    (back : List Code) × ((kind : LabelKind) × ((tail : Forest) × ((LabelEnd.end_reading T (ahead T) ≡ Some ((back, (kind, tail)), ahead U)) × (U ≡ past_mark (makes back kind tail) T))))
+EndsOrLoses T false U = (LabelEnd.end_reading T (ahead T) ≡ None) × (U ≡ scratched (LabelEnd.lost_fields T) T)
 
 -- how a construct ends
 abbrev pub ConstructEnds : StateName → Tokenizer → Bool → Tokenizer → Type 0

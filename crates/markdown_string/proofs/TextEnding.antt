@@ -28,7 +28,7 @@ use Rattle.markdown_model.specs.Whitespace.{spacing, begins_filled_line}
 use Rattle.markdown_construct.specs.Plan.{Plan, preceded, depth_after, DoesAs}
 use Rattle.markdown_construct.proofs.PlanLemmas.{DoesAs-then, kept}
 use Rattle.markdown_construct.proofs.WholeReadings.{both-parts}
-use Rattle.markdown_partial.specs.EolSteps as E
+use Rattle.markdown_partial.specs.EolSteps as EolSteps
 use Rattle.markdown_partial.specs.SpaceSteps.{at_blank}
 use Rattle.markdown_partial.proofs.AskedLaws.{eol-asked-ready, eol-asked-ends}
 use Rattle.markdown_partial.proofs.BlankLemmas.{blank-ahead}
@@ -160,7 +160,7 @@ frame-same ok nok q T U = refl
 refused-same : (ok nok : State) (q : TokenizeState) (T U : Tokenizer) → Fails T.tokenize_state T U → restored (frame_of false ok nok (scratched q T)) U ≡ T
 refused-same ok nok q T U f = frame-same ok nok q T U ∙ restored-fails false ok nok T.tokenize_state T U f ∙ scratched-same T
 
-module _ (W : Words) (within : words_in W SpaceOrTabEolStart ≡ E.start_words) where
+module _ (W : Words) (within : words_in W SpaceOrTabEolStart ≡ EolSteps.start_words) where
   abbrev pub AtEnding : ℕ → (Bool → Tokenizer → Type 0) → StateName → StateName → Code → Tokenizer → Type 0
   AtEnding n End after none c T =
       ((U : Tokenizer) → U.attempts ≡ [] → Passed T.tokenize_state.connect c (rest_of (ahead T)) T U → FollowsIn W n End (Next after) U)
@@ -172,8 +172,8 @@ module _ (W : Words) (within : words_in W SpaceOrTabEolStart ≡ E.start_words) 
       let connect : Bool = s.connect in
       let A : Tokenizer = scratched (eol_asked_for s) T in
       let blank : at_blank (current_of T) ≡ false = blank-ahead T ∙ ap (next_is is_blank) b.whole ∙ not-blank b.code e in
-      let asked : E.StartReady A = eol-asked-ready connect string T r.short r.resting linked (λ h. refl) (λ h. let no : false ≡ true = sym blank ∙ h in cc) in
-      let said : (ok : Bool) (U : Tokenizer) → E.start_ends A ok U → EndsAs (spacing string) (link_before connect T) s T ok U = λ ok U x. eol-asked-ends connect string T r.resting ok U x in
+      let asked : EolSteps.StartReady A = eol-asked-ready connect string T r.short r.resting linked (λ h. refl) (λ h. let no : false ≡ true = sym blank ∙ h in cc) in
+      let said : (ok : Bool) (U : Tokenizer) → EolSteps.start_ends A ok U → EndsAs (spacing string) (link_before connect T) s T ok U = λ ok U x. eol-asked-ends connect string T r.resting ok U x in
       Goes-attempt W n End (Retry SpaceOrTabEolStart) within (Next after) (Next none) A (attempts-scratched _ T ∙ alone) asked
       (omega (arith, less, left-scratched (eol_asked_for s) T))
       (λ U now x. k.0 U now (passed-read connect b.code (rest_of (ahead T)) T U e b.whole (said true U x)))

@@ -18,7 +18,7 @@ use Rattle.markdown_construct.specs.Plan.{Plan, DoesAs}
 use Rattle.markdown_construct.specs.Scratch.{AreOpen, with_size}
 use Rattle.markdown_string.specs.Text.{names_in, joined, text_entered, ending, eol_asked_for, ends_open, TextReady, break_ops, inside_ops, ends_filled, answer}
 use Rattle.markdown_engine.specs.StateWords.{StateWords}
-use Rattle.markdown_partial.specs.EolSteps as E
+use Rattle.markdown_partial.specs.EolSteps as EolSteps
 use Rattle.markdown_engine.specs.declared.state.StateName.{StateName}
 use Rattle.std.specs.Str.{byte}
 
@@ -207,5 +207,5 @@ states other LabelEolAfter = eol_after_words
 states other LabelInside = inside_words
 states other LabelEscape = escape_words
 states other LabelNok = nok_words
-states other SpaceOrTabEolStart = E.start_words
+states other SpaceOrTabEolStart = EolSteps.start_words
 states other s = other s

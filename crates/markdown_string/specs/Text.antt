@@ -6,7 +6,7 @@ use Rattle.markdown_engine.specs.Ops.{Op, Enter, Exit, Consume, done, scratched}
 use Rattle.markdown_engine.specs.TreeOps.{consumes}
 use Rattle.markdown_engine.specs.Weights.{codes_left}
 use Rattle.markdown_engine.specs.declared.event.Content.{Content}
-use Rattle.markdown_engine.specs.declared.event.Content.TheVariants as C
+use Rattle.markdown_engine.specs.declared.event.Content.TheVariants as Content
 use Rattle.markdown_engine.specs.declared.event.Event.{Event}
 use Rattle.markdown_engine.specs.declared.event.Name.TheVariants as N
 use Rattle.markdown_engine.specs.declared.tokenizer.TokenizeState.{TokenizeState}
@@ -29,7 +29,7 @@ joined s = record s { connect = true }
 
 -- how the leaves of the text are to be read
 abbrev pub string : Option Content
-string = Some C.String
+string = Some Content.String
 
 abbrev pub enter_text : Bool → Op
 enter_text connect = enter_op connect N.Data string

@@ -17,7 +17,7 @@ use Rattle.markdown_construct.specs.Plan.{Plan, preceded, DoesAs}
 use Rattle.markdown_construct.specs.Scratch.{AreOpen}
 use Rattle.markdown_string.specs.Text.{names_in, joined, text_entered, closing, ending, eol_asked_for, ends_open, TextReady, break_ops, inside_ops, ends_filled, answer}
 use Rattle.markdown_engine.specs.StateWords.{StateWords}
-use Rattle.markdown_partial.specs.EolSteps as E
+use Rattle.markdown_partial.specs.EolSteps as EolSteps
 use Rattle.markdown_engine.specs.declared.state.StateName.{StateName}
 use Rattle.std.specs.Str.{byte}
 
@@ -226,5 +226,5 @@ states other TitleAfterEol = after_eol_words
 states other TitleInside = inside_words
 states other TitleEscape = escape_words
 states other TitleNok = nok_words
-states other SpaceOrTabEolStart = E.start_words
+states other SpaceOrTabEolStart = EolSteps.start_words
 states other s = other s

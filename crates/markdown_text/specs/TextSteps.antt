@@ -20,13 +20,13 @@ use Rattle.markdown_engine.specs.declared.state.StateName.TheVariants.{Attention
 use Rattle.markdown_engine.specs.declared.title_index.Closer.{Closer}
 use Rattle.markdown_engine.specs.declared.tokenizer.TokenizeState.{TokenizeState}
 use Rattle.markdown_engine.specs.declared.tokenizer.Tokenizer.{Tokenizer}
-use Rattle.markdown_gfm.specs.GfmAutolinkLiteral as G
-use Rattle.markdown_gfm.specs.GfmTaskListItemCheck as C
-use Rattle.markdown_label.specs.LabelEnd as E
+use Rattle.markdown_gfm.specs.GfmAutolinkLiteral as GfmAutolinkLiteral
+use Rattle.markdown_gfm.specs.GfmTaskListItemCheck as GfmTaskListItemCheck
+use Rattle.markdown_label.specs.LabelEnd as LabelEnd
 use Rattle.markdown_label.specs.LabelStarts.{footnote_test}
 use Rattle.markdown_leaf.specs.Autolink.{link_here}
 use Rattle.markdown_leaf.specs.CharacterEscape.{escape_here}
-use Rattle.markdown_leaf.specs.RawText as X
+use Rattle.markdown_leaf.specs.RawText as RawText
 use Rattle.markdown_model.proofs.DataLaws.{code_leaf}
 use Rattle.markdown_model.specs.Element.{Choice, text_choice}
 use Rattle.markdown_model.specs.LabelEnd.{Element, plain}
@@ -88,11 +88,11 @@ abbrev pub text_marked : Tokenizer → Tokenizer
 text_marked T = scratched (marked_fields T.cursor.codes T.parse_state.now T.tokenize_state) T
 
 -- a construct is tried, from this state, and where it does not hold the run goes on with another
-abbrev pub trying : StateName → StateName → Tokenizer → Stepped
-trying construct otherwise T = stepped (Retry construct) (attempted false (Next TextBefore) (Next otherwise) T)
+abbrev pub attempt_step : StateName → StateName → Tokenizer → Stepped
+attempt_step construct otherwise T = stepped (Retry construct) (attempted false (Next TextBefore) (Next otherwise) T)
 
 abbrev pub start_step : Tokenizer → Stepped
-start_step T = trying GfmTaskListItemCheckStart TextBefore (text_marked T)
+start_step T = attempt_step GfmTaskListItemCheckStart TextBefore (text_marked T)
 
 -- with the passes of a text registered
 abbrev pub text_passed : Tokenizer → Tokenizer
@@ -100,7 +100,7 @@ text_passed T = registered R.Text (registered R.Data T)
 
 abbrev pub tries_at : Option (StateName × StateName) → Tokenizer → Stepped
 tries_at None T = stepped (Retry TextBeforeData) T
-tries_at (Some r) T = trying r.0 r.1 T
+tries_at (Some r) T = attempt_step r.0 r.1 T
 
 -- by the current code
 abbrev pub before_at : Option ℕ → Tokenizer → Stepped
@@ -111,13 +111,13 @@ abbrev pub before_step : Tokenizer → Stepped
 before_step T = before_at (current_of T) T
 
 abbrev pub before_html_step : Tokenizer → Stepped
-before_html_step T = trying HtmlTextStart TextBeforeData T
+before_html_step T = attempt_step HtmlTextStart TextBeforeData T
 
 abbrev pub before_hard_break_escape_step : Tokenizer → Stepped
-before_hard_break_escape_step T = trying HardBreakEscapeStart TextBeforeData T
+before_hard_break_escape_step T = attempt_step HardBreakEscapeStart TextBeforeData T
 
 abbrev pub before_label_start_link_step : Tokenizer → Stepped
-before_label_start_link_step T = trying LabelStartLinkStart TextBeforeData T
+before_label_start_link_step T = attempt_step LabelStartLinkStart TextBeforeData T
 
 abbrev pub before_data_step : Tokenizer → Stepped
 before_data_step T = stepped (Retry DataStart) (attempted false (Next TextBefore) Nok T)
@@ -139,25 +139,25 @@ EndsWithCodes p = p.codes ≢ [] → p.end.index ≡ (stop_of document_start p.c
 -- at the start: the fields in which spans, references and autolinks count are at rest, those in which whitespace behind a check does, those
 -- of literals, and those of ends of labels; the starts that are kept end between characters; and the content ends with its last code
 pub record StartReady (T : Tokenizer) : Type 0 where
-  pub spans : X.StartReady T
-  pub look : C.MayLook T
-  pub literals : G.StartReady T
-  pub ends : E.StartReady T
+  pub spans : RawText.StartReady T
+  pub look : GfmTaskListItemCheck.MayLook T
+  pub literals : GfmAutolinkLiteral.StartReady T
+  pub ends : LabelEnd.StartReady T
   pub last : EndsWithCodes T.cursor
 
 -- besides, data stops at the markers of a text
 pub record IsMarked (T : Tokenizer) : Type 0 where
   pub markers : T.tokenize_state.markers ≡ text_markers
-  pub spans : X.StartReady T
-  pub look : C.MayLook T
-  pub literals : G.StartReady T
-  pub ends : E.StartReady T
+  pub spans : RawText.StartReady T
+  pub look : GfmTaskListItemCheck.MayLook T
+  pub literals : GfmAutolinkLiteral.StartReady T
+  pub ends : LabelEnd.StartReady T
   pub last : EndsWithCodes T.cursor
 
 -- and no check of a list item stands here
 pub record BeforeReady (T : Tokenizer) : Type 0 where
   pub marked : IsMarked T
-  pub unchecked : C.check_here T (ahead T) ≡ None
+  pub unchecked : GfmTaskListItemCheck.check_here T (ahead T) ≡ None
 
 -- the code at hand is an element by itself
 abbrev pub StandsAlone : Tokenizer → Type 0

@@ -8,7 +8,7 @@ ghost use Rattle.markdown_engine.specs.Ops.{scratched};
 ghost use Rattle.markdown_engine.specs.RunIndex.{last_runs};
 ghost use Rattle.markdown_engine.specs.SequenceIndex.{last_begins};
 ghost use Rattle.markdown_text.specs.Resolve.{MayFinish, FinishesText};
-ghost use Rattle.markdown_text.specs.TextSteps.{names_for, order_pays, titles_for, titles_pay, span_markers, text_markers, first_try, trying, start_step, before_step, before_html_step, before_hard_break_escape_step, before_label_start_link_step, before_data_step};
+ghost use Rattle.markdown_text.specs.TextSteps.{names_for, order_pays, titles_for, titles_pay, span_markers, text_markers, first_try, attempt_step, start_step, before_step, before_html_step, before_hard_break_escape_step, before_label_start_link_step, before_data_step};
 
 use markdown_engine::byte_set;
 use markdown_engine::bytes::ByteSet;
@@ -85,7 +85,7 @@ fn attempt(
     construct: StateName,
     otherwise: StateName,
 ) -> Result<State, AllocError>
-    ensures ok { IfOk result (λ s. trying construct otherwise tokenizer.old ≡ record { state = s; left = tokenizer.new }) }
+    ensures ok { IfOk result (λ s. attempt_step construct otherwise tokenizer.old ≡ record { state = s; left = tokenizer.new }) }
     ensures err { OnErr result (IsTrue tokenizer.new.failed) }
 {
     tokenizer.attempt(State::Next(StateName::TextBefore), State::Next(otherwise))?;

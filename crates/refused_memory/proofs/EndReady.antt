@@ -15,12 +15,12 @@ use Rattle.markdown_engine.specs.declared.tokenizer.LabelStart as Kept
 use Rattle.markdown_engine.specs.declared.tokenizer.TokenizeState.{TokenizeState}
 use Rattle.markdown_engine.specs.declared.tokenizer.Tokenizer.{Tokenizer}
 use Rattle.markdown_engine.proofs.SequenceIndexLemmas.{right-unknown}
-use Rattle.markdown_engine.proofs.TitleIndexLemmas as Titles
+use Rattle.markdown_engine.proofs.TitleIndexLemmas as TitleIndexLemmas
 use Rattle.markdown_label.proofs.ListedNames.{listed-unknown}
-use Rattle.markdown_label.specs.LabelEnd as E
+use Rattle.markdown_label.specs.LabelEnd as LabelEnd
 use Rattle.markdown_label.specs.LabelEnd.{AreWithin, place_at}
-use Rattle.markdown_partial.specs.EolSteps as L
-use Rattle.markdown_partial.specs.SpaceSteps as W
+use Rattle.markdown_partial.specs.EolSteps as EolSteps
+use Rattle.markdown_partial.specs.SpaceSteps as SpaceSteps
 use Rattle.markdown_partial.specs.SpaceSteps.{most}
 use Rattle.markdown_resource.specs.Parts as Parts
 
@@ -56,10 +56,10 @@ module _ (T : Tokenizer) (es : List Event) (ls : List Kept.LabelStart) (none : T
   some : 0 < length es
   some = subst (λ (xs : List Event). 0 < length xs) (sym one) (omega arith)
 
-  pub end-ready : E.StartReady U
+  pub end-ready : LabelEnd.StartReady U
   end-ready =
       record {
-        part = record { short = fits; indexed = right-unknown T.cursor.codes T.tokenize_state.sequences (ap (λ (s : TokenizeState). s.sequences) e); titled = Titles.right-unknown T.cursor.codes T.tokenize_state.titles (ap (λ (s : TokenizeState). s.titles) e); spaces = record { space = ap W.rested fields ∙ sym fields; eol = ap L.eol_rested fields ∙ sym fields }; rest = ap Parts.rested fields ∙ sym fields };
+        part = record { short = fits; indexed = right-unknown T.cursor.codes T.tokenize_state.sequences (ap (λ (s : TokenizeState). s.sequences) e); titled = TitleIndexLemmas.right-unknown T.cursor.codes T.tokenize_state.titles (ap (λ (s : TokenizeState). s.titles) e); spaces = record { space = ap SpaceSteps.rested fields ∙ sym fields; eol = ap EolSteps.eol_rested fields ∙ sym fields }; rest = ap Parts.rested fields ∙ sym fields };
         listed = listed-unknown U (ap (λ (s : TokenizeState). s.names) fields);
         text = text;
         within = subst (λ (xs : List Kept.LabelStart). AreWithin U xs) (sym only) (record { within = some; between = between }, tt);

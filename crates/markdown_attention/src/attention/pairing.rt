@@ -4,7 +4,7 @@
 //! that fits it. A mark for each list and each class of closers says how far all open runs refuse the class, so that a walk stops there.
 
 ghost use Rattle.std.specs.Prelude.{◌≡◌, ℕ, ◌+◌, ◌-◌, ◌*◌, ◌^◌, ◌<◌, ◌≤◌, ◌⊎◌, ◌&&◌, length, slice_index, slice_set, nat_lt, if◌then◌else◌, IfSome, IfNone, IfOk, IsTrue, IsFalse, count_by, replicate};
-ghost use Rattle.markdown_attention.specs.Pairs.{run_at, markers_left, sizes_fit, ruled_size, three_refuses, tilde_allows, size_of_pair, row_of};
+ghost use Rattle.markdown_attention.specs.Pairs.{run_at, markers_left, sizes_fit, ruled_size, is_refused_by_three, is_tilde_pair, size_of_pair, row_of};
 ghost use Rattle.markdown_attention.specs.Walk.{Stands, Whole, AreSmall};
 ghost use Rattle.markdown_attention.specs.Open.{key_of, kind_of, class_of, WalkFound, WalkEnded, IsCut, HaveMarkers, IsClosing};
 ghost use Rattle.markdown_attention.specs.Containers.{ArePairLists, AreWithin, AreTakenOnce};
@@ -44,16 +44,16 @@ fn ruled_size(options: ParseOptions, whole: usize, remaining: usize) -> usize
 }
 
 // Whether the rule of three refuses two sizes.
-fn is_refused(both: bool, x: usize, y: usize) -> bool
+fn is_refused_by_three(both: bool, x: usize, y: usize) -> bool
     requires { x + y < 2 ^ 64 }
-    ensures { result ≡ three_refuses both x y }
+    ensures { result ≡ is_refused_by_three both x y }
 {
     both && y % 3 != 0 && (x + y) % 3 == 0
 }
 
 // Whether two sizes of tildes may pair.
 fn is_tilde_pair(options: ParseOptions, x: usize, y: usize) -> bool
-    ensures { result ≡ tilde_allows options x y }
+    ensures { result ≡ is_tilde_pair options x y }
 {
     x == y && (y == 2 || y == 1 && options.gfm_strikethrough_single_tilde)
 }
@@ -70,7 +70,7 @@ fn do_sizes_fit(options: ParseOptions, a: Sequence, b: Sequence) -> bool
     if b.marker == b'~' {
         is_tilde_pair(options, a.remaining, b.remaining)
     } else {
-        !is_refused(a.may_close || b.may_open, x, y)
+        !is_refused_by_three(a.may_close || b.may_open, x, y)
     }
 }
 

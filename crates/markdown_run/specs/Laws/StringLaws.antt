@@ -7,7 +7,7 @@ use Rattle.markdown_engine.specs.Ops.{ahead, current_of, registered, scratched}
 use Rattle.markdown_engine.specs.Runs.{Stepped}
 use Rattle.markdown_engine.specs.StateWords.{GoesIn, Law}
 use Rattle.markdown_engine.specs.Weights.{codes_left, weight_at}
-use Rattle.markdown_engine.specs.declared.resolve.ResolveName.TheVariants as P
+use Rattle.markdown_engine.specs.declared.resolve.ResolveName.TheVariants as R
 use Rattle.markdown_engine.specs.declared.state.State.TheVariants.{Next, Retry, Nok}
 use Rattle.markdown_engine.specs.declared.state.StateName.{StateName}
 use Rattle.markdown_engine.specs.declared.state.StateName.TheVariants.{CharacterEscapeStart, CharacterReferenceStart, DataStart, StringBefore, StringBeforeData}
@@ -16,9 +16,9 @@ use Rattle.markdown_engine.proofs.EndsLemmas.{scratched-same}
 use Rattle.markdown_engine.proofs.Laws.{code-step, restored-fails}
 use Rattle.markdown_engine.proofs.OpRules.{Begins, ahead-some, attempts-registered, attempts-scratched, left-scratched}
 use Rattle.markdown_construct.proofs.StateLaws.{FollowsIn, Goes-plain, Goes-end, Goes-attempt, follows}
-use Rattle.markdown_leaf.specs.CharacterEscape as E
+use Rattle.markdown_leaf.specs.CharacterEscape as CharacterEscape
 use Rattle.markdown_leaf.specs.CharacterEscape.{escape_here}
-use Rattle.markdown_leaf.specs.CharacterReference as R
+use Rattle.markdown_leaf.specs.CharacterReference as CharacterReference
 use Rattle.markdown_leaf.specs.CharacterReference.{reference_here}
 use Rattle.markdown_text.specs.StringSteps.{is_on, string_tries, string_markers, string_marked, string_passed, string_here, tries_at, before_at, StartReady, BeforeReady, before_ends, start_words, before_words, before_data_words}
 use Rattle.markdown_text.specs.Table.{said_at}
@@ -53,7 +53,7 @@ no-reference T v e h =
     ap (reference_here T) b.whole ∙ no-ampersand (is_on T).character_reference b.code (rest_of (ahead T)) (ap (λ x. x == byte "&") b.value ∙ h)
 
 passed-attempts : (T : Tokenizer) → T.attempts ≡ [] → (string_passed T).attempts ≡ []
-passed-attempts T alone = attempts-registered P.String (registered P.Data T) ∙ attempts-registered P.Data T ∙ alone
+passed-attempts T alone = attempts-registered R.String (registered R.Data T) ∙ attempts-registered R.Data T ∙ alone
 
 module _ (T : Tokenizer) (alone : T.attempts ≡ []) (marked : BeforeReady T) where
   abbrev Before : Stepped → Type 0
@@ -67,16 +67,16 @@ module _ (T : Tokenizer) (alone : T.attempts ≡ []) (marked : BeforeReady T) wh
 
   tries-escape : current_of T ≡ Some (byte "\\") → Before (tries_at (Some CharacterEscapeStart) T)
   tries-escape e =
-      Goes-attempt inline (weight_at 6 T) (before_ends T) (Retry CharacterEscapeStart) {w = E.start_words} refl (Next StringBefore) (Next StringBeforeData) T alone tt (omega arith)
+      Goes-attempt inline (weight_at 6 T) (before_ends T) (Retry CharacterEscapeStart) {w = CharacterEscape.start_words} refl (Next StringBefore) (Next StringBeforeData) T alone tt (omega arith)
       (λ U now k. on-before (weight_at 6 T) T U (omega arith) marked (escape-past T U k))
-      (λ U now k. let r : E.start_ends T false U = k in
+      (λ U now k. let r : CharacterEscape.start_ends T false U = k in
       rw (restored-fails false (Next StringBefore) (Next StringBeforeData) T.tokenize_state T U r.fails, scratched-same T) (to-data (byte "\\") e r.refused (no-reference T (byte "\\") e refl)))
 
   tries-reference : current_of T ≡ Some (byte "&") → Before (tries_at (Some CharacterReferenceStart) T)
   tries-reference e =
-      Goes-attempt inline (weight_at 6 T) (before_ends T) (Retry CharacterReferenceStart) {w = R.start_words} refl (Next StringBefore) (Next StringBeforeData) T alone marked.rest (omega arith)
+      Goes-attempt inline (weight_at 6 T) (before_ends T) (Retry CharacterReferenceStart) {w = CharacterReference.start_words} refl (Next StringBefore) (Next StringBeforeData) T alone marked.rest (omega arith)
       (λ U now k. on-before (weight_at 6 T) T U (omega arith) marked (reference-past T U (no-escape T (byte "&") e refl) k))
-      (λ U now k. let r : R.start_ends T false U = k in
+      (λ U now k. let r : CharacterReference.start_ends T false U = k in
       rw (restored-fails false (Next StringBefore) (Next StringBeforeData) T.tokenize_state T U r.fails, scratched-same T) (to-data (byte "&") e (no-escape T (byte "&") e refl) r.refused))
 
   tries-none : (v : ℕ) → current_of T ≡ Some v → list_any (λ n. v == n) string_markers ≡ false → Before (tries_at None T)

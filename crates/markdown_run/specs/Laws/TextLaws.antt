@@ -18,7 +18,7 @@ use Rattle.markdown_engine.specs.StateWords.{GoesIn, Law, weight_in}
 use Rattle.markdown_engine.specs.TitleIndex.{closers_of}
 use Rattle.markdown_engine.specs.Tree.{Forest, empty, leaf_codes}
 use Rattle.markdown_engine.specs.Weights.{codes_left, weight_at}
-use Rattle.markdown_engine.specs.declared.resolve.ResolveName.TheVariants as P
+use Rattle.markdown_engine.specs.declared.resolve.ResolveName.TheVariants as R
 use Rattle.markdown_engine.specs.declared.state.State.TheVariants.{Next, Retry, Nok}
 use Rattle.markdown_engine.specs.declared.state.StateName.{StateName}
 use Rattle.markdown_engine.specs.declared.state.StateName.TheVariants.{AttentionStart, AutolinkStart, CharacterEscapeStart, CharacterReferenceStart, DataStart, GfmAutolinkLiteralProtocolStart, GfmAutolinkLiteralWwwStart, GfmLabelStartFootnoteStart, GfmTaskListItemCheckStart, HardBreakEscapeStart, HtmlTextStart, LabelEndStart, LabelStartImageStart, LabelStartLinkStart, RawTextStart, TextBefore, TextBeforeData, TextBeforeHardBreakEscape, TextBeforeHtml, TextBeforeLabelStartLink}
@@ -28,22 +28,22 @@ use Rattle.markdown_engine.proofs.EndsLemmas.{scratched-same}
 use Rattle.markdown_engine.proofs.Laws.{code-step, restored-fails}
 use Rattle.markdown_engine.proofs.SequenceIndexLemmas.{right-made}
 use Rattle.markdown_engine.proofs.OpRules.{Begins, ahead-some, attempts-registered, attempts-scratched, left-scratched, left-ahead}
-use Rattle.markdown_gfm.specs.GfmAutolinkLiteral as G
-use Rattle.markdown_gfm.specs.GfmTaskListItemCheck as C
-use Rattle.markdown_html.specs.HtmlText as H
-use Rattle.markdown_attention.specs.Attention as AT
+use Rattle.markdown_gfm.specs.GfmAutolinkLiteral as GfmAutolinkLiteral
+use Rattle.markdown_gfm.specs.GfmTaskListItemCheck as GfmTaskListItemCheck
+use Rattle.markdown_html.specs.HtmlText as HtmlText
+use Rattle.markdown_attention.specs.Attention as Attention
 use Rattle.markdown_attention.specs.Attention.{ReadsRun, run_tree}
-use Rattle.markdown_partial.specs.SpaceSteps as W
+use Rattle.markdown_partial.specs.SpaceSteps as SpaceSteps
 use Rattle.markdown_construct.specs.Characters.{bytes_of, ReadsText}
 use Rattle.markdown_construct.proofs.StateLaws.{FollowsIn, Goes-plain, Goes-end, Goes-attempt}
 use Rattle.markdown_construct.proofs.TextPasses.{text-scratched}
-use Rattle.markdown_label.specs.LabelEnd as E
+use Rattle.markdown_label.specs.LabelEnd as LabelEnd
 use Rattle.markdown_label.specs.LabelEnd.{AreWithin}
 use Rattle.markdown_label.specs.Settings.{setting_of, setting_in, IsListed}
 use Rattle.markdown_label.specs.LabelStarts.{image_ends, footnote_ends, link_ends}
 use Rattle.markdown_label.proofs.BegunStarts.{link-within, footnote-within, image-within}
 use Rattle.markdown_label.proofs.StartPlaces.{within-grown}
-use Rattle.markdown_partial.specs.EolSteps as L
+use Rattle.markdown_partial.specs.EolSteps as EolSteps
 use Rattle.markdown_resource.specs.Parts as Parts
 use Rattle.markdown_resource.specs.Parts.{PartReady}
 use Rattle.markdown_resource.proofs.NextCodes.{same-codes}
@@ -52,7 +52,7 @@ use Rattle.markdown_leaf.specs.Autolink.{link_here}
 use Rattle.markdown_leaf.specs.CharacterEscape.{escape_here}
 use Rattle.markdown_leaf.specs.CharacterReference.{IsAtRest, reference_here}
 use Rattle.markdown_leaf.specs.HardBreakEscape.{break_here}
-use Rattle.markdown_leaf.specs.RawText as X
+use Rattle.markdown_leaf.specs.RawText as RawText
 use Rattle.markdown_model.specs.Element.{text_choice}
 use Rattle.markdown_model.specs.Lines.{data_up_to}
 use Rattle.markdown_util.specs.Reference.{html_5_rows}
@@ -62,7 +62,7 @@ use Rattle.markdown_row.specs.Row.{EndsRest, Row, loses, row_end, row_then, past
 use Rattle.markdown_row.proofs.LabelElements.{empty-part, mark-alone}
 use Rattle.markdown_row.proofs.RowFields.{relisted, row-cursor, row-input, row-text, row-fields, tree-within, made-within, lost-within}
 use Rattle.markdown_text.specs.StringSteps.{is_on}
-use Rattle.markdown_text.specs.TextSteps.{text_tries, text_markers, order_pays, titles_pay, marked_fields, text_marked, text_passed, trying, start_step, first_try, tries_at, before_at, before_step, text_choice_of, EndsWithCodes, StartReady, IsMarked, BeforeReady, StandsAlone, before_ends, data_ends, start_words, before_words, before_html_words, before_hard_break_escape_words, before_label_start_link_words, before_data_words}
+use Rattle.markdown_text.specs.TextSteps.{text_tries, text_markers, order_pays, titles_pay, marked_fields, text_marked, text_passed, attempt_step, start_step, first_try, tries_at, before_at, before_step, text_choice_of, EndsWithCodes, StartReady, IsMarked, BeforeReady, StandsAlone, before_ends, data_ends, start_words, before_words, before_html_words, before_hard_break_escape_words, before_label_start_link_words, before_data_words}
 use Rattle.markdown_text.proofs.TableLemmas.{EachOf, by-row}
 use Rattle.markdown_row.proofs.NodeLemmas.{protocol-node, www-node, check-node, html-node, escape-node, reference-node, break-node, autolink-node, span-node}
 use Rattle.markdown_run.specs.Laws.TextElements.{is_marker, data-holds}
@@ -87,10 +87,10 @@ record IsSame (T U : Tokenizer) : Type 0 where
   end : U.cursor.end ≡ T.cursor.end
   text : ReadsText U
 
-ends-rest : (T : Tokenizer) → E.StartReady T → EndsRest T.tokenize_state
+ends-rest : (T : Tokenizer) → LabelEnd.StartReady T → EndsRest T.tokenize_state
 ends-rest T r = record { end = r.resting; seen = sym (ap (λ (s : TokenizeState). s.seen) r.part.rest) }
 
-same-row : (row : Row) (T U : Tokenizer) → U ≡ past_row row T → IsRowAt (kinds_of T) row → E.StartReady T → IsSame T U
+same-row : (row : Row) (T U : Tokenizer) → U ≡ past_row row T → IsRowAt (kinds_of T) row → LabelEnd.StartReady T → IsSame T U
 same-row row T U left is r =
     subst (λ (x : Tokenizer). IsSame T x) (sym left)
     (record {
@@ -107,13 +107,13 @@ choice-same T U k =
     ∙ ap (λ (s : TokenizeState). text_choice (text_setting_of T.parse_state.now s.document_at_first_paragraph_of_list_item) T.cursor.codes) k.fields
 
 -- what is known of the runs stays right
-indexed-past : (T U : Tokenizer) → IsSame T U → X.IsIndexed T → X.IsIndexed U
+indexed-past : (T U : Tokenizer) → IsSame T U → RawText.IsIndexed T → RawText.IsIndexed U
 indexed-past T U e k =
     let runs : U.tokenize_state.runs ≡ T.tokenize_state.runs = ap (λ (s : TokenizeState). s.runs) e.fields in
     runs ∙ k ∙ ap (λ (x : LastRuns). last_runs x.asked T.cursor.codes) (sym runs) ∙ ap (λ cs. last_runs U.tokenize_state.runs.asked cs) (sym e.codes)
 
 -- and so do what is known of sequences, and of names
-sequences-past : (T U : Tokenizer) → IsSame T U → H.IsIndexed T → H.IsIndexed U
+sequences-past : (T U : Tokenizer) → IsSame T U → HtmlText.IsIndexed T → HtmlText.IsIndexed U
 sequences-past T U e k = indexed-same T U e.codes (ap (λ (s : TokenizeState). s.sequences) e.fields) k
 
 listed-past : (T U : Tokenizer) → IsSame T U → IsListed T → IsListed U
@@ -126,7 +126,7 @@ part-past T U e l k =
       short = omega (arith, l, k.short);
       indexed = sequences-past T U e k.indexed;
       titled = titled-same T U e.codes (ap (λ (s : TokenizeState). s.titles) e.fields) k.titled;
-      spaces = record { space = ap W.rested e.fields ∙ ap (relisted u) k.spaces.space ∙ sym e.fields; eol = ap L.eol_rested e.fields ∙ ap (relisted u) k.spaces.eol ∙ sym e.fields };
+      spaces = record { space = ap SpaceSteps.rested e.fields ∙ ap (relisted u) k.spaces.space ∙ sym e.fields; eol = ap EolSteps.eol_rested e.fields ∙ ap (relisted u) k.spaces.eol ∙ sym e.fields };
       rest = ap Parts.rested e.fields ∙ ap (relisted u) k.rest ∙ sym e.fields;
     }
 
@@ -140,9 +140,9 @@ marked-past T U e l within r =
     let u : TokenizeState = U.tokenize_state in
     record {
       markers = ap (λ (s : TokenizeState). s.markers) e.fields ∙ r.markers;
-      spans = record { rest = e.fields ∙ ap (relisted u) r.spans.rest ∙ ap X.rested (sym e.fields); fits = omega (arith, l, r.spans.fits); indexed = indexed-past T U e r.spans.indexed };
-      look = record { resting = ap W.rested e.fields ∙ ap (relisted u) r.look.resting ∙ sym e.fields; short = omega (arith, l, r.look.short) };
-      literals = record { text = e.text; resting = ap G.rested e.fields ∙ ap (relisted u) r.literals.resting ∙ sym e.fields; short = omega (arith, l, r.literals.short) };
+      spans = record { rest = e.fields ∙ ap (relisted u) r.spans.rest ∙ ap RawText.rested (sym e.fields); fits = omega (arith, l, r.spans.fits); indexed = indexed-past T U e r.spans.indexed };
+      look = record { resting = ap SpaceSteps.rested e.fields ∙ ap (relisted u) r.look.resting ∙ sym e.fields; short = omega (arith, l, r.look.short) };
+      literals = record { text = e.text; resting = ap GfmAutolinkLiteral.rested e.fields ∙ ap (relisted u) r.literals.resting ∙ sym e.fields; short = omega (arith, l, r.literals.short) };
       ends = record { part = part-past T U e l r.ends.part; listed = listed-past T U e r.ends.listed; text = e.text; within = within; resting = ap (λ (s : TokenizeState). s.end) e.fields ∙ r.ends.resting };
       last = last-past T U e r.last;
     }
@@ -159,14 +159,14 @@ and-none true true o e = e
 and-none true false o e = refl
 and-none false b o e = refl
 
-no-check-behind : (cs : List Code) (T U : Tokenizer) → U.cursor ≡ moved_by cs T.cursor → ahead T ≡ cs ++ ahead U → codes_left U < codes_left T → C.check_here U (ahead U) ≡ None
+no-check-behind : (cs : List Code) (T U : Tokenizer) → U.cursor ≡ moved_by cs T.cursor → ahead T ≡ cs ++ ahead U → codes_left U < codes_left T → GfmTaskListItemCheck.check_here U (ahead U) ≡ None
 unfolding code_before
 no-check-behind cs T U place whole less =
     let size : 1 ≤ length cs = omega (arith, less, left-ahead T, left-ahead U, ap length whole, length-append cs (ahead U)) in
     let before : is_none (previous_of U) ≡ false = ap (λ o. is_none (value_of o)) (ap (λ (p : Place). last_of p.codes p.at) place ∙ last-some cs (ahead U) T.cursor size whole) ∙ none-valued (last_code cs) ∙ some-last cs size in
-    switched-off task_check (C.may_begin U) (ahead U) (and-none U.parse_state.now.options.now.constructs.gfm_task_list_item U.tokenize_state.document_at_first_paragraph_of_list_item (previous_of U) before)
+    switched-off task_check (GfmTaskListItemCheck.may_begin U) (ahead U) (and-none U.parse_state.now.options.now.constructs.gfm_task_list_item U.tokenize_state.document_at_first_paragraph_of_list_item (previous_of U) before)
 
-no-check-past : (T U : Tokenizer) (a : Advances (text_choice_of T) T U) → C.check_here U (ahead U) ≡ None
+no-check-past : (T U : Tokenizer) (a : Advances (text_choice_of T) T U) → GfmTaskListItemCheck.check_here U (ahead U) ≡ None
 no-check-past T U a = no-check-behind (row_codes a.row) T U (ap (λ (x : Tokenizer). x.cursor) a.left ∙ row-cursor (kinds_of T) a.row T a.is_row) a.whole a.less
 
 -- what follows an element, follows from before it
@@ -200,17 +200,17 @@ tree-kept : (T U : Tokenizer) (t : Forest) → U ≡ past None t T → AreWithin
 unfolding past
 tree-kept T U t left k = subst (λ (x : Tokenizer). AreWithin x x.tokenize_state.label_starts) (sym left) (within-grown T (past None t T) _ refl refl T.tokenize_state.label_starts k)
 
-registered-within : (b : Bool) (V W : Tokenizer) → W ≡ record V { resolvers = W.resolvers } → AreWithin V V.tokenize_state.label_starts → AreWithin (if b then V else W) (if b then V else W).tokenize_state.label_starts
+registered-within : (b : Bool) (V W : Tokenizer) → W ≡ record V { resolvers = SpaceSteps.resolvers } → AreWithin V V.tokenize_state.label_starts → AreWithin (if b then V else W) (if b then V else W).tokenize_state.label_starts
 registered-within true V W e k = k
-registered-within false V W e k = subst (λ (x : Tokenizer). AreWithin x x.tokenize_state.label_starts) (sym e) (within-grown V (record V { resolvers = W.resolvers }) [] refl (sym (append-nil V.events)) V.tokenize_state.label_starts k)
+registered-within false V W e k = subst (λ (x : Tokenizer). AreWithin x x.tokenize_state.label_starts) (sym e) (within-grown V (record V { resolvers = SpaceSteps.resolvers }) [] refl (sym (append-nil V.events)) V.tokenize_state.label_starts k)
 
-registered-kept : (T U V : Tokenizer) (t : Forest) → V ≡ past None t T → U ≡ registered P.Attention V → AreWithin T T.tokenize_state.label_starts → AreWithin U U.tokenize_state.label_starts
+registered-kept : (T U V : Tokenizer) (t : Forest) → V ≡ past None t T → U ≡ registered R.Attention V → AreWithin T T.tokenize_state.label_starts → AreWithin U U.tokenize_state.label_starts
 unfolding registered
 registered-kept T U V t left e k =
     subst (λ (x : Tokenizer). AreWithin x x.tokenize_state.label_starts) (sym e)
-    (registered-within (is_registered P.Attention V.resolvers) V (record V { resolvers = V.resolvers ++ P.Attention ∷ [] }) refl (tree-kept T V t left k))
+    (registered-within (is_registered R.Attention V.resolvers) V (record V { resolvers = V.resolvers ++ R.Attention ∷ [] }) refl (tree-kept T V t left k))
 
-made-kept : (T U : Tokenizer) → E.Ends T U → AreWithin T T.tokenize_state.label_starts → AreWithin U U.tokenize_state.label_starts
+made-kept : (T U : Tokenizer) → LabelEnd.Ends T U → AreWithin T T.tokenize_state.label_starts → AreWithin U U.tokenize_state.label_starts
 unfolding past_mark
 made-kept T U r k = subst (λ (x : Tokenizer). AreWithin x x.tokenize_state.label_starts) (sym r.left) (made-within r.back r.kind r.tail T k)
 
@@ -220,7 +220,7 @@ made-kept T U r k = subst (λ (x : Tokenizer). AreWithin x x.tokenize_state.labe
 abbrev EndsOf : StateName → TreeReading → Tokenizer → Type 0
 EndsOf construct reading T = (ok : Bool) (U : Tokenizer) → inline.ends construct T ok U → EndsAs reading None T.tokenize_state T ok U
 
-try-law : (rank : ℕ) (T : Tokenizer) (construct otherwise : StateName) (reading : TreeReading) → T.attempts ≡ [] → inline.ready construct T → weight_in inline construct T < weight_at rank T → IsMarked T → EndsOf construct reading T → ReadsNodes reading T → ReadsElements reading T → (reading (ahead T) ≡ None → FollowsIn inline (weight_at rank T) (before_ends T) (Next otherwise) T) → GoesIn inline (weight_at rank T) (before_ends T) (trying construct otherwise T)
+try-law : (rank : ℕ) (T : Tokenizer) (construct otherwise : StateName) (reading : TreeReading) → T.attempts ≡ [] → inline.ready construct T → weight_in inline construct T < weight_at rank T → IsMarked T → EndsOf construct reading T → ReadsNodes reading T → ReadsElements reading T → (reading (ahead T) ≡ None → FollowsIn inline (weight_at rank T) (before_ends T) (Next otherwise) T) → GoesIn inline (weight_at rank T) (before_ends T) (attempt_step construct otherwise T)
 try-law rank T construct otherwise reading alone on falls ready ends nodes elements fails =
     Goes-attempt inline (weight_at rank T) (before_ends T) (Retry construct) refl (Next TextBefore) (Next otherwise) T alone on falls
     (λ U now h.
@@ -250,11 +250,11 @@ weight-marked T = ap (λ n. 256 * n + 9 + 1) (left-scratched (marked_fields T.cu
 at-rest-reference : (T : Tokenizer) → IsMarked T → IsAtRest T
 at-rest-reference T r = record { marker = ap (λ (s : TokenizeState). s.marker) r.spans.rest; size = ap (λ (s : TokenizeState). s.size) r.spans.rest }
 
-run-ready : (T : Tokenizer) → IsMarked T → AT.StartReady T
-run-ready T r = r.spans.rest ∙ ap (AT.with_marker 0) (sym r.spans.rest)
+run-ready : (T : Tokenizer) → IsMarked T → Attention.StartReady T
+run-ready T r = r.spans.rest ∙ ap (Attention.with_marker 0) (sym r.spans.rest)
 
 passed-attempts : (T : Tokenizer) → T.attempts ≡ [] → (text_passed T).attempts ≡ []
-passed-attempts T alone = attempts-registered P.Text (registered P.Data T) ∙ attempts-registered P.Data T ∙ alone
+passed-attempts T alone = attempts-registered R.Text (registered R.Data T) ∙ attempts-registered R.Data T ∙ alone
 
 at-end : (T : Tokenizer) → current_of T ≡ None → (ok : Bool) (U : Tokenizer) → (ok ≡ true) × (U ≡ text_passed T) → before_ends T ok U
 at-end T e true U k = finishes-end (text_choice_of T) text_passed T U e k.1
@@ -263,37 +263,37 @@ at-end T e false U k = cc
 -- Ends of labels.
 
 -- where one makes a label, ends are on
-ends-on : (T U : Tokenizer) → E.Ends T U → E.is_on T ≡ true
-ends-on T U r = by_switch (E.is_on T) refl
+ends-on : (T U : Tokenizer) → LabelEnd.Ends T U → LabelEnd.is_on T ≡ true
+ends-on T U r = by_switch (LabelEnd.is_on T) refl
   where
-    by_switch : (b : Bool) → E.is_on T ≡ b → E.is_on T ≡ true
+    by_switch : (b : Bool) → LabelEnd.is_on T ≡ b → LabelEnd.is_on T ≡ true
     by_switch true e = e
-    by_switch false e = absurd (no-reading _ (switched-off _ (E.is_on T) (ahead T) e) r.holds)
+    by_switch false e = absurd (no-reading _ (switched-off _ (LabelEnd.is_on T) (ahead T) e) r.holds)
       where
         no-reading : {A : Type 0} {x : A} (o : Option A) → o ≡ None → o ≡ Some x → ⊥
         no-reading None h k = cc
         no-reading (Some y) h k = cc
 
 -- where one makes none, its start is used up
-lost-there : (T : Tokenizer) → current_of T ≡ Some (byte "]") → E.is_on T ≡ true → scratched (E.lost_fields T) T ≡ past_mark loses T
+lost-there : (T : Tokenizer) → current_of T ≡ Some (byte "]") → LabelEnd.is_on T ≡ true → scratched (LabelEnd.lost_fields T) T ≡ past_mark loses T
 unfolding past_mark
 lost-there T d on = ap (λ s. scratched s T) (if-true _ _ _ (ap (λ b. b && next_is (is_value (byte "]")) (ahead T)) on ∙ there))
   where
     there : next_is (is_value (byte "]")) (ahead T) ≡ true
     there = let b : Begins (byte "]") (ahead T) = ahead-some T (byte "]") d in ap (next_is (is_value (byte "]"))) b.whole ∙ ap (λ v. v == byte "]") b.value
 
-not-lost : (T : Tokenizer) → E.is_on T ≡ false → scratched (E.lost_fields T) T ≡ T
+not-lost : (T : Tokenizer) → LabelEnd.is_on T ≡ false → scratched (LabelEnd.lost_fields T) T ≡ T
 not-lost T off = ap (λ s. scratched s T) (if-false _ _ _ (ap (λ b. b && next_is (is_value (byte "]")) (ahead T)) off)) ∙ scratched-same T
 
 lost-left : (T : Tokenizer) → codes_left (past_mark loses T) ≤ codes_left T
 unfolding past_mark
-lost-left T = omega (arith, left-scratched (E.lost_by T.tokenize_state.label_starts T.tokenize_state) T)
+lost-left T = omega (arith, left-scratched (LabelEnd.lost_by T.tokenize_state.label_starts T.tokenize_state) T)
 
 lost-current : (T : Tokenizer) → current_of (past_mark loses T) ≡ current_of T
 unfolding past_mark scratched
 lost-current T = refl
 
-same-lost : (T : Tokenizer) → E.StartReady T → IsSame T (past_mark loses T)
+same-lost : (T : Tokenizer) → LabelEnd.StartReady T → IsSame T (past_mark loses T)
 same-lost T r =
     let row : Row = row_then empty loses (row_end empty) in
     same-row row T (past_mark loses T) (mark-alone loses T) (empty-part, (tt, empty-part)) r
@@ -302,26 +302,26 @@ module _ (T : Tokenizer) (alone : T.attempts ≡ []) (ready : BeforeReady T) whe
   abbrev Before : Stepped → Type 0
   Before r = GoesIn inline (weight_at 8 T) (before_ends T) r
 
-  tries-span : (v : ℕ) → current_of T ≡ Some v → (v == byte "$" || v == byte "`") ≡ true → Before (trying RawTextStart TextBeforeData T)
+  tries-span : (v : ℕ) → current_of T ≡ Some v → (v == byte "$" || v == byte "`") ≡ true → Before (attempt_step RawTextStart TextBeforeData T)
   tries-span v e h =
-      try-law 8 T RawTextStart TextBeforeData (X.span_at T) alone ready.marked.spans (omega arith) ready.marked (λ ok U g. g) (λ t rest g. span-node T (ahead T) t rest g) (span-reads T v e h) (λ none. to-data 8 T v (omega arith) ready e (span-alone T v e h none))
+      try-law 8 T RawTextStart TextBeforeData (RawText.span_at T) alone ready.marked.spans (omega arith) ready.marked (λ ok U g. g) (λ t rest g. span-node T (ahead T) t rest g) (span-reads T v e h) (λ none. to-data 8 T v (omega arith) ready e (span-alone T v e h none))
 
-  tries-reference : current_of T ≡ Some (byte "&") → Before (trying CharacterReferenceStart TextBeforeData T)
+  tries-reference : current_of T ≡ Some (byte "&") → Before (attempt_step CharacterReferenceStart TextBeforeData T)
   tries-reference d =
       try-law 8 T CharacterReferenceStart TextBeforeData (reference_here T) alone (at-rest-reference T ready.marked) (omega arith) ready.marked (λ ok U g. g) (λ t rest g. reference-node (is_on T).character_reference html_5_rows (ahead T) t rest g) (reference-reads T d) (λ none. to-data 8 T (byte "&") (omega arith) ready d (reference-alone T d none))
 
-  tries-autolink : current_of T ≡ Some (byte "<") → Before (trying AutolinkStart TextBeforeHtml T)
+  tries-autolink : current_of T ≡ Some (byte "<") → Before (attempt_step AutolinkStart TextBeforeHtml T)
   tries-autolink d =
       try-law 8 T AutolinkStart TextBeforeHtml (link_here T) alone (at-rest-reference T ready.marked).size (omega arith) ready.marked (λ ok U g. g) (λ t rest g. autolink-node (is_on T).autolink (ahead T) t rest g) (autolink-reads T d)
       (λ none. record { goes_on = record { before = ready; angle = d; no_autolink = none }; falls = omega arith; closed = λ ok V h. h })
 
-  tries-escape : current_of T ≡ Some (byte "\\") → Before (trying CharacterEscapeStart TextBeforeHardBreakEscape T)
+  tries-escape : current_of T ≡ Some (byte "\\") → Before (attempt_step CharacterEscapeStart TextBeforeHardBreakEscape T)
   tries-escape d =
       try-law 8 T CharacterEscapeStart TextBeforeHardBreakEscape (escape_here T) alone tt (omega arith) ready.marked (λ ok U g. g) (λ t rest g. escape-node (is_on T).character_escape (ahead T) t rest g) (escape-reads T d)
       (λ none. record { goes_on = record { before = ready; slash = d; no_escape = none }; falls = omega arith; closed = λ ok V h. h })
 
   -- a run of markers, past which its pass is registered
-  tries-run : (v : ℕ) → current_of T ≡ Some v → is_marker v ≡ true → Before (trying AttentionStart TextBeforeData T)
+  tries-run : (v : ℕ) → current_of T ≡ Some v → is_marker v ≡ true → Before (attempt_step AttentionStart TextBeforeData T)
   tries-run v e h =
       Goes-attempt inline (weight_at 8 T) (before_ends T) (Retry AttentionStart) refl (Next TextBefore) (Next TextBeforeData) T alone (run-ready T ready.marked) (omega arith)
       (λ U now k. let r : ReadsRun T U = k in
@@ -331,19 +331,19 @@ module _ (T : Tokenizer) (alone : T.attempts ≡ []) (ready : BeforeReady T) whe
       (λ U now k. let r : Refuses (run_tree T) T.tokenize_state T U = k in
       rw (restored-fails false (Next TextBefore) (Next TextBeforeData) T.tokenize_state T U r.fails, scratched-same T) (to-data 8 T v (omega arith) ready e (run-alone T v e h r.refused)))
 
-  tries-protocol : (v : ℕ) → current_of T ≡ Some v → (v == byte "H" || v == byte "h") ≡ true → Before (trying GfmAutolinkLiteralProtocolStart TextBeforeData T)
+  tries-protocol : (v : ℕ) → current_of T ≡ Some v → (v == byte "H" || v == byte "h") ≡ true → Before (attempt_step GfmAutolinkLiteralProtocolStart TextBeforeData T)
   tries-protocol v e h =
-      try-law 8 T GfmAutolinkLiteralProtocolStart TextBeforeData (G.protocol_here T) alone ready.marked.literals (omega arith) ready.marked (λ ok U g. g)
-      (λ t rest g. protocol-node (G.is_on T) (bytes_of T) (G.end_of T) (G.before_of T) (ahead T) t rest g) (protocol-reads T v ready.marked.last e h)
+      try-law 8 T GfmAutolinkLiteralProtocolStart TextBeforeData (GfmAutolinkLiteral.protocol_here T) alone ready.marked.literals (omega arith) ready.marked (λ ok U g. g)
+      (λ t rest g. protocol-node (GfmAutolinkLiteral.is_on T) (bytes_of T) (GfmAutolinkLiteral.end_of T) (GfmAutolinkLiteral.before_of T) (ahead T) t rest g) (protocol-reads T v ready.marked.last e h)
       (λ none. to-data 8 T v (omega arith) ready e (protocol-alone T v ready.marked.last e h none))
 
-  tries-www : (v : ℕ) → current_of T ≡ Some v → (v == byte "W" || v == byte "w") ≡ true → Before (trying GfmAutolinkLiteralWwwStart TextBeforeData T)
+  tries-www : (v : ℕ) → current_of T ≡ Some v → (v == byte "W" || v == byte "w") ≡ true → Before (attempt_step GfmAutolinkLiteralWwwStart TextBeforeData T)
   tries-www v e h =
-      try-law 8 T GfmAutolinkLiteralWwwStart TextBeforeData (G.www_here T) alone ready.marked.literals (omega arith) ready.marked (λ ok U g. g)
-      (λ t rest g. www-node (G.is_on T) (bytes_of T) (G.end_of T) (G.before_of T) (ahead T) t rest g) (www-reads T v ready.marked.last e h)
+      try-law 8 T GfmAutolinkLiteralWwwStart TextBeforeData (GfmAutolinkLiteral.www_here T) alone ready.marked.literals (omega arith) ready.marked (λ ok U g. g)
+      (λ t rest g. www-node (GfmAutolinkLiteral.is_on T) (bytes_of T) (GfmAutolinkLiteral.end_of T) (GfmAutolinkLiteral.before_of T) (ahead T) t rest g) (www-reads T v ready.marked.last e h)
       (λ none. to-data 8 T v (omega arith) ready e (www-alone T v ready.marked.last e h none))
 
-  tries-image : current_of T ≡ Some (byte "!") → Before (trying LabelStartImageStart TextBeforeData T)
+  tries-image : current_of T ≡ Some (byte "!") → Before (attempt_step LabelStartImageStart TextBeforeData T)
   tries-image d =
       Goes-attempt inline (weight_at 8 T) (before_ends T) (Retry LabelStartImageStart) refl (Next TextBefore) (Next TextBeforeData) T alone tt (omega arith)
       (λ U now k. let r : image_ends T true U = k in
@@ -352,7 +352,7 @@ module _ (T : Tokenizer) (alone : T.attempts ≡ []) (ready : BeforeReady T) whe
       (λ U now k. let r : image_ends T false U = k in
       rw (restored-fails false (Next TextBefore) (Next TextBeforeData) T.tokenize_state T U (record { grown = r.grown; scratch = r.scratch }), scratched-same T) (to-data 8 T (byte "!") (omega arith) ready d (image-alone T d r.refused)))
 
-  tries-footnote : current_of T ≡ Some (byte "[") → Before (trying GfmLabelStartFootnoteStart TextBeforeLabelStartLink T)
+  tries-footnote : current_of T ≡ Some (byte "[") → Before (attempt_step GfmLabelStartFootnoteStart TextBeforeLabelStartLink T)
   tries-footnote d =
       Goes-attempt inline (weight_at 8 T) (before_ends T) (Retry GfmLabelStartFootnoteStart) refl (Next TextBefore) (Next TextBeforeLabelStartLink) T alone tt (omega arith)
       (λ U now k. let r : footnote_ends T true U = k in
@@ -363,7 +363,7 @@ module _ (T : Tokenizer) (alone : T.attempts ≡ []) (ready : BeforeReady T) whe
       (record { goes_on = record { before = ready; bracket = d; no_footnote = r.refused }; falls = omega arith; closed = λ ok V h. h }))
 
   -- an end that makes no label uses up its start, and its `]` begins data
-  to-lost : current_of T ≡ Some (byte "]") → E.is_on T ≡ true → E.end_reading T (ahead T) ≡ None → (let F : Tokenizer = past_mark loses T in FollowsIn inline (weight_at 8 T) (before_ends T) (Next TextBeforeData) F)
+  to-lost : current_of T ≡ Some (byte "]") → LabelEnd.is_on T ≡ true → LabelEnd.end_reading T (ahead T) ≡ None → (let F : Tokenizer = past_mark loses T in FollowsIn inline (weight_at 8 T) (before_ends T) (Next TextBeforeData) F)
   to-lost d on none =
       let F : Tokenizer = past_mark loses T in
       let e : IsSame T F = same-lost T ready.marked.ends in
@@ -380,16 +380,16 @@ module _ (T : Tokenizer) (alone : T.attempts ≡ []) (ready : BeforeReady T) whe
           advances-finishes (text_choice_of T) text_passed T there.behind V (failed-advances T d on there.behind none there.data_read) there.finishes
       lost-ends e false V k = k
 
-  tries-end : current_of T ≡ Some (byte "]") → Before (trying LabelEndStart TextBeforeData T)
+  tries-end : current_of T ≡ Some (byte "]") → Before (attempt_step LabelEndStart TextBeforeData T)
   tries-end d =
       Goes-attempt inline (weight_at 8 T) (before_ends T) (Retry LabelEndStart) refl (Next TextBefore) (Next TextBeforeData) T alone ready.marked.ends (omega arith)
-      (λ U now k. let r : E.Ends T U = k in
+      (λ U now k. let r : LabelEnd.Ends T U = k in
       on-before (weight_at 8 T) T U (omega arith) ready.marked (made-kept T U r ready.marked.ends.within) (made-advances T d (ends-on T U r) U r))
-      (λ U now k. let r : E.EndFails T U = k in
-      subst (λ (x : Tokenizer). FollowsIn inline (weight_at 8 T) (before_ends T) (Next TextBeforeData) x) (sym (restored-fails false (Next TextBefore) (Next TextBeforeData) (E.lost_fields T) T U r.fails))
-      (by_switch (E.is_on T) refl r.refused))
+      (λ U now k. let r : LabelEnd.EndFails T U = k in
+      subst (λ (x : Tokenizer). FollowsIn inline (weight_at 8 T) (before_ends T) (Next TextBeforeData) x) (sym (restored-fails false (Next TextBefore) (Next TextBeforeData) (LabelEnd.lost_fields T) T U r.fails))
+      (by_switch (LabelEnd.is_on T) refl r.refused))
     where
-      by_switch : (b : Bool) → E.is_on T ≡ b → E.end_reading T (ahead T) ≡ None → FollowsIn inline (weight_at 8 T) (before_ends T) (Next TextBeforeData) (scratched (E.lost_fields T) T)
+      by_switch : (b : Bool) → LabelEnd.is_on T ≡ b → LabelEnd.end_reading T (ahead T) ≡ None → FollowsIn inline (weight_at 8 T) (before_ends T) (Next TextBeforeData) (scratched (LabelEnd.lost_fields T) T)
       by_switch true on none = subst (λ (x : Tokenizer). FollowsIn inline (weight_at 8 T) (before_ends T) (Next TextBeforeData) x) (sym (lost-there T d on)) (to-lost d on none)
       by_switch false off none =
           subst (λ (x : Tokenizer). FollowsIn inline (weight_at 8 T) (before_ends T) (Next TextBeforeData) x) (sym (not-lost T off)) (to-data 8 T (byte "]") (omega arith) ready d (end-alone T d off))
@@ -402,7 +402,7 @@ module _ (T : Tokenizer) (alone : T.attempts ≡ []) (ready : BeforeReady T) whe
   -- By the rows of the table.
 
   abbrev IsTried : StateName → StateName → ℕ → Type 0
-  IsTried construct otherwise v = current_of T ≡ Some v → Before (trying construct otherwise T)
+  IsTried construct otherwise v = current_of T ≡ Some v → Before (attempt_step construct otherwise T)
 
   at-spans : EachOf (IsTried RawTextStart TextBeforeData) (codes "$`")
   at-spans = (λ e. tries-span (byte "$") e refl, (λ e. tries-span (byte "`") e refl, tt))
@@ -431,15 +431,15 @@ module _ (T : Tokenizer) (alone : T.attempts ≡ []) (ready : BeforeReady T) whe
 pub before-law : Law inline before_words
 before-law T alone ready = before-goes T alone ready
 
-html-ready : (T : Tokenizer) → IsMarked T → H.StartReady T
+html-ready : (T : Tokenizer) → IsMarked T → HtmlText.StartReady T
 html-ready T r = record { spaces = record { resting = r.look.resting; short = r.look.short }; indexed = r.ends.part.indexed; rest = sym (html-rest T r) }
   where
-    html-rest : (T : Tokenizer) → IsMarked T → T.tokenize_state ≡ H.rested T.tokenize_state
-    html-rest T r = r.spans.rest ∙ ap H.rested (sym r.spans.rest)
+    html-rest : (T : Tokenizer) → IsMarked T → T.tokenize_state ≡ HtmlText.rested T.tokenize_state
+    html-rest T r = r.spans.rest ∙ ap HtmlText.rested (sym r.spans.rest)
 
 pub before_html-law : Law inline before_html_words
 before_html-law T alone r =
-    try-law 6 T HtmlTextStart TextBeforeData (H.html_here T) alone (html-ready T r.before.marked) (omega arith) r.before.marked (λ ok U g. g) (λ t rest g. html-node (is_on T).html_text (ahead T) t rest g) (html-reads T r.angle r.no_autolink)
+    try-law 6 T HtmlTextStart TextBeforeData (HtmlText.html_here T) alone (html-ready T r.before.marked) (omega arith) r.before.marked (λ ok U g. g) (λ t rest g. html-node (is_on T).html_text (ahead T) t rest g) (html-reads T r.angle r.no_autolink)
     (λ none. to-data 6 T (byte "<") (omega arith) r.before r.angle (html-alone T r.angle r.no_autolink none))
 
 pub before_label_start_link-law : Law inline before_label_start_link_words
@@ -481,15 +481,15 @@ before_data-law T alone r =
     data-then T U e read true V h = record { behind = U; data_read = read; finishes = subst (λ c. Finishes c text_passed U V) (choice-same T U e) h }
     data-then T U e read false V h = h
 
-spans-marked : (T : Tokenizer) → X.StartReady T → X.StartReady (text_marked T)
+spans-marked : (T : Tokenizer) → RawText.StartReady T → RawText.StartReady (text_marked T)
 unfolding scratched
 spans-marked T r = record { rest = ap {A = TokenizeState} (λ s. marked_fields T.cursor.codes T.parse_state.now s) r.rest; fits = r.fits; indexed = refl }
 
-look-marked : (T : Tokenizer) → C.MayLook T → C.MayLook (text_marked T)
+look-marked : (T : Tokenizer) → GfmTaskListItemCheck.MayLook T → GfmTaskListItemCheck.MayLook (text_marked T)
 unfolding scratched
 look-marked T r = record { resting = ap {A = TokenizeState} (λ s. marked_fields T.cursor.codes T.parse_state.now s) r.resting; short = r.short }
 
-literals-marked : (T : Tokenizer) → G.StartReady T → G.StartReady (text_marked T)
+literals-marked : (T : Tokenizer) → GfmAutolinkLiteral.StartReady T → GfmAutolinkLiteral.StartReady (text_marked T)
 unfolding scratched
 literals-marked T r =
     let s : TokenizeState → TokenizeState = marked_fields T.cursor.codes T.parse_state.now in
@@ -500,7 +500,7 @@ made-known : {A : Type 0} (pays : Bool) (made known : A) → (if pays then Some 
 made-known true made known e = cc
 made-known false made known e = cc
 
-ends-marked : (T : Tokenizer) → E.StartReady T → E.StartReady (text_marked T)
+ends-marked : (T : Tokenizer) → LabelEnd.StartReady T → LabelEnd.StartReady (text_marked T)
 unfolding scratched
 ends-marked T r =
     let M : Tokenizer = text_marked T in
@@ -525,7 +525,7 @@ marked-start T r =
       last = r.last;
     }
 
-check-elements : (T : Tokenizer) (o : Option ℕ) → current_of T ≡ o → ReadsElements (C.check_here T) T
+check-elements : (T : Tokenizer) (o : Option ℕ) → current_of T ≡ o → ReadsElements (GfmTaskListItemCheck.check_here T) T
 check-elements T None e = no-check-at-end T e
 check-elements T (Some v) e = check-reads T v e
 
@@ -535,6 +535,6 @@ start-law T alone r =
     let s : TokenizeState = marked_fields T.cursor.codes T.parse_state.now T.tokenize_state in
     let marked : IsMarked M = marked-start T r in
     subst (λ n. GoesIn inline n (before_ends M) (start_step T)) (weight-marked T)
-    (try-law 9 M GfmTaskListItemCheckStart TextBefore (C.check_here M) (attempts-scratched s T ∙ alone) marked.look (omega arith) marked (λ ok U g. g)
-    (λ t rest g. check-node (C.may_begin M) (ahead M) t rest g) (check-elements M (current_of M) refl)
+    (try-law 9 M GfmTaskListItemCheckStart TextBefore (GfmTaskListItemCheck.check_here M) (attempts-scratched s T ∙ alone) marked.look (omega arith) marked (λ ok U g. g)
+    (λ t rest g. check-node (GfmTaskListItemCheck.may_begin M) (ahead M) t rest g) (check-elements M (current_of M) refl)
     (λ none. record { goes_on = record { marked = marked; unchecked = none }; falls = omega arith; closed = λ ok V h. h }))

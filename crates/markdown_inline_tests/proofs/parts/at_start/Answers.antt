@@ -5,28 +5,28 @@ use Rattle.markdown_engine.specs.Weights.{codes_left}
 use Rattle.markdown_engine.specs.declared.tokenizer.TokenizeState.{TokenizeState}
 use Rattle.markdown_engine.specs.declared.tokenizer.Tokenizer.{Tokenizer}
 use Rattle.markdown_engine.proofs.SequenceIndexLemmas.{right-unknown}
-use Rattle.markdown_html.specs.HtmlText as H
+use Rattle.markdown_html.specs.HtmlText as HtmlText
 use Rattle.markdown_run.proofs.StartLemmas.{start-fits}
-use Rattle.markdown_partial.specs.EolSteps as L
-use Rattle.markdown_partial.specs.SpaceSteps as W
+use Rattle.markdown_partial.specs.EolSteps as EolSteps
+use Rattle.markdown_partial.specs.SpaceSteps as SpaceSteps
 use Rattle.markdown_partial.specs.SpaceSteps.{most}
-use Rattle.markdown_string.specs.Label as SL
+use Rattle.markdown_string.specs.Label as Label
 use Rattle.markdown_string.specs.Text.{TextReady}
-use Rattle.markdown_string.specs.Title as ST
+use Rattle.markdown_string.specs.Title as Title
 use Rattle.markdown_inline_tests.proofs.parts.at_start.Goals as goal
 
 start-text : (T : Tokenizer) → T.tokenize_state ≡ at_rest → codes_left T ≤ most → TextReady T
-start-text T e fits = record { short = fits; resting = record { space = ap W.rested e ∙ sym e; eol = ap L.eol_rested e ∙ sym e } }
+start-text T e fits = record { short = fits; resting = record { space = ap SpaceSteps.rested e ∙ sym e; eol = ap EolSteps.eol_rested e ∙ sym e } }
 
-start-title : (T : Tokenizer) → T.tokenize_state ≡ at_rest → codes_left T ≤ most → ST.StartReady T
-start-title T e fits = record { text = start-text T e fits; rest = ap ST.rested e ∙ sym e }
+start-title : (T : Tokenizer) → T.tokenize_state ≡ at_rest → codes_left T ≤ most → Title.StartReady T
+start-title T e fits = record { text = start-text T e fits; rest = ap Title.rested e ∙ sym e }
 
-start-label : (T : Tokenizer) → T.tokenize_state ≡ at_rest → codes_left T ≤ most → SL.StartReady T
-start-label T e fits = record { text = start-text T e fits; rest = ap SL.rested e ∙ sym e }
+start-label : (T : Tokenizer) → T.tokenize_state ≡ at_rest → codes_left T ≤ most → Label.StartReady T
+start-label T e fits = record { text = start-text T e fits; rest = ap Label.rested e ∙ sym e }
 
-start-html : (T : Tokenizer) → T.tokenize_state ≡ at_rest → codes_left T ≤ most → H.StartReady T
+start-html : (T : Tokenizer) → T.tokenize_state ≡ at_rest → codes_left T ≤ most → HtmlText.StartReady T
 start-html T e fits =
-    record { spaces = record { resting = ap W.rested e ∙ sym e; short = fits }; indexed = right-unknown T.cursor.codes T.tokenize_state.sequences (ap (λ (s : TokenizeState). s.sequences) e); rest = ap H.rested e ∙ sym e }
+    record { spaces = record { resting = ap SpaceSteps.rested e ∙ sym e; short = fits }; indexed = right-unknown T.cursor.codes T.tokenize_state.sequences (ap (λ (s : TokenizeState). s.sequences) e); rest = ap HtmlText.rested e ∙ sym e }
 
 pub returns-clause-title : goal.returns-clause-title
 returns-clause-title c =
