@@ -1,5 +1,5 @@
 -- The laws of the states of a run of markers.
-use Rattle.std.proofs.Common.{◌≡◌, ℕ, ◌+◌, ◌==◌, Bool, true, false, Option, Some, None, List, [], ◌∷◌, ◌++◌, length, ◌≤◌, refl, sym, ap, subst, ◌∙◌, arith, append-nil}
+use Rattle.std.proofs.Common.{◌≡◌, ℕ, ◌+◌, ◌==◌, Bool, true, false, Option, Some, None, List, [], ◌∷◌, ◌++◌, refl, sym, ap, subst, ◌∙◌, arith, append-nil}
 use Rattle.std.proofs.lemmas.Bool.{eq-eqb}
 use Rattle.markdown_engine.specs.Codes.{Code}
 use Rattle.markdown_engine.specs.Lists.{rest_of}
@@ -22,7 +22,7 @@ use Rattle.markdown_engine.specs.declared.tokenizer.TokenizeState.{TokenizeState
 use Rattle.markdown_engine.specs.declared.tokenizer.Tokenizer.{Tokenizer}
 use Rattle.markdown_engine.proofs.EndsLemmas.{Refuses-done}
 use Rattle.markdown_engine.proofs.Laws.{if-step, code-step}
-use Rattle.markdown_engine.proofs.OpRules.{Begins, ahead-none, ahead-some, attempts-applied, attempts-scratched, attempts-registered}
+use Rattle.markdown_engine.proofs.OpRules.{Begins, ahead-none, ahead-some, attempts-applied, attempts-scratched, attempts-registered, some-codes}
 use Rattle.markdown_engine.proofs.OpsLemmas.{ahead-done, left-done}
 use Rattle.markdown_engine.proofs.TreeLemmas.{leaf-past, ahead-past}
 use Rattle.markdown_construct.specs.Within.{Within}
@@ -95,9 +95,6 @@ run-none m false cs e = run-off m cs
 
 -- What the operations leave.
 
-one-ahead : (T : Tokenizer) (v : ℕ) → current_of T ≡ Some v → 1 ≤ length (ahead T)
-one-ahead T v e = omega (arith, ap length (ahead-some T v e).whole)
-
 scratch-consumed : (T : Tokenizer) → (done (Consume ∷ []) T).tokenize_state ≡ T.tokenize_state
 unfolding applied
 scratch-consumed T = refl
@@ -148,7 +145,7 @@ run-begins T c e on rest U k =
     let ms : List Code = b.code ∷ s.0 in
     let tree : Forest = leaf N.AttentionSequence ms in
     let V : Tokenizer = past None tree (scratched T.tokenize_state T) in
-    let marks : (b.code.value == c) ≡ true = ap (λ v. v == c) b.value ∙ same c in
+    let marks : (b.code.value == c) ≡ true = ap (λ v. v == c) b.value ∙ eq-eqb c c refl in
     let taken : span (is_value c) (ahead T) ≡ (ms, s.1) = ap (span (is_value c)) b.whole ∙ span-takes (is_value c) b.code cs marks in
     let codes : ahead T ≡ ms ++ s.1 = b.whole ∙ ap (λ xs. b.code ∷ xs) (sym (span-parts (is_value c) cs)) in
     let whole : ahead T ≡ leaf_codes tree ++ s.1 = codes ∙ ap (λ xs. xs ++ s.1) (sym (append-nil ms)) in
@@ -167,9 +164,6 @@ run-begins T c e on rest U k =
       reads = record { tree = tree; rest = s.1; holds = reads; left = refl; whole = whole; after = ahead-past None tree (scratched T.tokenize_state T) s.1 ahead' };
       left = k ∙ left;
     }
-  where
-    same : (n : ℕ) → (n == n) ≡ true
-    same n = eq-eqb n n refl
 
 run-begun : (T : Tokenizer) (c : ℕ) → current_of T ≡ Some c → begins_run (switches_of T) c ≡ true → StartReady T
     → (ok : Bool) (U : Tokenizer) → inside_ends (begun c T) ok U → start_ends T ok U
@@ -230,6 +224,6 @@ inside-law W within T alone opened =
     code-step P (current_of T) (λ o. inside_at o T)
     (λ e. leave (ap (λ cs. (span (is_value T.tokenize_state.marker) cs).0) (ahead-none T e)))
     (λ v e. if-step P (v == T.tokenize_state.marker) _ _
-    (λ h. let less : codes_left (done (Consume ∷ []) T) + 1 ≡ codes_left T = left-done (Consume ∷ []) T (one-ahead T v e) in
+    (λ h. let less : codes_left (done (Consume ∷ []) T) + 1 ≡ codes_left T = left-done (Consume ∷ []) T (some-codes T v e) in
     Goes-ops W n (inside_ends T) (Next AttentionInside) (within AttentionInside) (Consume ∷ []) T alone (stack-consumed T opened) (omega (arith, less)) (run-goes T v e h))
     (λ h. leave (run-stops T v e h)))

@@ -232,7 +232,7 @@ content-text bytes pieces n content = record {
   stop = λ k c e h. ends-at bytes pieces k c content e h;
 }
 
-text-moved_by : (bytes : List ℕ) (cs : List Code) (p : Place) → IsText bytes p → IsText bytes (moved_by cs p)
+pub text-moved_by : (bytes : List ℕ) (cs : List Code) (p : Place) → IsText bytes p → IsText bytes (moved_by cs p)
 text-moved_by bytes [] p k = k
 text-moved_by bytes (c ∷ cs) p k = text-moved_by bytes cs (moved p) (text-moved bytes p k)
 

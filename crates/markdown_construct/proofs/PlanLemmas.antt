@@ -85,7 +85,7 @@ consumes-append (x ∷ xs) ys = ap (λ os. Consume ∷ os) (consumes-append xs y
 
 -- The steps of a state to Ok and to Nok.
 
-Grown-same : (d : ℕ) (s : TokenizeState) (T U : Tokenizer) → U ≡ scratched s T → Grown d T U
+pub Grown-same : (d : ℕ) (s : TokenizeState) (T U : Tokenizer) → U ≡ scratched s T → Grown d T U
 Grown-same d s T U e = subst (λ (x : Tokenizer). Grown d T x) (sym e) (Grown-scratched d s T (scratched s T) (Grown-refl d (scratched s T)))
 
 pub scratch-same : (s : TokenizeState) (T U : Tokenizer) → U ≡ scratched s T → U.tokenize_state ≡ s

@@ -1,11 +1,11 @@
 -- Cutting data into its codes goes through rows, and merging undoes it.
 use Rattle.std.proofs.Common.{◌≡◌, ◌≢◌, Bool, true, false, Option, Some, None, List, [], ◌∷◌, refl, sym, ap, ◌∙◌}
+use Rattle.markdown_partial.proofs.MergeLaws.{data-name, merged-data, merged-linked, merged-other, merged-group}
 use Rattle.markdown_engine.specs.Codes.{Code}
 use Rattle.markdown_engine.specs.Tree.{Forest, empty, leaf_then, group_then, ◌⊕◌}
 use Rattle.markdown_engine.specs.declared.event.Content.{Content}
 use Rattle.markdown_engine.specs.declared.event.Name.{Name}
 use Rattle.markdown_engine.specs.declared.event.Name.TheVariants as N
-use Rattle.markdown_engine.specs.declared.event.Point.{Point}
 use Rattle.markdown_model.specs.Passes.{merged, data_onto}
 use Rattle.markdown_partial.specs.Merge.{is_data}
 use Rattle.markdown_cut.specs.CutData.{each_code, cut_leaf, split, HasCodes}
@@ -33,28 +33,6 @@ split-join (leaf_then name link cs rest) u = ap (cut_leaf (is_data name) name li
 split-join (group_then name a b inside rest) u = ap (group_then name a b (split inside)) (split-join rest u)
 
 -- Merging.
-
-data-name : (n : Name) → is_data n ≡ true → n ≡ N.Data
-data-name N.Data e = refl
-data-name _ e = cc
-
-merged-data : (cs : List Code) (rest : Forest) → merged (leaf_then N.Data None cs rest) ≡ data_onto cs (merged rest)
-unfolding merged
-merged-data cs rest = refl
-
-merged-linked : (n : Name) (c : Content) (cs : List Code) (rest : Forest) → merged (leaf_then n (Some c) cs rest) ≡ leaf_then n (Some c) cs (merged rest)
-unfolding merged
-merged-linked N.Data c cs rest = refl
-merged-linked _ c cs rest = refl
-
-merged-other : (n : Name) (cs : List Code) (rest : Forest) → is_data n ≡ false → merged (leaf_then n None cs rest) ≡ leaf_then n None cs (merged rest)
-unfolding merged
-merged-other N.Data cs rest e = cc
-merged-other _ cs rest e = refl
-
-merged-group : (n : Name) (p q : Point) (inside rest : Forest) → merged (group_then n p q inside rest) ≡ group_then n p q (merged inside) (merged rest)
-unfolding merged
-merged-group n p q inside rest = refl
 
 onto-leaf : (c : Code) (cs : List Code) (b : Bool) (name : Name) (ds : List Code) (rest : Forest) → is_data name ≡ b → data_onto (c ∷ []) (data_onto cs (leaf_then name None ds rest)) ≡ data_onto (c ∷ cs) (leaf_then name None ds rest)
 onto-leaf c cs b N.Data ds rest e = refl

@@ -17,7 +17,7 @@ shift-none p =
     let d : p.index ≡ p.index + 0 = omega arith in
     λ i. record p { column = c i; index = d i }
 
-total-append : (ns ms : List ℕ) → total (ns ++ ms) ≡ total ns + total ms
+pub total-append : (ns ms : List ℕ) → total (ns ++ ms) ≡ total ns + total ms
 total-append [] ms = omega arith
 total-append (n ∷ ns) ms = let r = total-append ns ms in omega (arith, r)
 
@@ -95,7 +95,7 @@ opened-more m from point next sizes k j x old now new s l h p e f =
           ∙ ap (λ es. old ++ es) (sym (ap (openings_from m from) more ∙ openings-push m from (reverse (drop k sizes)) x));
     }
 
-total-reverse : (ns : List ℕ) → total (reverse ns) ≡ total ns
+pub total-reverse : (ns : List ℕ) → total (reverse ns) ≡ total ns
 total-reverse [] = refl
 total-reverse (n ∷ ns) = let a = ap total (reverse-append (n ∷ []) ns) ∙ total-push (reverse ns) n in let r = total-reverse ns in omega (arith, a, r)
 

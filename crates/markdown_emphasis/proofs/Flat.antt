@@ -23,11 +23,6 @@ row-assoc empty u v = refl
 row-assoc (leaf_then name link cs rest) u v = ap (leaf_then name link cs) (row-assoc rest u v)
 row-assoc (group_then name p q inside rest) u v = ap (group_then name p q inside) (row-assoc rest u v)
 
-pub row-empty : (t : Forest) → t ⊕ empty ≡ t
-row-empty empty = refl
-row-empty (leaf_then name link cs rest) = ap (leaf_then name link cs) (row-empty rest)
-row-empty (group_then name p q inside rest) = ap (group_then name p q inside) (row-empty rest)
-
 pub joined-append : (fs gs : List Forest) → joined (fs ++ gs) ≡ joined fs ⊕ joined gs
 joined-append [] gs = refl
 joined-append (f ∷ fs) gs = ap (λ t. f ⊕ t) (joined-append fs gs) ∙ sym (row-assoc f (joined fs) (joined gs))

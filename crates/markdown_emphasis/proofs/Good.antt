@@ -1,5 +1,6 @@
 -- Rows as the pass of runs wants them, and the groups of labels of such rows.
 use Rattle.std.proofs.Common.{◌≡◌, ℕ, Bool, true, false, ◌&&◌, ◌||◌, List, [], ◌∷◌, ◌++◌, length, drop, map, refl, Option, Some, None}
+use Rattle.markdown_emphasis.proofs.Flat.{unlinked-row}
 use Rattle.std.proofs.lemmas.Bool.{or_parts, both_ways}
 use Rattle.markdown_engine.specs.declared.event.Content.{Content}
 use Rattle.markdown_engine.specs.declared.event.Name.{Name}
@@ -123,11 +124,6 @@ stripes-join empty y h k = k
 stripes-join (leaf_then name link cs rest) y h k = (h.0, stripes-join rest y h.1 k)
 stripes-join (group_then name from to inside rest) y h k = (h.0, (h.1.0, stripes-join rest y h.1.1 k))
 
-unlinked-join : (x y : Forest) → IsUnlinkedRow x → IsUnlinkedRow y → IsUnlinkedRow (x ⊕ y)
-unlinked-join empty y h k = k
-unlinked-join (leaf_then name link cs rest) y h k = (h.0, unlinked-join rest y h.1 k)
-unlinked-join (group_then name from to inside rest) y h k = unlinked-join rest y h k
-
 each-join : (P : List Code → Type 0) (x y : Forest) → EachRun P x → EachRun P y → EachRun P (x ⊕ y)
 each-join P empty y h k = k
 each-join P (leaf_then name link cs rest) y h k = (h.0, each-join P rest y h.1 k)
@@ -141,7 +137,7 @@ no-run-join (leaf_then name link cs rest) y h k =
 no-run-join (group_then name from to inside rest) y h k = no-run-join rest y h k
 
 pub good-join : (bytes : List ℕ) (x y : Forest) → IsGood bytes x → IsGood bytes y → IsGood bytes (x ⊕ y)
-good-join bytes x y h k = (runs-join bytes x y h.0 k.0, (stripes-join x y h.1.0 k.1.0, (unlinked-join x y h.1.1.0 k.1.1.0, each-join (IsPlaced bytes) x y h.1.1.1 k.1.1.1)))
+good-join bytes x y h k = (runs-join bytes x y h.0 k.0, (stripes-join x y h.1.0 k.1.0, (unlinked-row x y h.1.1.0 k.1.1.0, each-join (IsPlaced bytes) x y h.1.1.1 k.1.1.1)))
 
 pub good-joined : (bytes : List ℕ) (fs : List Forest) → AllGood bytes fs → IsGood bytes (joined fs)
 good-joined bytes [] h = (tt, (tt, (tt, tt)))
@@ -153,7 +149,7 @@ good-append bytes (f ∷ fs) gs h k = (h.0, good-append bytes fs gs h.1 k)
 
 -- Labels.
 
-quiet-start_tree : (kind : LabelKind) (cs : List Code) → marks true (start_tree kind cs) ≡ false
+pub quiet-start_tree : (kind : LabelKind) (cs : List Code) → marks true (start_tree kind cs) ≡ false
 quiet-start_tree LabelKind.Image cs = simp mark_laws
 quiet-start_tree LabelKind.GfmFootnote cs = simp mark_laws
 quiet-start_tree LabelKind.Link cs = simp mark_laws
@@ -165,7 +161,7 @@ label-name LabelKind.GfmFootnote = refl
 label-name LabelKind.Link = refl
 label-name LabelKind.GfmUndefinedFootnote = refl
 
-quiet-label_end : (back : List Code) → marks true (group Name.LabelEnd (leaf Name.LabelMarker back)) ≡ false
+pub quiet-label_end : (back : List Code) → marks true (group Name.LabelEnd (leaf Name.LabelMarker back)) ≡ false
 quiet-label_end back = simp mark_laws
 
 abbrev caret_of : LabelKind → List Code → List Code

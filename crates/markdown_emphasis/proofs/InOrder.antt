@@ -1,6 +1,7 @@
 -- Events whose runs stand in order over a document may be given to the pass.
 use Rattle.std.proofs.Common.{◌≡◌, ◌≢◌, ℕ, suc, ◌+◌, ◌-◌, ◌*◌, ◌<◌, ◌≤◌, Bool, true, false, if◌then◌else◌, List, [], ◌∷◌, ◌++◌, length, drop, get_or, refl, sym, ap, subst, ◌∙◌, arith, inl, inr}
 use Rattle.std.specs.Prelude.{IsUtf8}
+use Rattle.markdown_emphasis.proofs.BracketSteps.{shift-shift}
 use Rattle.std.specs.Str.{IsCharBoundary}
 use Rattle.std.proofs.lemmas.Str.{IsCharBoundary-before_ascii, IsCharBoundary-after_ascii}
 use Rattle.std.proofs.lemmas.Bool.{cases_Bool}
@@ -28,7 +29,7 @@ use Rattle.markdown_emphasis.specs.Pass.{MayPair}
 use Rattle.markdown_emphasis.specs.RunEdits.{point_in, HaveRunEnds, HaveRunRoom}
 use Rattle.markdown_emphasis.specs.Word.{HasMarker, begins_run}
 use Rattle.markdown_emphasis.proofs.Singles.{marker-here, marker-ascii}
-use Rattle.markdown_emphasis.proofs.Stripes.{shift-shift, shift-none, shift-same}
+use Rattle.markdown_emphasis.proofs.Stripes.{shift-none, shift-same}
 
 -- One run.
 

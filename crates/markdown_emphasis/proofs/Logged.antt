@@ -1,6 +1,7 @@
 -- What comes for each run of a tree are the events of its tokens.
-use Rattle.std.proofs.Common.{◌≡◌, ℕ, suc, ◌+◌, ◌-◌, ◌<◌, ◌≤◌, ◌||◌, Bool, true, false, cond, if◌then◌else◌, List, [], ◌∷◌, ◌++◌, length, map, reverse, Option, None, refl, sym, ap, subst, ◌∙◌, arith, append_assoc, append-nil, length-append, inl, inr, sum_by}
-use Rattle.std.proofs.lemmas.Bool.{eq-eqb, both_ways, cases_Bool}
+use Rattle.std.proofs.Common.{◌≡◌, ℕ, suc, ◌+◌, ◌-◌, ◌<◌, ◌≤◌, Bool, true, false, cond, if◌then◌else◌, List, [], ◌∷◌, ◌++◌, length, map, reverse, Option, None, refl, sym, ap, subst, ◌∙◌, arith, append_assoc, append-nil, length-append, inl, inr, sum_by}
+use Rattle.markdown_emphasis.proofs.BracketSteps.{total-reverse}
+use Rattle.std.proofs.lemmas.Bool.{eq-eqb, both_ways, cases_Bool, or_parts}
 use Rattle.markdown_engine.specs.Codes.{Code, stop_of, document_start}
 use Rattle.markdown_engine.specs.Tree.{Forest, empty, leaf_then, group_then, event_count, start_of}
 use Rattle.markdown_engine.specs.declared.event.Event.{Event}
@@ -25,7 +26,7 @@ use Rattle.markdown_emphasis.specs.Trees.{HasStripes, HavePoints}
 use Rattle.markdown_emphasis.specs.RunEdits.{closed_sizes, opened_sizes, left_of}
 use Rattle.markdown_emphasis.specs.Word.{IsLogged, run_events, sized_events}
 use Rattle.markdown_emphasis.proofs.Ranks.{ranked, closing-some, opening-some, total-taken}
-use Rattle.markdown_emphasis.proofs.RowWord.{total-sum, total-reverse, some-reverse}
+use Rattle.markdown_emphasis.proofs.RowWord.{total-sum, some-reverse}
 use Rattle.markdown_emphasis.proofs.Sizes.{closing-local, opening-local, taken-local}
 use Rattle.markdown_emphasis.proofs.Stripes.{stripe-events}
 
@@ -44,14 +45,6 @@ place-behind k (x ∷ front) r back = by-test (is_in k x) (place-behind k front 
     by-test true e = ap suc e
     by-test false e = e
 
-or-left : (a b : Bool) → a || b ≡ false → a ≡ false
-or-left true b e = e
-or-left false b e = refl
-
-or-right : (a b : Bool) → a || b ≡ false → b ≡ false
-or-right true b e = cc
-or-right false b e = e
-
 no-shapes : (xs : List Sequence) → map whole_shape xs ≡ [] → xs ≡ []
 no-shapes [] e = refl
 no-shapes (x ∷ xs) e = cc
@@ -61,9 +54,9 @@ module _ (s : Setting) (comes : ℕ → List Event) where
   logged-any : (t : Forest) (n i j : ℕ) (ps qs : List Model.Pair) → has_run t ≡ false → IsLogged s (Model.pair_list s) comes n ps i t → IsLogged s (Model.pair_list s) comes n qs j t
   logged-any empty n i j ps qs h l = tt
   logged-any (leaf_then name link cs rest) n i j ps qs h l =
-      let other : is_run name ≡ false = or-left (is_run name) (has_run rest) h in (
+      let other : is_run name ≡ false = (or_parts (is_run name) (has_run rest) h).0 in (
         (λ y. absurd (both_ways (is_run name) other y)),
-        ((λ y. absurd (both_ways (is_run name) other y)), λ y. logged-any rest (n + 2) i j ps qs (or-right (is_run name) (has_run rest) h) (l.1.1 other)),
+        ((λ y. absurd (both_ways (is_run name) other y)), λ y. logged-any rest (n + 2) i j ps qs (or_parts (is_run name) (has_run rest) h).1 (l.1.1 other)),
       )
   logged-any (group_then name a b inside rest) n i j ps qs h l = (l.0, logged-any rest (n + 2 + event_count inside) i j ps qs h l.1)
 

@@ -1,8 +1,9 @@
 -- The pairs of a container in the order of its runs: which are open before a run, which it closes and opens.
 use Rattle.std.proofs.Common.{◌≡◌, ℕ, suc, ◌+◌, ◌<◌, ◌≤◌, Bool, true, false, ◌&&◌, ◌||◌, ◌==◌, nat_lt, nat_le, if◌then◌else◌, List, [], ◌∷◌, ◌++◌, length, refl, sym, ap, ◌∙◌, arith, inl, inr, ◌⊎◌, sum_by}
+use Rattle.markdown_model.proofs.PairFacts.{within_push}
+use Rattle.markdown_engine.proofs.OpsLemmas.{and-left, and-right}
 use Rattle.std.proofs.lemmas.List.Sums.{sum_by-cons}
-use Rattle.std.proofs.lemmas.List.Folds.{list_any-append}
-use Rattle.std.proofs.lemmas.Bool.{cases_lt, or_parts, ltb-true, eqb-true, false_from_ne_true, both_ways, and_right, and_left, and_from, ne_eqb, eq-eqb, lt-leb, le-leb, le-ltb, lt-ltb}
+use Rattle.std.proofs.lemmas.Bool.{cases_lt, ltb-true, eqb-true, false_from_ne_true, both_ways, and_right, and_left, and_from, ne_eqb, eq-eqb, lt-leb, le-leb, le-ltb, lt-ltb}
 use Rattle.std.specs.List.{list_any}
 use Rattle.markdown_model.specs.Setting.{Setting}
 use Rattle.markdown_model.specs.Runs.{Run, marker_of}
@@ -11,14 +12,6 @@ use Rattle.markdown_model.specs.Groups.{closing_sizes, opening_sizes}
 use Rattle.markdown_emphasis.specs.Marks.{total, AreSome}
 
 -- Tests of numbers.
-
-and-left : (a b : Bool) → a && b ≡ true → a ≡ true
-and-left true b h = refl
-and-left false b h = cc
-
-and-right : (a b : Bool) → a && b ≡ true → b ≡ true
-and-right true b h = h
-and-right false b h = cc
 
 -- f holds where g or h does, and these two not both
 abbrev pub Sorts : Bool → Bool → Bool → Type 0
@@ -225,23 +218,18 @@ module _ (R : List Run) where
 
 -- A pair list is ranked.
 
-within-push : (earlier : List Pair) (p : Pair) (i : ℕ) → list_any (is_strictly_within i) (earlier ++ p ∷ []) ≡ false → (list_any (is_strictly_within i) earlier ≡ false) × (is_strictly_within i p ≡ false)
-within-push earlier p i h =
-    let parts = or_parts (list_any (is_strictly_within i) earlier) (is_strictly_within i p || false) (sym (list_any-append (is_strictly_within i) earlier (p ∷ [])) ∙ h) in
-    (parts.0, (or_parts (is_strictly_within i p) false parts.1).0)
-
 module _ (s : Setting) (R : List Run) where
   all-later : (p : Pair) (end : ℕ) (earlier : List Pair) (last : ℕ) (ps : List Pair) → ((i : ℕ) → list_any (is_strictly_within i) earlier ≡ false → is_strictly_within i p ≡ false) → p.closer ≤ last → ArePairsFrom s R end earlier last ps → AllLater R p ps
   all-later p end earlier last [] h l a = tt
   all-later p end earlier last (q ∷ qs) h l a =
       let f = a.0.forward in
-      ((omega (arith, f, l), h q.opener a.0.eligible.not_within), all-later p end (earlier ++ q ∷ []) q.closer qs (λ i e. h i (within-push earlier q i e).0) (omega (arith, f, l)) a.1)
+      ((omega (arith, f, l), h q.opener a.0.eligible.not_within), all-later p end (earlier ++ q ∷ []) q.closer qs (λ i e. h i (within_push earlier q i e).0) (omega (arith, f, l)) a.1)
 
   ranked-from : (end : ℕ) (earlier : List Pair) (last : ℕ) (ps : List Pair) → ArePairsFrom s R end earlier last ps → AreRanked R ps
   ranked-from end earlier last [] a = tt
   ranked-from end earlier last (p ∷ ps) a = (
     record { some = some a.0; order = a.0.eligible.in_order; within = a.0.eligible.in_container; marker = a.0.eligible.one_marker },
-    (all-later p end (earlier ++ p ∷ []) p.closer ps (λ i e. (within-push earlier p i e).1) (omega arith) a.1, ranked-from end (earlier ++ p ∷ []) p.closer ps a.1),
+    (all-later p end (earlier ++ p ∷ []) p.closer ps (λ i e. (within_push earlier p i e).1) (omega arith) a.1, ranked-from end (earlier ++ p ∷ []) p.closer ps a.1),
   )
     where
       some : IsNextPair s R earlier last p → 0 < p.size

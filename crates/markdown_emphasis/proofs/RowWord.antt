@@ -1,6 +1,7 @@
 -- The tokens of a row, cut by its pair list, are a word of brackets that match.
-use Rattle.std.proofs.Common.{◌≡◌, ◌≢◌, ℕ, zero, suc, ◌+◌, ◌-◌, ◌<◌, ◌≤◌, Bool, true, false, ◌||◌, List, [], ◌∷◌, ◌++◌, length, take, drop, reverse, map, Option, refl, sym, ap, subst, ◌∙◌, arith, append_assoc, inl, inr, sum_by}
-use Rattle.std.proofs.lemmas.Bool.{cases_Bool}
+use Rattle.std.proofs.Common.{◌≡◌, ◌≢◌, ℕ, zero, suc, ◌+◌, ◌-◌, ◌<◌, ◌≤◌, true, false, List, [], ◌∷◌, ◌++◌, length, take, drop, reverse, map, Option, refl, sym, ap, subst, ◌∙◌, arith, append_assoc, inl, inr, sum_by}
+use Rattle.markdown_emphasis.proofs.BracketSteps.{total-reverse}
+use Rattle.std.proofs.lemmas.Bool.{cases_Bool, or_parts}
 use Rattle.std.proofs.lemmas.List.{length-take-le, length-drop, reverse-append}
 use Rattle.std.proofs.lemmas.List.Sums.{sum_by-cons}
 use Rattle.markdown_engine.specs.Codes.{Code}
@@ -49,16 +50,8 @@ pub total-sum : (ns : List ℕ) → sum_by (λ n. n) ns ≡ total ns
 total-sum [] = refl
 total-sum (n ∷ ns) = let r = total-sum ns in let c = sum_by-cons (λ (k : ℕ). k) n ns in omega (arith, r, c)
 
-total-append : (ns ms : List ℕ) → total (ns ++ ms) ≡ total ns + total ms
-total-append [] ms = omega arith
-total-append (n ∷ ns) ms = let r = total-append ns ms in omega (arith, r)
-
 reverse-first : (n : ℕ) (ns : List ℕ) → reverse (n ∷ ns) ≡ reverse ns ++ n ∷ []
 reverse-first n ns = reverse-append (n ∷ []) ns
-
-pub total-reverse : (ns : List ℕ) → total (reverse ns) ≡ total ns
-total-reverse [] = refl
-total-reverse (n ∷ ns) = let a = ap total (reverse-first n ns) ∙ total-append (reverse ns) (n ∷ []) in let r = total-reverse ns in omega (arith, a, r)
 
 some-append : (ns ms : List ℕ) → AreSome ns → AreSome ms → AreSome (ns ++ ms)
 some-append [] ms h k = k
@@ -153,15 +146,7 @@ module _ (s : Setting) (pairs_of : List Run → List Pair) where
   pub no-brackets : (t : Forest) (ps : List Pair) (n : ℕ) → has_run t ≡ false → AreItems (tokens t ps n)
   no-brackets empty ps n h = subst (λ (w : List Token). AreItems w) (sym (tokens-empty ps n)) tt
   no-brackets (leaf_then name link cs rest) ps n h =
-      subst (λ (w : List Token). AreItems w) (sym (tokens-leaf name link cs rest ps n (or-left (is_run name) (has_run rest) h))) (no-brackets rest ps n (or-right (is_run name) (has_run rest) h))
-    where
-      or-left : (a b : Bool) → a || b ≡ false → a ≡ false
-      or-left true b e = e
-      or-left false b e = refl
-
-      or-right : (a b : Bool) → a || b ≡ false → b ≡ false
-      or-right true b e = cc
-      or-right false b e = e
+      subst (λ (w : List Token). AreItems w) (sym (tokens-leaf name link cs rest ps n (or_parts (is_run name) (has_run rest) h).0)) (no-brackets rest ps n (or_parts (is_run name) (has_run rest) h).1)
   no-brackets (group_then name a b inside rest) ps n h = subst (λ (w : List Token). AreItems w) (sym (tokens-group name a b inside rest ps n)) (no-brackets rest ps n h)
 
 pub runs-empty : (s : Setting) → runs_of s empty ≡ []

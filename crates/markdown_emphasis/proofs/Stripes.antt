@@ -1,5 +1,6 @@
 -- The events of a run's tokens are those of its marker, place and sizes.
 use Rattle.std.proofs.Common.{◌≡◌, ℕ, zero, suc, ◌+◌, ◌-◌, ◌<◌, ◌≤◌, List, [], ◌∷◌, ◌++◌, length, take, drop, reverse, refl, sym, ap, subst, ◌∙◌, arith, sum_by}
+use Rattle.markdown_emphasis.proofs.BracketSteps.{shift-shift}
 use Rattle.std.proofs.lemmas.List.{length-take-le, length-drop}
 use Rattle.markdown_engine.specs.Codes.{Code, stop_of, document_start}
 use Rattle.markdown_engine.specs.Tree.{start_of, event}
@@ -9,12 +10,6 @@ use Rattle.markdown_engine.specs.declared.event.Point.{Point}
 use Rattle.markdown_model.specs.Groups.{cut_front, pair_names}
 use Rattle.markdown_emphasis.specs.Marks.{shifted, total, closing_at, opening_at, closings_from, openings_from, data_at, marker_events, IsStripe, AreSome}
 use Rattle.markdown_emphasis.specs.Word.{names_of, closed_events, opened_events, closed_all, opened_all, left_over, cut_events, sized_events, HasMarker}
-
-pub shift-shift : (p : Point) (a b : ℕ) → shifted (shifted p a) b ≡ shifted p (a + b)
-shift-shift p a b =
-    let c : p.column + a + b ≡ p.column + (a + b) = omega arith in
-    let d : p.index + a + b ≡ p.index + (a + b) = omega arith in
-    λ i. record p { column = c i; index = d i }
 
 pub shift-none : (p : Point) → shifted p 0 ≡ p
 shift-none p =

@@ -1,5 +1,6 @@
 -- The links of a list of events, as it grows, shrinks and gains a link.
 use Rattle.std.proofs.Common.{Bool, ◌≡◌, ◌≢◌, ℕ, zero, suc, ◌+◌, ◌<◌, ◌≤◌, ◌⊎◌, inl, inr, true, false, cond, Option, Some, None, List, [], ◌∷◌, ◌++◌, length, set, get_or, refl, sym, ap, subst, ◌∙◌, arith}
+use Rattle.std.proofs.lemmas.Option.{same_Some}
 use Rattle.std.proofs.lemmas.Bool.{ne_eqb, eq-eqb, false≢true}
 use Rattle.std.proofs.lemmas.Bool.Decides.{eqb_tells}
 use Rattle.markdown_engine.specs.declared.event.Event.{Event}
@@ -376,14 +377,11 @@ OnlyEnters-changed p (suc i) (x ∷ xs) h = (h.0, OnlyEnters-changed p i xs h.1)
 same_number : (a b : ℕ) → (a ≡ b) ⊎ (a ≢ b)
 same_number a b = elim (eqb_tells a b) [ inl t ↦ inl t.1 | inr f ↦ inr f.1 ]
 
-same_some : (p q : ℕ) → Some p ≡ Some q → p ≡ q
-same_some p q h = cc
-
 -- an event of the list with the new link names what it named, or is the one that was linked
 connected : (xs : List Event) (p i j q : ℕ) → linked_at xs i ≡ true → previous_at (changed_at (with_previous (Some p)) i xs) j ≡ Some q → ((j ≡ i) × (p ≡ q)) ⊎ ((j ≢ i) × (previous_at xs j ≡ Some q))
 connected xs p i j q h k =
     elim (same_number j i) [
-      | inl s ↦ inl (s, same_some p q (sym (previous_at-same (Some p) i xs h) ∙ ap (previous_at (changed_at (with_previous (Some p)) i xs)) (sym s) ∙ k))
+      | inl s ↦ inl (s, same_Some p q (sym (previous_at-same (Some p) i xs h) ∙ ap (previous_at (changed_at (with_previous (Some p)) i xs)) (sym s) ∙ k))
       | inr d ↦ inr (d, sym (previous_at-other (Some p) i j xs d) ∙ k)
     ]
 
@@ -459,7 +457,7 @@ IsLinked-push_named xs e p w h a u k =
     }
   where
     named-by : (xs : List Event) (e : Event) (p j q : ℕ) → previous_of e ≡ Some p → previous_at (xs ++ e ∷ []) j ≡ Some q → ((j ≡ length xs) × (p ≡ q)) ⊎ (previous_at xs j ≡ Some q)
-    named-by [] e p zero q h g = inl (refl, same_some p q (sym h ∙ g))
+    named-by [] e p zero q h g = inl (refl, same_Some p q (sym h ∙ g))
     named-by [] e p (suc j) q h g = absurd (some-none q g)
     named-by (x ∷ xs) e p zero q h g = inr g
     named-by (x ∷ xs) e p (suc j) q h g = elim (named-by xs e p j q h g) [ inl s ↦ inl (ap suc s.0, s.1) | inr d ↦ inr d ]

@@ -1,5 +1,6 @@
 -- where the links of a tree's events go on to follows from where they go back to
-use Rattle.std.proofs.Common.{◌≡◌, ◌≢◌, ℕ, suc, ◌+◌, ◌<◌, ◌≤◌, ◌==◌, true, false, Option, Some, None, List, [], ◌∷◌, ◌++◌, refl, sym, ap, subst, ◌∙◌, arith, append_assoc, append-nil}
+use Rattle.std.proofs.Common.{◌≡◌, ◌≢◌, ℕ, suc, ◌+◌, ◌<◌, ◌≤◌, ◌==◌, false, Option, Some, None, List, [], ◌∷◌, ◌++◌, refl, sym, ap, subst, ◌∙◌, arith, append_assoc, append-nil}
+use Rattle.std.proofs.lemmas.Bool.{eq-eqb}
 use Rattle.markdown_engine.specs.Chain.{chained, chained_from, follower, is_number}
 use Rattle.markdown_engine.specs.Codes.{stop_of, document_start}
 use Rattle.markdown_engine.specs.Past.{appended_from}
@@ -26,9 +27,6 @@ or-none (Some a) = refl
 
 differs : (p q : ℕ) → p ≢ q → (q == p) ≡ false
 differs p q h = grind arith
-
-same : (p : ℕ) → (p == p) ≡ true
-same p = grind arith
 
 not-named : (p n : ℕ) (previous : Option ℕ) → n ≤ p → IsBefore n previous → is_number p previous ≡ false
 not-named p n None h b = refl
@@ -57,7 +55,7 @@ follower-next p k m (leaf_then name None cs rest) es h =
     follower-next p (suc (suc k)) (m + 2) rest es (omega arith)
     ∙ ap (λ j. or_else (next_linked j rest) (follower p (suc (suc k) + event_count rest) es)) (omega arith)
     ∙ ap (λ j. or_else (next_linked (k + 2) rest) (follower p j es)) (step-two k (event_count rest))
-follower-next p k m (leaf_then name (Some c) cs rest) es h = rw (same p) refl
+follower-next p k m (leaf_then name (Some c) cs rest) es h = rw (eq-eqb p p refl) refl
 follower-next p k m (group_then name a b inside rest) es h =
     let after : List Event = event Kind.Exit name b ∷ appended_from (m + 2 + event_count inside) (Some p) rest in
     ap (λ xs. follower p (suc k) xs) (append_assoc (appended_from (m + 1) None inside) after es)

@@ -1,5 +1,6 @@
 -- What a cursor answers, and what it keeps.
 use Rattle.std.proofs.Common.{ℕ, suc, ◌+◌, ◌*◌, ◌<◌, ◌≤◌, ◌^◌, Bool, true, false, ◌≡◌, arith, List, length, drop, slice_get, refl, sym, ap, subst, ◌∙◌, Option, Some, None, IsSome, add-one, inl, inr, ◌&&◌, ◌==◌, nat_lt, get_or, if◌then◌else◌}
+use Rattle.std.proofs.lemmas.Option.{same_Some}
 use Rattle.std.proofs.lemmas.List.{drop_all}
 use Rattle.std.proofs.lemmas.Bool.{both_ways, cases_lt, eqb-true}
 use Rattle.markdown_engine.specs.declared.event.Point.{Point}
@@ -90,9 +91,6 @@ exit-more : (bytes : List ℕ) (pieces : List Piece) (n : ℕ) (c : Code) → sl
 unfolding exit_point start_of_content
 exit-more bytes pieces n c h = rw add-one (ap (λ (x : Option Code). stop_or x (start_or (slice_get (content_of bytes pieces) (suc n)) (content_end bytes pieces))) h)
 
-some-same : (v w : ℕ) → Some v ≡ Some w → v ≡ w
-some-same v w e = cc
-
 none≢some : (v : ℕ) → None ≡ Some v → ⊥
 none≢some v e = cc
 
@@ -119,13 +117,13 @@ cursor_next {bytes} {pieces} {k} {p} {e} {before} {n} x k2 v p2 e2 h is some val
     let shown : is_open (place_of p) (drop k pieces) ≡ true = at-some-by h here (is_open (place_of p) (drop k pieces)) refl in
     let at : IsAtCode bytes pieces k p n = at_code h shown in
     let same : e2 ≡ stop_at bytes p = stop ∙ at.next in
-    let read : v ≡ value_at bytes p = some-same v (value_at bytes p) (sym value ∙ value-is bytes p h.standing.is_point at.in_bytes) in
+    let read : v ≡ value_at bytes p = same_Some v (value_at bytes p) (sym value ∙ value-is bytes p h.standing.is_point at.in_bytes) in
     let went : ◌≡◌ {A = ℕ × Point} (followed bytes k (stop_at bytes p) (drop k pieces)) (k2, p2) = sym (go ∙ ap (λ (q : Point). followed bytes k q (drop k pieces)) same) in
     record {
       standing = subst (λ (x : ℕ × Point). IsStanding bytes pieces (drop x.0 pieces) x.1 (n + 1)) went (standing-next bytes pieces p n k h.standing shown);
       before = sym value ∙ at.value ∙ sym (before-more bytes pieces n);
       exits = same ∙ sym (exit-more bytes pieces n (code_here bytes p) at.code);
-      after_line = λ f. subst (λ (q : Point). (q.column ≡ 1) × (q.vs ≡ 0)) (sym same) (line-stop bytes p (sym read ∙ some-same v line_feed f));
+      after_line = λ f. subst (λ (q : Point). (q.column ≡ 1) × (q.vs ≡ 0)) (sym same) (line-stop bytes p (sym read ∙ same_Some v line_feed f));
       within_line = λ other. same ∙ stop-within bytes pieces (drop k pieces) p n k h.standing shown (λ f. other (ap (λ (x : ℕ). Some x) (read ∙ eqb-true (value_at bytes p) line_feed f))) ∙ ap (λ (x : ℕ × Point). x.1) went;
     }
 

@@ -3,7 +3,7 @@ use Rattle.std.proofs.Common.{◌≡◌, ℕ, zero, suc, ◌+◌, ◌-◌, ◌<�
 use Rattle.std.specs.List.{All, slice_get}
 use Rattle.std.specs.Option.{option_map}
 use Rattle.std.proofs.lemmas.List.{length-append, append-nil, drop_more, length-take, length-drop, get_or-take, get_or-drop}
-use Rattle.std.proofs.lemmas.Option.{get_or_from_slice_get, slice_get_within, slice_get-get_or}
+use Rattle.std.proofs.lemmas.Option.{get_or_from_slice_get, slice_get_within, slice_get-get_or, same_Some}
 use Rattle.std.proofs.lemmas.Bool.{false≢true, lt-ltb, le-ltb, eq-eqb, cases_Bool}
 use Rattle.std.proofs.lemmas.Bool.Decides.{nat_tests, eqb_tells, leb_tells}
 use Rattle.markdown_engine.specs.declared.event.Event.{Event}
@@ -291,10 +291,7 @@ get-linked (x ∷ es) (suc j) h = get-linked es j h
 
 map-back : (f : ℕ → ℕ) (o : Option ℕ) (q : ℕ) → option_map f o ≡ Some q → (p : ℕ) × ((o ≡ Some p) × (q ≡ f p))
 map-back f None q h = absurd (some-none q h)
-map-back f (Some p) q h = (p, (refl, same_number q (f p) (sym h)))
-  where
-    same_number : (a b : ℕ) → Some a ≡ Some b → a ≡ b
-    same_number a b h = cc
+map-back f (Some p) q h = (p, (refl, same_Some q (f p) (sym h)))
 
 linked-previous : (k : Option ℕ) (l : Option Link) (q : ℕ) → link_previous (previous_link k l) ≡ Some q → link_previous (previous_link k l) ≡ k
 linked-previous k None q h = absurd (some-none q h)

@@ -1,5 +1,6 @@
 -- What each word on a place says of the others.
 use Rattle.std.proofs.Common.{ℕ, suc, ◌+◌, ◌≡◌, arith, List, [], ◌∷◌, length, slice_get, refl, sym, ap, ◌∙◌, Option, Some, None, add-one}
+use Rattle.std.proofs.lemmas.Option.{same_Some}
 use Rattle.markdown_engine.specs.declared.parser.Piece.{Piece}
 use Rattle.markdown_engine.specs.Codes.{Code}
 use Rattle.markdown_engine.specs.Content.{content_of, content_end}
@@ -82,9 +83,6 @@ exit_moved p c cs h = rw add-one (ap (λ (x : Option Code). stop_or x (start_or 
 some≢none : (v : ℕ) → Some v ≡ None → ⊥
 some≢none v e = cc
 
-some-same : (v w : ℕ) → Some v ≡ Some w → v ≡ w
-some-same v w e = cc
-
 ahead-cases : (p : Place) (cs : List Code) → ahead_at p ≡ cs → code_at p ≡ None → cs ≡ []
 ahead-cases p [] e h = refl
 ahead-cases p (c ∷ cs) e h = absurd (some≢none c.value (sym (code_at_ahead p c cs e) ∙ h))
@@ -102,7 +100,7 @@ ahead-here : (p : Place) (v : ℕ) (cs : List Code) → ahead_at p ≡ cs → co
 ahead-here p v [] e h = absurd (some≢none v (sym h ∙ code_at_end p e))
 ahead-here p v (c ∷ cs) e h = record {
   code = c;
-  value = some-same c.value v (sym (code_at_ahead p c cs e) ∙ h);
+  value = same_Some c.value v (sym (code_at_ahead p c cs e) ∙ h);
   codes = e ∙ ap (λ (x : List Code). c ∷ x) (sym (ahead_moved p c cs e));
 }
 

@@ -1,5 +1,6 @@
 -- A walk that finds out whether it ends at a place.
 use Rattle.std.proofs.Common.{ℕ, ◌+◌, ◌*◌, ◌<◌, ◌≤◌, Bool, true, false, ◌&&◌, ◌||◌, ◌==◌, ◌≡◌, arith, List, [], ◌∷◌, ◌++◌, length, refl, sym, ap, subst, ◌∙◌, inl, inr, Some, IsTrue}
+use Rattle.std.proofs.lemmas.Option.{same_Some}
 use Rattle.std.proofs.Math.Bool.{or-false}
 use Rattle.std.specs.List.{list_any}
 use Rattle.std.proofs.lemmas.Bool.{cases_Bool, or_left, or_right, and_from, eq-eqb, false_from_ne_true}
@@ -65,9 +66,6 @@ or-more : (a b c d : Bool) → b ≡ c → (a || (b || d)) ≡ ((a || c) || d)
 or-more true b c d e = refl
 or-more false b c d e = ap (λ (x : Bool). x || d) e
 
-some-value : (v w : ℕ) → Some v ≡ Some w → v ≡ w
-some-value v w e = cc
-
 up-next : (bytes : List ℕ) (p : Point) (at : ℕ × ℕ) → IsPoint bytes p → p.index < length bytes → is_before (place_of p) at ≡ true → codes_up bytes p at ≡ code_here bytes p ∷ codes_up bytes (stop_at bytes p) at
 up-next bytes p at h lt before =
     passes (is_code_before at) (code_here bytes p) (codes_after bytes (place_of (stop_at bytes p))) (codes_after bytes (place_of p)) before (next bytes p h lt).codes
@@ -85,7 +83,7 @@ reaching-stop bytes p at s t h lt before is =
 -- one code further
 pub reaching-next : (bytes : List ℕ) (p : Point) (at : ℕ × ℕ) (s : Stretch) (q : Point) (v : ℕ) (t b : Bool) → IsReaching bytes p at s → s.point.index < length bytes → is_before (place_of s.point) at ≡ true → value_from bytes s.point ≡ Some v → t ≡ (v == line_feed) → q ≡ next_point bytes s.point → b ≡ (s.has_line_ending || t) → IsReaching bytes p at (record { point = q; has_line_ending = b; ends_line = t })
 reaching-next bytes p at s q v t b h lt before value test stop has =
-    let same : value_at bytes s.point ≡ v = some-value (value_at bytes s.point) v (sym (value-is bytes s.point h.point lt) ∙ value) in
+    let same : value_at bytes s.point ≡ v = same_Some (value_at bytes s.point) v (sym (value-is bytes s.point h.point lt) ∙ value) in
     let is : is_line_ending (code_here bytes s.point) ≡ t = ap (λ (n : ℕ). n == line_feed) same ∙ sym test in
     let stopped : IsReaching bytes p at (record { point = q; has_line_ending = s.has_line_ending || t; ends_line = t }) = subst (λ (x : Point). IsReaching bytes p at (record { point = x; has_line_ending = s.has_line_ending || t; ends_line = t })) (sym (stop ∙ (next bytes s.point h.point lt).next)) (reaching-stop bytes p at s t h lt before is) in
     subst (λ (x : Bool). IsReaching bytes p at (record { point = q; has_line_ending = x; ends_line = t })) (sym has) stopped

@@ -1,7 +1,7 @@
 -- What an index of runs says of the codes that it was made of.
 use Rattle.std.proofs.Common.{◌≡◌, ℕ, zero, suc, ◌+◌, ◌==◌, ◌&&◌, not, nat_lt, Bool, true, false, cond, if◌then◌else◌, Option, Some, None, List, [], ◌∷◌, drop, refl, sym, ap, subst, ◌∙◌, arith}
 use Rattle.std.proofs.Math.Bool.{and-false}
-use Rattle.std.proofs.lemmas.Bool.{eqb-true}
+use Rattle.std.proofs.lemmas.Bool.{eqb-true, eq-eqb}
 use Rattle.std.proofs.lemmas.Bool.Decides.{nat_tests}
 use Rattle.std.proofs.lemmas.Grind.{common_steps}
 use Rattle.std.specs.BTreeMap.{insert_entry}
@@ -56,14 +56,11 @@ entry-put q k at (e ∷ es) =
     behind true false h = refl
     behind false t h = refl
 
-    itself : (n : ℕ) → (n == n) ≡ true
-    itself n = grind arith
-
     other : key_cmp k e.0 ≡ Greater → k ≡ e.0 → ⊥
     other h s = differ (sym (key-same k e.0) ∙ same) (ap is_eq h)
       where
         same : (k.0 == e.0.0 && k.1 == e.0.1) ≡ true
-        same = subst (λ (x : Key). (k.0 == x.0 && k.1 == x.1) ≡ true) s (ap (λ b. b && k.1 == k.1) (itself k.0) ∙ itself k.1)
+        same = subst (λ (x : Key). (k.0 == x.0 && k.1 == x.1) ≡ true) s (ap (λ b. b && k.1 == k.1) (eq-eqb k.0 k.0 refl) ∙ eq-eqb k.1 k.1 refl)
 
         differ : {b : Bool} → b ≡ true → b ≡ false → ⊥
         differ h g = cc
@@ -100,13 +97,10 @@ run-here : (asked : List ℕ) (before : Option ℕ) (m n : ℕ) (c : Code) (cs :
 run-here asked before m n c cs =
     ap (λ b. (not (is_same before c.value) && is_asked asked c.value) && b) (sym (key-same (m, n) (c.value, leading c.value (c ∷ cs))))
     ∙ elim (c.value == m) as (λ b. (c.value == m) ≡ b → ((not (is_same before c.value) && is_asked asked c.value) && (m == c.value && n == leading c.value (c ∷ cs))) ≡ (is_asked asked m && (not (is_same before m) && (b && leading m (c ∷ cs) == n)))) [
-      | true ↦ λ h. subst (λ v. ((not (is_same before v) && is_asked asked v) && (m == v && n == leading v (c ∷ cs))) ≡ (is_asked asked m && (not (is_same before m) && (true && leading m (c ∷ cs) == n)))) (sym (eqb-true c.value m h)) (shuffled (not (is_same before m)) (is_asked asked m) (m == m) (n == leading m (c ∷ cs)) (leading m (c ∷ cs) == n) (itself m) (flipped n (leading m (c ∷ cs))))
+      | true ↦ λ h. subst (λ v. ((not (is_same before v) && is_asked asked v) && (m == v && n == leading v (c ∷ cs))) ≡ (is_asked asked m && (not (is_same before m) && (true && leading m (c ∷ cs) == n)))) (sym (eqb-true c.value m h)) (shuffled (not (is_same before m)) (is_asked asked m) (m == m) (n == leading m (c ∷ cs)) (leading m (c ∷ cs) == n) (eq-eqb m m refl) (flipped n (leading m (c ∷ cs))))
       | false ↦ λ h. ap (λ b. (not (is_same before c.value) && is_asked asked c.value) && (b && n == leading c.value (c ∷ cs))) (flipped m c.value ∙ h) ∙ none (not (is_same before c.value) && is_asked asked c.value) (is_asked asked m) (not (is_same before m))
     ] refl
   where
-    itself : (n : ℕ) → (n == n) ≡ true
-    itself n = grind arith
-
     flipped : (a b : ℕ) → (a == b) ≡ (b == a)
     flipped a b = grind (arith, nat_tests, common_steps)
 

@@ -1,6 +1,6 @@
 -- Runs of one code: a walk from run to run.
 use Rattle.std.proofs.Common.{◌≡◌, ℕ, suc, ◌+◌, ◌-◌, ◌<◌, ◌==◌, ◌&&◌, not, Bool, true, false, Option, Some, None, List, [], ◌∷◌, length, drop, refl, sym, ap, subst, ◌∙◌, arith}
-use Rattle.std.proofs.lemmas.Bool.{eqb-true, ne_eqb}
+use Rattle.std.proofs.lemmas.Bool.{eqb-true, ne_eqb, eq-eqb}
 use Rattle.std.proofs.lemmas.List.{drop-drop, length-drop}
 use Rattle.markdown_engine.specs.Codes.{Code}
 use Rattle.markdown_engine.specs.Place.{Place, ahead_at, moved, code_at}
@@ -17,16 +17,13 @@ leading-more v c cs h = rw (h, leading) refl
 leading-none : (v : ℕ) (c : Code) (cs : List Code) → (c.value == v) ≡ false → leading v (c ∷ cs) ≡ 0
 leading-none v c cs h = rw (h, leading) refl
 
-same-value : (k : ℕ) → (k == k) ≡ true
-same-value k = grind arith
-
 -- One code of a run is passed, and its end.
 
 pub past-one : (v : ℕ) (p : Place) → code_at p ≡ Some v → past_run v (moved p) ≡ past_run v p
 unfolding moved
 past-one v p h =
     let a : IsAhead p v = ahead_some p v h in
-    let more : leading v (ahead_at p) ≡ suc (leading v (ahead_at (moved p))) = ap (leading v) a.codes ∙ leading-more v a.code (ahead_at (moved p)) (ap (λ k. k == v) a.value ∙ same-value v) in
+    let more : leading v (ahead_at p) ≡ suc (leading v (ahead_at (moved p))) = ap (leading v) a.codes ∙ leading-more v a.code (ahead_at (moved p)) (ap (λ k. k == v) a.value ∙ eq-eqb v v refl) in
     ap (λ n. record p { at = n }) (omega (arith, more))
 
 no-run : (v : ℕ) (p : Place) (o : Option ℕ) → code_at p ≡ o → (o ≡ Some v → ⊥) → leading v (ahead_at p) ≡ 0
@@ -66,7 +63,7 @@ entries-inside asked v at (c ∷ cs) es =
 -- a run is passed that comes first
 pub entries-past : (asked : List ℕ) (v at : ℕ) (c : Code) (cs : List Code) (es : List (Key × ℕ)) → c.value ≡ v → entries_from asked None at (c ∷ cs) es ≡ entries_from asked None (at + leading v (c ∷ cs)) (drop (leading v (c ∷ cs)) (c ∷ cs)) (with_run (is_asked asked v) (v, leading v (c ∷ cs)) at es)
 entries-past asked v at c cs es e =
-    let here : (c.value == v) ≡ true = ap (λ k. k == v) e ∙ same-value v in
+    let here : (c.value == v) ≡ true = ap (λ k. k == v) e ∙ eq-eqb v v refl in
     let after : List (Key × ℕ) = with_run (is_asked asked v) (v, leading v (c ∷ cs)) at es in
     ap (λ w. entries_from asked (Some w) (suc at) cs (with_run (is_asked asked w) (w, leading w (c ∷ cs)) at es)) e
     ∙ entries-inside asked v (suc at) cs after
@@ -91,7 +88,7 @@ run-past asked v p es h =
 pub run-left : (v : ℕ) (p : Place) → code_at p ≡ Some v → length (ahead_at (past_run v p)) < length (ahead_at p)
 run-left v p h =
     let a : IsAhead p v = ahead_some p v h in
-    let more : leading v (ahead_at p) ≡ suc (leading v (ahead_at (moved p))) = ap (leading v) a.codes ∙ leading-more v a.code (ahead_at (moved p)) (ap (λ k. k == v) a.value ∙ same-value v) in
+    let more : leading v (ahead_at p) ≡ suc (leading v (ahead_at (moved p))) = ap (leading v) a.codes ∙ leading-more v a.code (ahead_at (moved p)) (ap (λ k. k == v) a.value ∙ eq-eqb v v refl) in
     let some : length (ahead_at (moved p)) + 1 ≡ length (ahead_at p) = left_moved p v h in
     let left : length (ahead_at (past_run v p)) ≡ length (ahead_at p) - leading v (ahead_at p) = ap length (ahead-past v p) ∙ length-drop (leading v (ahead_at p)) (ahead_at p) in
     omega (arith, more, some, left)

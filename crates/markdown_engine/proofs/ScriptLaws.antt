@@ -4,7 +4,7 @@ use Rattle.std.specs.List.{All}
 use Rattle.std.specs.Option.{option_map}
 use Rattle.std.proofs.lemmas.List.{length-append, append-nil}
 use Rattle.std.proofs.lemmas.List.Elements.{All-nil, All-cons}
-use Rattle.std.proofs.lemmas.Bool.{ne_eqb, both_ways}
+use Rattle.std.proofs.lemmas.Bool.{ne_eqb, both_ways, eq-eqb}
 use Rattle.std.proofs.lemmas.Bool.Decides.{leb_tells, eqb_tells}
 use Rattle.markdown_engine.specs.Chain.{has_link, linked_at}
 use Rattle.markdown_engine.specs.Codes.{stop_of, document_start}
@@ -23,11 +23,8 @@ use Rattle.markdown_engine.specs.Script.{Part, comes, goes, stays, keeps, before
 
 -- One edit.
 
-same : (n : ℕ) → (n == n) ≡ true
-same n = grind arith
-
 pub back-here : (n : ℕ) (es : List Event) (log : List Edit) → back_at n (coming n es ∷ log) ≡ es ++ back_at n log
-back-here n es log = ap (λ b. cond (b && true) es [] ++ back_at n log) (same n)
+back-here n es log = ap (λ b. cond (b && true) es [] ++ back_at n log) (eq-eqb n n refl)
 
 pub back-other : (i n : ℕ) (es : List Event) (log : List Edit) → n ≢ i → back_at i (coming n es ∷ log) ≡ back_at i log
 back-other i n es log h = ap (λ b. cond (b && true) es [] ++ back_at i log) (ne_eqb n i h)
@@ -50,7 +47,7 @@ pub removed-coming : (i n : ℕ) (es : List Event) (log : List Edit) → removed
 removed-coming i n es log = none-of (n == i) (removed_at i log)
 
 pub removed-here : (n k : ℕ) (log : List Edit) → removed_at n (going n k ∷ log) ≡ k + removed_at n log
-removed-here n k log = ap (λ b. cond b k 0 + removed_at n log) (same n)
+removed-here n k log = ap (λ b. cond b k 0 + removed_at n log) (eq-eqb n n refl)
 
 pub removed-other : (i n k : ℕ) (log : List Edit) → n ≢ i → removed_at i (going n k ∷ log) ≡ removed_at i log
 removed-other i n k log h = ap (λ b. cond b k 0 + removed_at i log) (ne_eqb n i h) ∙ omega arith

@@ -1,6 +1,6 @@
 -- The walk that finds where sequences last begin, and what an index of them says of the codes that it was made of.
-use Rattle.std.proofs.Common.{◌≡◌, ℕ, zero, suc, ◌+◌, ◌==◌, ◌&&◌, ◌||◌, nat_lt, Bool, true, false, if◌then◌else◌, cond, slice_index_or, length, ◌<◌, Option, Some, None, List, [], ◌∷◌, drop, refl, sym, ap, ◌∙◌, arith}
-use Rattle.std.proofs.lemmas.Bool.{eq-eqb, ne_eqb}
+use Rattle.std.proofs.Common.{◌≡◌, ℕ, zero, suc, ◌+◌, ◌==◌, ◌&&◌, nat_lt, Bool, true, false, if◌then◌else◌, cond, slice_index_or, length, ◌<◌, Option, Some, None, List, [], ◌∷◌, drop, refl, sym, ap, ◌∙◌, arith}
+use Rattle.std.proofs.lemmas.Bool.{eq-eqb, ne_eqb, or_parts}
 use Rattle.std.specs.List.{list_any}
 use Rattle.std.proofs.lemmas.Bool.Decides.{nat_tests}
 use Rattle.std.proofs.lemmas.Grind.{common_steps}
@@ -146,24 +146,15 @@ found-past cs p q v last next h e step k =
     }
 
 -- at a code with which no sequence begins
-
-or-left : (a b : Bool) → a || b ≡ false → a ≡ false
-or-left false b e = refl
-or-left true b e = cc
-
-or-right : (a b : Bool) → a || b ≡ false → b ≡ false
-or-right false b e = e
-or-right true b e = cc
-
 pub none-begins : (p : Place) (v : ℕ) (last : LastBegins) → code_at p ≡ Some v → list_any (λ n. v == n) first_bytes ≡ false → FoundAt p last last
-none-begins p v last h e CommentEnd = ap (λ b. cond b (Some p.at) last.comment_end) (sym (next-other 45 (45 ∷ 62 ∷ []) p v h (or-left (v == 45) _ e)))
-none-begins p v last h e SectionEnd = ap (λ b. cond b (Some p.at) last.section_end) (sym (next-other 93 (93 ∷ 62 ∷ []) p v h (or-left (v == 93) _ (or-right (v == 45) _ e))))
+none-begins p v last h e CommentEnd = ap (λ b. cond b (Some p.at) last.comment_end) (sym (next-other 45 (45 ∷ 62 ∷ []) p v h (or_parts (v == 45) _ e).0))
+none-begins p v last h e SectionEnd = ap (λ b. cond b (Some p.at) last.section_end) (sym (next-other 93 (93 ∷ 62 ∷ []) p v h (or_parts (v == 93) _ (or_parts (v == 45) _ e).1).0))
 none-begins p v last h e InstructionEnd =
-    ap (λ b. cond b (Some p.at) last.instruction_end) (sym (next-other 63 (62 ∷ []) p v h (or-left (v == 63) _ (or-right (v == 93) _ (or-right (v == 45) _ e)))))
+    ap (λ b. cond b (Some p.at) last.instruction_end) (sym (next-other 63 (62 ∷ []) p v h (or_parts (v == 63) _ (or_parts (v == 93) _ (or_parts (v == 45) _ e).1).1).0))
 none-begins p v last h e DeclarationEnd =
-    ap (λ b. cond b (Some p.at) last.declaration_end) (sym (next-other 62 [] p v h (or-left (v == 62) _ (or-right (v == 63) _ (or-right (v == 93) _ (or-right (v == 45) _ e))))))
+    ap (λ b. cond b (Some p.at) last.declaration_end) (sym (next-other 62 [] p v h (or_parts (v == 62) _ (or_parts (v == 63) _ (or_parts (v == 93) _ (or_parts (v == 45) _ e).1).1).1).0))
 none-begins p v last h e ResourceEnd =
-    ap (λ b. cond b (Some p.at) last.resource_end) (sym (twice-other p v h (or-left (v == 41) _ (or-right (v == 62) _ (or-right (v == 63) _ (or-right (v == 93) _ (or-right (v == 45) _ e)))))))
+    ap (λ b. cond b (Some p.at) last.resource_end) (sym (twice-other p v h (or_parts (v == 41) _ (or_parts (v == 62) _ (or_parts (v == 63) _ (or_parts (v == 93) _ (or_parts (v == 45) _ e).1).1).1).1).0))
 
 -- past a stretch of such codes
 pub found-stretch : (cs : List Code) (p : Place) (last : LastBegins) → IsFound cs p last → IsFound cs (past_stretch first_bytes p) last

@@ -20,7 +20,7 @@ stop_of-append p [] ys = refl
 stop_of-append p (x ∷ xs) ys = stop_of-append x.stop xs ys
 
 -- where some codes end does not depend on where the codes before them end
-stop_of-some : (p q : Point) (cs : List Code) → cs ≢ [] → stop_of p cs ≡ stop_of q cs
+pub stop_of-some : (p q : Point) (cs : List Code) → cs ≢ [] → stop_of p cs ≡ stop_of q cs
 stop_of-some p q [] some = absurd (some refl)
 stop_of-some p q (c ∷ cs) some = refl
 

@@ -96,7 +96,7 @@ byte_from-in bytes p h =
       | inr e ↦ rw (le-ltb 0 p.vs e) s.in_bytes
     ]
 
-byte-order : (a b c d : ℕ) → is_before (c, d) (a, b) ≡ false → (if nat_lt 0 b then a + 1 else a) ≤ (if nat_lt 0 d then c + 1 else c)
+pub byte-order : (a b c d : ℕ) → is_before (c, d) (a, b) ≡ false → (if nat_lt 0 b then a + 1 else a) ≤ (if nat_lt 0 d then c + 1 else c)
 byte-order a b c d h = grind (arith, nat_tests)
 
 pub byte_from-order : (p q : Point) → IsTrue (is_at_or_after (place_of p) (place_of q)) → byte_from p ≤ byte_from q

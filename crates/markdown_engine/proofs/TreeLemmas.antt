@@ -123,11 +123,11 @@ done-append [] ys T = refl
 done-append (x ∷ xs) ys T = done-append xs ys (applied x T)
 
 -- the groups' places are those at which a run enters and leaves them
-solid-start : (cs rest : List Code) (T : Tokenizer) → cs ≢ [] → ahead T ≡ cs ++ rest → point_of T.cursor ≡ start_of cs
+pub solid-start : (cs rest : List Code) (T : Tokenizer) → cs ≢ [] → ahead T ≡ cs ++ rest → point_of T.cursor ≡ start_of cs
 solid-start [] rest T some e = absurd (some refl)
 solid-start (c ∷ cs) rest T some e = point_ahead T.cursor c (cs ++ rest) e
 
-solid-stop : (cs rest : List Code) (T : Tokenizer) → cs ≢ [] → ahead T ≡ cs ++ rest → exit_point (moved_by cs T.cursor) ≡ stop_of document_start cs
+pub solid-stop : (cs rest : List Code) (T : Tokenizer) → cs ≢ [] → ahead T ≡ cs ++ rest → exit_point (moved_by cs T.cursor) ≡ stop_of document_start cs
 solid-stop [] rest T some e = absurd (some refl)
 solid-stop (c ∷ cs) rest T some e = stop-moved document_start c cs rest T.cursor e
 

@@ -77,9 +77,9 @@ bracket-ahead : (cs : List Code) → ends_bracket (value_of (first_of cs)) ≡ (
 bracket-ahead [] = refl
 bracket-ahead (c ∷ cs) = refl
 
-or-false : (a b : Bool) → a ≡ false → a || b ≡ b
-or-false true b e = cc
-or-false false b e = refl
+or-rest : (a b : Bool) → a ≡ false → a || b ≡ b
+or-rest true b e = cc
+or-rest false b e = refl
 
 pub bracket_after-law : (W : Words) → Within states W → Law W bracket_after_words
 bracket_after-law W within T alone look =
@@ -88,7 +88,7 @@ bracket_after-law W within T alone look =
     let here : ends_bracket (current_of T) ≡ _ = ap ends_bracket (current-ahead T) ∙ bracket-ahead (ahead T) in
     if-step P (ends_bracket (current_of T)) _ _
     (λ h. look-ended W 2 test true T alone (sym (or_left _ _ (sym here ∙ h))))
-    (λ h. look-retry W 2 test _ GfmAutolinkLiteralTrail (within GfmAutolinkLiteralTrail) T alone (omega arith) (sym (or-false _ _ (sym here ∙ h))) look (λ ok U x. x))
+    (λ h. look-retry W 2 test _ GfmAutolinkLiteralTrail (within GfmAutolinkLiteralTrail) T alone (omega arith) (sym (or-rest _ _ (sym here ∙ h))) look (λ ok U x. x))
 
 pub reference_start-law : (W : Words) → Within states W → Law W reference_start_words
 reference_start-law W within T alone text =

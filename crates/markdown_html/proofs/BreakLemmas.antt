@@ -1,5 +1,6 @@
 -- Whitespace with line endings in a text that a reading gives: it ends a line's data, and the data of the next line goes on.
 use Rattle.std.proofs.Common.{◌≡◌, ℕ, suc, ◌+◌, ◌≤◌, Bool, true, false, ◌&&◌, ◌||◌, Option, Some, None, List, [], ◌∷◌, ◌++◌, length, drop, refl, sym, ap, subst, ◌∙◌, append_assoc, arith}
+use Rattle.markdown_engine.proofs.OpsLemmas.{and-right}
 use Rattle.std.proofs.lemmas.Bool.{or_right}
 use Rattle.markdown_engine.specs.Codes.{Code, is_line_ending, is_blank}
 use Rattle.markdown_engine.specs.Ops.{Op, Exit, Consume, moves, stays}
@@ -104,10 +105,6 @@ breaks-more r m n c cs front os one e k =
 whitespace-is : (c : Code) → is_blank c ≡ true → is_whitespace_code c ≡ true
 whitespace-is c e = ap (λ b. b || is_line_ending c) e
 
-and-second : (a b : Bool) → a && b ≡ true → b ≡ true
-and-second true b e = e
-and-second false b e = cc
-
 breaks-by : (ending blank : Bool) (r : Reading (List Code)) → Goes r → (m : Mode) (c : Code) (cs : List Code) → is_line_ending c ≡ ending → takes_blank m && is_blank c ≡ blank → ((n : Mode) → Breaks r n cs (break_from n cs)) → Breaks r m (c ∷ cs) (break_from m (c ∷ cs))
 breaks-by true blank r g m c cs e h more =
     subst (λ os. Breaks r m (c ∷ cs) os) (sym (break-ending m c cs e))
@@ -116,7 +113,7 @@ breaks-by true blank r g m c cs e h more =
 breaks-by false true r g m c cs e h more =
     subst (λ os. Breaks r m (c ∷ cs) os) (sym (break-blank m c cs e h))
     (breaks-more r m InBlank c cs (to_blank m ++ Consume ∷ []) (break_from InBlank cs) (moves-blank m)
-    (ap (text_from m) (g.skips c cs (whitespace-is c (and-second (takes_blank m) _ h))) ∙ text-blank m c (r cs) e h) (more InBlank))
+    (ap (text_from m) (g.skips c cs (whitespace-is c (and-right (takes_blank m) _ h))) ∙ text-blank m c (r cs) e h) (more InBlank))
 breaks-by false false r g m c cs e h more =
     subst (λ os. Breaks r m (c ∷ cs) os) (sym (break-data m c cs e h))
     (text-data-by m c cs (r (c ∷ cs)) (g.takes.at (c ∷ cs)) (g.consumes.at (c ∷ cs)) e h

@@ -9,20 +9,12 @@ use Rattle.markdown_model.specs.Grammar.{Reading, either, if_next, before, one, 
 use Rattle.markdown_model.proofs.Readings.{itself, takes_up_to_word}
 use Rattle.markdown_model.proofs.Consuming.{Left, Consumes, with_takes, word_takes, takes_no_more}
 use Rattle.markdown_construct.specs.Readings.{after}
-use Rattle.markdown_construct.proofs.AfterLemmas.{then-after}
+use Rattle.markdown_construct.proofs.AfterLemmas.{then-after, after-more, after-none}
 use Rattle.markdown_html.specs.Values.{whitespace_value}
 use Rattle.markdown_html.proofs.BreakLemmas.{Goes}
 use Rattle.markdown_model.proofs.ReadingSteps.{span-takes, span-none, one-here, one-not, then-none, either-second, either-some}
 
 -- Codes before what a reading gives.
-
-pub after-first : (c : Code) (front : List Code) (o : Option (List Code × List Code)) → after (c ∷ front) o ≡ with_first c (after front o)
-after-first c front None = refl
-after-first c front (Some r) = refl
-
-pub after-nothing : (o : Option (List Code × List Code)) → after [] o ≡ o
-after-nothing None = refl
-after-nothing (Some r) = refl
 
 pub after-twice : (xs ys : List Code) (o : Option (List Code × List Code)) → after (xs ++ ys) o ≡ after xs (after ys o)
 after-twice xs ys None = refl
@@ -40,7 +32,7 @@ then-first a x b c cs e = ap (λ (o : Option (List Code × List Code)). elim o a
 
 -- where the first reads nothing
 pub then-nothing : (a b : Reading (List Code)) (cs : List Code) → a cs ≡ Some ([], cs) → (a then_ b) cs ≡ b cs
-then-nothing a b cs e = then-after a b cs [] cs e ∙ after-nothing (b cs)
+then-nothing a b cs e = then-after a b cs [] cs e ∙ after-none (b cs)
 
 -- where they read the same, and the same follows
 pub then-same : (a x b : Reading (List Code)) (cs : List Code) → a cs ≡ x cs → (a then_ b) cs ≡ (x then_ b) cs
@@ -106,7 +98,7 @@ before-first a x p c cs e = ap (λ (o : Option (List Code × List Code)). elim o
 -- One code, and several.
 
 pub one-on : (p : Code → Bool) (b : Reading (List Code)) (c : Code) (cs : List Code) → p c ≡ true → (one p then_ b) (c ∷ cs) ≡ with_first c (b cs)
-one-on p b c cs e = then-after (one p) b (c ∷ cs) (c ∷ []) cs (one-here p c cs e) ∙ after-first c [] (b cs) ∙ ap (with_first c) (after-nothing (b cs))
+one-on p b c cs e = then-after (one p) b (c ∷ cs) (c ∷ []) cs (one-here p c cs e) ∙ after-more c [] (b cs) ∙ ap (with_first c) (after-none (b cs))
 
 pub one-none : (p : Code → Bool) (b : Reading (List Code)) (cs : List Code) → next_is p cs ≡ false → (one p then_ b) cs ≡ None
 one-none p b cs e = then-none (one p) b cs (one-not p cs e)

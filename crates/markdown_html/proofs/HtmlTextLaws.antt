@@ -1,7 +1,7 @@
 -- The laws of the states of HTML in text.
 use Rattle.std.proofs.Common.{◌≡◌, ℕ, zero, suc, ◌+◌, ◌<◌, ◌≤◌, ◌==◌, ◌||◌, not, Bool, true, false, Some, None, List, [], ◌∷◌, ◌++◌, length, drop, refl, sym, ap, subst, ◌∙◌, arith}
 use Rattle.std.specs.Prelude.{codes}
-use Rattle.std.proofs.lemmas.Bool.{eqb-true, or_from}
+use Rattle.std.proofs.lemmas.Bool.{eqb-true, or_from, or_parts, eq-eqb}
 use Rattle.markdown_engine.specs.Codes.{Code}
 use Rattle.markdown_engine.specs.Lists.{rest_of}
 use Rattle.markdown_engine.specs.Ops.{Op, Exit, Consume, current_of, ahead, applied, done, scratched}
@@ -29,7 +29,7 @@ use Rattle.markdown_html.specs.HtmlText.{rested, with_marker, closing, is_hopele
 use Rattle.markdown_html.proofs.LineLemmas.{from-data}
 use Rattle.markdown_html.proofs.CodeReadings.{then-nothing, word-end, word-then, word-then-none}
 use Rattle.markdown_html.proofs.KindReadings.{end-here, end-none, comment-goes, comment-end, comment-dash, comment-other, comment-one-dash, comment-one-other, comment-two-end, comment-two-one, comment-inside-dash, comment-inside-none, cdata-goes, cdata-end, cdata-bracket, cdata-other, cdata-one-bracket, cdata-one-other, cdata-two-end, cdata-two-one, declaration-goes, declaration-end, declaration-here, declaration-other, instruction-goes, instruction-end, instruction-mark, instruction-other, instruction-one-end, instruction-one-other, spaces-first, spaces-none, closing-goes, name-on, name-none, name-first, name-not, marked-none, marked-dash, marked-letter, marked-bracket, open-none, open-letter, open-slash, open-question, open-bang}
-use Rattle.markdown_html.proofs.TagReadings.{or-left, or-right, among-each, rest-between, rest-refused, between-none, between-slash, between-first, name-rest-on, name-rest-end, name-after-equals, name-after-other, value-space, value-quote, value-end, value-none, value-plain, quoted-end, quoted-close, quoted-more, unquoted-more, unquoted-after, unquoted-none, between-goes, name-after-goes, value-goes, quoted-goes}
+use Rattle.markdown_html.proofs.TagReadings.{among-each, rest-between, rest-refused, between-none, between-slash, between-first, name-rest-on, name-rest-end, name-after-equals, name-after-other, value-space, value-quote, value-end, value-none, value-plain, quoted-end, quoted-close, quoted-more, unquoted-more, unquoted-after, unquoted-none, between-goes, name-after-goes, value-goes, quoted-goes}
 use Rattle.markdown_html.proofs.EndingLemmas.{hopeless-none, instruction-absent, declaration-absent, section-absent, comment-absent}
 use Rattle.markdown_html.proofs.HtmlTextReady.{quoted-next, quoted-broken, quoted-opened, quoted-closed, cdata-opened, cdata-next, cdata-closed, part-next}
 use Rattle.markdown_html.proofs.LineEndingLaws.{Within, next-at, next-end}
@@ -66,20 +66,20 @@ unquoted_value_test v = not ((whitespace_value v || among_values (codes "\"'<=>`
 
 unquoted-true : (v : ℕ) → barred_value v ≡ false → after_value v ≡ false → unquoted_value_test v ≡ true
 unquoted-true v h k =
-    let single = or-right (v == 34) _ h in
-    let less = or-right (v == 39) _ single in
-    let equals = or-right (v == 60) _ less in
-    let tick = or-right (v == 61) _ equals in
-    let slash = or-right (whitespace_value v) _ k in
-    let close = or-right (v == 47) _ slash in
+    let single = (or_parts (v == 34) _ h).1 in
+    let less = (or_parts (v == 39) _ single).1 in
+    let equals = (or_parts (v == 60) _ less).1 in
+    let tick = (or_parts (v == 61) _ equals).1 in
+    let slash = (or_parts (whitespace_value v) _ k).1 in
+    let close = (or_parts (v == 47) _ slash).1 in
     ap not (or_from (whitespace_value v || among_values (codes "\"'<=>`") v) (v == 47)
-    (or_from (whitespace_value v) _ (or-left (whitespace_value v) _ k)
-    (or_from (v == 34) _ (or-left (v == 34) _ h)
-    (or_from (v == 39) _ (or-left (v == 39) _ single)
-    (or_from (v == 60) _ (or-left (v == 60) _ less)
-    (or_from (v == 61) _ (or-left (v == 61) _ equals)
-    (or_from (v == 62) _ (or-left (v == 62) _ close) tick))))))
-    (or-left (v == 47) _ slash))
+    (or_from (whitespace_value v) _ (or_parts (whitespace_value v) _ k).0
+    (or_from (v == 34) _ (or_parts (v == 34) _ h).0
+    (or_from (v == 39) _ (or_parts (v == 39) _ single).0
+    (or_from (v == 60) _ (or_parts (v == 60) _ less).0
+    (or_from (v == 61) _ (or_parts (v == 61) _ equals).0
+    (or_from (v == 62) _ (or_parts (v == 62) _ close).0 tick))))))
+    (or_parts (v == 47) _ slash).0)
 
 quote-plain : (v : ℕ) → quote_value v ≡ true → whitespace_value v ≡ false
 quote-plain v h = among-each (λ n. whitespace_value n ≡ false) v (codes "\"'") h (refl, (refl, tt))
@@ -119,9 +119,6 @@ not-bracket-by c true e h = let no : true ≡ false = sym h ∙ ap letter_value 
 
 not-bracket : (c : ℕ) → letter_value c ≡ true → (c == 91) ≡ false
 not-bracket c h = not-bracket-by c (c == 91) refl h
-
-same-value : (c : ℕ) → (c == c) ≡ true
-same-value c = grind arith
 
 abbrev Barred : ℕ → Type 0
 Barred v = (unquoted_value_test v ≡ false) × (after_value v ≡ false)
@@ -376,7 +373,7 @@ module _ (W : Words) (within : Within W) where
       (λ g. part-over W within TagOpen TagOpenBetween T alone r (omega arith) (name-none tag_rest (ahead T) (next-at name_value T c e ∙ after-each (λ v. name_value v ≡ false) c g refl refl refl refl refl) ∙ rest-between (ahead T) (next-at attribute_first_value T c e ∙ after-each (λ v. attribute_first_value v ≡ false) c g refl refl refl refl refl)))
       (λ g. if-step P (name_value c) _ _
       (λ h. part-past W within TagOpen TagOpen T c alone r e (not-ending name_value c h refl) (name-on tag_rest b.code rest (at name_value T c e ∙ h)))
-      (λ h. part-fails W within TagOpen T alone (name-none tag_rest (ahead T) (next-at name_value T c e ∙ h) ∙ rest-refused (ahead T) (next-at whitespace_value T c e ∙ or-left (whitespace_value c) _ g) (next-at (λ v. v == 47) T c e ∙ or-left (c == 47) _ (or-right (whitespace_value c) _ g)) (next-at (λ v. v == 62) T c e ∙ or-left (c == 62) _ (or-right (c == 47) _ (or-right (whitespace_value c) _ g)))))))
+      (λ h. part-fails W within TagOpen T alone (name-none tag_rest (ahead T) (next-at name_value T c e ∙ h) ∙ rest-refused (ahead T) (next-at whitespace_value T c e ∙ (or_parts (whitespace_value c) _ g).0) (next-at (λ v. v == 47) T c e ∙ (or_parts (c == 47) _ (or_parts (whitespace_value c) _ g).1).0) (next-at (λ v. v == 62) T c e ∙ (or_parts (c == 62) _ (or_parts (c == 47) _ (or_parts (whitespace_value c) _ g).1).1).0)))))
 
   pub tag_open_between-law : Law W (part_words TagOpenBetween)
   tag_open_between-law T alone r =
@@ -432,7 +429,7 @@ module _ (W : Words) (within : Within W) where
       let b : Begins c (ahead T) = ahead-some T c e in
       let more : 1 ≤ length (ahead T) = some-codes T c e in
       Goes-on W 2 2 (text_of value_rest) (text_of (quoted_rest c)) (Consume ∷ []) s (with_marker c s) T (Next H.HtmlTextTagOpenAttributeValueQuoted) within.quoted alone refl more (omega arith)
-      (text-next value_rest (quoted_rest c) T c e h (value-quote c b.code (rest_of (ahead T)) k (at (λ v. v == c) T c e ∙ same-value c)))
+      (text-next value_rest (quoted_rest c) T c e h (value-quote c b.code (rest_of (ahead T)) k (at (λ v. v == c) T c e ∙ eq-eqb c c refl)))
       (quoted-opened c T more (quote-plain c k) r)
       (λ ok U x. subst (λ (q : TokenizeState). DoesAs 2 (text_of (quoted_rest c)) q (scratched (with_marker c s) (done (Consume ∷ []) T)) ok U) r.rest x)
 
@@ -464,7 +461,7 @@ module _ (W : Words) (within : Within W) where
       let rest : List Code = rest_of (ahead T) in
       if-step P (after_value c) _ _
       (λ h. part-over W within ValueQuotedAfter TagOpenBetween T alone r (omega arith) (rest-between (ahead T) (next-at attribute_first_value T c e ∙ after-each (λ v. attribute_first_value v ≡ false) c h refl refl refl refl refl)))
-      (λ h. part-fails W within ValueQuotedAfter T alone (rest-refused (ahead T) (next-at whitespace_value T c e ∙ or-left (whitespace_value c) _ h) (next-at (λ v. v == 47) T c e ∙ or-left (c == 47) _ (or-right (whitespace_value c) _ h)) (next-at (λ v. v == 62) T c e ∙ or-left (c == 62) _ (or-right (c == 47) _ (or-right (whitespace_value c) _ h))))))
+      (λ h. part-fails W within ValueQuotedAfter T alone (rest-refused (ahead T) (next-at whitespace_value T c e ∙ (or_parts (whitespace_value c) _ h).0) (next-at (λ v. v == 47) T c e ∙ (or_parts (c == 47) _ (or_parts (whitespace_value c) _ h).1).0) (next-at (λ v. v == 62) T c e ∙ (or_parts (c == 62) _ (or_parts (c == 47) _ (or_parts (whitespace_value c) _ h).1).1).0))))
 
   pub tag_open_attribute_value_unquoted-law : Law W (part_words ValueUnquoted)
   tag_open_attribute_value_unquoted-law T alone r =
@@ -478,7 +475,7 @@ module _ (W : Words) (within : Within W) where
       (λ h. part-fails W within ValueUnquoted T alone (unquoted-none (ahead T) (next-at unquoted_value_test T c e ∙ (barred-each c h).0) (next-at after_value T c e ∙ (barred-each c h).1)))
       (λ h. if-step P (after_value c) _ _
       (λ g. part-over W within ValueUnquoted TagOpenBetween T alone r (omega arith) (unquoted-after (ahead T) (next-at unquoted_value_test T c e ∙ after-each (λ v. unquoted_value_test v ≡ false) c g refl refl refl refl refl) (next-at after_value T c e ∙ g) ∙ rest-between (ahead T) (next-at attribute_first_value T c e ∙ after-each (λ v. attribute_first_value v ≡ false) c g refl refl refl refl refl)))
-      (λ g. part-past W within ValueUnquoted ValueUnquoted T c alone r e (or-right (blank_value c) _ (or-left (whitespace_value c) _ g)) (unquoted-more b.code rest (at unquoted_value_test T c e ∙ unquoted-true c h g)))))
+      (λ g. part-past W within ValueUnquoted ValueUnquoted T c alone r e (or_parts (blank_value c) _ (or_parts (whitespace_value c) _ g).0).1 (unquoted-more b.code rest (at unquoted_value_test T c e ∙ unquoted-true c h g)))))
 
   -- The end.
 
@@ -541,7 +538,7 @@ module _ (W : Words) (within : Within W) where
       let b : Begins c (ahead T) = ahead-some T c e in
       let more : 1 ≤ length (ahead T) = some-codes T c e in
       Goes-on W 2 2 (text_of (quoted_rest m)) (text_of tag_rest) (Consume ∷ []) (with_marker 0 s) (with_marker 0 s) T (Next H.HtmlTextTagOpenAttributeValueQuotedAfter) (within.parts ValueQuotedAfter) alone refl more (omega arith)
-      (text-next (quoted_rest m) tag_rest T c e (ap (λ v. v == 10) (eqb-true c m h) ∙ or-right (blank_value m) _ r.quote) (quoted-close m b.code (rest_of (ahead T)) (at (λ v. v == m) T c e ∙ h)))
+      (text-next (quoted_rest m) tag_rest T c e (ap (λ v. v == 10) (eqb-true c m h) ∙ (or_parts (blank_value m) _ r.quote).1) (quoted-close m b.code (rest_of (ahead T)) (at (λ v. v == m) T c e ∙ h)))
       (quoted-closed T more r)
       (λ ok U x. x)
 

@@ -8,7 +8,7 @@ use Rattle.markdown_engine.specs.declared.event.Name.TheVariants as N
 use Rattle.markdown_engine.specs.declared.tokenizer.TokenizeState.{TokenizeState}
 use Rattle.markdown_engine.specs.declared.tokenizer.Tokenizer.{Tokenizer}
 use Rattle.markdown_engine.proofs.OpRules.{stack-applied}
-use Rattle.markdown_engine.proofs.OpsLemmas.{left-done, scratch-done, codes-done}
+use Rattle.markdown_engine.proofs.OpsLemmas.{left-done, scratch-done, codes-done, and-left}
 use Rattle.markdown_partial.specs.SpaceSteps as SpaceSteps
 use Rattle.markdown_construct.proofs.OpenLemmas.{second-open}
 use Rattle.markdown_construct.specs.Scratch.{AreOpen, with_size}
@@ -52,15 +52,11 @@ after-data InLine ns = refl
 after-data AtStart ns = refl
 after-data InBlank ns = refl
 
-and-first : (a b : Bool) → a && b ≡ true → a ≡ true
-and-first true b e = refl
-and-first false b e = cc
-
 broken-by : (ending blank : Bool) (m : Mode) (ns : List Name) (c : Code) (cs : List Code) → is_line_ending c ≡ ending → takes_blank m && is_blank c ≡ blank → ((n : Mode) → stacks (break_from n cs) (opened n ns) ≡ N.HtmlTextData ∷ ns) → stacks (break_from m (c ∷ cs)) (opened m ns) ≡ N.HtmlTextData ∷ ns
 broken-by true blank m ns c cs e h more =
     ap (λ os. stacks os (opened m ns)) (break-ending m c cs e) ∙ stacks-append (left_open m ++ ending_ops) (break_from AtStart cs) (opened m ns) ∙ ap (stacks (break_from AtStart cs)) (after-ending m ns) ∙ more AtStart
 broken-by false true m ns c cs e h more =
-    ap (λ os. stacks os (opened m ns)) (break-blank m c cs e h) ∙ stacks-append (to_blank m ++ Consume ∷ []) (break_from InBlank cs) (opened m ns) ∙ ap (stacks (break_from InBlank cs)) (after-blank m ns (and-first (takes_blank m) _ h)) ∙ more InBlank
+    ap (λ os. stacks os (opened m ns)) (break-blank m c cs e h) ∙ stacks-append (to_blank m ++ Consume ∷ []) (break_from InBlank cs) (opened m ns) ∙ ap (stacks (break_from InBlank cs)) (after-blank m ns (and-left (takes_blank m) _ h)) ∙ more InBlank
 broken-by false false m ns c cs e h more = ap (λ os. stacks os (opened m ns)) (break-data m c cs e h) ∙ after-data m ns
 
 broken-stack : (m : Mode) (ns : List Name) (cs : List Code) → stacks (break_from m cs) (opened m ns) ≡ N.HtmlTextData ∷ ns

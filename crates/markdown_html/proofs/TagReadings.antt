@@ -1,7 +1,7 @@
 -- What is still to be read of opening tags, from one code on.
 use Rattle.std.proofs.Common.{◌≡◌, ℕ, zero, suc, ◌==◌, Bool, true, false, ◌||◌, not, Option, Some, None, List, [], ◌∷◌, ◌++◌, length, refl, sym, ap, subst, ◌∙◌}
 use Rattle.std.specs.Prelude.{codes}
-use Rattle.std.proofs.lemmas.Bool.{eqb-true, or_from}
+use Rattle.std.proofs.lemmas.Bool.{eqb-true, or_from, or_parts}
 use Rattle.markdown_engine.specs.Codes.{Code}
 use Rattle.markdown_model.specs.CodeTests.{is_value, is_among, is_letter, is_alphanumeric, is_whitespace_code, next_is}
 use Rattle.markdown_model.specs.Grammar.{Reading, either, one, any_number, before, span, with_first, word, gives, repeated, repeatedly, optional, ◌then_◌}
@@ -11,24 +11,16 @@ use Rattle.markdown_model.proofs.Consuming.{Consumes, one_takes, some_takes, any
 use Rattle.markdown_model.proofs.ReadingLaws.{and_then, repeatedly-next}
 use Rattle.markdown_construct.specs.Readings.{after}
 use Rattle.markdown_construct.specs.Values.{among_values}
-use Rattle.markdown_construct.proofs.AfterLemmas.{then-after}
+use Rattle.markdown_construct.proofs.AfterLemmas.{then-after, after-more, after-none}
 use Rattle.markdown_html.specs.Rests.{is_attribute_first, is_attribute_code, tag_end, tag_rest, tag_next, tag_between, initializer, name_rest, value_rest, name_next, name_after, quoted_rest, is_unquoted_code, is_after_value, unquoted_rest}
 use Rattle.markdown_html.specs.Values.{whitespace_value}
 use Rattle.markdown_html.specs.HtmlText.{starts_no_value, quote_value}
 use Rattle.markdown_html.proofs.BreakLemmas.{Goes}
-use Rattle.markdown_html.proofs.CodeReadings.{after-first, after-nothing, after-twice, then-first, then-nothing, then-same, either-left, either-right, either-none, either-here, next-here, next-other, before-first, one-on, one-none, any-on, any-none, word-none, word-here, second_takes, next_takes, whitespace-other}
+use Rattle.markdown_html.proofs.CodeReadings.{after-twice, then-first, then-nothing, then-same, either-left, either-right, either-none, either-here, next-here, next-other, before-first, one-on, one-none, any-on, any-none, word-none, word-here, second_takes, next_takes, whitespace-other}
 use Rattle.markdown_html.proofs.KindReadings.{end-none, spaces-first, spaces-none}
 use Rattle.markdown_model.proofs.ReadingSteps.{span-takes, span-none, one-here, one-not, then-none, some-span, some-nothing, before-some, before-other}
 
 -- Tests.
-
-pub or-left : (a b : Bool) → a || b ≡ false → a ≡ false
-or-left true b e = cc
-or-left false b e = refl
-
-pub or-right : (a b : Bool) → a || b ≡ false → b ≡ false
-or-right true b e = cc
-or-right false b e = e
 
 abbrev pub Each : (ℕ → Type 0) → List ℕ → Type 0
 Each P [] = Unit {0}
@@ -46,8 +38,8 @@ among-each P v (n ∷ ns) h k = among-by P v n ns (v == n) refl h k.0 (λ e. amo
 -- no attribute's name goes on, so none starts
 not-first : (c : Code) → is_attribute_code c ≡ false → is_attribute_first c ≡ false
 not-first c e =
-    or_from (is_letter c) (is_among (codes ":_") c) (or-left (is_letter c) _ (or-left (is_alphanumeric c) _ e))
-    (or-right (c.value == 46) _ (or-right (c.value == 45) _ (or-right (is_alphanumeric c) _ e)))
+    or_from (is_letter c) (is_among (codes ":_") c) (or_parts (is_letter c) _ (or_parts (is_alphanumeric c) _ e).0).0
+    (or_parts (c.value == 46) _ (or_parts (c.value == 45) _ (or_parts (is_alphanumeric c) _ e).1).1).1
 
 not-first-next : (cs : List Code) → next_is is_attribute_code cs ≡ false → next_is is_attribute_first cs ≡ false
 not-first-next [] e = refl
@@ -67,7 +59,7 @@ pub tag-end-slash : (c : Code) (cs : List Code) → is_value 47 c ≡ true → t
 unfolding word
 tag-end-slash c cs e =
     then-after (optional (word "/")) (word ">") (c ∷ cs) (c ∷ []) cs (optional-read (word "/") (c ∷ cs) (c ∷ [], cs) (word-here 47 c cs e))
-    ∙ after-first c [] (word ">" cs) ∙ ap (with_first c) (after-nothing (word ">" cs))
+    ∙ after-more c [] (word ">" cs) ∙ ap (with_first c) (after-none (word ">" cs))
 
 pub tag-end-other : (cs : List Code) → next_is (is_value 47) cs ≡ false → tag_end cs ≡ word ">" cs
 unfolding word
@@ -257,7 +249,7 @@ value-by cs e r (Some v) b h k first =
     let found : initializer cs ≡ Some (front cs ++ e ∷ v.0, v.1) = spaced-is equals cs ∙ ap (λ x. after (front cs) (equals x)) b ∙ ap (after (front cs)) (one-on (is_value 61) value_here e r h ∙ ap (with_first e) k) in
     then-after (optional initializer) tag_rest cs (front cs ++ e ∷ v.0) v.1 (optional-read initializer cs (front cs ++ e ∷ v.0, v.1) found)
     ∙ after-twice (front cs) (e ∷ v.0) (tag_rest v.1)
-    ∙ ap (after (front cs)) (after-first e v.0 (tag_rest v.1) ∙ ap (with_first e) (sym (then-after value_here tag_rest r v.0 v.1 k)))
+    ∙ ap (after (front cs)) (after-more e v.0 (tag_rest v.1) ∙ ap (with_first e) (sym (then-after value_here tag_rest r v.0 v.1 k)))
 
 after-by : (cs ds : List Code) → behind cs ≡ ds → (b : Bool) → next_is (is_value 61) ds ≡ b → next_is is_attribute_first cs ≡ false → (optional initializer then_ tag_rest) cs ≡ after (front cs) (name_next ds)
 after-by cs ds e false h first =
@@ -352,15 +344,15 @@ value-none c cs h =
 plain-value : (c : Code) → is_whitespace_code c ≡ false → quote_value c.value ≡ false → starts_no_value c.value ≡ false → ends_value c ≡ false
 plain-value c e h k =
     or_from (is_whitespace_code c) _ e
-    (or_from (c.value == 34) _ (or-left (c.value == 34) _ h) (or_from (c.value == 39) _ (or-left (c.value == 39) _ (or-right (c.value == 34) _ h)) k))
+    (or_from (c.value == 34) _ (or_parts (c.value == 34) _ h).0 (or_from (c.value == 39) _ (or_parts (c.value == 39) _ (or_parts (c.value == 34) _ h).1).0 k))
 
 pub value-plain : (c : Code) (cs : List Code) → is_whitespace_code c ≡ false → quote_value c.value ≡ false → starts_no_value c.value ≡ false → value_rest (c ∷ cs) ≡ with_first c (unquoted_rest cs)
 unfolding attribute_value unquoted_value
 value-plain c cs e h k =
     value-here-is (c ∷ cs) e
     ∙ then-first attribute_value (before (any_number is_unquoted_code) (next_is is_after_value)) tag_rest c cs (
-    either-right (quoted_value 34) (either (quoted_value 39) unquoted_value) (c ∷ cs) (quote-none 34 (c ∷ cs) (or-left (c.value == 34) _ h))
-    ∙ either-right (quoted_value 39) unquoted_value (c ∷ cs) (quote-none 39 (c ∷ cs) (or-left (c.value == 39) _ (or-right (c.value == 34) _ h)))
+    either-right (quoted_value 34) (either (quoted_value 39) unquoted_value) (c ∷ cs) (quote-none 34 (c ∷ cs) (or_parts (c.value == 34) _ h).0)
+    ∙ either-right (quoted_value 39) unquoted_value (c ∷ cs) (quote-none 39 (c ∷ cs) (or_parts (c.value == 39) _ (or_parts (c.value == 34) _ h).1).0)
     ∙ before-first (one (λ d. not (ends_value d)) then_ any_number is_unquoted_code) (any_number is_unquoted_code) (next_is is_after_value) c cs
     (one-on (λ d. not (ends_value d)) (any_number is_unquoted_code) c cs (ap not (plain-value c e h k))))
 
@@ -376,7 +368,7 @@ quoted-end q =
 pub quoted-close : (q : ℕ) (c : Code) (cs : List Code) → is_value q c ≡ true → quoted_rest q (c ∷ cs) ≡ with_first c (tag_rest cs)
 quoted-close q c cs e =
     then-after (quoted_inside q) tag_rest (c ∷ cs) (c ∷ []) cs (then-nothing (any_number (λ d. not (is_value q d))) (one (is_value q)) (c ∷ cs) (any-none (λ d. not (is_value q d)) (c ∷ cs) (ap not e)) ∙ one-here (is_value q) c cs e)
-    ∙ after-first c [] (tag_rest cs) ∙ ap (with_first c) (after-nothing (tag_rest cs))
+    ∙ after-more c [] (tag_rest cs) ∙ ap (with_first c) (after-none (tag_rest cs))
 
 pub quoted-more : (q : ℕ) (c : Code) (cs : List Code) → is_value q c ≡ false → quoted_rest q (c ∷ cs) ≡ with_first c (quoted_rest q cs)
 quoted-more q c cs e =

@@ -1,6 +1,7 @@
 -- What follows a label, by the codes at hand.
 use Rattle.std.proofs.Common.{◌≡◌, ℕ, ◌==◌, Bool, true, false, ◌&&◌, not, if◌then◌else◌, Option, Some, None, List, [], ◌∷◌, ◌++◌, refl, sym, ap, ◌∙◌, append-nil}
 use Rattle.std.specs.Prelude.{is_some}
+use Rattle.markdown_string.proofs.DestinationReadings.{if-here, if-other}
 use Rattle.std.proofs.Math.Bool.{and-true, and-false}
 use Rattle.markdown_engine.specs.Codes.{Code}
 use Rattle.markdown_engine.specs.Tree.{Forest, empty, leaf, group, ◌⊕◌}
@@ -14,22 +15,21 @@ use Rattle.markdown_model.specs.LabelEnd.{is_footnote, full_reference, collapsed
 use Rattle.markdown_model.specs.Resource.{resource, label, reference_names}
 use Rattle.markdown_model.specs.Setting.{Setting, is_defined}
 use Rattle.markdown_model.proofs.ReadingSteps.{bind-some, bind-none, one-here, one-not, either-some, either-second, switched-on, switched-off}
-use Rattle.markdown_resource.proofs.NextCodes.{next-takes, next-leaves}
 use Rattle.markdown_label.specs.LabelEnd.{outcome, collapsed_front, collapsed_back, collapsed_open_plan}
 
 -- at a `(`, at a `[`, and elsewhere
 
 pub after-paren : (s : Setting) (defined : Bool) (cs : List Code) → next_is (is_value 40) cs ≡ true → after_label s defined cs ≡ either resource (shortcut defined) cs
 unfolding after_label
-after-paren s defined cs e = next-takes (is_value 40) _ _ cs e
+after-paren s defined cs e = if-here (is_value 40) _ _ cs e
 
 pub after-bracket : (s : Setting) (defined : Bool) (cs : List Code) → next_is (is_value 40) cs ≡ false → next_is (is_value 91) cs ≡ true → after_label s defined cs ≡ reference_after_label s defined cs
 unfolding after_label
-after-bracket s defined cs e h = next-leaves (is_value 40) _ _ cs e ∙ next-takes (is_value 91) _ _ cs h
+after-bracket s defined cs e h = if-other (is_value 40) _ _ cs e ∙ if-here (is_value 91) _ _ cs h
 
 pub after-other : (s : Setting) (defined : Bool) (cs : List Code) → next_is (is_value 40) cs ≡ false → next_is (is_value 91) cs ≡ false → after_label s defined cs ≡ shortcut defined cs
 unfolding after_label
-after-other s defined cs e h = next-leaves (is_value 40) _ _ cs e ∙ next-leaves (is_value 91) _ _ cs h
+after-other s defined cs e h = if-other (is_value 40) _ _ cs e ∙ if-other (is_value 91) _ _ cs h
 
 -- References.
 

@@ -1,5 +1,6 @@
 -- what each step of a run changes: a tree is passed, a start opens, an end closes the last start, or fails
 use Rattle.std.proofs.Common.{◌≡◌, ℕ, suc, ◌+◌, ◌-◌, [], ◌∷◌, ◌++◌, refl, sym, ap, ◌∙◌, arith, append_assoc, Option, Some, None}
+use Rattle.markdown_engine.proofs.EndsLemmas.{row-empty}
 use Rattle.std.proofs.lemmas.List.{append-nil}
 use Rattle.markdown_engine.specs.Codes.{Code}
 use Rattle.markdown_engine.specs.Past.{last_link}
@@ -12,11 +13,6 @@ pub row-assoc : (t u v : Forest) → (t ⊕ u) ⊕ v ≡ t ⊕ (u ⊕ v)
 row-assoc empty u v = refl
 row-assoc (leaf_then name link cs rest) u v = ap (leaf_then name link cs) (row-assoc rest u v)
 row-assoc (group_then name a b inside rest) u v = ap (group_then name a b inside) (row-assoc rest u v)
-
-pub row-nil : (t : Forest) → t ⊕ empty ≡ t
-row-nil empty = refl
-row-nil (leaf_then name link cs rest) = ap (leaf_then name link cs) (row-nil rest)
-row-nil (group_then name a b inside rest) = ap (group_then name a b inside) (row-nil rest)
 
 pub flat-behind : (b c : Brackets) → flat (behind b c) ≡ flat b ⊕ flat c
 flat-behind nothing c = refl
@@ -149,7 +145,7 @@ at-zero b = omega arith
 pub labelled-flat : (a : Brackets) (f : Front) (inside : Brackets) (back : Code) (tail : Tail) → flat (labelled a f inside back tail) ≡ flat (waiting a f inside) ⊕ (end_row back ⊕ tail_row tail)
 labelled-flat a f inside back tail =
     flat-behind a (label_then f inside back tail nothing)
-    ∙ ap (λ x. flat a ⊕ (start_row f ⊕ (flat inside ⊕ (end_row back ⊕ x)))) (row-nil (tail_row tail))
+    ∙ ap (λ x. flat a ⊕ (start_row f ⊕ (flat inside ⊕ (end_row back ⊕ x)))) (row-empty (tail_row tail))
     ∙ ap (λ x. flat a ⊕ x) (sym (row-assoc (start_row f) (flat inside) (end_row back ⊕ tail_row tail)))
     ∙ sym (row-assoc (flat a) (start_row f ⊕ flat inside) (end_row back ⊕ tail_row tail))
     ∙ ap (λ x. x ⊕ (end_row back ⊕ tail_row tail)) (sym (flat-behind a (unused_then f inside)))
@@ -182,7 +178,7 @@ labelled-failed a f inside back tail =
 -- where it fails, no event comes, and its start is the last of those whose ends failed
 pub failed-flat : (a : Brackets) (f : Front) (inside : Brackets) → flat (failed a f inside) ≡ flat (waiting a f inside)
 failed-flat a f inside =
-    flat-behind a (failed_then f inside nothing) ∙ ap (λ x. flat a ⊕ (start_row f ⊕ x)) (row-nil (flat inside)) ∙ sym (flat-behind a (unused_then f inside))
+    flat-behind a (failed_then f inside nothing) ∙ ap (λ x. flat a ⊕ (start_row f ⊕ x)) (row-empty (flat inside)) ∙ sym (flat-behind a (unused_then f inside))
 
 pub failed-labels : (a : Brackets) (f : Front) (inside : Brackets) → labels_at 0 (failed a f inside) ≡ labels_at 0 (waiting a f inside)
 failed-labels a f inside =
@@ -209,7 +205,7 @@ abbrev pub started : Brackets → Front → Brackets
 started b f = behind b (unused_then f nothing)
 
 pub started-flat : (b : Brackets) (f : Front) → flat (started b f) ≡ flat b ⊕ start_row f
-started-flat b f = flat-behind b (unused_then f nothing) ∙ ap (λ x. flat b ⊕ x) (row-nil (start_row f))
+started-flat b f = flat-behind b (unused_then f nothing) ∙ ap (λ x. flat b ⊕ x) (row-empty (start_row f))
 
 pub started-labels : (b : Brackets) (f : Front) → labels_at 0 (started b f) ≡ labels_at 0 b
 started-labels b f = labels-behind 0 b (unused_then f nothing) ∙ append-nil (labels_at 0 b)
@@ -224,7 +220,7 @@ abbrev pub passed : Brackets → Forest → Brackets
 passed b t = behind b (tree_then t nothing)
 
 pub passed-flat : (b : Brackets) (t : Forest) → flat (passed b t) ≡ flat b ⊕ t
-passed-flat b t = flat-behind b (tree_then t nothing) ∙ ap (λ x. flat b ⊕ x) (row-nil t)
+passed-flat b t = flat-behind b (tree_then t nothing) ∙ ap (λ x. flat b ⊕ x) (row-empty t)
 
 pub passed-labels : (b : Brackets) (t : Forest) → labels_at 0 (passed b t) ≡ labels_at 0 b
 passed-labels b t = labels-behind 0 b (tree_then t nothing) ∙ append-nil (labels_at 0 b)

@@ -19,7 +19,7 @@ count-join empty u = omega arith
 count-join (leaf_then name link cs rest) u = omega (arith, count-join rest u)
 count-join (group_then name a b inside rest) u = omega (arith, count-join rest u)
 
-last-join : (n : ℕ) (p : Option ℕ) (t u : Forest) → last_link n p (t ⊕ u) ≡ last_link (n + event_count t) (last_link n p t) u
+pub last-join : (n : ℕ) (p : Option ℕ) (t u : Forest) → last_link n p (t ⊕ u) ≡ last_link (n + event_count t) (last_link n p t) u
 last-join n p empty u = ap (λ i. last_link i p u) (omega arith)
 last-join n p (leaf_then name None cs rest) u = last-join (n + 2) p rest u ∙ ap (λ i. last_link i (last_link (n + 2) p rest) u) (omega arith)
 last-join n p (leaf_then name (Some c) cs rest) u = last-join (n + 2) (Some n) rest u ∙ ap (λ i. last_link i (last_link (n + 2) (Some n) rest) u) (omega arith)

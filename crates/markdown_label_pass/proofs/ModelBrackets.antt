@@ -1,5 +1,6 @@
 -- brackets and the elements of a content: the grouped tree of the one is the tree of labels of the other
 use Rattle.std.proofs.Common.{◌≡◌, List, [], ◌∷◌, ◌++◌, map, Option, Some, None, refl, sym, ap, subst, ◌∙◌, append_assoc}
+use Rattle.markdown_engine.proofs.EndsLemmas.{row-empty}
 use Rattle.std.proofs.lemmas.List.{map-append}
 use Rattle.markdown_engine.specs.Codes.{Code}
 use Rattle.markdown_engine.specs.Tree.{Forest, leaf, ◌⊕◌}
@@ -11,7 +12,7 @@ use Rattle.markdown_model.specs.LabelEnd.{Element, plain, starts, ends}
 use Rattle.markdown_model.specs.Passes.{Start, End, as_bracket, labelled, loose_start, loose_end, label_group, labels_of}
 use Rattle.markdown_label_pass.specs.Brackets.{Front, link_front, image_front, call_front, caret_front, kind_of, codes_of, Tail, tail_row, Brackets, nothing, tree_then, label_then, unused_then, failed_then, grouped}
 use Rattle.markdown_label_pass.specs.Joins.{behind}
-use Rattle.markdown_label_pass.proofs.BracketJoins.{row-assoc, row-nil}
+use Rattle.markdown_label_pass.proofs.BracketJoins.{row-assoc}
 use Rattle.markdown_label_pass.proofs.Nesting.{IsBalanced, HasPartners, balanced-nil, balanced-item, balanced-append, balanced-pair, nested-balanced, nested-closes, nested-opens, partners-nil, partners-append, partners-opens}
 
 -- the kind with which a start is read
@@ -58,7 +59,7 @@ pair-then f outcome back inner es a c g h =
     subst (λ (w : Word). IsBalanced Start End Forest labelled loose_start loose_end w (labelled o a e ++ c)) same both
 
 data-leaf : (f : Front) (u : Forest) → joined (loose_start (read_kind f, codes_of f)) ⊕ u ≡ leaf Name.Data (codes_of f) ⊕ u
-data-leaf f u = ap (λ x. x ⊕ u) (row-nil (leaf Name.Data (codes_of f)))
+data-leaf f u = ap (λ x. x ⊕ u) (row-empty (leaf Name.Data (codes_of f)))
 
 pub reads-as : {es : List Element} {b : Brackets} → AreClosed es b → ReadsAs es b
 reads-as closed_nil = record { found = []; balanced = balanced-nil Start End Forest labelled loose_start loose_end; is = refl }
@@ -89,7 +90,7 @@ reads-as (closed_failed {inner} {es} {inside} {rest} f back r s) =
           ∙ ap (λ x. (d ⊕ x) ⊕ joined m.found) (joined-append l.found (e ∷ []))
           ∙ row-assoc d (joined l.found ⊕ joined (e ∷ [])) (joined m.found)
           ∙ ap (λ x. d ⊕ x) (row-assoc (joined l.found) (joined (e ∷ [])) (joined m.found))
-          ∙ ap (λ x. d ⊕ (joined l.found ⊕ x)) (ap (λ x. x ⊕ joined m.found) (row-nil e))
+          ∙ ap (λ x. d ⊕ (joined l.found ⊕ x)) (ap (λ x. x ⊕ joined m.found) (row-empty e))
           ∙ ap (λ x. d ⊕ (x ⊕ (e ⊕ joined m.found))) l.is
           ∙ ap (λ x. d ⊕ (grouped inside ⊕ (e ⊕ x))) m.is;
     }

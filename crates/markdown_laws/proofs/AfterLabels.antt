@@ -1,5 +1,6 @@
 -- What may follow a label: where its reading holds.
 use Rattle.std.proofs.Common.{◌≡◌, ◌==◌, inl, inr, ◌&&◌, ◌||◌, Bool, true, false, Option, Some, None, List, [], ◌∷◌, ◌++◌, refl, sym, ap, subst, ◌∙◌}
+use Rattle.markdown_string.proofs.DestinationReadings.{if-here, if-other}
 use Rattle.std.proofs.lemmas.Bool.{eqb-true, and_from}
 use Rattle.markdown_engine.specs.Codes.{Code}
 use Rattle.markdown_engine.specs.Tree.{Forest, empty, ◌⊕◌, leaf, group, leaf_codes}
@@ -14,7 +15,7 @@ use Rattle.markdown_model.proofs.ReadingLaws.{read-codes}
 use Rattle.markdown_model.proofs.ReadingSteps.{bind-some, after-some, one-here, either-some, either-second, provided-true, switched-on, and-left, and-right}
 use Rattle.markdown_laws.specs.LinkParts.{IsLabel}
 use Rattle.markdown_laws.specs.Resources.{Nothing, Mark, IsResource, NoneHere, ALabel, IsFull, IsCollapsed, IsShortcut, FollowsLabel, WhatFollowsIsFound}
-use Rattle.markdown_laws.proofs.ReadBack.{Went, WentOne, bind-back, one-back, provided-back, gives-back, either-back, next-here, next-other}
+use Rattle.markdown_laws.proofs.ReadBack.{Went, WentOne, bind-back, one-back, provided-back, gives-back, either-back}
 use Rattle.markdown_laws.proofs.LinkTexts.{label-back, label-found, marked-found}
 use Rattle.markdown_laws.proofs.ResourceLaws.{resource-back, resource-found}
 
@@ -185,14 +186,14 @@ module _ (s : Setting) (defined : Bool) where
       at_paren h k (Some r) f = inl (resource-back cs tree rest (f ∙ sym (either-some resource (shortcut defined) cs r f) ∙ k))
 
       by_next : (x y : Bool) → next_is (is_value 40) cs ≡ x → next_is (is_value 91) cs ≡ y → Follows cs tree rest
-      by_next true y h k = at_paren h (sym (next-here (is_value 40) _ _ cs h) ∙ e) (resource cs) refl
-      by_next false true h k = at-bracket-back cs tree rest h (sym (next-other (is_value 40) _ _ cs h ∙ next-here (is_value 91) _ _ cs k) ∙ e)
-      by_next false false h k = shortcut-follows cs tree rest (no-resource cs h) k (sym (next-other (is_value 40) _ _ cs h ∙ next-other (is_value 91) _ _ cs k) ∙ e)
+      by_next true y h k = at_paren h (sym (if-here (is_value 40) _ _ cs h) ∙ e) (resource cs) refl
+      by_next false true h k = at-bracket-back cs tree rest h (sym (if-other (is_value 40) _ _ cs h ∙ if-here (is_value 91) _ _ cs k) ∙ e)
+      by_next false false h k = shortcut-follows cs tree rest (no-resource cs h) k (sym (if-other (is_value 40) _ _ cs h ∙ if-other (is_value 91) _ _ cs k) ∙ e)
 
   -- where a `[` follows
   at-bracket : (cs : List Code) → next_is (is_value 91) cs ≡ true → after_label s defined cs ≡ reference_after_label s defined cs
   unfolding after_label
-  at-bracket cs h = next-other (is_value 40) _ _ cs (other cs h) ∙ next-here (is_value 91) _ _ cs h
+  at-bracket cs h = if-other (is_value 40) _ _ cs (other cs h) ∙ if-here (is_value 91) _ _ cs h
     where
       other : (ds : List Code) → next_is (is_value 91) ds ≡ true → next_is (is_value 40) ds ≡ false
       other [] e = cc
@@ -217,7 +218,7 @@ module _ (s : Setting) (defined : Bool) where
       here = shortcut-found defined cs tree rest d i.is
 
       by_next : (x y : Bool) → next_is (is_value 40) cs ≡ x → next_is (is_value 91) cs ≡ y → after_label s defined cs ≡ Some (tree, rest)
-      by_next true y h k = next-here (is_value 40) _ _ cs h ∙ either-second resource (shortcut defined) cs (none-found resource IsResource cs (resource-back cs) i.no_resource) ∙ here
+      by_next true y h k = if-here (is_value 40) _ _ cs h ∙ either-second resource (shortcut defined) cs (none-found resource IsResource cs (resource-back cs) i.no_resource) ∙ here
       by_next false true h k =
           let b : (s.options.label_shortcut_before_bracket ≡ true) × NoneHere IsCollapsed cs × NoneHere ALabel cs = i.before_bracket k in
           let collapsed : collapsed_reference cs ≡ None = none-found collapsed_reference IsCollapsed cs (collapsed-back cs) b.1 in
@@ -227,12 +228,12 @@ module _ (s : Setting) (defined : Bool) where
           ∙ either-second (provided defined >> collapsed_reference) _ cs (switched-on collapsed_reference defined cs d ∙ collapsed)
           ∙ unless-found (either collapsed_reference (label reference_names)) _ cs (either-second collapsed_reference (label reference_names) cs collapsed ∙ labels)
           ∙ shortcut-found _ cs tree rest (and_from defined _ d b.0) i.is
-      by_next false false h k = next-other (is_value 40) _ _ cs h ∙ next-other (is_value 91) _ _ cs k ∙ here
+      by_next false false h k = if-other (is_value 40) _ _ cs h ∙ if-other (is_value 91) _ _ cs k ∙ here
 
   resource-follows : (cs : List Code) (tree : Forest) (rest : List Code) → IsResource cs tree rest → after_label s defined cs ≡ Some (tree, rest)
   unfolding after_label
   resource-follows cs tree rest r =
-      next-here (is_value 40) _ _ cs (ap (next_is (is_value 40)) r.is.is.stands ∙ r.is.is.is) ∙ either-some resource (shortcut defined) cs (tree, rest) (resource-found cs tree rest r)
+      if-here (is_value 40) _ _ cs (ap (next_is (is_value 40)) r.is.is.stands ∙ r.is.is.is) ∙ either-some resource (shortcut defined) cs (tree, rest) (resource-found cs tree rest r)
 
   follows-found : (cs : List Code) (tree : Forest) (rest : List Code) → Follows cs tree rest → after_label s defined cs ≡ Some (tree, rest)
   follows-found cs tree rest (inl r) = resource-follows cs tree rest r

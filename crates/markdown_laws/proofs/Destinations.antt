@@ -1,5 +1,6 @@
 -- Destinations: where their reading holds.
 use Rattle.std.proofs.Common.{◌≡◌, inl, inr, ℕ, not, Bool, true, false, Some, List, [], ◌∷◌, ◌++◌, refl, sym, ap, subst, ◌∙◌, arith}
+use Rattle.markdown_string.proofs.DestinationReadings.{if-here, if-other}
 use Rattle.std.proofs.lemmas.Bool.{not-true}
 use Rattle.markdown_engine.specs.Codes.{Code}
 use Rattle.markdown_engine.specs.Tree.{Forest, leaf_codes}
@@ -11,7 +12,7 @@ use Rattle.markdown_model.proofs.ReadingLaws.{read-codes}
 use Rattle.markdown_model.proofs.ReadingSteps.{bind-some, after-some, provided-true}
 use Rattle.markdown_laws.specs.LinkParts.{opening, closing, IsEnclosed, IsRaw, Raw, enclosed_tree, raw_tree_of, IsDestination, DestinationsAreFound}
 use Rattle.markdown_laws.proofs.EscapedTexts.{escapes-after}
-use Rattle.markdown_laws.proofs.ReadBack.{Went, bind-back, provided-back, gives-back, next-here, next-other}
+use Rattle.markdown_laws.proofs.ReadBack.{Went, bind-back, provided-back, gives-back}
 use Rattle.markdown_laws.proofs.LinkTexts.{enclosed-back, enclosed-found, marked-found}
 use Rattle.markdown_laws.proofs.RawDestinations.{bare_from, bare-from, EndsAt, RawFrom, raw-reads, raw-found}
 
@@ -69,11 +70,11 @@ module _ (max : ℕ) (names : DestinationNames) where
 
   at-bracket : (cs : List Code) → next_is (is_value 60) cs ≡ true → destination max names cs ≡ literal_destination names cs
   unfolding destination
-  at-bracket cs e = next-here (is_value 60) (literal_destination names) (raw_destination max names) cs e
+  at-bracket cs e = if-here (is_value 60) (literal_destination names) (raw_destination max names) cs e
 
   at-other : (cs : List Code) → next_is (is_value 60) cs ≡ false → destination max names cs ≡ raw_destination max names cs
   unfolding destination
-  at-other cs e = next-other (is_value 60) (literal_destination names) (raw_destination max names) cs e
+  at-other cs e = if-other (is_value 60) (literal_destination names) (raw_destination max names) cs e
 
   pub destination-back : (cs : List Code) (tree : Forest) (rest : List Code) → destination max names cs ≡ Some (tree, rest) → IsDestination max names cs tree rest
   destination-back cs tree rest e = by_next (next_is (is_value 60) cs) refl

@@ -5,10 +5,10 @@ use Rattle.markdown_engine.specs.Codes.{Code}
 use Rattle.markdown_engine.specs.Tree.{Forest, empty, leaf_then, group_then, leaf, ◌⊕◌, leaf_codes}
 use Rattle.markdown_model.specs.Email.{email_at, email_leaves, with_emails}
 use Rattle.markdown_model.specs.Passes.{data_onto, merged, mailed}
-use Rattle.markdown_model.proofs.Literals.{IsFound, found}
+use Rattle.markdown_model.proofs.Literals.{IsFound, found, reverse-first}
 use Rattle.markdown_model.proofs.MergeLaws.{data_onto-twice}
 use Rattle.markdown_laws.specs.Emails.{is_email, as_data, EmailsStandInData}
-use Rattle.markdown_laws.proofs.EmailLeaves.{IsEmailLeaf, AnswerIsEmail, answer-email, reverse-first}
+use Rattle.markdown_laws.proofs.EmailLeaves.{IsEmailLeaf, AnswerIsEmail, answer-email}
 
 -- codes as data before a merged row, where there are any
 abbrev onto : List Code → Forest → Forest

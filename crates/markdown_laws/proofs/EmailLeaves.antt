@@ -1,7 +1,6 @@
 -- The leaf of an email literal.
-use Rattle.std.proofs.Common.{◌≡◌, Bool, true, false, ◌&&◌, List, [], ◌∷◌, ◌++◌, reverse, refl, ap, ◌∙◌, append_assoc, Option, Some, None}
+use Rattle.std.proofs.Common.{◌≡◌, Bool, true, false, ◌&&◌, List, [], ◌∷◌, ◌++◌, reverse, refl, Option, Some, None}
 use Rattle.std.specs.Str.{byte}
-use Rattle.std.proofs.lemmas.List.{reverse-append}
 use Rattle.markdown_engine.specs.declared.event.Name.{Name}
 use Rattle.markdown_engine.specs.Codes.{Code}
 use Rattle.markdown_engine.specs.Tree.{Forest, empty, leaf_then, leaf}
@@ -53,6 +52,3 @@ answer-email before at after = by_test _
         AnswerIsEmail (elim b [ true ↦ Some (reverse protocol.2, leaf protocol.0 (reverse (local.0 ++ protocol.1) ++ at ∷ domain.0), domain.1) | false ↦ None ])
     by_test true = email-leaf _ (reverse ((span is_local before).0 ++ (email_protocol (span is_local before).1).1)) at _ (email-name (span is_local before).1)
     by_test false = tt
-
-pub reverse-first : (c : Code) (before cs : List Code) → reverse (c ∷ before) ++ cs ≡ reverse before ++ c ∷ cs
-reverse-first c before cs = ap (λ x. x ++ cs) (reverse-append (c ∷ []) before) ∙ append_assoc (reverse before) (c ∷ []) cs

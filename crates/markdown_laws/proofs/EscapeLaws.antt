@@ -1,5 +1,6 @@
 -- A text that is escaped, read as a string, is given back.
 use Rattle.std.proofs.Common.{◌≡◌, ℕ, Bool, true, false, ◌&&◌, ◌||◌, List, [], ◌∷◌, ◌++◌, length, reverse, if◌then◌else◌, refl, sym, ap, subst, ◌∙◌, zero-add, Option, Some, None, append_assoc, append-nil}
+use Rattle.markdown_laws.proofs.FilledLaws.{more-codes}
 use Rattle.std.proofs.lemmas.List.{reverse-reverse}
 use Rattle.markdown_engine.specs.declared.event.Name.{Name}
 use Rattle.markdown_engine.specs.Codes.{Code, codes_of, document_start, stop_of, place_of}
@@ -104,12 +105,8 @@ row-kept (escape_of slash c ∷ is) = ap (λ x. c ∷ x) (row-kept is)
 
 -- Merging.
 
-some-more : (cs ds : List Code) → is_empty cs ≡ false → is_empty (cs ++ ds) ≡ false
-some-more [] ds h = cc
-some-more (c ∷ cs) ds h = refl
-
 fine-onto : (cs : List Code) (f : Forest) → is_empty cs ≡ false → IsFine f → IsFine (data_onto cs f)
-fine-onto cs (leaf_then Name.Data None more rest) h k = (k.0, some-more cs more h, k.2)
+fine-onto cs (leaf_then Name.Data None more rest) h k = (k.0, more-codes cs more h, k.2)
 fine-onto cs rest h k = (refl, h, k)
 
 fine-merged : (f : Forest) → IsFine f → IsFine (merged f)

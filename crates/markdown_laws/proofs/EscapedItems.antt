@@ -1,6 +1,7 @@
 -- The codes of a text that is escaped: codes that mean themselves, and escapes.
 use Rattle.std.proofs.Common.{◌≡◌, ℕ, zero, suc, ◌+◌, ◌-◌, nat_lt, ◌==◌, Bool, true, false, ◌&&◌, ◌||◌, not, List, [], ◌∷◌, ◌++◌, length, take, drop, map, if◌then◌else◌, refl, sym, ap, subst, ◌∙◌, arith, inl, inr, append-nil}
 use Rattle.std.specs.Prelude.{slice_range}
+use Rattle.markdown_engine.proofs.SolidLemmas.{stop_of-append}
 use Rattle.std.proofs.Math.Bool.{and-false}
 use Rattle.std.specs.List.{list_any, list_all}
 use Rattle.std.proofs.lemmas.List.{drop-drop}
@@ -174,10 +175,6 @@ here-items b p is h k = by_test (b == tab_value)
     by_test : (t : Bool) → AreItems (selves (if t then codes_of_tab tab_value (tab_width p - 1) p else record { value = b; start = p; stop = next_column p (p.index + 1) 0 } ∷ []) ++ is)
     by_test true = tab-items tab_value (tab_width p - 1) p is (refl, refl, refl) k
     by_test false = (h, k)
-
-stop_of-append : (p : Point) (cs ds : List Code) → stop_of p (cs ++ ds) ≡ stop_of (stop_of p cs) ds
-stop_of-append p [] ds = refl
-stop_of-append p (c ∷ cs) ds = stop_of-append c.stop cs ds
 
 -- a byte that means itself, and the rest
 with-byte : (all : List ℕ) (before : ℕ) (p : Point) (b : ℕ) (rest text : List ℕ) → IsOrdinary b → b == carriage_return ≡ false → IsHere all p (b ∷ rest)

@@ -24,7 +24,7 @@ use Rattle.markdown_laws.proofs.TrimmingLaws.{emails-begin}
 
 -- Merging.
 
-more-codes : (cs ds : List Code) → is_empty cs ≡ false → is_empty (cs ++ ds) ≡ false
+pub more-codes : (cs ds : List Code) → is_empty cs ≡ false → is_empty (cs ++ ds) ≡ false
 more-codes [] ds h = cc
 more-codes (c ∷ cs) ds h = refl
 

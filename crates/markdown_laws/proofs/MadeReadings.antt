@@ -1,5 +1,6 @@
 -- What constructs make: each leaf has a code, no group stands around nothing, and none is a pair's.
 use Rattle.std.proofs.Common.{◌≡◌, ℕ, ◌+◌, ◌≤◌, Bool, true, false, ◌&&◌, ◌||◌, not, List, [], ◌∷◌, ◌++◌, length, refl, sym, ◌∙◌, ap, arith, Option, Some, None}
+use Rattle.markdown_model.proofs.LinkLaws.{yields_passed_if}
 use Rattle.std.proofs.Math.Bool.{and-true}
 use Rattle.std.proofs.lemmas.Bool.{not-true}
 use Rattle.markdown_engine.specs.declared.event.Name.{Name}
@@ -8,7 +9,7 @@ use Rattle.markdown_engine.specs.Codes.{Code, is_line_ending, is_blank}
 use Rattle.markdown_engine.specs.Tree.{Forest, empty, leaf_then, group_then, leaf, linked, group, ◌⊕◌, leaf_codes}
 use Rattle.markdown_util.specs.Reference.{Table}
 use Rattle.markdown_model.specs.CodeTests.{is_empty, next_is}
-use Rattle.markdown_model.specs.Grammar.{Reading, ◌>>◌, provided, one, some, span, optional_tree}
+use Rattle.markdown_model.specs.Grammar.{Reading, one, some, span, optional_tree}
 use Rattle.markdown_model.specs.Lines.{linked_leaf, line_leaf, line_leaves, lines_from, lines_of, lines}
 use Rattle.markdown_model.specs.Whitespace.{spacing, spaces_across, spaces_on_line}
 use Rattle.markdown_model.specs.Resource.{string_group, label, reference_names, title, title_between, title_names, literal_destination, raw_destination, destination, resource_names, spaced_title, destination_and_title, resource}
@@ -107,11 +108,11 @@ ruleset made_laws = (made-reference_string, made-title_string, made-destination_
 
 -- a group around something
 pub made-group : (name : Name) (f : Forest) → is_pair name ≡ false → is_nothing f ≡ false → made f ≡ true → made (group name f) ≡ true
-made-group name f h k l = (λ i. (is_label_text name || not (k i)) && (not (h i) && (l i && true))) ∙ or-true (is_label_text name)
+made-group name f h k l = (λ i. (is_label_text name || not (k i)) && (not (h i) && (l i && true))) ∙ or-true-and (is_label_text name)
   where
-    or-true : (a : Bool) → ((a || true) && true) ≡ true
-    or-true true = refl
-    or-true false = refl
+    or-true-and : (a : Bool) → ((a || true) && true) ≡ true
+    or-true-and true = refl
+    or-true-and false = refl
 
 pub front-some : (name : Name) (cs : List Code) (f : Forest) → is_empty cs ≡ false → is_nothing (leaf name cs ⊕ f) ≡ false
 front-some name [] f h = cc
@@ -158,11 +159,6 @@ one-gives p = gives-some (one p) (takes_one p) (one_takes p)
 
 pub some-gives : (p : Code → Bool) → Yields IsSome (some p)
 some-gives p = gives-some (some p) (takes_some p) (some_takes p)
-
-yields_provided : {A : Type 0} (P : A → Type 0) (test : Bool) (b : Reading A) → (test ≡ true → Yields P b) → Yields P (provided test >> b)
-unfolding provided ◌>>◌
-yields_provided P true b h = record { at = (h refl).at }
-yields_provided P false b h = record { at = λ cs. tt }
 
 makes_optional : (a : Reading Forest) → Makes a → Makes (optional_tree a)
 unfolding optional_tree
@@ -279,7 +275,7 @@ makes_literal_destination =
 makes_raw_destination : (max : ℕ) → Makes (raw_destination max resource_names)
 unfolding raw_destination
 makes_raw_destination max =
-    then_any _ _ _ λ text. yields_provided _ _ _ λ h. yields_gives _ _ (raw text (not-true (is_empty text) h))
+    then_any _ _ _ λ text. yields_passed_if _ _ _ λ h. yields_gives _ _ (raw text (not-true (is_empty text) h))
   where
     raw : (text : List Code) → is_empty text ≡ false → made (group Name.ResourceDestination (group Name.ResourceDestinationRaw (group Name.ResourceDestinationString (linked Name.Data text)))) ≡ true
     raw [] k = cc

@@ -2,11 +2,11 @@
 -- closes the pair that it belongs to, and runs of one marker are no neighbours.
 use Rattle.std.proofs.Common.{◌≡◌, ℕ, suc, ◌+◌, ◌-◌, ◌<◌, ◌≤◌, nat_lt, nat_le, ◌==◌, Bool, true, false, ◌&&◌, ◌||◌, List, [], ◌∷◌, ◌++◌, length, take, drop, reverse, map, sum_by, if◌then◌else◌, refl, sym, ap, subst, ◌∙◌, arith, append_assoc, append-nil}
 use Rattle.std.specs.List.{list_any, list_all, Contains}
-use Rattle.std.proofs.lemmas.Bool.{both_ways, and_parts, or_parts, eqb-true}
+use Rattle.std.proofs.lemmas.Bool.{both_ways, and_parts, eqb-true, eq-eqb}
 use Rattle.std.proofs.lemmas.Bool.Decides.{nat_tests}
 use Rattle.std.proofs.lemmas.List.{reverse-append, reverse-reverse, length-drop, length-take-le, take-append-drop}
 use Rattle.std.proofs.lemmas.List.Elements.{Contains-append_left, Contains-append_right}
-use Rattle.std.proofs.lemmas.List.Folds.{list_any-append, list_all-append}
+use Rattle.std.proofs.lemmas.List.Folds.{list_all-append}
 use Rattle.std.proofs.lemmas.List.Sums.{sum_by-append, sum_by-cons}
 use Rattle.markdown_engine.specs.declared.event.Name.{Name}
 use Rattle.markdown_engine.specs.Codes.{Code}
@@ -18,7 +18,7 @@ use Rattle.markdown_model.specs.Pairs.{Pair, run_at, remaining, taken_by, is_str
 use Rattle.markdown_model.specs.Groups.{Token, item, opens, closes, nest, onto, after_loose, joined, loose, pair_names, pair_group, closing_sizes, opening_sizes, cut_front, run_tokens, assembled, tokens_of, paired}
 use Rattle.markdown_model.specs.Passes.{is_nothing}
 use Rattle.markdown_model.proofs.Coverage.{codes-run_of}
-use Rattle.markdown_model.proofs.PairFacts.{pairs_are_sound}
+use Rattle.markdown_model.proofs.PairFacts.{pairs_are_sound, within_push}
 use Rattle.markdown_model.proofs.PairLaws.{some_pair_list}
 use Rattle.markdown_laws.specs.Filled.{IsFilled}
 use Rattle.markdown_laws.specs.PairGroups.{is_pair, is_sequence, pair_groups, EachPairHas, IsPart, AreOfPair}
@@ -239,23 +239,18 @@ abbrev AreOrdered : ℕ → List Pair → Type 0
 AreOrdered n [] = Unit {0}
 AreOrdered n (p ∷ ps) = (0 < p.size) × (p.opener < p.closer) × (p.closer < n) × AreLater p ps × AreOrdered n ps
 
-any-push : (earlier : List Pair) (q : Pair) (i : ℕ) → list_any (is_strictly_within i) (earlier ++ q ∷ []) ≡ false → (list_any (is_strictly_within i) earlier ≡ false) × (is_strictly_within i q ≡ false)
-any-push earlier q i h =
-    let parts = or_parts (list_any (is_strictly_within i) earlier) (is_strictly_within i q || false) (sym (list_any-append (is_strictly_within i) earlier (q ∷ [])) ∙ h) in
-    (parts.0, (or_parts (is_strictly_within i q) false parts.1).0)
-
 module _ (s : Setting) (runs : List Run) (end : ℕ) where
   later : (p : Pair) (earlier : List Pair) (last : ℕ) (ps : List Pair) → p.closer ≤ last → ((i : ℕ) → list_any (is_strictly_within i) earlier ≡ false → is_strictly_within i p ≡ false)
       → ArePairsFrom s runs end earlier last ps → AreLater p ps
   later p earlier last [] l among h = tt
   later p earlier last (q ∷ qs) l among h =
       let forward = h.0.forward in
-      (omega arith, among q.opener h.0.eligible.not_within, later p (earlier ++ q ∷ []) q.closer qs (omega arith) (λ i e. among i (any-push earlier q i e).0) h.1)
+      (omega arith, among q.opener h.0.eligible.not_within, later p (earlier ++ q ∷ []) q.closer qs (omega arith) (λ i e. among i (within_push earlier q i e).0) h.1)
 
   ordered : (earlier : List Pair) (last : ℕ) (ps : List Pair) → ArePairsFrom s runs end earlier last ps → AreOrdered (length runs) ps
   ordered earlier last [] h = tt
   ordered earlier last (p ∷ ps) h =
-      (size, h.0.eligible.in_order, h.0.eligible.in_container, later p (earlier ++ p ∷ []) p.closer ps (omega arith) (λ i e. (any-push earlier p i e).1) h.1, ordered (earlier ++ p ∷ []) p.closer ps h.1)
+      (size, h.0.eligible.in_order, h.0.eligible.in_container, later p (earlier ++ p ∷ []) p.closer ps (omega arith) (λ i e. (within_push earlier p i e).1) h.1, ordered (earlier ++ p ∷ []) p.closer ps h.1)
     where
       opener : 0 < remaining runs earlier p.opener
       opener = h.0.eligible.opener_left
@@ -467,10 +462,7 @@ module _ (s : Setting) (tree : Forest) (runs : List Run) (container : Contains (
   )
     where
       alike : marker_of c.0 == marker_of o ≡ true
-      alike = ap (λ x. x == marker_of o) (k.0.marker ∙ sym q.1 ∙ sym h.marker) ∙ itself (marker_of o)
-        where
-          itself : (n : ℕ) → (n == n) ≡ true
-          itself n = grind (arith, nat_tests)
+      alike = ap (λ x. x == marker_of o) (k.0.marker ∙ sym q.1 ∙ sym h.marker) ∙ eq-eqb (marker_of o) (marker_of o) refl
 
       by_test : (b : Bool) → is_nothing (joined inside) ≡ b → is_nothing (joined inside) ≡ false
       by_test true e = absurd (both_ways (marker_of c.0 == marker_of o) (next e) alike)

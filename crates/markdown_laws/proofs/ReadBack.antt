@@ -1,8 +1,7 @@
 -- What readings that hold have read, step by step.
 use Rattle.std.proofs.Common.{◌≡◌, ◌⊎◌, inl, inr, Bool, true, false, Option, Some, None, List, [], ◌∷◌, ap, refl, sym, ◌∙◌}
 use Rattle.markdown_engine.specs.Codes.{Code}
-use Rattle.markdown_model.specs.CodeTests.{next_is}
-use Rattle.markdown_model.specs.Grammar.{Reading, ◌>>=◌, ◌>>◌, gives, provided, either, before, if_next, one}
+use Rattle.markdown_model.specs.Grammar.{Reading, ◌>>=◌, ◌>>◌, gives, provided, either, before, one}
 use Rattle.markdown_construct.proofs.WholeReadings.{both-parts}
 
 -- a reading and what goes on from it
@@ -70,12 +69,3 @@ before-back {B} a p cs r e = by_answer (a cs) refl e
     by_answer : (o : Option (B × List Code)) → a cs ≡ o → elim o as (λ _. Option (B × List Code)) [ None ↦ None | Some x ↦ elim (p x.1) as (λ _. Option (B × List Code)) [ true ↦ Some x | false ↦ None ] ] ≡ Some r → (a cs ≡ Some r) × (p r.1 ≡ true)
     by_answer None f k = cc
     by_answer (Some x) f k = let t : (◌≡◌ {A = Option (B × List Code)} (Some x) (Some r)) × (p r.1 ≡ true) = by_test x (p x.1) refl k in (f ∙ t.0, t.1)
-
--- by the next code
-pub next-here : {B : Type 0} (p : Code → Bool) (a b : Reading B) (cs : List Code) → next_is p cs ≡ true → if_next p a b cs ≡ a cs
-unfolding if_next
-next-here {B} p a b cs e = ap (λ x. elim x as (λ _. Option (B × List Code)) [ true ↦ a cs | false ↦ b cs ]) e
-
-pub next-other : {B : Type 0} (p : Code → Bool) (a b : Reading B) (cs : List Code) → next_is p cs ≡ false → if_next p a b cs ≡ b cs
-unfolding if_next
-next-other {B} p a b cs e = ap (λ x. elim x as (λ _. Option (B × List Code)) [ true ↦ a cs | false ↦ b cs ]) e

@@ -1,5 +1,6 @@
 -- Resources: where their reading holds.
 use Rattle.std.proofs.Common.{◌≡◌, ◌==◌, ◌⊎◌, inl, inr, ◌+◌, ◌≤◌, ◌&&◌, ◌||◌, Bool, true, false, if◌then◌else◌, Some, None, List, [], ◌∷◌, ◌++◌, refl, sym, ap, subst, ◌∙◌, arith, codes}
+use Rattle.markdown_string.proofs.DestinationReadings.{if-here, if-other}
 use Rattle.std.proofs.lemmas.Bool.{eqb-true, or_parts}
 use Rattle.markdown_engine.specs.Codes.{Code}
 use Rattle.markdown_engine.specs.Tree.{Forest, empty, ◌⊕◌, leaf, group, leaf_codes}
@@ -13,7 +14,7 @@ use Rattle.markdown_model.proofs.ReadingLaws.{read-codes}
 use Rattle.markdown_model.proofs.ReadingSteps.{bind-some, bind-none, one-here, before-some, before-other, before-none, either-some, either-second}
 use Rattle.markdown_laws.specs.LinkParts.{IsTitle, IsRaw, Marked, closing, opening, IsDestination}
 use Rattle.markdown_laws.specs.Resources.{Nothing, EitherOf, InTurn, Mark, Spacing, SomeSpacing, AfterDestination, IsResource, ResourcesAreFound}
-use Rattle.markdown_laws.proofs.ReadBack.{Went, WentOne, bind-back, one-back, gives-back, either-back, before-back, next-here, next-other}
+use Rattle.markdown_laws.proofs.ReadBack.{Went, WentOne, bind-back, one-back, gives-back, either-back, before-back}
 use Rattle.markdown_laws.proofs.LinkTexts.{title-back, found-title, marked-found}
 use Rattle.markdown_laws.proofs.Destinations.{destination-back, destination-found}
 use Rattle.markdown_laws.proofs.Spacings.{IsPlain, spacing-back, optional-back, spacing-read, optional-found, spacing-found}
@@ -79,8 +80,8 @@ inside-back : (cs : List Code) (tree : Forest) (rest : List Code) → inside cs 
 inside-back cs tree rest e = by_next (next_is (is_value 41) cs) refl
   where
     by_next : (b : Bool) → next_is (is_value 41) cs ≡ b → Inside cs tree rest
-    by_next true h = let g : (tree ≡ empty) × (cs ≡ rest) = gives-back empty tree cs rest (sym (next-here (is_value 41) (gives empty) destination_and_title cs h) ∙ e) in inl (g.1, g.0)
-    by_next false h = inr (parts-back cs tree rest (sym (next-other (is_value 41) (gives empty) destination_and_title cs h) ∙ e))
+    by_next true h = let g : (tree ≡ empty) × (cs ≡ rest) = gives-back empty tree cs rest (sym (if-here (is_value 41) (gives empty) destination_and_title cs h) ∙ e) in inl (g.1, g.0)
+    by_next false h = inr (parts-back cs tree rest (sym (if-other (is_value 41) (gives empty) destination_and_title cs h) ∙ e))
 
 pub resource-back : (cs : List Code) (tree : Forest) (rest : List Code) → resource cs ≡ Some (tree, rest) → IsResource cs tree rest
 unfolding resource
@@ -189,8 +190,8 @@ parts-found cs tree rest t p b =
 
 inside-found : (cs : List Code) (tree : Forest) (rest : List Code) → Inside cs tree rest → IsPlain rest → next_is (is_value 41) rest ≡ true → begins_title rest ≡ false → inside cs ≡ Some (tree, rest)
 unfolding gives
-inside-found cs tree rest (inl h) p n b = next-here (is_value 41) (gives empty) destination_and_title cs (ap (next_is (is_value 41)) h.0 ∙ n) ∙ (λ i. Some (sym h.1 i, h.0 i))
-inside-found cs tree rest (inr t) p n b = next-other (is_value 41) (gives empty) destination_and_title cs (destination-begins cs t.first t.between t.is).other ∙ parts-found cs tree rest t p b
+inside-found cs tree rest (inl h) p n b = if-here (is_value 41) (gives empty) destination_and_title cs (ap (next_is (is_value 41)) h.0 ∙ n) ∙ (λ i. Some (sym h.1 i, h.0 i))
+inside-found cs tree rest (inr t) p n b = if-other (is_value 41) (gives empty) destination_and_title cs (destination-begins cs t.first t.between t.is).other ∙ parts-found cs tree rest t p b
 
 inside-plain : (cs : List Code) (tree : Forest) (rest : List Code) → Inside cs tree rest → IsPlain rest → IsPlain cs
 inside-plain cs tree rest (inl h) p = subst IsPlain (sym h.0) p

@@ -1,5 +1,6 @@
 -- The runs of a tree of labels: the codes of each are one marker, and no two runs of one marker are neighbours.
 use Rattle.std.proofs.Common.{◌≡◌, ℕ, ◌+◌, ◌≤◌, ◌==◌, Bool, true, false, ◌&&◌, ◌||◌, not, List, [], ◌∷◌, ◌++◌, length, drop, map, refl, sym, ap, subst, ◌∙◌, arith, append_assoc, append-nil, Option, Some, None, ◌⊎◌, inl, inr}
+use Rattle.markdown_emphasis.proofs.Good.{quiet-start_tree, quiet-label_end}
 use Rattle.std.specs.Str.{byte}
 use Rattle.std.specs.List.{list_any, list_all}
 use Rattle.std.proofs.lemmas.Bool.{and_parts, or_parts, both_ways, eqb-true}
@@ -23,7 +24,7 @@ use Rattle.markdown_model.proofs.LabelCodes.{element_codes, unused}
 use Rattle.markdown_model.proofs.LinkFree.{Passes, Yields, yields_bind, yields_gives, yields_either, yields_passed, then_any}
 use Rattle.markdown_model.proofs.Readings.{At}
 use Rattle.markdown_model.proofs.ReadingLaws.{span-all, span-stops}
-use Rattle.markdown_emphasis.proofs.Quiet.{is_mark, is_linked, marks, IsQuiet, Free, mark_laws, quiet_escape, quiet_hard_break_escape, quiet_reference, quiet_autolink, quiet_task_check, quiet_code, quiet_math, quiet_html, quiet_protocol, quiet_www, quiet_after_label}
+use Rattle.markdown_emphasis.proofs.Quiet.{is_mark, is_linked, marks, IsQuiet, Free, quiet_escape, quiet_hard_break_escape, quiet_reference, quiet_autolink, quiet_task_check, quiet_code, quiet_math, quiet_html, quiet_protocol, quiet_www, quiet_after_label}
 use Rattle.markdown_laws.proofs.MadeReadings.{IsSome}
 use Rattle.markdown_laws.proofs.MadeLabels.{AllGood, good-text}
 
@@ -350,18 +351,9 @@ module _ (s : Setting) (end : ℕ) where
 
 -- Groups of labels.
 
-quiet-start : (kind : LabelKind) (cs : List Code) → marks true (start_tree kind cs) ≡ false
-quiet-start LabelKind.Image cs = simp mark_laws
-quiet-start LabelKind.GfmFootnote cs = simp mark_laws
-quiet-start LabelKind.Link cs = simp mark_laws
-quiet-start LabelKind.GfmUndefinedFootnote cs = simp mark_laws
-
-quiet-end : (back : List Code) → marks true (group Name.LabelEnd (leaf Name.LabelMarker back)) ≡ false
-quiet-end back = simp mark_laws
-
 apart-label : (p : ℕ) (kind : LabelKind) (marker : List Code) (inside : Forest) (back : List Code) (tail : Forest) → HasApartRuns 0 inside → IsQuiet false tail → HasApartRuns p (label_group kind marker inside back tail)
 apart-label p kind marker inside back tail h q =
-    ((apart-join 0 (start_tree kind front) text (quiet-apart true 0 (start_tree kind front) (quiet-start kind front)) (row, quiet-apart true 0 (group Name.LabelEnd (leaf Name.LabelMarker back)) (quiet-end back)), quiet-apart false 0 tail q), tt)
+    ((apart-join 0 (start_tree kind front) text (quiet-apart true 0 (start_tree kind front) (quiet-start_tree kind front)) (row, quiet-apart true 0 (group Name.LabelEnd (leaf Name.LabelMarker back)) (quiet-label_end back)), quiet-apart false 0 tail q), tt)
   where
     front : List Code
     front = start_marker kind marker

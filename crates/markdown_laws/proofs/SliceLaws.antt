@@ -1,6 +1,7 @@
 -- What is lent for the leaves of a tree, by the codes that they cover.
 use Rattle.std.proofs.Common.{◌≡◌, ℕ, ◌+◌, ◌-◌, ◌≤◌, nat_lt, Bool, true, false, List, [], ◌∷◌, ◌++◌, take, drop, map, if◌then◌else◌, refl, sym, ap, subst, ◌∙◌, arith, append_assoc}
 use Rattle.std.specs.Prelude.{slice_range}
+use Rattle.markdown_engine.proofs.Spaces.{byte-order}
 use Rattle.std.proofs.lemmas.List.{drop-drop}
 use Rattle.std.proofs.Math.Seq.{take-add}
 use Rattle.std.proofs.lemmas.Bool.Decides.{nat_tests}
@@ -25,11 +26,8 @@ slice-more bytes a b c h k =
 pub slice-none : (bytes : List ℕ) (a : ℕ) → slice_range bytes a a ≡ []
 slice-none bytes a = let none : a - a ≡ 0 = omega arith in rw none refl
 
-from-numbers : (i v j w : ℕ) → is_before (j, w) (i, v) ≡ false → (if nat_lt 0 v then i + 1 else i) ≤ (if nat_lt 0 w then j + 1 else j)
-from-numbers i v j w h = grind (arith, nat_tests)
-
 from-later : (p q : Point) → is_before (place_of q) (place_of p) ≡ false → byte_from p ≤ byte_from q
-from-later p q h = from-numbers p.index p.vs q.index q.vs h
+from-later p q h = byte-order p.index p.vs q.index q.vs h
 
 -- the bytes of each code, joined
 abbrev pub codes_bytes : List ℕ → List Code → List ℕ

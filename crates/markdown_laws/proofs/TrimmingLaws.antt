@@ -16,12 +16,12 @@ use Rattle.markdown_model.specs.Email.{email_at, email_leaves, with_emails}
 use Rattle.markdown_model.specs.Inline.{raw_tree, finished_text, finished_string, text_tree, string_tree}
 use Rattle.markdown_model.specs.Laws.{begins_data, IsDataApart}
 use Rattle.markdown_model.proofs.Leaves.{span-append}
-use Rattle.markdown_model.proofs.Literals.{IsFound, found}
+use Rattle.markdown_model.proofs.Literals.{IsFound, found, reverse-first}
 use Rattle.markdown_model.proofs.MergedData.{merged_data_is_apart}
 use Rattle.markdown_model.proofs.ReadingLaws.{span-stops}
 use Rattle.markdown_laws.specs.Emails.{is_email}
 use Rattle.markdown_laws.specs.Trimming.{IsTight, DataIsTight}
-use Rattle.markdown_laws.proofs.EmailLeaves.{IsEmailLeaf, AnswerIsEmail, answer-email, reverse-first}
+use Rattle.markdown_laws.proofs.EmailLeaves.{IsEmailLeaf, AnswerIsEmail, answer-email}
 
 -- Last codes.
 

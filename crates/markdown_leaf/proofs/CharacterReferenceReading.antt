@@ -1,7 +1,8 @@
 -- What the definition of a character reference reads, by what stands there.
 use Rattle.std.proofs.Common.{◌≡◌, ℕ, suc, ◌+◌, ◌≤◌, ◌==◌, ◌&&◌, ◌||◌, nat_le, nat_lt, Bool, true, false, if◌then◌else◌, Option, Some, None, List, [], ◌∷◌, ◌++◌, length, refl, sym, ap, subst, ◌∙◌, arith, append_assoc}
-use Rattle.std.specs.Char.{is_ascii_alphanumeric, is_ascii_digit, is_ascii_hexdigit}
+use Rattle.std.specs.Char.{is_ascii_alphanumeric}
 use Rattle.std.specs.Prelude.{codes}
+use Rattle.markdown_util.proofs.WholeReference.{semicolon_stops}
 use Rattle.std.proofs.Math.Bool.{and-false}
 use Rattle.std.proofs.lemmas.Bool.{le-leb, eqb-true}
 use Rattle.markdown_engine.specs.Codes.{Code}
@@ -23,21 +24,12 @@ use Rattle.markdown_model.proofs.ReadingLaws.{span-agrees}
 
 -- Values.
 
-byte-cases : (a b : Bool) → (if a then is_ascii_alphanumeric 59 else (if b then is_ascii_digit 59 else is_ascii_hexdigit 59)) ≡ false
-byte-cases true b = refl
-byte-cases false true = refl
-byte-cases false false = refl
-
--- a `;` is not of a value
-semicolon-byte : (m : ℕ) → is_value_byte m 59 ≡ false
-semicolon-byte m = byte-cases (m == 38) (m == 35)
-
 between-size : (n max : ℕ) → nat_lt 0 n ≡ true → n ≤ max → is_between 1 max (n + 0) ≡ true
 between-size n max e h = grind arith
 
 pub value-close : (m n : ℕ) (c : Code) (cs : List Code) → (c.value == 59) ≡ true → nat_lt 0 n ≡ true → n ≤ value_size_max m → value_plan m n (c ∷ cs) ≡ Some closing
 value-close m n c cs e h l =
-    let other : is_value_code m c ≡ false = ap (is_value_byte m) (eqb-true c.value 59 e) ∙ semicolon-byte m in
+    let other : is_value_code m c ≡ false = ap (is_value_byte m) (eqb-true c.value 59 e) ∙ semicolon_stops m in
     ap (value_of m n) (span-none (is_value_code m) (c ∷ cs) other)
     ∙ if-true _ (Some closing) None (rw (e, between-size n (value_size_max m) h l) refl)
 

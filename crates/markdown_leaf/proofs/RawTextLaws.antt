@@ -36,10 +36,10 @@ use Rattle.markdown_construct.specs.Within.{Within}
 
 -- Tests.
 
-or-false : (a b : Bool) → a ≡ false → b ≡ false → not (a || b) ≡ true
-or-false false false e f = refl
-or-false true b e f = cc
-or-false false true e f = cc
+neither : (a b : Bool) → a ≡ false → b ≡ false → not (a || b) ≡ true
+neither false false e f = refl
+neither true b e f = cc
+neither false true e f = cc
 
 or-left : (a b : Bool) → (a || b) ≡ false → a ≡ false
 or-left false b e = refl
@@ -85,7 +85,7 @@ module _ (W : Words) (within : Within states W) where
       (between-run T more k)
       (λ ok U x. x))
       (λ g. Goes-kept W 2 1 p (data_plan m (names_in s) s.size) (Enter s.token_3 ∷ Consume ∷ []) (rested s) T (Next RawTextData) (within RawTextData) alone refl more (omega arith)
-      (ap p b.whole ∙ inside-data m (names_in s) s.size b.code (rest_of (ahead T)) (or-false _ _ (ap (λ v. v == 10) b.value ∙ h) (ap (λ v. v == m) b.value ∙ g)))
+      (ap p b.whole ∙ inside-data m (names_in s) s.size b.code (rest_of (ahead T)) (neither _ _ (ap (λ v. v == 10) b.value ∙ h) (ap (λ v. v == m) b.value ∙ g)))
       (between-data T more k)
       (λ ok U x. x))))
 

@@ -1,5 +1,6 @@
 -- the literal at an `@`, and the events of a data with its literals
 use Rattle.std.proofs.Common.{◌≡◌, ℕ, zero, suc, ◌<◌, ◌≤◌, ◌&&◌, not, Bool, true, false, if◌then◌else◌, Option, Some, None, List, [], ◌∷◌, ◌++◌, length, reverse, refl, sym, ap, subst, ◌∙◌, append_assoc, arith}
+use Rattle.markdown_partial.proofs.TrimLaws.{stop-over}
 use Rattle.std.specs.Option.{option_map}
 use Rattle.std.proofs.lemmas.List.{reverse-append, reverse-reverse, length-append}
 use Rattle.markdown_engine.specs.Codes.{Code, stop_of}
@@ -18,12 +19,12 @@ use Rattle.markdown_model.proofs.Leaves.{span-append}
 use Rattle.markdown_model.proofs.Literals.{domain_of_split, protocol_split}
 use Rattle.markdown_partial.specs.Trim.{between, IsStretch, leaf_events}
 use Rattle.markdown_partial.proofs.TrimWalks.{IsBegun, IsEnded, shorter, stretch-next}
-use Rattle.markdown_partial.proofs.TrimRows.{IsSplit, split, leaf-is}
+use Rattle.markdown_partial.proofs.TrimRows.{IsSplit, split, leaf-is, stretch-self}
 use Rattle.markdown_mail.specs.Scan.{scan_of, scan_at, domain_end, is_sign, literal_to, literal_here, literal_events, mail_events}
 use Rattle.markdown_mail.specs.declared.literal.Scan.{Scan}
 use Rattle.markdown_mail.specs.declared.literal.Literal.{Literal}
 use Rattle.markdown_mail.proofs.PlainRows.{IsPlain, plain-leaf, plain-row, plain-join, plain-leaves}
-use Rattle.markdown_mail.proofs.Stretches.{none-self, stretch-self, join, IsLonger, longer}
+use Rattle.markdown_mail.proofs.Stretches.{none-self, join, IsLonger, longer}
 
 -- At a code.
 
@@ -71,10 +72,6 @@ three : (bytes : List ℕ) (p e : Point) (a b c : List Code) → IsStretch bytes
 three bytes p e a b c s h =
     let one : IsSplit bytes p e a (b ++ c) = split bytes p e a (b ++ c) s h in
     record { one = one; two = split bytes (stop_of p a) e b c one.after one.back_codes }
-
-stop-over : (p : Point) (front : List Code) (c : Code) (cs : List Code) → stop_of p (front ++ c ∷ cs) ≡ stop_of c.stop cs
-stop-over p [] c cs = refl
-stop-over p (d ∷ front) c cs = stop-over d.stop front c cs
 
 literal-same : (bytes : List ℕ) (p e : Point) (name : Name) (a front : List Code) (c : Code) (domain rest : List Code) → IsStretch bytes p e → between bytes p e ≡ a ++ ((front ++ c ∷ domain) ++ rest)
     → IsSame bytes p e (a, leaf name (front ++ c ∷ domain), rest) (record { name = name; start = stop_of p a; end = stop_of c.stop domain })

@@ -1,7 +1,7 @@
 -- the events of a tree, with its email literals
 use Rattle.std.proofs.Common.{◌≡◌, ◌≢◌, ℕ, zero, suc, ◌+◌, ◌==◌, ◌&&◌, not, Bool, true, false, List, [], ◌∷◌, ◌++◌, length, drop, Option, Some, None, if◌then◌else◌, cond, refl, sym, ap, subst, ◌∙◌, arith, append_assoc, append-nil}
 use Rattle.std.proofs.lemmas.Bool.{and_left}
-use Rattle.std.proofs.Math.Bool.{and-false}
+use Rattle.std.proofs.Math.Bool.{and-false, and-true}
 use Rattle.std.specs.Option.{option_map}
 use Rattle.std.proofs.lemmas.Bool.Decides.{nat_tests}
 use Rattle.std.proofs.lemmas.List.{drop_all}
@@ -78,12 +78,7 @@ links-inside N.Link links = plus-one links ∙ sym (and-false (links == 0))
   where
     plus-one : (k : ℕ) → (k + 1 == 0) ≡ false
     plus-one k = grind (arith, nat_tests)
-
-links-inside _ links = and-true (links == 0)
-  where
-    and-true : (b : Bool) → b ≡ b && true
-    and-true true = refl
-    and-true false = refl
+links-inside _ links = sym (and-true (links == 0))
 
 links-closed : (n : Name) (links : ℕ) → links_behind (links_behind links Enter n) Exit n ≡ links
 links-closed N.Link links = omega arith

@@ -1,5 +1,5 @@
 -- the edits of the email pass, one by one
-use Rattle.std.proofs.Common.{◌≡◌, ℕ, zero, suc, ◌+◌, ◌<◌, ◌≤◌, ◌==◌, ◌&&◌, not, Bool, true, false, List, [], ◌∷◌, ◌++◌, length, drop, get_or, refl, sym, ap, subst, ◌∙◌, arith, append_assoc, append-nil, inl, inr, if◌then◌else◌}
+use Rattle.std.proofs.Common.{◌≡◌, ℕ, zero, suc, ◌+◌, ◌<◌, ◌≤◌, ◌==◌, ◌&&◌, Bool, true, false, List, [], ◌∷◌, ◌++◌, length, drop, get_or, refl, sym, ap, subst, ◌∙◌, arith, append_assoc, append-nil, inl, inr, if◌then◌else◌}
 use Rattle.std.proofs.lemmas.Bool.{cases_lt, cases_Bool, eq-eqb, ne_eqb, both_ways}
 use Rattle.std.proofs.lemmas.List.Elements.{All-nil, All-cons}
 use Rattle.std.specs.List.{All}
@@ -12,7 +12,7 @@ use Rattle.markdown_engine.proofs.EditFacts.{stays-where, goes-where}
 use Rattle.markdown_partial.specs.Merge.{is_enter, is_data, opens_data}
 use Rattle.markdown_partial.specs.Trim.{between}
 use Rattle.markdown_partial.specs.TrimEvents.{HasPlaces}
-use Rattle.markdown_partial.proofs.TrimMarks.{head-drop}
+use Rattle.markdown_partial.proofs.TrimMarks.{head-drop, no-front, linked-drop, yes-back, opens-unlinked}
 use Rattle.markdown_mail.specs.Mail.{links_after, may_mail, mail, mail_first, mails}
 use Rattle.markdown_mail.specs.Scan.{has_sign, mail_events}
 use Rattle.markdown_mail.proofs.PlainRows.{plain-emails, plain-unlinked}
@@ -68,14 +68,6 @@ none = []
 zero-plus : (n : ℕ) → n ≡ 0 + n
 zero-plus n = omega arith
 
-no-front : (b : Bool) (xs : List Event) → (if b && false then xs else []) ≡ []
-no-front true xs = refl
-no-front false xs = refl
-
-yes-back : (b : Bool) (xs : List Event) → (if b && true then xs else []) ≡ (if b then xs else [])
-yes-back true xs = refl
-yes-back false xs = refl
-
 never : (b : Bool) → (if b then none else none) ≡ none
 never true = refl
 never false = refl
@@ -86,18 +78,6 @@ zero_if b = if b then 0 else 0
 zero-if : (b : Bool) → zero_if b ≡ 0
 zero-if true = refl
 zero-if false = refl
-
-linked-drop : (k j : ℕ) (es : List Event) (i : ℕ) → i ≡ j + k → linked_at es i ≡ linked_at (drop j es) k
-linked-drop k zero es i e = let same : i ≡ k = omega (arith, e) in ap (linked_at es) same
-linked-drop k (suc j) [] i e = refl
-linked-drop k (suc j) (x ∷ es) zero e = absurd (omega (arith, e))
-linked-drop k (suc j) (x ∷ es) (suc i) e = linked-drop k j es i (omega (arith, e))
-
-opens-unlinked : (a b l : Bool) → a && (b && not l) ≡ true → l ≡ false
-opens-unlinked true true true h = cc
-opens-unlinked true true false h = refl
-opens-unlinked true false l h = cc
-opens-unlinked false b l h = cc
 
 opens-where : (a b c : Bool) → (a && b) && c ≡ true → b ≡ true
 opens-where true true c h = refl

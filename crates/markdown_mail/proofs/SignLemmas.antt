@@ -1,5 +1,6 @@
 -- whether an `@` stands in a stretch, code by code
 use Rattle.std.proofs.Common.{◌≡◌, ℕ, ◌≢◌, ◌==◌, ◌||◌, true, false, Some, List, sym, ap, ◌∙◌, arith}
+use Rattle.std.proofs.lemmas.Option.{same_Some}
 use Rattle.std.specs.List.{list_any}
 use Rattle.std.proofs.lemmas.Bool.Decides.{nat_tests}
 use Rattle.markdown_engine.specs.Walk.{next_point, value_from}
@@ -14,11 +15,8 @@ module _ (bytes : List ℕ) (p q : Point) where
   sign-first : (v : ℕ) (b : IsBegun bytes p q) → value_from bytes p ≡ Some v → has_sign bytes p q ≡ (v == 64) || has_sign bytes (stop_at bytes p) q
   unfolding has_sign
   sign-first v b e =
-      let same : (code_here bytes p).value ≡ v = value-same (code_here bytes p).value v (sym b.value ∙ e) in
+      let same : (code_here bytes p).value ≡ v = same_Some (code_here bytes p).value v (sym b.value ∙ e) in
       ap (list_any (is_value 64)) b.codes ∙ ap (λ w. (w == 64) || list_any (is_value 64) (between bytes (stop_at bytes p) q)) same
-    where
-      value-same : (x y : ℕ) → Some x ≡ Some y → x ≡ y
-      value-same x y h = cc
 
   pub sign-here : (v : ℕ) (b : IsBegun bytes p q) → value_from bytes p ≡ Some v → v ≡ 64 → has_sign bytes p q ≡ true
   sign-here v b e h = sign-first v b e ∙ ap (λ t. t || has_sign bytes (stop_at bytes p) q) (ap (λ w. w == 64) h)

@@ -1,5 +1,6 @@
 -- stretches one after the other
 use Rattle.std.proofs.Common.{◌≡◌, ℕ, ◌<◌, true, Some, List, [], ◌∷◌, ◌++◌, length, reverse, refl, sym, ap, subst, ◌∙◌, inl, inr}
+use Rattle.markdown_partial.proofs.TrimRows.{stretch-self}
 use Rattle.std.proofs.lemmas.List.{reverse-append}
 use Rattle.markdown_engine.specs.Codes.{Code, place_of}
 use Rattle.markdown_engine.specs.Walk.{IsPoint, next_point, value_from}
@@ -10,9 +11,6 @@ use Rattle.markdown_engine.proofs.Points.{IsNext, next}
 use Rattle.markdown_engine.proofs.Steps.{code_here, stop_at}
 use Rattle.markdown_partial.specs.Trim.{between, IsStretch}
 use Rattle.markdown_partial.proofs.TrimWalks.{IsBegun, stretch-cases, forward-as, backward, begun-of, ended-of}
-
-pub stretch-self : (bytes : List ℕ) (p : Point) → IsPoint bytes p → IsStretch bytes p p
-stretch-self bytes p h = record { from_place = h; to_place = h; forward = forward-as p p (before-self (place_of p)) }
 
 pub none-self : (bytes : List ℕ) (p : Point) → IsPoint bytes p → between bytes p p ≡ []
 none-self bytes p h = (ended-of bytes p p (stretch-self bytes p h) (before-self (place_of p))).none

@@ -130,12 +130,12 @@ codes-start_tree LabelKind.GfmFootnote cs = append-nil _ ∙ leaf_codes-row (lea
 codes-start_tree LabelKind.Link cs = append-nil _ ∙ codes-leaf Name.LabelMarker cs
 codes-start_tree LabelKind.GfmUndefinedFootnote cs = append-nil _ ∙ codes-leaf Name.LabelMarker cs
 
-nothing_after : (cs : List Code) → cs ++ drop (length cs) cs ≡ cs
+pub nothing_after : (cs : List Code) → cs ++ drop (length cs) cs ≡ cs
 nothing_after [] = refl
 nothing_after (c ∷ cs) = ap (λ x. c ∷ x) (nothing_after cs)
 
 -- a marker is its start and its caret
-whole_marker : (kind : LabelKind) (marker : List Code) → start_marker kind marker ++ drop (length (start_marker kind marker)) marker ≡ marker
+pub whole_marker : (kind : LabelKind) (marker : List Code) → start_marker kind marker ++ drop (length (start_marker kind marker)) marker ≡ marker
 whole_marker LabelKind.GfmUndefinedFootnote [] = refl
 whole_marker LabelKind.GfmUndefinedFootnote (c ∷ cs) = refl
 whole_marker LabelKind.Image marker = nothing_after marker

@@ -1,5 +1,6 @@
 -- An end closes the start before it between which and it the starts and ends are balanced.
 use Rattle.std.proofs.Common.{◌≡◌, ℕ, zero, suc, List, [], ◌∷◌, ◌++◌, reverse, refl, sym, ◌∙◌, ap, subst, arith, Some, None}
+use Rattle.std.proofs.lemmas.Option.{same_Some}
 use Rattle.std.proofs.lemmas.List.{append_assoc, append-nil, reverse-append, reverse-reverse}
 use Rattle.markdown_engine.specs.declared.tokenizer.LabelKind.{LabelKind}
 use Rattle.markdown_engine.specs.Codes.{Code}
@@ -9,12 +10,9 @@ use Rattle.markdown_model.specs.Laws.{unused_after, Closes, LabelsMatch}
 pub reverse-first : (e : Element) (es more : List Element) → reverse (e ∷ es) ++ more ≡ reverse es ++ e ∷ more
 reverse-first e es more = ap (λ x. x ++ more) (reverse-append (e ∷ []) es) ∙ append_assoc (reverse es) (e ∷ []) more
 
-same_number : (a b : ℕ) → Some a ≡ Some b → a ≡ b
-same_number a b h = cc
-
 -- the count before is known from the count after
 same_before : (a b x : ℕ) (es : List Element) → unused_after a es ≡ Some x → unused_after b es ≡ Some x → a ≡ b
-same_before a b x [] h k = same_number a x h ∙ sym (same_number b x k)
+same_before a b x [] h k = same_Some a x h ∙ sym (same_Some b x k)
 same_before a b x (plain tree ∷ es) h k = same_before a b x es h k
 same_before a b x (starts kind marker ∷ es) h k = let e = same_before (suc a) (suc b) x es h k in omega arith
 same_before zero b x (ends marker outcome ∷ es) h k = absurd (no h)

@@ -32,7 +32,7 @@ IsAllowed (u ∷ us) (ends marker (Some outcome)) = IsFree outcome.1 × (not (is
 
 -- Outcomes.
 
-yields_passed_if : {A : Type 0} (P : A → Type 0) (test : Bool) (b : Reading A) → (test ≡ true → Yields P b) → Yields P (provided test >> b)
+pub yields_passed_if : {A : Type 0} (P : A → Type 0) (test : Bool) (b : Reading A) → (test ≡ true → Yields P b) → Yields P (provided test >> b)
 unfolding provided ◌>>◌
 yields_passed_if P true b h = record { at = (h refl).at }
 yields_passed_if P false b h = record { at = λ cs. tt }

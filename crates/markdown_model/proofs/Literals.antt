@@ -125,7 +125,7 @@ found before at after = by_test (is_value 64 at && (not (is_empty local.0) && no
     by_test true = whole
     by_test false = tt
 
-reverse-first : (c : Code) (before cs : List Code) → reverse (c ∷ before) ++ cs ≡ reverse before ++ c ∷ cs
+pub reverse-first : (c : Code) (before cs : List Code) → reverse (c ∷ before) ++ cs ≡ reverse before ++ c ∷ cs
 reverse-first c before cs = ap (λ x. x ++ cs) (reverse-append (c ∷ []) before) ∙ append_assoc (reverse before) (c ∷ []) cs
 
 pub codes-email_leaves : (n : ℕ) (before cs : List Code) → leaf_codes (email_leaves n before cs) ≡ reverse before ++ cs

@@ -41,7 +41,7 @@ contains_first : (p : Pair) (ps : List Pair) (x : Pair) → Contains (p ∷ ps) 
 contains_first p ps x (zero, l, e) = inl e
 contains_first p ps x (suc k, l, e) = inr (k, omega arith, e)
 
-within_push : (earlier : List Pair) (p : Pair) (i : ℕ) → list_any (is_strictly_within i) (earlier ++ p ∷ []) ≡ false → (list_any (is_strictly_within i) earlier ≡ false) × (is_strictly_within i p ≡ false)
+pub within_push : (earlier : List Pair) (p : Pair) (i : ℕ) → list_any (is_strictly_within i) (earlier ++ p ∷ []) ≡ false → (list_any (is_strictly_within i) earlier ≡ false) × (is_strictly_within i p ≡ false)
 within_push earlier p i h =
     let parts = or_parts (list_any (is_strictly_within i) earlier) (is_strictly_within i p || false) (sym (list_any-append (is_strictly_within i) earlier (p ∷ [])) ∙ h) in
     (parts.0, (or_parts (is_strictly_within i p) false parts.1).0)

@@ -143,7 +143,7 @@ after_eol-law W within T alone r =
 
 -- At a line ending.
 
-linked-append : (xs : List Event) (a b : Event) → has_link a.link ≡ true → has_link b.link ≡ false → ends_linked (xs ++ a ∷ b ∷ []) ≡ true
+pub linked-append : (xs : List Event) (a b : Event) → has_link a.link ≡ true → has_link b.link ≡ false → ends_linked (xs ++ a ∷ b ∷ []) ≡ true
 linked-append [] a b h k = rw (h, k) refl
 linked-append (x ∷ []) a b h k = linked-append [] a b h k
 linked-append (x ∷ y ∷ []) a b h k = linked-append [] a b h k

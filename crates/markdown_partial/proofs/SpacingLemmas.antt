@@ -140,7 +140,7 @@ spacing-then link cs h =
     let some : is_empty (span is_blank cs).0 ≡ false = ap (λ xs. is_empty (span is_blank xs).0) first.whole ∙ ap (λ (s : List Code × List Code). is_empty s.0) (span-takes is_blank first.code _ first.passes) in
     spacing-is link cs ∙ then-rest (next_is is_line_ending (span is_blank cs).1) link (span is_blank cs).0 (span is_blank cs).1 some refl
 
-behind-empty : (o : Option (Forest × List Code)) → behind empty o ≡ o
+pub behind-empty : (o : Option (Forest × List Code)) → behind empty o ≡ o
 behind-empty None = refl
 behind-empty (Some r) = refl
 

@@ -89,7 +89,7 @@ ending-row bytes n previous row tail h e = before-row bytes false false n previo
 
 -- Part of a document.
 
-stop-over : (p : Point) (front : List Code) (c : Code) (cs : List Code) → stop_of p (front ++ c ∷ cs) ≡ stop_of c.stop cs
+pub stop-over : (p : Point) (front : List Code) (c : Code) (cs : List Code) → stop_of p (front ++ c ∷ cs) ≡ stop_of c.stop cs
 stop-over p [] c cs = refl
 stop-over p (d ∷ front) c cs = stop-over d.stop front c cs
 

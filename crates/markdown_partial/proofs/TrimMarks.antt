@@ -78,11 +78,11 @@ none = []
 zero-plus : (n : ℕ) → n ≡ 0 + n
 zero-plus n = omega arith
 
-no-front : (b : Bool) (xs : List Event) → (if b && false then xs else []) ≡ []
+pub no-front : (b : Bool) (xs : List Event) → (if b && false then xs else []) ≡ []
 no-front true xs = refl
 no-front false xs = refl
 
-yes-back : (b : Bool) (xs : List Event) → (if b && true then xs else []) ≡ (if b then xs else [])
+pub yes-back : (b : Bool) (xs : List Event) → (if b && true then xs else []) ≡ (if b then xs else [])
 yes-back true xs = refl
 yes-back false xs = refl
 
@@ -97,13 +97,13 @@ zero-if : (b : Bool) → zero_if b ≡ 0
 zero-if true = refl
 zero-if false = refl
 
-linked-drop : (k j : ℕ) (es : List Event) (i : ℕ) → i ≡ j + k → linked_at es i ≡ linked_at (drop j es) k
+pub linked-drop : (k j : ℕ) (es : List Event) (i : ℕ) → i ≡ j + k → linked_at es i ≡ linked_at (drop j es) k
 linked-drop k zero es i e = let same : i ≡ k = omega (arith, e) in ap (linked_at es) same
 linked-drop k (suc j) [] i e = refl
 linked-drop k (suc j) (x ∷ es) zero e = absurd (omega (arith, e))
 linked-drop k (suc j) (x ∷ es) (suc i) e = linked-drop k j es i (omega (arith, e))
 
-opens-unlinked : (a b l : Bool) → a && (b && not l) ≡ true → l ≡ false
+pub opens-unlinked : (a b l : Bool) → a && (b && not l) ≡ true → l ≡ false
 opens-unlinked true true true h = cc
 opens-unlinked true true false h = refl
 opens-unlinked true false l h = cc

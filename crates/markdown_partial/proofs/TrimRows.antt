@@ -34,7 +34,7 @@ pub record IsSplit (bytes : List ℕ) (p q : Point) (front back : List Code) : T
   pub front_codes : between bytes p (stop_of p front) ≡ front
   pub back_codes : between bytes (stop_of p front) q ≡ back
 
-stretch-self : (bytes : List ℕ) (p : Point) → IsPoint bytes p → IsStretch bytes p p
+pub stretch-self : (bytes : List ℕ) (p : Point) → IsPoint bytes p → IsStretch bytes p p
 stretch-self bytes p h = record { from_place = h; to_place = h; forward = forward-as p p (before-self (place_of p)) }
 
 pub split : (bytes : List ℕ) (p q : Point) (front back : List Code) → IsStretch bytes p q → between bytes p q ≡ front ++ back → IsSplit bytes p q front back

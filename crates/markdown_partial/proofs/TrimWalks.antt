@@ -1,6 +1,7 @@
 -- walks over the codes of a stretch
 use Rattle.std.proofs.Common.{◌≡◌, ℕ, suc, ◌+◌, ◌*◌, ◌<◌, ◌≤◌, ◌==◌, ◌&&◌, not, nat_le, Bool, true, false, List, [], ◌∷◌, length, Some, IsTrue, refl, sym, ap, subst, ◌∙◌, arith, ◌⊎◌, inl, inr, if◌then◌else◌, filter}
 use Rattle.std.specs.List.{list_all}
+use Rattle.std.proofs.Math.Bool.{and-false, and-true}
 use Rattle.std.proofs.lemmas.Bool.{cases_Bool, both_ways, not-true}
 use Rattle.std.proofs.lemmas.Bool.Decides.{nat_tests}
 use Rattle.markdown_engine.specs.Codes.{Code, codes_of, is_blank, is_code_before, is_at_or_after, place_of, stop_of, point_at}
@@ -188,18 +189,10 @@ all-next bytes p q r t b e f h =
 pub all-stop : (bytes : List ℕ) (p q : Point) (t : Bool) → IsBegun bytes p q → t ≡ at_real_space (value_from bytes p) p → t ≡ false → list_all is_real_space (between bytes p q) ≡ false
 all-stop bytes p q t b f h = all-first bytes p q t b f ∙ ap (λ x. x && list_all is_real_space (between bytes (stop_at bytes p) q)) h
 
-and-false : (b : Bool) → false ≡ b && false
-and-false true = refl
-and-false false = refl
-
-and-true : (b : Bool) → b ≡ b && true
-and-true true = refl
-and-true false = refl
-
 -- codes that are no break, since one of them is no space
 pub breaks-not : (cs : List Code) → list_all is_real_space cs ≡ false → false ≡ is_hard_break cs
-breaks-not cs h = and-false (nat_le 2 (length cs)) ∙ ap (λ b. nat_le 2 (length cs) && b) (sym h)
+breaks-not cs h = sym (and-false (nat_le 2 (length cs))) ∙ ap (λ b. nat_le 2 (length cs) && b) (sym h)
 
 -- codes that are one if they are enough, since all of them are spaces
 pub breaks-if : (cs : List Code) (n : ℕ) (t : Bool) → t ≡ nat_le 2 n → n ≡ length cs → list_all is_real_space cs ≡ true → t ≡ is_hard_break cs
-breaks-if cs n t e k h = e ∙ ap (nat_le 2) k ∙ and-true (nat_le 2 (length cs)) ∙ ap (λ b. nat_le 2 (length cs) && b) (sym h)
+breaks-if cs n t e k h = e ∙ ap (nat_le 2) k ∙ sym (and-true (nat_le 2 (length cs))) ∙ ap (λ b. nat_le 2 (length cs) && b) (sym h)

@@ -1,5 +1,5 @@
--- Readings and tests by the code at hand, and what the codes of a content are past some of them.
-use Rattle.std.proofs.Common.{◌≡◌, ℕ, ◌==◌, Bool, true, false, Some, None, List, [], ◌∷◌, refl, ap, ◌∙◌}
+-- Tests by the code at hand, and what the codes of a content are past some of them.
+use Rattle.std.proofs.Common.{◌≡◌, ℕ, ◌==◌, Bool, false, Some, None, List, [], ◌∷◌, refl, ap, ◌∙◌}
 use Rattle.markdown_engine.specs.Codes.{Code}
 use Rattle.markdown_engine.specs.Ops.{ahead, current_of}
 use Rattle.markdown_engine.specs.Past.{moved_by}
@@ -7,7 +7,6 @@ use Rattle.markdown_engine.specs.Place.{Place, moved}
 use Rattle.markdown_engine.specs.declared.tokenizer.Tokenizer.{Tokenizer}
 use Rattle.markdown_engine.proofs.OpRules.{Begins, ahead-none, ahead-some}
 use Rattle.markdown_model.specs.CodeTests.{is_value, next_is}
-use Rattle.markdown_model.specs.Grammar.{Reading, if_next}
 
 pub at-value : (T : Tokenizer) (c v : ℕ) (b : Bool) → current_of T ≡ Some c → (c == v) ≡ b → next_is (is_value v) (ahead T) ≡ b
 at-value T c v b e h =
@@ -16,14 +15,6 @@ at-value T c v b e h =
 
 pub at-none : (T : Tokenizer) (v : ℕ) → current_of T ≡ None → next_is (is_value v) (ahead T) ≡ false
 at-none T v e = ap (next_is (is_value v)) (ahead-none T e)
-
-pub next-takes : {A : Type 0} (p : Code → Bool) (a b : Reading A) (cs : List Code) → next_is p cs ≡ true → if_next p a b cs ≡ a cs
-unfolding if_next
-next-takes p a b cs e = rw (e, if_next) refl
-
-pub next-leaves : {A : Type 0} (p : Code → Bool) (a b : Reading A) (cs : List Code) → next_is p cs ≡ false → if_next p a b cs ≡ b cs
-unfolding if_next
-next-leaves p a b cs e = rw (e, if_next) refl
 
 -- the codes of a content stay the same past some of them
 pub same-codes : (cs : List Code) (p : Place) → (moved_by cs p).codes ≡ p.codes

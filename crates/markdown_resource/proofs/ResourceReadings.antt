@@ -1,5 +1,7 @@
 -- A resource, read part by part.
 use Rattle.std.proofs.Common.{ℕ, inl, inr, ◌≡◌, ◌==◌, Bool, true, false, ◌||◌, if◌then◌else◌, Option, Some, None, List, [], ◌∷◌, refl, sym, ap, ◌∙◌}
+use Rattle.markdown_string.proofs.DestinationReadings.{if-here, if-other}
+use Rattle.markdown_partial.proofs.SpacingLemmas.{behind-empty}
 use Rattle.std.proofs.lemmas.Bool.{eqb-true, or_cases}
 use Rattle.markdown_engine.specs.Codes.{Code}
 use Rattle.markdown_engine.specs.Past.{behind}
@@ -11,16 +13,11 @@ use Rattle.markdown_model.specs.Resource.{begins_title, destination, resource_na
 use Rattle.markdown_model.specs.Whitespace.{spacing}
 use Rattle.markdown_model.proofs.ReadingSteps.{bind-some, bind-none, one-here, one-not, before-some, before-other, before-none, either-some, either-second}
 use Rattle.markdown_resource.specs.Resource.{closes, or_without, and_then, after_title, between, after_destination_of, after_destination, opened, inside}
-use Rattle.markdown_resource.proofs.NextCodes.{next-takes, next-leaves}
 
 pub row-assoc : (t u v : Forest) → (t ⊕ u) ⊕ v ≡ t ⊕ (u ⊕ v)
 row-assoc empty u v = refl
 row-assoc (leaf_then n l cs rest) u v = ap (leaf_then n l cs) (row-assoc rest u v)
 row-assoc (group_then n a b inside rest) u v = ap (group_then n a b inside) (row-assoc rest u v)
-
-pub behind-none : (o : Option (Forest × List Code)) → behind empty o ≡ o
-behind-none None = refl
-behind-none (Some r) = refl
 
 behind-row : (t u : Forest) (o : Option (Forest × List Code)) → behind (t ⊕ u) o ≡ behind t (behind u o)
 behind-row t u None = refl
@@ -101,7 +98,7 @@ with-title cs sp r1 e h (Some (t, r2)) n = by-space (spacing None r2) refl
     by-space None g =
         ap closed (either-some spaced_title _ cs _ (spaced-some cs sp r1 t r2 empty r2 e h n (optional-none (spacing None) r2 g)))
         ∙ behind-three sp t empty r2
-        ∙ ap (λ x. behind sp (behind t x)) (behind-none (closes r2) ∙ sym (ap (λ x. or_without x closes r2) g))
+        ∙ ap (λ x. behind sp (behind t x)) (behind-empty (closes r2) ∙ sym (ap (λ x. or_without x closes r2) g))
     by-space (Some b) g =
         ap closed (either-some spaced_title _ cs _ (spaced-some cs sp r1 t r2 b.0 b.1 e h n (optional-some (spacing None) r2 b g)))
         ∙ behind-three sp t b.0 b.1
@@ -109,7 +106,7 @@ with-title cs sp r1 e h (Some (t, r2)) n = by-space (spacing None r2) refl
 
 after-closed : (cs : List Code) (o : Option (Forest × List Code)) → spacing None cs ≡ o → closed (after-part cs) ≡ after_destination_of o cs
 unfolding after-part closed
-after-closed cs None e = ap closed (either-second spaced_title _ cs (spaced-none cs e) ∙ optional-none (spacing None) cs e) ∙ behind-none (closes cs)
+after-closed cs None e = ap closed (either-second spaced_title _ cs (spaced-none cs e) ∙ optional-none (spacing None) cs e) ∙ behind-empty (closes cs)
 after-closed cs (Some (sp, r1)) e =
     elim (begins_title r1) as (λ b. begins_title r1 ≡ b → closed (after-part cs) ≡ behind sp (between r1)) [
       | true ↦ λ h. with-title cs sp r1 e h (title title_names r1) refl ∙ ap (behind sp) (sym (between-title r1 true h))
@@ -134,8 +131,8 @@ opened-closed : (cs : List Code) → closed (if_next (is_value 41) (gives empty)
 unfolding closed gives
 opened-closed cs =
     elim (next_is (is_value 41) cs) as (λ b. next_is (is_value 41) cs ≡ b → closed (if_next (is_value 41) (gives empty) destination_and_title cs) ≡ (if b then closes cs else and_then (destination 32 resource_names cs) after_destination)) [
-      | true ↦ λ h. ap closed (next-takes (is_value 41) (gives empty) destination_and_title cs h) ∙ behind-none (closes cs)
-      | false ↦ λ h. ap closed (next-leaves (is_value 41) (gives empty) destination_and_title cs h) ∙ part-by cs (destination 32 resource_names cs) refl
+      | true ↦ λ h. ap closed (if-here (is_value 41) (gives empty) destination_and_title cs h) ∙ behind-empty (closes cs)
+      | false ↦ λ h. ap closed (if-other (is_value 41) (gives empty) destination_and_title cs h) ∙ part-by cs (destination 32 resource_names cs) refl
     ] refl
 
 -- The whole.
@@ -162,7 +159,7 @@ pub resource-by : (c : Code) (cs : List Code) (o : Option (Forest × List Code))
 unfolding resource
 resource-by c cs None h e =
     bind-some (one (is_value 40)) _ (c ∷ cs) (c ∷ []) cs _ (one-here (is_value 40) c cs h)
-    (bind-some (optional_tree (spacing None)) _ cs empty cs _ (optional-none (spacing None) cs e) (inside-whole c empty cs ∙ ap (grouped c) (behind-none (opened cs))))
+    (bind-some (optional_tree (spacing None)) _ cs empty cs _ (optional-none (spacing None) cs e) (inside-whole c empty cs ∙ ap (grouped c) (behind-empty (opened cs))))
 resource-by c cs (Some (sp, r)) h e =
     bind-some (one (is_value 40)) _ (c ∷ cs) (c ∷ []) cs _ (one-here (is_value 40) c cs h)
     (bind-some (optional_tree (spacing None)) _ cs sp r _ (optional-some (spacing None) cs (sp, r) e) (inside-whole c sp r))

@@ -1,5 +1,6 @@
 -- The law of the start of a resource: the group around its row.
 use Rattle.std.proofs.Common.{◌≡◌, ◌+◌, ◌==◌, Bool, true, false, if◌then◌else◌, Option, Some, None, List, [], ◌∷◌, ◌++◌, length, refl, sym, ap, subst, ◌∙◌, arith, append-nil}
+use Rattle.markdown_engine.proofs.Points.{stop-more}
 use Rattle.markdown_engine.specs.Codes.{Code, stop_of}
 use Rattle.markdown_engine.specs.Grown.{Grown, Fails}
 use Rattle.markdown_engine.specs.Lists.{rest_of}
@@ -95,15 +96,11 @@ exit-last p empty b = refl
 exit-last p (leaf_then n l cs rest) b = exit-last (stop_of p cs) rest b
 exit-last p (group_then n a e i rest) b = exit-last e rest b
 
-stop-last : (p : Point) (cs : List Code) (b : Code) → stop_of p (cs ++ b ∷ []) ≡ b.stop
-stop-last p [] b = refl
-stop-last p (c ∷ cs) b = stop-last c.stop cs b
-
 same-exit : (p q : Point) (t : Forest) → EndsIn t → exit_after p t ≡ stop_of q (leaf_codes t)
 same-exit p q t k =
     ap (exit_after p) k.is
     ∙ exit-last p k.front k.code
-    ∙ sym (ap (λ x. stop_of q (leaf_codes x)) k.is ∙ ap (stop_of q) (leaf_codes-row k.front (leaf_then N.ResourceMarker None (k.code ∷ []) empty)) ∙ stop-last q (leaf_codes k.front) k.code)
+    ∙ sym (ap (λ x. stop_of q (leaf_codes x)) k.is ∙ ap (stop_of q) (leaf_codes-row k.front (leaf_then N.ResourceMarker None (k.code ∷ []) empty)) ∙ stop-more q (leaf_codes k.front) k.code)
 
 -- the whole group is passed
 group-made : (x : Code) (t : Forest) (rest : List Code) (T : Tokenizer) → EndsIn t → ahead T ≡ (x ∷ leaf_codes t) ++ rest → applied (Exit N.Resource) (past None (leaf_then N.ResourceMarker None (x ∷ []) t) (applied (Enter N.Resource) T)) ≡ past None (group N.Resource (leaf N.ResourceMarker (x ∷ []) ⊕ t)) T

@@ -2,6 +2,7 @@
 use Rattle.std.proofs.Common.{◌≡◌, ℕ, Bool, true, false, ◌&&◌, ◌||◌, ◌==◌, if◌then◌else◌, Option, Some, None, List, [], ◌∷◌, refl, sym, ap, subst, ◌∙◌}
 use Rattle.std.proofs.lemmas.Bool.{eqb-true, or_cases, or_parts}
 use Rattle.std.proofs.Common.{inl, inr}
+use Rattle.markdown_engine.proofs.Chain.{tail_same}
 use Rattle.std.proofs.Math.Bool.{and-false, and-true}
 use Rattle.markdown_engine.specs.Codes.{Code, is_blank, is_line_ending}
 use Rattle.markdown_engine.specs.Past.{behind}
@@ -180,9 +181,6 @@ other-value n m c cs ds d other e same k = differ (sym (ap (λ v. v == m) (eqb-t
     differ : false ≡ true → ⊥
     differ x = cc
 
-same-tail : (c d : Code) (cs ds : List Code) → c ∷ cs ≡ d ∷ ds → cs ≡ ds
-same-tail c d cs ds e = cc
-
 title-rest : (c : Code) (cs : List Code) → is_value 40 c ≡ true → closes_resource false cs ≡ false → Rests Unclosed (title title_names (c ∷ cs))
 unfolding title title_between
 title-rest c cs e h =
@@ -190,7 +188,7 @@ title-rest c cs e h =
     (rests-bind (λ _. ⊥) Unclosed (one (is_value 34)) _ (c ∷ cs) (rests-one (λ _. ⊥) (is_value 34) (c ∷ cs) (λ d ds same k. other-value 40 34 c cs ds d refl e same k)) λ x r k. absurd k)
     (rests-either Unclosed _ _ (c ∷ cs)
     (rests-bind (λ _. ⊥) Unclosed (one (is_value 39)) _ (c ∷ cs) (rests-one (λ _. ⊥) (is_value 39) (c ∷ cs) (λ d ds same k. other-value 40 39 c cs ds d refl e same k)) λ x r k. absurd k)
-    (rests-bind (λ r. closes_resource false r ≡ false) Unclosed (one (is_value 40)) _ (c ∷ cs) (rests-one (λ r. closes_resource false r ≡ false) (is_value 40) (c ∷ cs) (λ d ds same k. subst (λ r. closes_resource false r ≡ false) (same-tail c d cs ds same) h)) λ front r k.
+    (rests-bind (λ r. closes_resource false r ≡ false) Unclosed (one (is_value 40)) _ (c ∷ cs) (rests-one (λ r. closes_resource false r ≡ false) (is_value 40) (c ∷ cs) (λ d ds same k. subst (λ r. closes_resource false r ≡ false) (tail_same c d cs ds same) h)) λ front r k.
     rests-bind NoEnd Unclosed (up_to (is_value 41) takes (λ c. false)) _ r (whole-rest r k) λ inside r k.
     rests-bind Unclosed Unclosed (one (is_value 41)) _ r (rests-one Unclosed (is_value 41) r (λ d ds same t. no-end-closed d ds t (subst NoEnd same k))) λ back r k. rests-passed Unclosed _ _ r (rests-gives Unclosed _ r k)))
 

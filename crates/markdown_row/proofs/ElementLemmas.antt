@@ -1,6 +1,7 @@
 -- From one element of a content to the next.
 use Rattle.std.proofs.Common.{◌≡◌, ◌≢◌, ℕ, ◌+◌, ◌<◌, ◌≤◌, Bool, true, false, not, ◌&&◌, ◌||◌, List, [], ◌∷◌, ◌++◌, length, slice_get, Option, None, Some, refl, sym, ap, subst, ◌∙◌, arith, length-append, append_assoc, add-one, append-nil}
 use Rattle.std.specs.Prelude.{map}
+use Rattle.markdown_row.proofs.RowRests.{kinds-row}
 use Rattle.std.proofs.lemmas.Bool.{not-true}
 use Rattle.std.specs.List.{list_any}
 use Rattle.markdown_engine.specs.Codes.{Code, is_line_ending, document_start, stop_of}
@@ -32,7 +33,6 @@ use Rattle.markdown_model.proofs.Leaves.{span-append}
 use Rattle.markdown_row.specs.Elements.{StandsAfter, Elements, Advances, AllElements, Finishes}
 use Rattle.markdown_row.specs.Row.{Row, row_end, row_then, loses, tree_onto, joined_rows, past_tree, past_row, row_codes, kinds_of, split_row, row_of_elements, element_onto, HasElementCodes, HaveCodes, IsRowAt}
 use Rattle.markdown_row.specs.Trees.{makes_data, HasLines, HasOuterRuns, IsPart, IsRunless, IsRunLeaf, IsSingle, IsNode}
-use Rattle.markdown_row.proofs.KindLemmas.{kinds-row}
 use Rattle.markdown_row.proofs.NodeLemmas.{quiet-lines-of, quiet-node-unlinked}
 use Rattle.markdown_row.proofs.RowJoins.{HasLines-row, past-joined, codes-joined, split-joined, onto-joined, row-joined}
 use Rattle.markdown_row.proofs.TreePasts.{past_tree-without, past_tree-empty, past_tree-with, ahead-registered, quiet-no-run, quiet-outer, runless-no-run, runless-outer}

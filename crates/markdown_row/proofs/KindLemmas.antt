@@ -14,7 +14,7 @@ use Rattle.markdown_label.specs.Fields.{bars, marked, barred_by, with_kind, trie
 use Rattle.markdown_label.specs.LabelEnd.{end_made, made, lost_by, lost_starts}
 use Rattle.markdown_label.proofs.LabelEndLemmas.{scratch-before}
 use Rattle.markdown_model.specs.LabelEnd.{is_image}
-use Rattle.markdown_row.specs.Row.{Mark, begins, makes, loses, Row, row_end, row_then, past_tree, past_mark, past_row, kinds_of, kinds_past, kinds_after}
+use Rattle.markdown_row.specs.Row.{kinds_of}
 
 abbrev pub kinds_in : List Kept.LabelStart → List LabelKind
 kinds_in ls = map (λ (l : Kept.LabelStart). l.kind) ls
@@ -48,7 +48,7 @@ kinds-made back kind tail T = ap (λ (s : TokenizeState). kinds_in s.label_start
 
 -- one that fails
 
-rest-lost : (ls : List Kept.LabelStart) → rest_of (lost_starts ls) ≡ rest_of ls
+pub rest-lost : (ls : List Kept.LabelStart) → rest_of (lost_starts ls) ≡ rest_of ls
 rest-lost [] = refl
 rest-lost (l ∷ ls) = by_test (bars l)
   where
@@ -59,18 +59,3 @@ rest-lost (l ∷ ls) = by_test (bars l)
 kinds-lost : (ls : List Kept.LabelStart) (s : TokenizeState) → s.label_starts ≡ ls → kinds_in (lost_by ls s).label_starts ≡ rest_of (kinds_in ls)
 kinds-lost [] s e = ap kinds_in e
 kinds-lost (l ∷ ls) s e = ap kinds_in (rest-lost (l ∷ ls))
-
-pub kinds-mark : (mark : Mark) (T : Tokenizer) → kinds_of (past_mark mark T) ≡ kinds_past mark (kinds_of T)
-unfolding past_mark past scratched
-kinds-mark (begins kind marker) T = ap (λ (s : TokenizeState). kinds_in s.label_starts) (scratch-before R.Label _)
-kinds-mark (makes back kind tail) T = kinds-made back kind tail T
-kinds-mark loses T = kinds-lost T.tokenize_state.label_starts T.tokenize_state refl
-
-pub kinds-tree : (t : Forest) (T : Tokenizer) → kinds_of (past_tree t T) ≡ kinds_of T
-unfolding past_tree past
-kinds-tree t T = refl
-
-pub kinds-row : (r : Row) (T : Tokenizer) → kinds_of (past_row r T) ≡ kinds_after r (kinds_of T)
-kinds-row (row_end t) T = kinds-tree t T
-kinds-row (row_then t mark rest) T =
-    kinds-row rest (past_mark mark (past_tree t T)) ∙ ap (kinds_after rest) (kinds-mark mark (past_tree t T) ∙ ap (kinds_past mark) (kinds-tree t T))

@@ -1,5 +1,6 @@
 -- Past the start of a label, past an end that makes one, and past one that makes none, with the data behind it.
 use Rattle.std.proofs.Common.{◌≡◌, ◌≢◌, ℕ, ◌+◌, ◌-◌, ◌<◌, ◌≤◌, Bool, true, false, if◌then◌else◌, List, [], ◌∷◌, ◌++◌, length, slice_get, Option, None, Some, refl, sym, ap, subst, ◌∙◌, arith, length-append, append_assoc, append-nil}
+use Rattle.markdown_row.proofs.KindLemmas.{rest-lost}
 use Rattle.markdown_engine.specs.Codes.{Code, is_line_ending, document_start, stop_of}
 use Rattle.markdown_engine.specs.Lists.{rest_of}
 use Rattle.markdown_engine.specs.Ops.{ahead, scratched}
@@ -18,8 +19,8 @@ use Rattle.markdown_engine.specs.declared.tokenizer.Tokenizer.{Tokenizer}
 use Rattle.markdown_engine.proofs.PlaceLemmas.{moved_by-append}
 use Rattle.markdown_model.proofs.Leaves.{codes-leaf}
 use Rattle.markdown_cut.specs.CutData.{HasCodes}
-use Rattle.markdown_label.specs.Fields.{bars, barred_by, begun, with_kind, labelled, tried}
-use Rattle.markdown_label.specs.LabelEnd.{point_or, place_at, end_made, end_tree, made, lost_by, lost_starts, Ends}
+use Rattle.markdown_label.specs.Fields.{barred_by, begun, with_kind, labelled}
+use Rattle.markdown_label.specs.LabelEnd.{point_or, place_at, end_made, end_tree, made, lost_by, Ends}
 use Rattle.markdown_label.specs.Starts.{StandFor, KeepsStarts}
 use Rattle.markdown_label.proofs.LabelEndLemmas.{cursor-before, events-before, scratch-before}
 use Rattle.markdown_label.proofs.StartStack.{starts-start, starts-made, starts-lost}
@@ -228,14 +229,6 @@ end-advances choice T U k is finds =
     (λ earlier previous stands. finds earlier previous stands ∙ ap (λ xs. Some (ends k.back (Some (k.kind, k.tail)), xs)) (sym k.after))
 
 -- Ends that make none, with the data behind them.
-
-rest-lost : (ls : List Kept.LabelStart) → rest_of (lost_starts ls) ≡ rest_of ls
-rest-lost [] = refl
-rest-lost (l ∷ ls) = by_test (bars l)
-  where
-    by_test : (b : Bool) → rest_of (if b then l ∷ ls else tried (l ∷ ls)) ≡ ls
-    by_test true = refl
-    by_test false = refl
 
 lost-fields : (ls : List Kept.LabelStart) (s : TokenizeState) → s.label_starts ≡ ls → (lost_by ls s).label_starts ≡ rest_of ls
 lost-fields [] s e = e

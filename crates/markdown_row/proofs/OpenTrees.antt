@@ -1,12 +1,12 @@
 -- The grouped tree of a row, read from the left: the tree so far, and behind each start that waits the tree behind it.
 use Rattle.std.proofs.Common.{◌≡◌, List, [], ◌∷◌, refl, sym, ap, subst, ◌∙◌}
+use Rattle.markdown_engine.proofs.EndsLemmas.{row-empty}
 use Rattle.markdown_engine.specs.Codes.{Code}
 use Rattle.markdown_engine.specs.Tree.{Forest, empty, leaf, ◌⊕◌}
 use Rattle.markdown_engine.specs.declared.event.Name.TheVariants as N
 use Rattle.markdown_engine.specs.declared.tokenizer.LabelKind.{LabelKind}
 use Rattle.markdown_model.specs.Passes.{label_group}
 use Rattle.markdown_label_pass.specs.Brackets.{Front, kind_of, codes_of, tail_row, Brackets, nothing, tree_then, label_then, unused_then, failed_then, grouped}
-use Rattle.markdown_label_pass.proofs.BracketJoins.{row-nil}
 use Rattle.markdown_label_pass.proofs.ModelBrackets.{grouped-behind}
 use Rattle.markdown_row.specs.Row.{Mark, begins, makes, loses, Row, row_end, row_then, kinds_past, IsMade, IsMarkAt, IsRowAt}
 use Rattle.markdown_row.specs.Opened.{Opened, none_waits, waits, assembled, put, put_tree, made_front, tail_of, marked_with, opened_by, brackets_of}
@@ -102,20 +102,20 @@ tree-marked (makes back kind tail) o at =
     let same : label_group (kind_of g) (codes_of g) x (m.code ∷ []) (tail_row (tail_of tail)) ≡ label_group kind (codes_of m.start) x back tail =
     λ i. label_group (sym m.is_kind i) (m.codes i) x (sym m.one i) (sym m.is_tail i) in
     ap tree_of m.closes
-    ∙ tree-put (label_then g m.inside m.code (tail_of tail) nothing) (label_group kind (codes_of m.start) x back tail) m.before (row-nil _ ∙ same)
+    ∙ tree-put (label_then g m.inside m.code (tail_of tail) nothing) (label_group kind (codes_of m.start) x back tail) m.before (row-empty _ ∙ same)
     ∙ ap (λ p. made_row back kind tail (tree_of p)) (sym m.waiting)
 tree-marked loses (none_waits b) at = refl
-tree-marked loses (waits o f inside) at = tree-put (failed_then f inside nothing) (leaf N.Data (codes_of f) ⊕ grouped inside) o (ap (λ x. leaf N.Data (codes_of f) ⊕ x) (row-nil (grouped inside)))
+tree-marked loses (waits o f inside) at = tree-put (failed_then f inside nothing) (leaf N.Data (codes_of f) ⊕ grouped inside) o (ap (λ x. leaf N.Data (codes_of f) ⊕ x) (row-empty (grouped inside)))
 
 pub tree-opened : (row : Row) (o : Opened) → AreMarksAt (kinds_in o) row → tree_of (opened_by row o) ≡ filled row (tree_of o)
-tree-opened (row_end t) o at = tree-put (tree_then t nothing) t o (row-nil t)
+tree-opened (row_end t) o at = tree-put (tree_then t nothing) t o (row-empty t)
 tree-opened (row_then t mark rest) o at =
     let p : Opened = put_tree t o in
     let same : kinds_in p ≡ kinds_in o = kinds-put (tree_then t nothing) o in
     let here : IsMarkAt (kinds_in p) mark = subst (λ ks. IsMarkAt ks mark) (sym same) at.0 in
     let next : kinds_in (marked_with mark p) ≡ kinds_past mark (kinds_in o) = kinds-marked mark p here ∙ ap (kinds_past mark) same in
     tree-opened rest (marked_with mark p) (subst (λ ks. AreMarksAt ks rest) (sym next) at.1)
-    ∙ ap (filled rest) (tree-marked mark p here ∙ ap (marked_row mark) (tree-put (tree_then t nothing) t o (row-nil t)))
+    ∙ ap (filled rest) (tree-marked mark p here ∙ ap (marked_row mark) (tree-put (tree_then t nothing) t o (row-empty t)))
 
 -- from a run's start on
 abbrev pub filled_from_start : Row → Open
@@ -126,4 +126,4 @@ grouped-filled row at = whole-tree (opened_by row (none_waits nothing)) ∙ ap w
 
 -- a row without marks
 pub grouped-end : (t : Forest) → grouped (brackets_of (row_end t)) ≡ t
-grouped-end t = row-nil t
+grouped-end t = row-empty t

@@ -1,12 +1,13 @@
 -- The tree of labels of the elements of a content is the grouped tree of a row that is cut as they are.
 use Rattle.std.proofs.Common.{◌≡◌, Some, None, List, [], ◌∷◌, map, refl, sym, ap, subst, ◌∙◌}
+use Rattle.markdown_engine.proofs.EndsLemmas.{row-empty}
 use Rattle.markdown_engine.specs.Codes.{Code}
 use Rattle.markdown_engine.specs.Tree.{Forest, empty, leaf, ◌⊕◌}
 use Rattle.markdown_engine.specs.declared.event.Name.TheVariants as N
 use Rattle.markdown_engine.specs.declared.tokenizer.LabelKind.{LabelKind}
 use Rattle.markdown_cut.specs.CutData.{split}
 use Rattle.markdown_label_pass.specs.Brackets.{grouped}
-use Rattle.markdown_label_pass.proofs.BracketJoins.{row-assoc, row-nil}
+use Rattle.markdown_label_pass.proofs.BracketJoins.{row-assoc}
 use Rattle.markdown_label_pass.proofs.ModelBrackets.{joined-append}
 use Rattle.markdown_model.specs.Groups.{Bracketed, item, opens, closes, onto, nest, after_loose, joined}
 use Rattle.markdown_model.specs.LabelEnd.{Element, plain, starts, ends}
@@ -23,8 +24,8 @@ whole-put t (outside u) = refl
 whole-put t (within o m x) = ap (λ y. whole o ⊕ y) (sym (row-assoc (leaf N.Data m) x t)) ∙ sym (row-assoc (whole o) (leaf N.Data m ⊕ x) t)
 
 put-empty : (o : Open) → put_row empty o ≡ o
-put-empty (outside u) = ap outside (row-nil u)
-put-empty (within o m x) = ap (within o m) (row-nil x)
+put-empty (outside u) = ap outside (row-empty u)
+put-empty (within o m x) = ap (within o m) (row-empty x)
 
 put-put : (t u : Forest) (o : Open) → put_row u (put_row t o) ≡ put_row (t ⊕ u) o
 put-put t u (outside v) = ap outside (row-assoc v t u)
@@ -66,8 +67,8 @@ joins [] = []
 joins (c ∷ more) = (c.0, joined c.1) ∷ joins more
 
 wrapped-is : (s : Start) (inside : List Forest) (end : End) → wrapped s.1 (joined inside) end ≡ joined (labelled s inside end)
-wrapped-is s inside (back, None) = ap (λ x. leaf N.Data s.1 ⊕ x) (ap (λ y. joined inside ⊕ y) (sym (row-nil (leaf N.Data back))) ∙ sym (joined-append inside (loose_end (back, None))))
-wrapped-is s inside (back, Some outcome) = sym (row-nil (label_group outcome.0 s.1 (joined inside) back outcome.1))
+wrapped-is s inside (back, None) = ap (λ x. leaf N.Data s.1 ⊕ x) (ap (λ y. joined inside ⊕ y) (sym (row-empty (leaf N.Data back))) ∙ sym (joined-append inside (loose_end (back, None))))
+wrapped-is s inside (back, Some outcome) = sym (row-empty (label_group outcome.0 s.1 (joined inside) back outcome.1))
 
 opened-is : (s : Start) (inside : List Forest) (more : List (End × List Forest))
     → opened s.1 (joined inside) (joins more) ≡ (joined (onto labelled loose_start loose_end s inside more).0, joins (onto labelled loose_start loose_end s inside more).1)
@@ -104,7 +105,7 @@ closed (outside u) x more = u ⊕ (x ⊕ finish more)
 closed (within o m y) x more = let r = opened m (y ⊕ x) more in closed o r.0 r.1
 
 closed-end : (o : Open) (x : Forest) → closed o x [] ≡ whole o ⊕ x
-closed-end (outside u) x = ap (λ y. u ⊕ y) (row-nil x)
+closed-end (outside u) x = ap (λ y. u ⊕ y) (row-empty x)
 closed-end (within o m y) x = closed-end o (leaf N.Data m ⊕ (y ⊕ x)) ∙ ap (λ z. whole o ⊕ z) (sym (row-assoc (leaf N.Data m) y x)) ∙ sym (row-assoc (whole o) (leaf N.Data m ⊕ y) x)
 
 closed-put : (t : Forest) (o : Open) (x : Forest) (more : List (End × Forest)) → closed o (t ⊕ x) more ≡ closed (put_row t o) x more
@@ -114,14 +115,14 @@ closed-put t (within o m y) x more = ap (λ z. (let r = opened m z more in close
 closed-made : (m : List Code) (o : Open) (y : Forest) (back : List Code) (outcome : LabelKind × Forest) (x : Forest) (more : List (End × Forest))
     → closed (within o m y) empty (((back, Some outcome), x) ∷ more) ≡ closed (made_row back outcome.0 outcome.1 (within o m y)) x more
 closed-made m o y back outcome x more =
-    ap (λ z. closed o (label_group outcome.0 m z back outcome.1 ⊕ x) more) (row-nil y) ∙ closed-put (label_group outcome.0 m y back outcome.1) o x more
+    ap (λ z. closed o (label_group outcome.0 m z back outcome.1 ⊕ x) more) (row-empty y) ∙ closed-put (label_group outcome.0 m y back outcome.1) o x more
 
 closed-lost : (o : Open) (back : List Code) (x : Forest) (more : List (End × Forest)) → closed o empty (((back, None), x) ∷ more) ≡ closed (put_row (leaf N.Data back) (lost_row o)) x more
 closed-lost (outside u) back x more = sym (row-assoc u (leaf N.Data back) (x ⊕ finish more))
 closed-lost (within o m y) back x more =
     let d : Forest = leaf N.Data m in
     let e : Forest = leaf N.Data back in
-    ap (λ z. closed o ((d ⊕ (z ⊕ e)) ⊕ x) more) (row-nil y)
+    ap (λ z. closed o ((d ⊕ (z ⊕ e)) ⊕ x) more) (row-empty y)
     ∙ ap (λ z. closed o (z ⊕ x) more) (sym (row-assoc d y e))
     ∙ closed-put ((d ⊕ y) ⊕ e) o x more
     ∙ ap (λ p. closed p x more) (sym (put-put (d ⊕ y) e o))

@@ -1,9 +1,11 @@
 -- What a row leaves of the fields of a tokenizer: its place is behind the row's codes, and of the scratch fields only the lists of labels change.
 use Rattle.std.proofs.Common.{◌≡◌, ℕ, List, [], ◌∷◌, ◌++◌, refl, sym, ap, subst, ◌∙◌, append-nil}
+use Rattle.markdown_row.proofs.RowRests.{kinds-mark, kinds-tree}
+use Rattle.markdown_construct.proofs.ContentTexts.{text-moved_by}
 use Rattle.markdown_engine.specs.Codes.{Code}
 use Rattle.markdown_engine.specs.Ops.{scratched}
 use Rattle.markdown_engine.specs.Past.{past, moved_by}
-use Rattle.markdown_engine.specs.Place.{Place, moved}
+use Rattle.markdown_engine.specs.Place.{Place}
 use Rattle.markdown_engine.specs.Tree.{Forest, leaf_codes}
 use Rattle.markdown_engine.specs.declared.resolve.ResolveName.TheVariants as R
 use Rattle.markdown_engine.specs.declared.tokenizer.LabelKind.{LabelKind}
@@ -12,13 +14,12 @@ use Rattle.markdown_engine.specs.declared.tokenizer.TokenizeState.{TokenizeState
 use Rattle.markdown_engine.specs.declared.tokenizer.Tokenizer.{Tokenizer}
 use Rattle.markdown_engine.proofs.PlaceLemmas.{moved_by-append}
 use Rattle.markdown_construct.specs.Characters.{bytes_of, IsText, ReadsText}
-use Rattle.markdown_construct.proofs.TextPasses.{text-moved}
 use Rattle.markdown_label.specs.Fields.{with_kind, labelled}
 use Rattle.markdown_label.specs.LabelEnd.{AreWithin, end_made, made, lost_by}
 use Rattle.markdown_label.proofs.LabelEndLemmas.{scratch-before, input-before}
 use Rattle.markdown_label.proofs.StartPlaces.{within-grown, within-rest, within-barred}
 use Rattle.markdown_row.specs.Row.{EndsRest, Mark, begins, makes, loses, Row, row_end, row_then, past_tree, past_mark, past_row, mark_codes, row_codes, kinds_of, kinds_past, IsMarkAt, IsRowAt}
-use Rattle.markdown_row.proofs.KindLemmas.{kinds_in, kinds-tree, kinds-mark}
+use Rattle.markdown_row.proofs.KindLemmas.{kinds_in}
 use Rattle.markdown_row.proofs.LabelElements.{start-moves, end-moves, end-events, end-starts, lost-starts}
 
 -- The place.
@@ -58,15 +59,11 @@ pub row-input : (row : Row) (T : Tokenizer) → (past_row row T).parse_state ≡
 row-input (row_end t) T = tree-input t T
 row-input (row_then t mark rest) T = row-input rest (past_mark mark (past_tree t T)) ∙ mark-input mark (past_tree t T) ∙ tree-input t T
 
-text-behind : (bytes : List ℕ) (cs : List Code) (p : Place) → IsText bytes p → IsText bytes (moved_by cs p)
-text-behind bytes [] p h = h
-text-behind bytes (c ∷ cs) p h = text-behind bytes cs (moved p) (text-moved bytes p h)
-
 -- behind a row the content is as before
 pub row-text : (ks : List LabelKind) (row : Row) (T : Tokenizer) → IsRowAt ks row → ReadsText T → ReadsText (past_row row T)
 row-text ks row T is h =
     let same : bytes_of (past_row row T) ≡ bytes_of T = ap (λ p. p.now.bytes.now) (row-input row T) in
-    subst (λ (bs : List ℕ). IsText bs (past_row row T).cursor) (sym same) (subst (λ (p : Place). IsText (bytes_of T) p) (sym (row-cursor ks row T is)) (text-behind (bytes_of T) (row_codes row) T.cursor h))
+    subst (λ (bs : List ℕ). IsText bs (past_row row T).cursor) (sym same) (subst (λ (p : Place). IsText (bytes_of T) p) (sym (row-cursor ks row T is)) (text-moved_by (bytes_of T) (row_codes row) T.cursor h))
 
 -- The scratch fields.
 

@@ -1,5 +1,6 @@
 -- Past one row and then another.
-use Rattle.std.proofs.Common.{◌≡◌, ℕ, ◌+◌, List, ◌++◌, length, Option, None, Some, refl, sym, ap, ◌∙◌, arith, append_assoc}
+use Rattle.std.proofs.Common.{◌≡◌, ℕ, ◌+◌, List, ◌++◌, length, None, refl, sym, ap, ◌∙◌, append_assoc}
+use Rattle.markdown_label_pass.proofs.BracketRows.{last-join}
 use Rattle.markdown_engine.specs.Past.{last_link}
 use Rattle.markdown_engine.specs.Tree.{Forest, empty, leaf_then, group_then, ◌⊕◌, leaf_codes, event_count}
 use Rattle.markdown_engine.specs.declared.tokenizer.LabelKind.{LabelKind}
@@ -62,15 +63,8 @@ onto-joined t (row_then u mark rest) q = refl
 
 -- Which rows runs leave.
 
-link-row : (n : ℕ) (previous : Option ℕ) (t u : Forest) → last_link n previous (t ⊕ u) ≡ last_link (n + event_count t) (last_link n previous t) u
-link-row n previous empty u = ap (λ k. last_link k previous u) (omega arith)
-link-row n previous (leaf_then name None cs rest) u = link-row (n + 2) previous rest u ∙ ap (λ k. last_link k (last_link (n + 2) previous rest) u) (omega arith)
-link-row n previous (leaf_then name (Some c) cs rest) u = link-row (n + 2) (Some n) rest u ∙ ap (λ k. last_link k (last_link (n + 2) (Some n) rest) u) (omega arith)
-link-row n previous (group_then name a b inside rest) u =
-    link-row (n + 2 + event_count inside) previous rest u ∙ ap (λ k. last_link k (last_link (n + 2 + event_count inside) previous rest) u) (omega arith)
-
 row-apart : (t u : Forest) (n : ℕ) → ((n : ℕ) → last_link n None t ≡ None) → ((n : ℕ) → last_link n None u ≡ None) → last_link n None (t ⊕ u) ≡ None
-row-apart t u n h k = link-row n None t u ∙ ap (λ q. last_link (n + event_count t) q u) (h n) ∙ k (n + event_count t)
+row-apart t u n h k = last-join n None t u ∙ ap (λ q. last_link (n + event_count t) q u) (h n) ∙ k (n + event_count t)
 
 pub part-row : (t u : Forest) → IsPart t → IsPart u → IsPart (t ⊕ u)
 part-row t u h k = record { lines = HasLines-row t u h.lines k.lines; outer = outer-row t u h.outer k.outer; apart = λ n. row-apart t u n h.apart k.apart }

@@ -1,5 +1,6 @@
 -- What is true of the trees of a row is true of its grouped tree; and the codes of both.
 use Rattle.std.proofs.Common.{◌≡◌, ℕ, zero, suc, Bool, true, false, Some, None, List, [], ◌∷◌, ◌++◌, drop, take, length, refl, sym, ap, subst, ◌∙◌, append_assoc, append-nil}
+use Rattle.markdown_cut.proofs.PairingCodes.{has-join, has-leaf}
 use Rattle.std.proofs.lemmas.Bool.{or_parts, both_ways}
 use Rattle.std.specs.List.{list_any}
 use Rattle.markdown_engine.specs.Codes.{Code, is_line_ending, stop_of, document_start}
@@ -255,22 +256,13 @@ grouped-codes row at = let marks : AreMarksAt [] row = marks-of [] row at in ap 
 
 -- No data without codes.
 
-codes-row : (t u : Forest) → HasCodes t → HasCodes u → HasCodes (t ⊕ u)
-codes-row empty u h k = k
-codes-row (leaf_then n l cs rest) u h k = (h.0, codes-row rest u h.1 k)
-codes-row (group_then n a b inside rest) u h k = (h.0, codes-row rest u h.1 k)
-
-codes-leaf-has : (n : Name) (cs : List Code) → HasCodes (leaf n cs)
-codes-leaf-has n [] = tt
-codes-leaf-has n (c ∷ cs) = ((λ e l x. cc), tt)
-
 codes-kept : IsKept HasCodes IsAny
 codes-kept = record {
   nil = tt;
-  row = codes-row;
-  some_data = λ cs h. codes-leaf-has N.Data cs;
+  row = has-join;
+  some_data = λ cs h. has-leaf N.Data cs;
   fewer = λ n cs h. tt;
-  one_leaf = λ n cs e. codes-leaf-has n cs;
+  one_leaf = λ n cs e. has-leaf n cs;
   one_group = λ n p q x e h. (h, tt);
 }
 
@@ -286,26 +278,26 @@ abbrev HasFoundCodes : Found → Type 0
 HasFoundCodes r = HasCodes r.0 × HaveEndCodes r.1
 
 wrapped-codes : (m : List Code) (x : Forest) (end : End) → HasCodes x → HasEndCodes end → HasCodes (wrapped m x end)
-wrapped-codes m x (back, None) h k = codes-row (leaf N.Data m) (x ⊕ leaf N.Data back) (codes-leaf-has N.Data m) (codes-row x (leaf N.Data back) h (codes-leaf-has N.Data back))
+wrapped-codes m x (back, None) h k = has-join (leaf N.Data m) (x ⊕ leaf N.Data back) (has-leaf N.Data m) (has-join x (leaf N.Data back) h (has-leaf N.Data back))
 wrapped-codes m x (back, Some outcome) h k = label-kept HasCodes IsAny codes-kept outcome.0 m x back outcome.1 tt h k
 
 opened-codes : (m : List Code) (x : Forest) (more : List (End × Forest)) → HasCodes x → HaveEndCodes more → HasFoundCodes (opened m x more)
-opened-codes m x [] h k = (codes-row (leaf N.Data m) x (codes-leaf-has N.Data m) h, tt)
-opened-codes m x (c ∷ more) h k = (codes-row (wrapped m x c.0) c.1 (wrapped-codes m x c.0 h k.0) k.1.0, k.1.1)
+opened-codes m x [] h k = (has-join (leaf N.Data m) x (has-leaf N.Data m) h, tt)
+opened-codes m x (c ∷ more) h k = (has-join (wrapped m x c.0) c.1 (wrapped-codes m x c.0 h k.0) k.1.0, k.1.1)
 
 read-codes : (es : List Element) → HaveCodes es → HasFoundCodes (read (word_of es))
 read-codes [] h = (tt, tt)
-read-codes (plain t ∷ es) h = let r = read-codes es h.1 in (codes-row t (read (word_of es)).0 h.0 r.0, r.1)
+read-codes (plain t ∷ es) h = let r = read-codes es h.1 in (has-join t (read (word_of es)).0 h.0 r.0, r.1)
 read-codes (starts kind marker ∷ es) h = let r = read-codes es h.1 in opened-codes marker (read (word_of es)).0 (read (word_of es)).1 r.0 r.1
 read-codes (ends back None ∷ es) h = let r = read-codes es h.1 in (tt, (tt, (r.0, r.1)))
 read-codes (ends back (Some outcome) ∷ es) h = let r = read-codes es h.1 in (tt, (h.0, (r.0, r.1)))
 
 finish-codes : (more : List (End × Forest)) → HaveEndCodes more → HasCodes (finish more)
 finish-codes [] h = tt
-finish-codes (c ∷ more) h = codes-row (leaf N.Data c.0.0) (c.1 ⊕ finish more) (codes-leaf-has N.Data c.0.0) (codes-row c.1 (finish more) h.1.0 (finish-codes more h.1.1))
+finish-codes (c ∷ more) h = has-join (leaf N.Data c.0.0) (c.1 ⊕ finish more) (has-leaf N.Data c.0.0) (has-join c.1 (finish more) h.1.0 (finish-codes more h.1.1))
 
 -- no data of the tree of labels is empty where none of the elements is
 pub codes-labels : (es : List Element) → HaveCodes es → HasCodes (labels_of es)
 codes-labels es h =
     let r = read-codes es h in
-    subst HasCodes (sym (labels-read es)) (codes-row (read (word_of es)).0 (finish (read (word_of es)).1) r.0 (finish-codes (read (word_of es)).1 r.1))
+    subst HasCodes (sym (labels-read es)) (has-join (read (word_of es)).0 (finish (read (word_of es)).1) r.0 (finish-codes (read (word_of es)).1 r.1))

@@ -1,5 +1,6 @@
 -- The data of a content's tree is part of the document.
-use Rattle.std.proofs.Common.{◌≡◌, ◌≢◌, ℕ, true, false, List, [], ◌∷◌, ◌++◌, None, refl, sym, ◌∙◌, append-nil}
+use Rattle.std.proofs.Common.{◌≡◌, ◌≢◌, ℕ, true, false, List, [], ◌++◌, None, refl, sym, ◌∙◌, append-nil}
+use Rattle.markdown_construct.proofs.WholeReadings.{some-first}
 use Rattle.std.specs.List.{list_any}
 use Rattle.markdown_engine.specs.Codes.{Code, is_line_ending}
 use Rattle.markdown_engine.specs.Content.{IsContent, content_of}
@@ -39,13 +40,9 @@ parts-of bytes pieces t content e h =
 
 -- Merging.
 
-some-more : (cs ds : List Code) → cs ≢ [] → cs ++ ds ≢ []
-some-more [] ds h e = h refl
-some-more (c ∷ cs) ds h e = cc
-
 lines-onto : (cs : List Code) (f : Forest) → cs ≢ [] → list_any is_line_ending cs ≡ false → HasLines f → HasLines (data_onto cs f)
 lines-onto cs (leaf_then N.Data None more rest) some none h =
-    (λ e l. (some-more cs more some, line-join cs more none (h.0 refl refl).1), h.1)
+    (λ e l. (some-first cs more some, line-join cs more none (h.0 refl refl).1), h.1)
 lines-onto cs rest some none h = (λ e l. (some, none), h)
 
 pub HasLines-merged : (t : Forest) → HasLines t → HasLines (merged t)

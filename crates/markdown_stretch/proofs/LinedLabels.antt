@@ -10,7 +10,7 @@ use Rattle.markdown_engine.proofs.TreeLemmas.{leaf_codes-row}
 use Rattle.markdown_model.specs.Groups.{nested, joined, loose}
 use Rattle.markdown_model.specs.LabelEnd.{Element, plain, starts, ends}
 use Rattle.markdown_model.specs.Passes.{Start, End, as_bracket, start_marker, start_tree, label_group, loose_start, loose_end, labelled, labels_of}
-use Rattle.markdown_model.proofs.LabelCodes.{codes-label_group, codes-start_tree}
+use Rattle.markdown_model.proofs.LabelCodes.{codes-label_group, codes-start_tree, whole_marker}
 use Rattle.markdown_model.proofs.Leaves.{codes-leaf}
 use Rattle.markdown_stretch.specs.Lined.{IsLine, IsSomeLine, IsIn, IsLined, AtStart, IsBetween, Stands, IsApart, AreLined}
 use Rattle.markdown_stretch.proofs.LinedTrees.{line-both, none-left, lined-weaker, lined-row, lined-leaf, lined-group}
@@ -60,18 +60,6 @@ start-some LabelKind.Image (c ∷ cs) h = λ e. cc
 start-some LabelKind.Link (c ∷ cs) h = λ e. cc
 start-some LabelKind.GfmFootnote (c ∷ cs) h = λ e. cc
 
-nothing-past : (cs : List Code) → cs ++ drop (length cs) cs ≡ cs
-nothing-past [] = refl
-nothing-past (c ∷ cs) = ap (λ x. c ∷ x) (nothing-past cs)
-
--- a marker is its start and its caret
-whole-marker : (kind : LabelKind) (marker : List Code) → start_marker kind marker ++ drop (length (start_marker kind marker)) marker ≡ marker
-whole-marker LabelKind.GfmUndefinedFootnote [] = refl
-whole-marker LabelKind.GfmUndefinedFootnote (c ∷ cs) = refl
-whole-marker LabelKind.Image marker = nothing-past marker
-whole-marker LabelKind.Link marker = nothing-past marker
-whole-marker LabelKind.GfmFootnote marker = nothing-past marker
-
 module _ (E : Point → Point → Type 0) where
   lined-start_tree : (kind : LabelKind) (cs : List Code) → IsSomeLine cs → IsLined E (start_tree kind cs)
   lined-start_tree kind [] h = absurd (h.0 refl)
@@ -106,7 +94,7 @@ module _ (kind : LabelKind) (marker : List Code) (inside : Forest) (back : List 
   codes = codes-label_group kind marker inside back tail
 
   parts : IsLine front × IsLine caret
-  parts = line-both front caret (ap (λ xs. list_any is_line_ending xs) (whole-marker kind marker) ∙ m.1)
+  parts = line-both front caret (ap (λ xs. list_any is_line_ending xs) (whole_marker kind marker) ∙ m.1)
 
   no-code : leaf_codes (leaf N.Data caret ⊕ inside) ≡ [] → (caret ≡ []) × (leaf_codes inside ≡ [])
   no-code e = none-left caret (leaf_codes inside) (sym (leaf_codes-row (leaf N.Data caret) inside ∙ ap (λ x. x ++ leaf_codes inside) (codes-leaf N.Data caret)) ∙ e)
@@ -114,7 +102,7 @@ module _ (kind : LabelKind) (marker : List Code) (inside : Forest) (back : List 
   text-stands : leaf_codes (leaf N.Data caret ⊕ inside) ≡ [] → F (stop_of document_start front) (start_of back)
   text-stands e =
       let none = no-code e in
-      let all : front ≡ marker = sym (append-nil front) ∙ ap (λ x. front ++ x) (sym none.0) ∙ whole-marker kind marker in
+      let all : front ≡ marker = sym (append-nil front) ∙ ap (λ x. front ++ x) (sym none.0) ∙ whole_marker kind marker in
       stands-between AtStart (leaf_codes Whole) [] front back (leaf_codes tail) (codes ∙ ap (λ x. marker ++ (x ++ (back ++ leaf_codes tail))) none.1 ∙ ap (λ x. x ++ (back ++ leaf_codes tail)) (sym all)) (start-some kind marker m, parts.0) b.0
 
   text : IsLined F (text_group N.LabelText (stop_of document_start front) (start_of back) (leaf N.Data caret ⊕ inside))

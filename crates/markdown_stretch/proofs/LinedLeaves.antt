@@ -8,17 +8,12 @@ use Rattle.markdown_engine.specs.declared.event.Point.{Point}
 use Rattle.markdown_engine.specs.declared.parser.Piece.{Piece}
 use Rattle.markdown_engine.proofs.Chain.{first-start}
 use Rattle.markdown_engine.proofs.Points.{chain-split, point-split, point_start}
-use Rattle.markdown_engine.proofs.SolidLemmas.{stop_of-append}
+use Rattle.markdown_engine.proofs.SolidLemmas.{stop_of-append, stop_of-some}
 use Rattle.markdown_leaves.specs.Leaves.{HasLeaves}
 use Rattle.markdown_partial.specs.TrimEvents.{IsPart}
 use Rattle.markdown_stretch.specs.Lined.{IsOnLine, IsLined, AtStart, IsBetween, Stands}
 use Rattle.markdown_stretch.proofs.LinedTrees.{on-some}
 use Rattle.markdown_stretch.proofs.Parts.{both-in, on-line-ends, next-ends, part-of-content}
-
--- where some codes end does not depend on the place before them
-stop-any : (p q : Point) (cs : List Code) → cs ≢ [] → stop_of p cs ≡ stop_of q cs
-stop-any p q [] some = absurd (some refl)
-stop-any p q (c ∷ cs) some = refl
 
 joins-some : (xs : List Code) (c : Code) → xs ++ c ∷ [] ≢ []
 joins-some [] c e = cc
@@ -35,7 +30,7 @@ part-same : (bytes : List ℕ) (front : List Code) (c : Code) → front ≢ [] �
 part-same bytes front c some h =
     let before : List Code = h.before ++ front in
     let whole : codes_of bytes ≡ before ++ c ∷ h.after = h.whole ∙ ap (λ x. h.before ++ x) (append_assoc front (c ∷ []) h.after) ∙ sym (append_assoc h.before front (c ∷ h.after)) in
-    let stop : stop_of document_start before ≡ stop_of document_start front = stop_of-append document_start h.before front ∙ stop-any (stop_of document_start h.before) document_start front some in
+    let stop : stop_of document_start before ≡ stop_of document_start front = stop_of-append document_start h.before front ∙ stop_of-some (stop_of document_start h.before) document_start front some in
     let here : IsPoint bytes (stop_of document_start before) = record { here = point-split bytes before (c ∷ h.after) whole } in
     (subst (λ (p : Point). IsPoint bytes p) stop here, sym stop ∙ sym (first-start document_start before c h.after (chain-split bytes before (c ∷ h.after) whole)))
 

@@ -6,7 +6,7 @@ use Rattle.markdown_engine.specs.Codes.{Code, codes_of, document_start, is_line_
 use Rattle.markdown_engine.specs.Content.{content_of, piece_codes, are_pieces, ends_line}
 use Rattle.markdown_engine.specs.Walk.{codes_after}
 use Rattle.markdown_engine.specs.declared.parser.Piece.{Piece}
-use Rattle.markdown_engine.proofs.Chain.{IsChain, before_in, from_in, chain-back, split-at}
+use Rattle.markdown_engine.proofs.Chain.{IsChain, before_in, from_in, chain-back, split-at, tail_same, head_same}
 use Rattle.markdown_engine.proofs.Points.{chain-split, document-split}
 use Rattle.markdown_engine.proofs.Standings.{piece-codes-is, piece_row, followed_by}
 use Rattle.markdown_partial.specs.TrimEvents.{IsPart}
@@ -20,12 +20,6 @@ IsCut front back other ys =
     ((more : List Code) × (other ≡ front ++ more) × (back ≡ more ++ ys))
     ⊎ ((c : Code) × (cs : List Code) × (front ≡ other ++ c ∷ cs) × (ys ≡ (c ∷ cs) ++ back))
 
-head-is : (c d : Code) (cs ds : List Code) → c ∷ cs ≡ d ∷ ds → c ≡ d
-head-is c d cs ds e = cc
-
-tail-is : (c d : Code) (cs ds : List Code) → c ∷ cs ≡ d ∷ ds → cs ≡ ds
-tail-is c d cs ds e = cc
-
 cut-more : (c d : Code) (front back other ys : List Code) → c ≡ d → IsCut front back other ys → IsCut (c ∷ front) back (d ∷ other) ys
 unfolding IsCut
 cut-more c d front back other ys e (inl (more, h, k)) = inl (more, (λ i. sym e i ∷ h i), k)
@@ -36,7 +30,7 @@ unfolding IsCut
 cut [] back other ys e = inl (other, refl, e)
 cut (c ∷ front) back [] ys e = inr (c, front, refl, sym e)
 cut (c ∷ front) back (d ∷ other) ys e =
-    cut-more c d front back other ys (head-is c d (front ++ back) (other ++ ys) e) (cut front back other ys (tail-is c d (front ++ back) (other ++ ys) e))
+    cut-more c d front back other ys (head_same c d (front ++ back) (other ++ ys) e) (cut front back other ys (tail_same c d (front ++ back) (other ++ ys) e))
 
 -- Line endings.
 

@@ -6,14 +6,6 @@ use Rattle.std.proofs.lemmas.Bool.{eqb-true}
 pub same-value : (v n : ℕ) → (v == n) ≡ true → (f : ℕ → Bool) → f v ≡ f n
 same-value v n e f = ap f (eqb-true v n e)
 
-pub or-left : (a b : Bool) → a || b ≡ false → a ≡ false
-or-left false b e = refl
-or-left true b e = cc
-
-pub or-right : (a b : Bool) → a || b ≡ false → b ≡ false
-or-right false b e = e
-or-right true b e = cc
-
 pub or-by : {Q : Type 0} (a b : Bool) → a || b ≡ true → (a ≡ true → Q) → (b ≡ true → Q) → Q
 or-by true b h f g = f refl
 or-by false b h f g = g h

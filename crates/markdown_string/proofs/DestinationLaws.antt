@@ -1,6 +1,7 @@
 -- The laws of the states of a destination.
 use Rattle.std.proofs.Common.{◌≡◌, ℕ, ◌+◌, ◌-◌, ◌≤◌, ◌==◌, ◌&&◌, ◌||◌, nat_lt, Bool, true, false, Option, Some, None, List, [], ◌∷◌, length, drop, add-one, refl, sym, ap, subst, ◌∙◌, arith, if◌then◌else◌, suc}
-use Rattle.std.proofs.lemmas.Bool.{or_from, or_left}
+use Rattle.markdown_engine.proofs.OpsLemmas.{and-left}
+use Rattle.std.proofs.lemmas.Bool.{or_from, or_left, or_parts}
 use Rattle.markdown_engine.specs.Codes.{Code}
 use Rattle.markdown_engine.specs.Lists.{rest_of}
 use Rattle.markdown_engine.specs.Ops.{Op, Consume, current_of, ahead, applied, done, scratched}
@@ -23,8 +24,8 @@ use Rattle.markdown_string.specs.Destination.{refused, raw_on, raw_plain, raw_op
 use Rattle.markdown_string.specs.LinkedOps.{plan_of}
 use Rattle.markdown_string.proofs.DestinationReadings.{enclosed-none, enclosed-close, enclosed-refused, enclosed-next, enclosed-taken, enclosed-bare, text-first, destination-bracket, raw-end, raw-open-end, raw-taken, raw-bare, stops, raw-stop, raw-space, raw-control, raw-open, raw-deep, raw-close, raw-next, destination-raw, destination-end, destination-stops, destination-control, destination-covers}
 use Rattle.markdown_string.proofs.LinkedLemmas.{EndsAs-linked}
-use Rattle.markdown_string.proofs.BoolLemmas.{same-value, or-left, or-right}
-use Rattle.markdown_model.proofs.ReadingSteps.{if-true, if-false}
+use Rattle.markdown_string.proofs.BoolLemmas.{same-value}
+use Rattle.markdown_model.proofs.ReadingSteps.{if-true, if-false, right-true}
 use Rattle.markdown_engine.specs.StateWords.{Words, Law, GoesIn}
 use Rattle.markdown_construct.proofs.StateLaws.{GoesOn-map, Goes-on, Goes-kept, Goes-next, Goes-ok, Goes-yes, Goes-nok, Goes-no}
 use Rattle.markdown_construct.specs.Within.{Within}
@@ -67,10 +68,6 @@ stops-from false false true d true e = refl
 stops-from false false false true true e = refl
 stops-from false false false false true e = cc
 
-both-of : (a b : Bool) → a && b ≡ true → a ≡ true
-both-of true b e = refl
-both-of false b e = cc
-
 -- a test that holds of a value holds of another one with it
 white_value : ℕ → Bool
 white_value v = (v == 32 || v == 9) || v == 10
@@ -78,11 +75,6 @@ white_value v = (v == 32 || v == 9) || v == 10
 stops-here : (v : ℕ) (z : Bool) → z && stops_value v ≡ true → white_value v || (v == 41 && z) ≡ true
 unfolding white_value
 stops-here v z e = stops-from (v == 9) (v == 10) (v == 32) (v == 41) z e
-
-not-both : (a b : Bool) → a && b ≡ false → b ≡ true → a ≡ false
-not-both true true e h = cc
-not-both true false e h = cc
-not-both false b e h = refl
 
 white-stops : (a b c d : Bool) → (c || a) || b ≡ true → a || (b || (c || d)) ≡ true
 white-stops true b c d e = refl
@@ -101,21 +93,21 @@ unfolding white_value
 plain-value v e =
     let control : ℕ → Bool = λ x. control_value x || x == 32 in
     or-none (v == 32 || v == 9) (v == 10) (control v)
-    (λ h. or-true (v == 32) (v == 9) (control v) h (λ g. same-value v 32 g control) (λ g. same-value v 9 g control))
+    (λ h. or-here (v == 32) (v == 9) (control v) h (λ g. same-value v 32 g control) (λ g. same-value v 9 g control))
     (λ h. same-value v 10 h control) e where
-      or-true : (a b c : Bool) → a || b ≡ true → (a ≡ true → c ≡ true) → (b ≡ true → c ≡ true) → c ≡ true
-      or-true true b c h f g = f refl
-      or-true false b c h f g = g h
+      or-here : (a b c : Bool) → a || b ≡ true → (a ≡ true → c ≡ true) → (b ≡ true → c ≡ true) → c ≡ true
+      or-here true b c h f g = f refl
+      or-here false b c h f g = g h
 
 -- a space, or a control, that does not end the destination refuses it
 refused-by : (w : Bool) (max depth : ℕ) (c : Code) (cs : List Code) → white_value c.value ≡ w → (depth == 0 && stops_value c.value) ≡ false → is_value 41 c ≡ false → (control_value c.value || c.value == 32) ≡ true → raw_from max false depth (c ∷ cs) ≡ None
 unfolding white_value
 refused-by true max depth c cs e h k g =
-    let closed : (depth == 0) ≡ false = not-both (depth == 0) (stops_value c.value) h (white-stops (c.value == 9) (c.value == 10) (c.value == 32) (c.value == 41) e) in
+    let closed : (depth == 0) ≡ false = right-true (depth == 0) (stops_value c.value) h (white-stops (c.value == 9) (c.value == 10) (c.value == 32) (c.value == 41) e) in
     raw-space max depth c cs (or_left _ _ e) closed
 refused-by false max depth c cs e h k g =
     let goes : stops max depth c ≡ false = or_from _ _ e (ap (λ b. b && depth == 0) k) in
-    raw-control max depth c cs goes (or-first (control_value c.value) (c.value == 32) g (or-left _ _ (or-left _ _ e))) where
+    raw-control max depth c cs goes (or-first (control_value c.value) (c.value == 32) g (or_parts _ _ (or_parts _ _ e).0).0) where
       or-first : (a b : Bool) → a || b ≡ true → b ≡ false → a ≡ true
       or-first true b h e = refl
       or-first false true h e = cc
@@ -224,7 +216,7 @@ module _ (W : Words) (within : Within states W) where
       let plain : control_value b.code.value || b.code.value == 32 ≡ false = tested (λ v. control_value v || v == 32) ∙ j in
       let goes : stops max depth b.code ≡ false = or_from (white_value b.code.value) (is_value 41 b.code && depth == 0) (plain-value b.code.value plain) (ap (λ x. x && depth == 0) closer) in
       let next : raw_from max false depth (b.code ∷ cs) ≡ with_first b.code (raw_from max (b.code.value == 92) depth cs) =
-      raw-next max depth b.code cs goes (or-left (control_value b.code.value) (b.code.value == 32) plain) (tested (λ v. v == 40) ∙ g) closer in
+      raw-next max depth b.code cs goes (or_parts (control_value b.code.value) (b.code.value == 32) plain).0 (tested (λ v. v == 40) ∙ g) closer in
       let reads : (x : Bool) → (c == 92) ≡ x → p (ahead T) ≡ preceded (Consume ∷ []) (raw_plan names max x depth cs) =
       λ x i. ap p b.whole ∙ ap at next ∙ text-first (raw_ending names) b.code (raw_from max (b.code.value == 92) depth cs) ∙ ap (λ y. preceded (Consume ∷ []) (raw_plan names max y depth cs)) (tested (λ v. v == 92) ∙ i) in
       if-step P (c == 92) (stepped (Next DestinationRawEscape) (done (Consume ∷ []) T)) (stepped (Next DestinationRaw) (done (Consume ∷ []) T))
@@ -264,7 +256,7 @@ module _ (W : Words) (within : Within states W) where
       (λ g. if-step P (c == 41) (nested (depth - 1) T) (raw_plain c T)
       (λ f.
       let is : (q : ℕ → Bool) → q b.code.value ≡ q 41 = λ q. ap q b.value ∙ same-value c 41 f q in
-      let inner : (depth == 0) ≡ false = not-both (depth == 0) (stops_value c) h (same-value c 41 f stops_value) in
+      let inner : (depth == 0) ≡ false = right-true (depth == 0) (stops_value c) h (same-value c 41 f stops_value) in
       let goes : stops max depth b.code ≡ false = is (λ v. white_value v || (v == 41 && depth == 0)) ∙ inner in
       nested-law (depth - 1) T alone k more
       (ap p b.whole ∙ ap at (raw-close max depth b.code cs goes (is control_value) (is (λ v. v == 40)) (is (λ v. v == 41))) ∙ text-first (raw_ending names) b.code (raw_from max false (depth - 1) cs)))
@@ -288,7 +280,7 @@ module _ (W : Words) (within : Within states W) where
       let b : Begins c (ahead T) = ahead-some T c e in
       if-step P (depth == 0 && stops_value c) (finished T) (raw_on c T)
       (λ h. Goes-ok W 1 4 p (raw_ending names) (with_size 0 s) T alone
-      (ap p b.whole ∙ ap at (raw-stop max depth b.code (rest_of (ahead T)) (stops-here b.code.value (depth == 0) (ap (λ v. depth == 0 && stops_value v) b.value ∙ h)) (both-of (depth == 0) (stops_value c) h))))
+      (ap p b.whole ∙ ap at (raw-stop max depth b.code (rest_of (ahead T)) (stops-here b.code.value (depth == 0) (ap (λ v. depth == 0 && stops_value v) b.value ∙ h)) (and-left (depth == 0) (stops_value c) h))))
       (λ h. raw-on-law T alone k c e h))
 
   raw-goes : (T : Tokenizer) → T.attempts ≡ [] → RawReady T → raw_plan (names_in T.tokenize_state) T.tokenize_state.size_b true T.tokenize_state.size (ahead T) ≡ raw_plan (names_in T.tokenize_state) T.tokenize_state.size_b false T.tokenize_state.size (ahead T) → GoesIn W (weight_at 2 T) (raw_escape_ends T) (stepped (Retry DestinationRaw) T)
@@ -377,10 +369,10 @@ module _ (W : Words) (within : Within states W) where
       (λ g.
       let bars : bars_value b.code.value ≡ false = ap bars_value b.value ∙ g in
       let v : ℕ = b.code.value in
-      let plain : control_value v ≡ false = or-left (control_value v) (v == 32 || v == 41) bars in
-      let others : (v == 32 || v == 41) ≡ false = or-right (control_value v) (v == 32 || v == 41) bars in
-      let closer : is_value 41 b.code ≡ false = or-right (v == 32) (v == 41) others in
-      let white : white_value v ≡ false = plain-value v (or_from (control_value v) (v == 32) plain (or-left (v == 32) (v == 41) others)) in
+      let plain : control_value v ≡ false = (or_parts (control_value v) (v == 32 || v == 41) bars).0 in
+      let others : (v == 32 || v == 41) ≡ false = (or_parts (control_value v) (v == 32 || v == 41) bars).1 in
+      let closer : is_value 41 b.code ≡ false = (or_parts (v == 32) (v == 41) others).1 in
+      let white : white_value v ≡ false = plain-value v (or_from (control_value v) (v == 32) plain (or_parts (v == 32) (v == 41) others).0) in
       Goes-kept W 4 0 p (raw_plan names max false 0) (raw_opening names) s T (Retry DestinationRaw) (within DestinationRaw) alone refl (no-codes T) (omega arith)
       (ap p b.whole ∙ destination-raw max names b.code cs (ap (λ v. v == 60) b.value ∙ h) (or_from (white_value v) (is_value 41 b.code && true) white (ap (λ x. x && true) closer)) plain closer ∙ ap (λ xs. preceded (raw_opening names) (raw_plan names max false 0 xs)) (sym b.whole))
       (opened-raw T)

@@ -91,11 +91,11 @@ unfolding literal_destination rest_of_literal literal_tree
 literal-here names c cs h =
     ap tree_ops (bind-some _ _ (c ∷ cs) (c ∷ []) cs _ (one-here (is_value 60) c cs h) refl) ∙ rest-by names c cs (next_is (is_value 62) cs) (bracketed false cs) refl refl
 
-if-here : {A : Type 0} (p : Code → Bool) (a b : Reading A) (cs : List Code) → next_is p cs ≡ true → if_next p a b cs ≡ a cs
+pub if-here : {A : Type 0} (p : Code → Bool) (a b : Reading A) (cs : List Code) → next_is p cs ≡ true → if_next p a b cs ≡ a cs
 unfolding if_next
 if-here p a b cs e = rw (e, if_next) refl
 
-if-other : {A : Type 0} (p : Code → Bool) (a b : Reading A) (cs : List Code) → next_is p cs ≡ false → if_next p a b cs ≡ b cs
+pub if-other : {A : Type 0} (p : Code → Bool) (a b : Reading A) (cs : List Code) → next_is p cs ≡ false → if_next p a b cs ≡ b cs
 unfolding if_next
 if-other p a b cs e = rw (e, if_next) refl
 

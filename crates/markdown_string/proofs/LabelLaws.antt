@@ -1,7 +1,7 @@
 -- The laws of the states of a label.
 use Rattle.std.proofs.Common.{◌≡◌, ℕ, ◌+◌, ◌*◌, ◌≤◌, ◌<◌, ◌==◌, ◌&&◌, ◌||◌, not, nat_le, codes, Bool, true, false, if◌then◌else◌, Some, None, List, [], ◌∷◌, length, drop, refl, sym, ap, subst, ◌∙◌, arith}
 use Rattle.std.proofs.Math.Bool.{or-true}
-use Rattle.std.proofs.lemmas.Bool.{eqb-true, not-false, not-true}
+use Rattle.std.proofs.lemmas.Bool.{eqb-true, not-false, not-true, or_parts}
 use Rattle.std.proofs.lemmas.Bool.Decides.{nat_tests}
 use Rattle.std.proofs.lemmas.Grind.{common_steps}
 use Rattle.markdown_engine.specs.Codes.{Code, is_line_ending, is_blank}
@@ -30,7 +30,7 @@ use Rattle.markdown_string.proofs.LabelReadings.{label-plain, fits-data, fits-en
 use Rattle.markdown_string.proofs.TextEnding.{Passed, DoesAs-ending, ending-law}
 use Rattle.markdown_string.proofs.TextReadings.{answer-none, breaks-end, breaks-stop, breaks-unfit, breaks-refused, breaks-data, breaks-ending, breaks-blank, insides-end, insides-next, insides-taken, insides-bare, leave-end, leave-stop, leave-refused, leave-ending}
 use Rattle.markdown_string.proofs.TextRuns.{open-append, open-closed, open-rest, text-after, text-same, text-kept, rest-joined, DoesAs-fails, state-by, stays-data, moves-data, depth-data}
-use Rattle.markdown_string.proofs.BoolLemmas.{or-left, or-right, or-by}
+use Rattle.markdown_string.proofs.BoolLemmas.{or-by}
 use Rattle.markdown_model.proofs.ReadingSteps.{and-left, and-right}
 use Rattle.markdown_engine.specs.StateWords.{Words, Law, GoesIn}
 use Rattle.markdown_construct.proofs.StateLaws.{GoesOn-map, Goes-plain, Goes-end, Goes-on, Goes-kept, Goes-ok, Goes-no, FollowsIn, follows}
@@ -227,10 +227,10 @@ module _ (W : Words) (within : Within states W) where
       if-step P (not (c == 10 || (c == 91 || c == 93)) && is_short T) _ _
       (λ h.
       let goes : (c == 10 || (c == 91 || c == 93)) ≡ false = not-true _ (and-left _ _ h) in
-      let line : is_line_ending b.code ≡ false = ap (λ v. v == 10) b.value ∙ or-left _ _ goes in
+      let line : is_line_ending b.code ≡ false = ap (λ v. v == 10) b.value ∙ (or_parts _ _ goes).0 in
       goes-inside T alone k (below s.size (and-right _ _ h)) c e
       (ap p b.whole
-      ∙ insides-next (is_value 93) takes (is_value 91) label-plain (ending names) (fits s.size s.seen) (fits (s.size + 1) (s.seen || not (is_blank b.code))) (c == 92) b.code cs (ap (λ v. v == 93) b.value ∙ or-right _ _ (or-right _ _ goes)) (ap (λ v. v == 91) b.value ∙ or-left _ _ (or-right _ _ goes)) line (ap (λ v. v == 92) b.value) (λ text. fits-data s.size s.seen b.code text line)
+      ∙ insides-next (is_value 93) takes (is_value 91) label-plain (ending names) (fits s.size s.seen) (fits (s.size + 1) (s.seen || not (is_blank b.code))) (c == 92) b.code cs (ap (λ v. v == 93) b.value ∙ (or_parts _ _ (or_parts _ _ goes).1).1) (ap (λ v. v == 91) b.value ∙ (or_parts _ _ (or_parts _ _ goes).1).0) line (ap (λ v. v == 92) b.value) (λ text. fits-data s.size s.seen b.code text line)
       ∙ ap (λ v. preceded (Consume ∷ []) (inside_plan names (s.size + 1) (s.seen || not (v == 32 || v == 9)) (c == 92) cs)) b.value))
       (λ h. and-by (not (c == 10 || (c == 91 || c == 93))) (is_short T) h
       (λ g. goes-leave T alone k (subst here (sym b.whole) (leaves-here names s.size s.seen b.code cs (ap (λ v. v == 10 || (v == 91 || v == 93)) b.value ∙ not-false _ g))))

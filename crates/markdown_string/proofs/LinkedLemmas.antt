@@ -3,7 +3,7 @@ use Rattle.std.proofs.Common.{◌≡◌, ◌≢◌, ℕ, ◌+◌, ◌-◌, Bool,
 use Rattle.markdown_engine.specs.Codes.{Code, stop_of, document_start}
 use Rattle.markdown_engine.specs.Ops.{Op, Enter, Exit, ahead, applied, done, scratched}
 use Rattle.markdown_engine.specs.Past.{past, passed, moved_by, entered_leaf, link_before, last_link, TreeReading, EndsAs}
-use Rattle.markdown_engine.specs.Place.{point_of, exit_point}
+use Rattle.markdown_engine.specs.Place.{exit_point}
 use Rattle.markdown_engine.specs.Tree.{Forest, empty, leaf_then, group_then, ◌⊕◌, leaf, linked, group, leaf_codes, start_of, enter_of, exit_after}
 use Rattle.markdown_engine.specs.declared.event.Content.{Content}
 use Rattle.markdown_engine.specs.declared.event.Name.{Name}
@@ -12,15 +12,13 @@ use Rattle.markdown_engine.specs.declared.tokenizer.TokenizeState.{TokenizeState
 use Rattle.markdown_engine.specs.declared.tokenizer.Tokenizer.{Tokenizer}
 use Rattle.markdown_engine.proofs.EndsLemmas.{row-empty}
 use Rattle.markdown_engine.proofs.OpRules.{ahead-applied}
-use Rattle.markdown_engine.proofs.PlaceLemmas.{stop-moved}
-use Rattle.markdown_engine.proofs.SolidLemmas.{stop_of-append}
-use Rattle.markdown_engine.proofs.TreeLemmas.{done-consumes, done-append, leaf-past, group-past, past-past, past-empty, ahead-past}
+use Rattle.markdown_engine.proofs.SolidLemmas.{stop_of-append, stop_of-some, start-append}
+use Rattle.markdown_engine.proofs.TreeLemmas.{done-consumes, done-append, leaf-past, group-past, past-past, past-empty, ahead-past, solid-start, solid-stop}
 use Rattle.markdown_construct.specs.Plan.{DoesAs}
-use Rattle.markdown_construct.proofs.WholeReadings.{Gives}
+use Rattle.markdown_construct.proofs.WholeReadings.{Gives, some-first}
 use Rattle.markdown_model.specs.Resource.{string_group}
 use Rattle.markdown_construct.proofs.PlanLemmas.{ahead-scratched}
 use Rattle.markdown_string.specs.LinkedOps.{enter_op, has_content, linked_ops, tree_ops, plan_of, IsRow}
-use Rattle.markdown_engine.proofs.PlaceRules.{point_ahead}
 
 -- One leaf.
 
@@ -46,19 +44,11 @@ next-link linked n (Some x) cs T U h e =
 
 -- One group.
 
-enter-here : (cs rest : List Code) (T : Tokenizer) → cs ≢ [] → ahead T ≡ cs ++ rest → point_of T.cursor ≡ start_of cs
-enter-here [] rest T some e = absurd (some refl)
-enter-here (c ∷ cs) rest T some e = point_ahead T.cursor c (cs ++ rest) e
-
-exit-here : (cs rest : List Code) (T : Tokenizer) → cs ≢ [] → ahead T ≡ cs ++ rest → exit_point (moved_by cs T.cursor) ≡ stop_of document_start cs
-exit-here [] rest T some e = absurd (some refl)
-exit-here (c ∷ cs) rest T some e = stop-moved document_start c cs rest T.cursor e
-
 group-by : (n : Name) (a b : Point) (inside : Forest) (rest : List Code) (T : Tokenizer) → leaf_codes inside ≢ [] → a ≡ start_of (leaf_codes inside) → b ≡ stop_of document_start (leaf_codes inside) → ahead T ≡ leaf_codes inside ++ rest → applied (Exit n) (past None inside (applied (Enter n) T)) ≡ past None (group_then n a b inside empty) T
 group-by n a b inside rest T some f g e =
     group-past n None inside T
-    ∙ ap (λ p. past None (group_then n p (exit_point (moved_by (leaf_codes inside) T.cursor)) inside empty) T) (enter-here (leaf_codes inside) rest T some e ∙ sym f)
-    ∙ ap (λ p. past None (group_then n a p inside empty) T) (exit-here (leaf_codes inside) rest T some e ∙ sym g)
+    ∙ ap (λ p. past None (group_then n p (exit_point (moved_by (leaf_codes inside) T.cursor)) inside empty) T) (solid-start (leaf_codes inside) rest T some e ∙ sym f)
+    ∙ ap (λ p. past None (group_then n a p inside empty) T) (solid-stop (leaf_codes inside) rest T some e ∙ sym g)
 
 -- one tree and then a row
 row-then : (previous q : Option ℕ) (t rest : Forest) (T U : Tokenizer) → q ≡ last_link (length T.events) previous t → U ≡ past previous t T → past q rest U ≡ past previous (t ⊕ rest) T
@@ -91,15 +81,6 @@ linked-past false (group_then n a b inside more) rest T s e =
     ∙ row-then None None G more T U refl is
 
 -- Rows as they are made.
-
-start-append : (cs ds : List Code) → cs ≢ [] → start_of (cs ++ ds) ≡ start_of cs
-start-append [] ds some = absurd (some refl)
-start-append (c ∷ cs) ds some = refl
-
--- where some codes end does not depend on where the codes before them end
-stop_of-some : (p q : Point) (cs : List Code) → cs ≢ [] → stop_of p cs ≡ stop_of q cs
-stop_of-some p q [] some = absurd (some refl)
-stop_of-some p q (c ∷ cs) some = refl
 
 row-enter : (linked : Bool) (t : Forest) → IsRow linked t → enter_of t ≡ start_of (leaf_codes t)
 row-enter linked empty s = refl
@@ -140,17 +121,13 @@ Row-group n xs ys t u some k l =
       ap (λ zs. zs ++ leaf_codes u) k.1 ∙ ap (λ zs. xs ++ zs) l.1,
     )
 
-front-some : (xs ys : List Code) → xs ≢ [] → xs ++ ys ≢ []
-front-some [] ys h = absurd (h refl)
-front-some (x ∷ xs) ys h = λ e. cc
-
 -- the group of a text, which may be empty
 pub Row-string : (n : Name) (xs ys : List Code) (t u : Forest) → CoversRow t xs → CoversRow u ys → CoversRow (string_group n t ⊕ u) (xs ++ ys)
 Row-string n xs ys empty u k l = subst (λ zs. CoversRow u (zs ++ ys)) k.1 l
 Row-string n xs ys (leaf_then m link cs more) u k l =
-    Row-group n xs ys (leaf_then m link cs more) u (λ e. front-some cs (leaf_codes more) k.0.1.0 (k.1 ∙ e)) k l
+    Row-group n xs ys (leaf_then m link cs more) u (λ e. some-first cs (leaf_codes more) k.0.1.0 (k.1 ∙ e)) k l
 Row-string n xs ys (group_then m a b inside more) u k l =
-    Row-group n xs ys (group_then m a b inside more) u (λ e. front-some (leaf_codes inside) (leaf_codes more) k.0.1.0 (k.1 ∙ e)) k l
+    Row-group n xs ys (group_then m a b inside more) u (λ e. some-first (leaf_codes inside) (leaf_codes more) k.0.1.0 (k.1 ∙ e)) k l
 
 -- a group alone
 pub Row-whole : (n : Name) (xs : List Code) (t : Forest) → xs ≢ [] → CoversRow t xs → CoversRow (group n t) xs

@@ -1,5 +1,6 @@
 -- The attempt of a line ending in a text, and what it leaves.
 use Rattle.std.proofs.Common.{◌≡◌, ℕ, suc, ◌+◌, ◌≤◌, ◌<◌, ◌==◌, ◌||◌, Bool, true, false, if◌then◌else◌, Option, Some, None, List, [], ◌∷◌, ◌++◌, length, drop, refl, sym, ap, subst, ◌∙◌, arith, append_assoc, length-append}
+use Rattle.markdown_partial.proofs.EolLaws.{linked-append}
 use Rattle.markdown_engine.specs.Chain.{has_link}
 use Rattle.markdown_engine.specs.Codes.{Code, is_line_ending, is_blank}
 use Rattle.markdown_engine.specs.Grown.{Fails}
@@ -65,12 +66,6 @@ pub record Passed (connect : Bool) (c : Code) (cs : List Code) (T U : Tokenizer)
   pub scratch : U.tokenize_state ≡ T.tokenize_state
   pub linked : LinkedBefore U
   pub fewer : codes_left U + 1 ≤ codes_left T
-
-linked-append : (xs : List Event) (a b : Event) → has_link a.link ≡ true → has_link b.link ≡ false → ends_linked (xs ++ a ∷ b ∷ []) ≡ true
-linked-append [] a b h k = rw (h, k) refl
-linked-append (x ∷ []) a b h k = linked-append [] a b h k
-linked-append (x ∷ y ∷ []) a b h k = linked-append [] a b h k
-linked-append (x ∷ y ∷ z ∷ xs) a b h k = linked-append (y ∷ z ∷ xs) a b h k
 
 linked-twice : (xs : List Event) (a b c d : Event) → has_link c.link ≡ true → has_link d.link ≡ false → ends_linked (xs ++ a ∷ b ∷ c ∷ d ∷ []) ≡ true
 linked-twice xs a b c d h k = ap ends_linked (sym (append_assoc xs (a ∷ b ∷ []) (c ∷ d ∷ []))) ∙ linked-append (xs ++ a ∷ b ∷ []) c d h k

@@ -1,7 +1,7 @@
 -- What the states of a text have in common: their conditions over a step, and runs that fail.
 use Rattle.std.proofs.Common.{◌≡◌, ℕ, ◌+◌, ◌≤◌, ◌&&◌, not, Bool, true, false, if◌then◌else◌, None, List, [], ◌∷◌, ◌++◌, length, drop, refl, sym, ap, subst, ◌∙◌, arith}
+use Rattle.markdown_construct.proofs.PlanLemmas.{Grown-same, scratch-same}
 use Rattle.markdown_engine.specs.Chain.{has_link}
-use Rattle.markdown_engine.specs.Grown.{Grown}
 use Rattle.markdown_engine.specs.Lists.{rest_of}
 use Rattle.markdown_engine.specs.Ops.{Op, Consume, ahead, done, scratched, moves, stays, ends_linked}
 use Rattle.markdown_engine.specs.Weights.{codes_left}
@@ -10,9 +10,8 @@ use Rattle.markdown_engine.specs.declared.event.Name.{Name}
 use Rattle.markdown_engine.specs.declared.state.State.{State}
 use Rattle.markdown_engine.specs.declared.tokenizer.TokenizeState.{TokenizeState}
 use Rattle.markdown_engine.specs.declared.tokenizer.Tokenizer.{Tokenizer}
-use Rattle.markdown_engine.proofs.Laws.{Grown-refl}
 use Rattle.markdown_engine.proofs.OpRules.{left-scratched}
-use Rattle.markdown_engine.proofs.OpsLemmas.{Grown-scratched, left-done}
+use Rattle.markdown_engine.proofs.OpsLemmas.{left-done}
 use Rattle.markdown_construct.specs.Plan.{Plan, depth_after, DoesAs}
 use Rattle.markdown_partial.specs.EolSteps.{WhitespaceAtRest}
 use Rattle.markdown_string.specs.Text.{joined, enter_text, ends_open, TextReady}
@@ -81,16 +80,9 @@ depth-data false P h = h
 
 -- Runs that fail.
 
-fails-same : (d : ℕ) (s : TokenizeState) (T U : Tokenizer) → U ≡ scratched s T → Grown d T U
-fails-same d s T U e = subst (λ (x : Tokenizer). Grown d T x) (sym e) (Grown-scratched d s T (scratched s T) (Grown-refl d (scratched s T)))
-
-scratch-same : (s : TokenizeState) (T U : Tokenizer) → U ≡ scratched s T → U.tokenize_state ≡ s
-unfolding scratched
-scratch-same s T U e = ap (λ (x : Tokenizer). x.tokenize_state) e
-
 pub DoesAs-fails : (d : ℕ) (p : Plan) (s : TokenizeState) (T : Tokenizer) → p (ahead T) ≡ None → (ok : Bool) (U : Tokenizer) → (ok ≡ false) × (U ≡ scratched s T) → DoesAs d p s T ok U
 DoesAs-fails d p s T e true U k = let no : true ≡ false = k.0 in cc
-DoesAs-fails d p s T e false U k = record { none = e; grown = fails-same d s T U k.1; scratch = scratch-same s T U k.1 }
+DoesAs-fails d p s T e false U k = record { none = e; grown = Grown-same d s T U k.1; scratch = scratch-same s T U k.1 }
 
 -- by a test
 pub state-by : (Q : State → Type 0) (b : Bool) (x y : State) → (b ≡ true → Q x) → (b ≡ false → Q y) → Q (if b then x else y)

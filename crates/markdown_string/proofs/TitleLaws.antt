@@ -1,6 +1,6 @@
 -- The laws of the states of a title.
 use Rattle.std.proofs.Common.{◌≡◌, ℕ, ◌+◌, ◌*◌, ◌≤◌, ◌<◌, ◌==◌, ◌||◌, Bool, true, false, Some, None, List, [], ◌∷◌, length, drop, refl, sym, ap, subst, ◌∙◌, arith}
-use Rattle.std.proofs.lemmas.Bool.{eqb-true}
+use Rattle.std.proofs.lemmas.Bool.{eqb-true, or_parts}
 use Rattle.markdown_engine.specs.Codes.{Code, is_line_ending}
 use Rattle.markdown_engine.specs.Lists.{rest_of}
 use Rattle.markdown_engine.specs.Ops.{Op, Enter, Exit, Consume, current_of, ahead, applied, done, scratched}
@@ -26,7 +26,7 @@ use Rattle.markdown_string.proofs.TextEnding.{Passed, DoesAs-ending, ending-law}
 use Rattle.markdown_string.proofs.TextReadings.{filled-data, filled-ending, filled-none, breaks-end, breaks-stop, breaks-data, breaks-ending, breaks-blank, insides-end, insides-next, insides-taken, insides-bare, leave-end, leave-stop, leave-ending}
 use Rattle.markdown_string.proofs.TextRuns.{open-append, open-closed, open-rest, text-after, text-same, text-kept, rest-joined, DoesAs-fails, state-by, stays-data, moves-data, depth-data}
 use Rattle.markdown_string.proofs.TitleReadings.{title-plain, closer-line, title-none, title-double, title-single, title-paren, title-covers}
-use Rattle.markdown_string.proofs.BoolLemmas.{or-left, or-right, or-by}
+use Rattle.markdown_string.proofs.BoolLemmas.{or-by}
 use Rattle.markdown_model.proofs.ReadingSteps.{if-true, if-false}
 use Rattle.markdown_engine.specs.StateWords.{Words, Law, GoesIn}
 use Rattle.markdown_construct.proofs.StateLaws.{GoesOn-map, Goes-plain, Goes-end, Goes-on, Goes-kept, Goes-ok, Goes-no, FollowsIn, follows}
@@ -161,9 +161,9 @@ module _ (W : Words) (within : Within states W) where
       (λ g. leave-ending (is_value m) takes (λ x. false) (title-plain m k.closer) (ending names) (ends_filled true) b.code cs (ap (λ v. v == 10) b.value ∙ g))
       (λ g. leave-stop (is_value m) takes (λ x. false) (title-plain m k.closer) (ending names) (ends_filled true) b.code cs (ap (λ v. v == m) b.value ∙ g)))))
       (λ h.
-      let line : is_line_ending b.code ≡ false = ap (λ v. v == 10) b.value ∙ or-left _ _ h in
+      let line : is_line_ending b.code ≡ false = ap (λ v. v == 10) b.value ∙ (or_parts _ _ h).0 in
       goes-inside T alone k c e
-      (ap p b.whole ∙ insides-next (is_value m) takes (λ x. false) (title-plain m k.closer) (ending names) (ends_filled true) (ends_filled true) (c == 92) b.code cs (ap (λ v. v == m) b.value ∙ or-right _ _ h) refl line (ap (λ v. v == 92) b.value) (λ text. filled-data b.code text line))))
+      (ap p b.whole ∙ insides-next (is_value m) takes (λ x. false) (title-plain m k.closer) (ending names) (ends_filled true) (ends_filled true) (c == 92) b.code cs (ap (λ v. v == m) b.value ∙ (or_parts _ _ h).1) refl line (ap (λ v. v == 92) b.value) (λ text. filled-data b.code text line))))
 
   escape-goes : (T : Tokenizer) → T.attempts ≡ [] → InsideReady T → inside_plan T.tokenize_state.marker (names_in T.tokenize_state) true (ahead T) ≡ inside_plan T.tokenize_state.marker (names_in T.tokenize_state) false (ahead T) → GoesIn W (weight_at 11 T) (escape_ends T) (stepped (Retry TitleInside) T)
   escape-goes T alone k same =

@@ -2,6 +2,7 @@
 use Rattle.markdown_model.specs.Element.{first_check}
 use Rattle.markdown_model.specs.Grammar.{◌>>◌, provided, one}
 use Rattle.std.proofs.Common.{◌≡◌, ℕ, zero, suc, drop, ◌+◌, ◌≤◌, ◌==◌, ◌||◌, true, false, Option, Some, None, List, ◌∷◌, length, refl, sym, ap, ◌∙◌, Bool, ◌&&◌, is_none, []}
+use Rattle.std.proofs.lemmas.Option.{same_Some}
 use Rattle.std.specs.Str.{byte}
 use Rattle.std.specs.List.{list_any}
 use Rattle.markdown_engine.specs.Codes.{Code, stop_of, document_start}
@@ -55,11 +56,8 @@ OrStandsAlone reading T = reading (ahead T) ≡ None → StandsAlone T
 abbrev pub end_in : Tokenizer → ℕ
 end_in T = (stop_of document_start T.cursor.codes).index
 
-same-value : (a b : ℕ) → Some a ≡ Some b → a ≡ b
-same-value a b e = cc
-
 pub value-here : (T : Tokenizer) (v : ℕ) (c : Code) (cs : List Code) → current_of T ≡ Some v → ahead T ≡ c ∷ cs → c.value ≡ v
-value-here T v c cs e w = same-value c.value v (sym (current-ahead T ∙ ap (λ xs. value_of (first_of xs)) w) ∙ e)
+value-here T v c cs e w = same_Some c.value v (sym (current-ahead T ∙ ap (λ xs. value_of (first_of xs)) w) ∙ e)
 
 -- from the codes ahead as they begin, to those codes
 at-hand : (reading : TreeReading) (T : Tokenizer) (v : ℕ) → current_of T ≡ Some v
