@@ -13,7 +13,8 @@ use Rattle.markdown_model.specs.CodeTests.{is_empty, is_value}
 use Rattle.markdown_model.specs.Element.{attention_run, switched}
 use Rattle.markdown_model.specs.Grammar.{◌>>◌, ◌>>=◌, provided, gives, some, span}
 use Rattle.markdown_model.specs.LabelEnd.{Element, plain}
-use Rattle.markdown_attention.specs.Attention.{begins_run, switches_of, with_marker, start_at, left_run, leaving, inside_at, StartReady, InsideReady, run_at_code, plain_tree, run_tree, ReadsRun, start_ends, markers_ahead, inside_ends, start_words, inside_words, states}
+use Rattle.markdown_attention.specs.Attention.{switches_of, with_marker, start_at, left_run, leaving, inside_at, StartReady, InsideReady, run_tree, ReadsRun, start_ends, markers_ahead, inside_ends, start_words, inside_words, states}
+use Rattle.markdown_model.specs.Single.{begins_run, plain_tree}
 use Rattle.markdown_engine.specs.declared.event.Name.TheVariants as N
 use Rattle.markdown_engine.specs.declared.resolve.ResolveName.TheVariants as R
 use Rattle.markdown_engine.specs.declared.state.State.TheVariants.{Next, Retry}
@@ -93,6 +94,17 @@ run-none m true cs e =
     run-parts m cs ∙ part-none (is_empty (span (is_value m) cs).0) (span (is_value m) cs) (ap plain_tree (sym (run-parts m cs)) ∙ e)
 run-none m false cs e = run-off m cs
 
+-- the run of a marker at hand
+pub run-at : (T : Tokenizer) (v : ℕ) (c : Code) (cs : List Code) → c.value ≡ v → run_tree T (c ∷ cs) ≡ plain_tree (switched (begins_run (switches_of T) v) (attention_run v) (c ∷ cs))
+run-at T v c cs e = ap (λ n. plain_tree (switched (begins_run (switches_of T) n) (attention_run n) (c ∷ cs))) e
+
+pub run-ahead : (T : Tokenizer) (v : ℕ) → current_of T ≡ Some v → run_tree T (ahead T) ≡ plain_tree (switched (begins_run (switches_of T) v) (attention_run v) (ahead T))
+run-ahead T v e =
+    let b : Begins v (ahead T) = ahead-some T v e in
+    ap (run_tree T) b.whole
+    ∙ run-at T v b.code (rest_of (ahead T)) b.value
+    ∙ ap (λ xs. plain_tree (switched (begins_run (switches_of T) v) (attention_run v) xs)) (sym b.whole)
+
 -- What the operations leave.
 
 scratch-consumed : (T : Tokenizer) → (done (Consume ∷ []) T).tokenize_state ≡ T.tokenize_state
@@ -155,7 +167,7 @@ run-begins T c e on rest U k =
     ap (λ xs. left_run (passed xs (begun c T))) markers
     ∙ ap (registered R.Attention) (begun-past c ms T rest ∙ ap (scratched T.tokenize_state) over ∙ scratched-past tree T.tokenize_state T) in
     let reads : run_tree T (ahead T) ≡ Some (tree, s.1) =
-    ap (λ o. plain_tree (run_at_code (switches_of T) o (ahead T))) e
+    run-ahead T c e
     ∙ ap (λ xs. plain_tree (switched (begins_run (switches_of T) c) (attention_run c) xs)) b.whole
     ∙ ap plain_tree (run-reads c (begins_run (switches_of T) c) b.code cs on marks) in
     let ahead' : ahead (scratched T.tokenize_state T) ≡ leaf_codes tree ++ s.1 = ahead-scratched T.tokenize_state T ∙ whole in
@@ -178,12 +190,12 @@ start-law W within T alone rest =
     let n : ℕ = weight_at 2 T in
     let P : Stepped → Type 0 = GoesIn W n (start_ends T) in
     code-step P (current_of T) (λ o. start_at o T)
-    (λ e. Goes-end W n (start_ends T) false T alone (omega arith) (no-run T (ap (λ o. plain_tree (run_at_code (switches_of T) o (ahead T))) e)))
+    (λ e. Goes-end W n (start_ends T) false T alone (omega arith) (no-run T (ap (run_tree T) (ahead-none T e))))
     (λ c e. if-step P (begins_run (switches_of T) c) _ _
     (λ on. let X : Tokenizer = begun c T in
     Goes-plain W n (start_ends T) (Retry AttentionInside) (within AttentionInside) X (begun-attempts c T ∙ alone) (begun-ready c T) (omega (arith, begun-left c T)) (run-begun T c e on rest))
     (λ off. Goes-end W n (start_ends T) false T alone (omega arith)
-    (no-run T (ap (λ o. plain_tree (run_at_code (switches_of T) o (ahead T))) e ∙ ap (λ b. plain_tree (switched b (attention_run c) (ahead T))) off ∙ ap plain_tree (run-off c (ahead T))))))
+    (no-run T (run-ahead T c e ∙ ap (λ b. plain_tree (switched b (attention_run c) (ahead T))) off ∙ ap plain_tree (run-off c (ahead T))))))
 
 -- In a run.
 

@@ -1,16 +1,13 @@
 -- What the states of a run of markers do, and how runs from them end.
-use Rattle.std.specs.Prelude.{◌≡◌, ℕ, Bool, true, false, ◌||◌, ◌==◌, if◌then◌else◌, Option, Some, None, List, [], ◌∷◌}
-use Rattle.std.specs.Str.{byte}
+use Rattle.std.specs.Prelude.{◌≡◌, ℕ, Bool, true, false, ◌==◌, if◌then◌else◌, Option, Some, None, List, [], ◌∷◌}
 use Rattle.markdown_engine.specs.Codes.{Code}
 use Rattle.markdown_engine.specs.Ops.{Enter, Consume, IsOpen, ahead, current_of, done, exited, registered, scratched}
 use Rattle.markdown_engine.specs.Past.{Reads, Refuses, TreeReading, passed}
 use Rattle.markdown_engine.specs.Runs.{Stepped, stepped}
 use Rattle.markdown_engine.specs.StateWords.{StateWords}
-use Rattle.markdown_engine.specs.Tree.{Forest}
 use Rattle.markdown_model.specs.CodeTests.{is_value}
-use Rattle.markdown_model.specs.Element.{attention_run, switched}
-use Rattle.markdown_model.specs.Grammar.{Reading, span}
-use Rattle.markdown_model.specs.LabelEnd.{Element, plain, starts, ends}
+use Rattle.markdown_model.specs.Grammar.{span}
+use Rattle.markdown_model.specs.Single.{begins_run, run_here}
 use Rattle.markdown_engine.specs.declared.configuration.Constructs.{Constructs}
 use Rattle.markdown_engine.specs.declared.event.Name.TheVariants as N
 use Rattle.markdown_engine.specs.declared.resolve.ResolveName.TheVariants as R
@@ -20,10 +17,6 @@ use Rattle.markdown_engine.specs.declared.state.StateName.{StateName}
 use Rattle.markdown_engine.specs.declared.state.StateName.TheVariants.{AttentionInside}
 use Rattle.markdown_engine.specs.declared.tokenizer.TokenizeState.{TokenizeState}
 use Rattle.markdown_engine.specs.declared.tokenizer.Tokenizer.{Tokenizer}
-
--- the switch of a marker
-abbrev pub begins_run : Constructs → ℕ → Bool
-begins_run on c = if c == byte "*" || c == byte "_" then on.attention else (if c == byte "~" then on.gfm_strikethrough else false)
 
 abbrev pub switches_of : Tokenizer → Constructs
 switches_of T = T.parse_state.now.options.now.constructs
@@ -69,27 +62,9 @@ InsideReady T = IsOpen N.AttentionSequence T
 
 -- How runs end.
 
--- the reading of a run that begins with this code, where its switch is on
-abbrev pub run_at_code : Constructs → Option ℕ → Reading Element
-run_at_code on None cs = None
-run_at_code on (Some c) cs = switched (begins_run on c) (attention_run c) cs
-
 -- the codes at hand read as a run
-abbrev pub run_here : Tokenizer → Reading Element
-run_here T = run_at_code (switches_of T) (current_of T)
-
--- the tree of an element that is a whole construct
-abbrev pub plain_tree : Option (Element × List Code) → Option (Forest × List Code)
-plain_tree None = None
-plain_tree (Some r) =
-    elim r.0 [
-      | plain tree ↦ Some (tree, r.1)
-      | starts kind codes ↦ None
-      | ends codes result ↦ None
-    ]
-
 abbrev pub run_tree : Tokenizer → TreeReading
-run_tree T cs = plain_tree (run_here T cs)
+run_tree T = run_here T.parse_state.now.options.now
 
 -- the codes at hand read as a run: U is past its tree, with the pass registered
 pub record ReadsRun (T U : Tokenizer) : Type 0 where

@@ -10,8 +10,9 @@ use Rattle.markdown_engine.specs.Runs.{Stepped, stepped}
 use Rattle.markdown_engine.specs.TreeOps.{consumes}
 use Rattle.markdown_engine.specs.Weights.{codes_left}
 use Rattle.markdown_model.specs.CodeTests.{is_empty, next_is, is_whitespace_code, is_among}
-use Rattle.markdown_model.specs.Grammar.{Reading, ◌>>◌, ◌then_◌, either, provided}
-use Rattle.markdown_model.specs.Literal.{letters, is_other, is_space, trails_in, domain, domain_from, path, path_from, count_if, protocol_literal, www_from_here, www_literal}
+use Rattle.markdown_model.specs.Grammar.{Reading, ◌then_◌, either}
+use Rattle.markdown_model.specs.Literal.{letters, is_other, is_space, trails_in, domain, domain_from, path, path_from, count_if, www_from_here}
+use Rattle.markdown_model.specs.Single as Single
 use Rattle.markdown_util.specs.Neighbours.{class_of, after_index}
 use Rattle.markdown_util.specs.declared.util.char.Kind.{Kind}
 use Rattle.markdown_construct.specs.Values.{letter_value, among_values}
@@ -458,7 +459,7 @@ before_of T = last_of T.cursor.codes T.cursor.at
 
 -- the codes at hand read as a literal with a protocol, where literals are on
 abbrev pub protocol_here : Tokenizer → TreeReading
-protocol_here T = provided (is_on T) >> protocol_literal (bytes_of T) (end_of T) (before_of T)
+protocol_here T = Single.protocol_here T.parse_state.now.options.now (bytes_of T) (end_of T) (before_of T)
 
 abbrev pub protocol_start_ends : Tokenizer → Bool → Tokenizer → Type 0
 protocol_start_ends T ok U = EndsAs (protocol_here T) None T.tokenize_state T ok U
@@ -518,7 +519,7 @@ www_after_ends T ok U = (ok ≡ true) × (U ≡ done (Exit N.GfmAutolinkLiteralW
 
 -- the codes at hand read as a literal from `www.` on, where literals are on
 abbrev pub www_here : Tokenizer → TreeReading
-www_here T = provided (is_on T) >> www_literal (bytes_of T) (end_of T) (before_of T)
+www_here T = Single.www_here T.parse_state.now.options.now (bytes_of T) (end_of T) (before_of T)
 
 abbrev pub www_start_ends : Tokenizer → Bool → Tokenizer → Type 0
 www_start_ends T ok U = EndsAs (www_here T) None T.tokenize_state T ok U

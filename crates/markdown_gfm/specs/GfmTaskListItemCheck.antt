@@ -6,8 +6,8 @@ use Rattle.markdown_engine.specs.Past.{EndsAs, TreeReading}
 use Rattle.markdown_engine.specs.Runs.{Stepped, stepped}
 use Rattle.markdown_engine.specs.Weights.{codes_left}
 use Rattle.markdown_model.specs.CodeTests.{is_value, is_among, is_whitespace_code, is_empty, next_is}
-use Rattle.markdown_model.specs.Grammar.{◌>>◌, provided}
-use Rattle.markdown_model.specs.Leaf.{task_check, begins_task_text}
+use Rattle.markdown_model.specs.Leaf.{begins_task_text}
+use Rattle.markdown_model.specs.Single as Single
 use Rattle.markdown_construct.specs.Values.{among_values}
 use Rattle.markdown_construct.specs.Plan.{Plan, preceded, KeepsAs}
 use Rattle.markdown_partial.specs.SpaceSteps as SpaceSteps
@@ -46,9 +46,7 @@ is_space v = (v == byte " " || v == byte "\t") || v == byte "\n"
 
 -- checks are on, and the first paragraph of a list item begins here
 abbrev pub may_begin : Tokenizer → Bool
-may_begin T =
-    T.parse_state.now.options.now.constructs.gfm_task_list_item
-    && (T.tokenize_state.document_at_first_paragraph_of_list_item && is_none (previous_of T))
+may_begin T = Single.looks_for_check T.parse_state.now.options.now T.tokenize_state.document_at_first_paragraph_of_list_item (is_none (previous_of T))
 
 abbrev pub start_at : Bool → Option ℕ → Tokenizer → Stepped
 start_at may None T = stepped Nok T
@@ -113,7 +111,7 @@ pub record IsOpened (T : Tokenizer) : Type 0 where
 
 -- the codes at hand read as a check, where one may begin
 abbrev pub check_here : Tokenizer → TreeReading
-check_here T = provided (may_begin T) >> task_check
+check_here T = Single.check_here T.parse_state.now.options.now T.tokenize_state.document_at_first_paragraph_of_list_item (is_none (previous_of T))
 
 abbrev pub start_ends : Tokenizer → Bool → Tokenizer → Type 0
 start_ends T ok U = EndsAs (check_here T) None T.tokenize_state T ok U

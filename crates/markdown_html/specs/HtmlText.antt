@@ -15,9 +15,8 @@ use Rattle.markdown_engine.specs.declared.state.StateName.{StateName}
 use Rattle.markdown_engine.specs.declared.state.StateName.TheVariants as H
 use Rattle.markdown_engine.specs.declared.tokenizer.TokenizeState.{TokenizeState}
 use Rattle.markdown_engine.specs.declared.tokenizer.Tokenizer.{Tokenizer}
-use Rattle.markdown_model.specs.Grammar.{◌>>◌, provided}
-use Rattle.markdown_model.specs.Html.{html}
 use Rattle.markdown_partial.specs.SpaceSteps as SpaceSteps
+use Rattle.markdown_model.specs.Single as Single
 use Rattle.markdown_partial.specs.SpaceSteps.{most, asked}
 use Rattle.markdown_construct.specs.Values.{letter_value, among_values}
 use Rattle.markdown_construct.specs.Plan.{DoesAs, KeepsAs}
@@ -434,7 +433,7 @@ pub record AfterReady (T : Tokenizer) : Type 0 where
 -- How runs end.
 
 abbrev pub html_here : Tokenizer → TreeReading
-html_here T = provided (is_on T) >> html
+html_here T = Single.html_here T.parse_state.now.options.now
 
 abbrev pub start_ends : Tokenizer → Bool → Tokenizer → Type 0
 start_ends T ok U = EndsAs (html_here T) None T.tokenize_state T ok U

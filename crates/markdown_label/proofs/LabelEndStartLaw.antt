@@ -39,7 +39,8 @@ use Rattle.markdown_label.specs.Fields.{bars, tried, loosened}
 use Rattle.std.specs.Str.{IsCharBoundary}
 use Rattle.std.proofs.lemmas.Bool.{eqb-true}
 use Rattle.markdown_engine.specs.declared.event.Point.{Point}
-use Rattle.markdown_label.specs.LabelEnd.{AreAround, EndsBetween, point_or, place_at, identifier_between, outcome, end_ops, ended_at, ended, start_by, is_on, start_at, AreWithin, StartReady, AfterReady, after_reading_of, after_reading, after_ends, nok_ends, lost_here, end_tree, outcome_by, end_reading, lost_starts, lost_by, lost_fields, end_made, start_ends, start_words, states}
+use Rattle.markdown_label.specs.LabelEnd.{AreAround, EndsBetween, point_or, place_at, identifier_between, end_ops, ended_at, ended, start_by, is_on, start_at, AreWithin, StartReady, AfterReady, after_reading_of, after_reading, after_ends, nok_ends, lost_here, end_tree, outcome_by, end_reading, lost_starts, lost_by, lost_fields, end_made, start_ends, start_words, states}
+use Rattle.markdown_model.specs.Single.{outcome}
 use Rattle.markdown_label.specs.Settings.{setting_in}
 use Rattle.markdown_label.proofs.LabelEndLemmas.{Fails-lost}
 use Rattle.markdown_resource.proofs.NextCodes.{at-value, at-none}

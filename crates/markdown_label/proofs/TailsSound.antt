@@ -11,7 +11,8 @@ use Rattle.markdown_model.proofs.LinkFree.{Passes, Yields, yields_bind, yields_g
 use Rattle.markdown_resource.specs.Tails.{IsSound}
 use Rattle.markdown_resource.proofs.TailLaws.{sound-after}
 use Rattle.markdown_label.specs.Fields.{bars}
-use Rattle.markdown_label.specs.LabelEnd.{outcome, outcome_by, end_reading}
+use Rattle.markdown_label.specs.LabelEnd.{outcome_by, end_reading}
+use Rattle.markdown_model.specs.Single.{outcome}
 
 sound-outcome : (s : Setting) (kind : LabelKind) (name : List ℕ) → Yields (λ o. IsSound o.1) (outcome s kind name)
 unfolding outcome

@@ -1,6 +1,5 @@
 -- What the states of the end of a label do, and how runs from them end.
-use Rattle.std.specs.Prelude.{◌≡◌, ◌≢◌, ◌≤◌, ◌<◌, ℕ, ◌+◌, ◌-◌, Bool, true, false, ◌==◌, ◌&&◌, not, is_some, if◌then◌else◌, List, [], ◌∷◌, ◌++◌, length, slice_get, Option, Some, None}
-use Rattle.std.specs.Prelude.{IsUtf8}
+use Rattle.std.specs.Prelude.{◌≡◌, ◌≢◌, ◌≤◌, ◌<◌, ℕ, ◌+◌, ◌-◌, Bool, true, false, ◌==◌, ◌&&◌, not, is_some, if◌then◌else◌, List, [], ◌∷◌, ◌++◌, length, slice_get, Option, Some, None, IsUtf8}
 use Rattle.std.specs.Str.{IsCharBoundary, byte}
 use Rattle.markdown_engine.specs.Codes.{Code, document_start}
 use Rattle.markdown_engine.specs.Grown.{Fails}
@@ -8,7 +7,7 @@ use Rattle.markdown_engine.specs.Ops.{Op, Enter, Exit, Consume, IsOpen, ahead, a
 use Rattle.markdown_engine.specs.Past.{EndsAs, TreeReading, past}
 use Rattle.markdown_engine.specs.Runs.{Stepped, stepped}
 use Rattle.markdown_engine.specs.StateWords.{StateWords}
-use Rattle.markdown_engine.specs.Tree.{Forest, empty, leaf, group, leaf_codes, start_of}
+use Rattle.markdown_engine.specs.Tree.{Forest, leaf, group, leaf_codes}
 use Rattle.markdown_engine.specs.declared.event.Event.{Event}
 use Rattle.markdown_engine.specs.declared.event.Name.TheVariants as N
 use Rattle.markdown_engine.specs.declared.event.Point.{Point}
@@ -23,10 +22,11 @@ use Rattle.markdown_engine.specs.declared.tokenizer.Tokenizer.{Tokenizer}
 use Rattle.markdown_construct.specs.Characters.{bytes_of, ReadsText}
 use Rattle.markdown_construct.specs.Plan.{Plan, KeepsAs}
 use Rattle.markdown_model.specs.CodeTests.{is_value, next_is}
-use Rattle.markdown_model.specs.Grammar.{Reading, ◌>>=◌, ◌>>◌, gives, either, provided, one}
-use Rattle.markdown_model.specs.LabelEnd.{is_footnote, bytes_between, full_reference, collapsed_reference, shortcut, after_label, link_kind, link_identifier}
+use Rattle.markdown_model.specs.Grammar.{Reading, either}
+use Rattle.markdown_model.specs.LabelEnd.{is_footnote, bytes_between, full_reference, collapsed_reference, shortcut, link_identifier}
 use Rattle.markdown_model.specs.Resource.{label, reference_names}
-use Rattle.markdown_model.specs.Setting.{Setting, is_defined}
+use Rattle.markdown_model.specs.Setting.{is_defined}
+use Rattle.markdown_model.specs.Single.{Start, outcome, outcome_at, end_here}
 use Rattle.markdown_resource.specs.Parts.{names_rested, PartReady}
 use Rattle.markdown_resource.specs.Resource as Resource
 use Rattle.markdown_string.specs.Label as Label
@@ -66,13 +66,6 @@ LabelIsAround T = (l : Kept.LabelStart) (ls : List Kept.LabelStart) → T.tokeni
 -- the text of the reference behind it
 abbrev pub ReferenceIsAround : Tokenizer → Type 0
 ReferenceIsAround T = (4 ≤ length T.events) × AreAround T (T.tokenize_state.end + 7) (length T.events - 4)
-
--- What an end makes, by the kind of its start and the identifier of its label, if the start is not barred.
-unfoldable pub outcome : Setting → LabelKind → List ℕ → Reading (LabelKind × Forest)
-outcome s kind name =
-    either
-    (provided (is_footnote kind && is_defined s.footnotes name) >> gives (LabelKind.GfmFootnote, empty))
-    (after_label s (is_defined s.definitions (link_identifier kind name)) >>= λ tail. gives (link_kind kind, tail))
 
 -- What the states do.
 
@@ -299,13 +292,17 @@ nok_ends T ok U = (ok ≡ false) × (U ≡ lost_here T)
 abbrev pub end_tree : List Code → Forest
 end_tree back = group N.LabelEnd (leaf N.LabelMarker back)
 
--- what an end makes whose `]` this is
+-- the last start kept, as the definitions see it
+abbrev pub last_start : List Event → List Kept.LabelStart → Option Start
+last_start es [] = None
+last_start es (l ∷ ls) = Some (record { kind = l.kind; stop = place_at es l.start.1; barred = bars l })
+
+-- what an end makes of the last of these starts, whose `]` this is
 abbrev pub outcome_by : List Kept.LabelStart → Tokenizer → List Code → MadeReading
-outcome_by [] T back cs = None
-outcome_by (l ∷ ls) T back cs = (provided (not (bars l)) >> outcome (setting_in T) l.kind (identifier_of (bytes_between (setting_in T) (place_at T.events l.start.1) (start_of back)))) cs
+outcome_by ls T = outcome_at (setting_in T) (last_start T.events ls)
 
 abbrev pub end_reading : Tokenizer → Reading (List Code × (LabelKind × Forest))
-end_reading T = provided (is_on T) >> (one (is_value (byte "]")) >>= λ back. outcome_by T.tokenize_state.label_starts T back >>= λ o. gives (back, o))
+end_reading T = end_here (setting_in T) (last_start T.events T.tokenize_state.label_starts)
 
 -- the fields that a failed end leaves: its start is used up, tried as a link's unless it is barred
 abbrev pub lost_starts : List Kept.LabelStart → List Kept.LabelStart

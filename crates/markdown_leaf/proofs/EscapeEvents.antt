@@ -1,7 +1,7 @@
 -- The last event of a list.
 use Rattle.std.proofs.Common.{◌≡◌, ℕ, zero, suc, ◌+◌, List, [], ◌∷◌, length, slice_index_or, ap, arith}
 use Rattle.markdown_engine.specs.declared.event.Event.{Event}
-use Rattle.markdown_leaf.specs.RawText.{ends_escape, follows_escape}
+use Rattle.markdown_model.specs.Single.{ends_escape, follows_escape}
 
 pub last-escape : (es : List Event) (n : ℕ) (e : Event) → n + 1 ≡ length es → e ≡ slice_index_or es n e → ends_escape e ≡ follows_escape es
 last-escape [] n e h k = absurd (omega (arith, h))

@@ -20,7 +20,8 @@ use Rattle.markdown_engine.proofs.OpRules.{ahead-none, ahead-some, Begins, some-
 use Rattle.markdown_model.specs.CodeTests.{is_value, is_some_code, next_is}
 use Rattle.markdown_model.specs.Leaf.{SpanNames, code_names, math_names}
 use Rattle.markdown_construct.specs.Plan.{Plan, preceded, plan_of, KeepsAs}
-use Rattle.markdown_leaf.specs.RawText.{data_step, data_stops, names_in, begun, rested, is_same, is_barred, follows_escape, code_just_before, code_is_on, math_is_on, single_dollar, opened, start_at, start_step, after_opening, sequence_open_at, between_at, after_data, data_at, after_run, sequence_close_at, StartReady, SequenceOpenReady, DataReady, SequenceCloseReady, span_at, is_hopeless, closed_ops, inside_plan, is_data, data_plan, run_naming, opening_plan, start_ends, sequence_open_ends, between_ends, data_ends, sequence_close_ends, states, between_words, data_words, sequence_close_words, sequence_open_words, start_words}
+use Rattle.markdown_leaf.specs.RawText.{data_step, data_stops, names_in, begun, rested, is_same, is_barred, code_just_before, code_is_on, math_is_on, single_dollar, opened, start_at, start_step, after_opening, sequence_open_at, between_at, after_data, data_at, after_run, sequence_close_at, StartReady, SequenceOpenReady, DataReady, SequenceCloseReady, span_at, is_hopeless, closed_ops, inside_plan, is_data, data_plan, run_naming, opening_plan, start_ends, sequence_open_ends, between_ends, data_ends, sequence_close_ends, states, between_words, data_words, sequence_close_words, sequence_open_words, start_words}
+use Rattle.markdown_model.specs.Single.{follows_escape}
 use Rattle.markdown_construct.specs.Scratch.{with_size, with_size_b}
 use Rattle.markdown_construct.specs.Renaming.{Naming, renamed}
 use Rattle.markdown_leaf.proofs.ClosingLemmas.{hopeless-none}

@@ -6,8 +6,9 @@ use Rattle.markdown_engine.specs.Past.{EndsAs, TreeReading}
 use Rattle.markdown_engine.specs.Runs.{Stepped, stepped}
 use Rattle.markdown_engine.specs.TreeOps.{consumes}
 use Rattle.markdown_model.specs.CodeTests.{is_value, is_between, is_alphanumeric, is_some_code, last_code, next_is}
-use Rattle.markdown_model.specs.Grammar.{Reading, ◌>>◌, ◌then_◌, one, provided, any_number, span, repeatedly}
-use Rattle.markdown_model.specs.Leaf.{autolink, uri, email_address, domain_label, is_scheme_code, is_uri_code, is_local_code}
+use Rattle.markdown_model.specs.Grammar.{Reading, ◌then_◌, one, any_number, span, repeatedly}
+use Rattle.markdown_model.specs.Leaf.{uri, email_address, domain_label, is_scheme_code, is_uri_code, is_local_code}
+use Rattle.markdown_model.specs.Single.{autolink_here}
 use Rattle.markdown_construct.specs.Readings.{after}
 use Rattle.markdown_construct.specs.Scratch.{AreOpen, with_size}
 use Rattle.markdown_construct.specs.Values.{letter_value, alphanumeric_value, among_values}
@@ -156,7 +157,7 @@ pub record LabelReady (T : Tokenizer) : Type 0 where
 -- How runs end.
 
 abbrev pub link_here : Tokenizer → TreeReading
-link_here T = provided (is_on T) >> autolink
+link_here T = autolink_here T.parse_state.now.options.now
 
 abbrev pub start_ends : Tokenizer → Bool → Tokenizer → Type 0
 start_ends T ok U = EndsAs (link_here T) None T.tokenize_state T ok U

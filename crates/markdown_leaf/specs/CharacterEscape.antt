@@ -4,8 +4,7 @@ use Rattle.markdown_engine.specs.Ops.{Op, Enter, Exit, Consume, done, current_of
 use Rattle.markdown_engine.specs.Past.{EndsAs, TreeReading}
 use Rattle.markdown_engine.specs.Runs.{Stepped, stepped}
 use Rattle.markdown_model.specs.CodeTests.{is_ascii_punctuation, next_is}
-use Rattle.markdown_model.specs.Grammar.{◌>>◌, provided}
-use Rattle.markdown_model.specs.Leaf.{escape}
+use Rattle.markdown_model.specs.Single as Single
 use Rattle.markdown_construct.specs.Plan.{Plan, KeepsAs}
 use Rattle.markdown_engine.specs.declared.event.Name.TheVariants as N
 use Rattle.markdown_engine.specs.declared.state.State.TheVariants.{Next, Nok}
@@ -47,7 +46,7 @@ inside_step T = inside_at (current_of T) T
 
 -- the codes at hand read as an escape, where escapes are on
 abbrev pub escape_here : Tokenizer → TreeReading
-escape_here T = provided (is_on T) >> escape
+escape_here T = Single.escape_here T.parse_state.now.options.now
 
 abbrev pub start_ends : Tokenizer → Bool → Tokenizer → Type 0
 start_ends T ok U = EndsAs (escape_here T) None T.tokenize_state T ok U

@@ -9,8 +9,9 @@ use Rattle.markdown_engine.specs.Past.{EndsAs, TreeReading}
 use Rattle.markdown_engine.specs.Runs.{Stepped, stepped}
 use Rattle.markdown_engine.specs.TreeOps.{consumes}
 use Rattle.markdown_model.specs.CodeTests.{is_value, is_among, is_between, is_alphanumeric, next_is, values_of}
-use Rattle.markdown_model.specs.Grammar.{◌>>◌, provided, span}
-use Rattle.markdown_model.specs.Leaf.{reference, is_name}
+use Rattle.markdown_model.specs.Grammar.{span}
+use Rattle.markdown_model.specs.Leaf.{is_name}
+use Rattle.markdown_model.specs.Single as Single
 use Rattle.markdown_util.specs.Reference.{Table, IsMarker, html_5_rows, named_value, value_size_max, is_value_byte}
 use Rattle.markdown_construct.specs.Plan.{Plan, preceded, DoesAs}
 use Rattle.markdown_engine.specs.declared.event.Name.TheVariants as N
@@ -156,7 +157,7 @@ value_step T = value_at (current_of T) T
 
 -- the codes at hand read as a reference, where these are on
 abbrev pub reference_here : Tokenizer → TreeReading
-reference_here T = provided (is_on T) >> reference html_5_rows
+reference_here T = Single.reference_here T.parse_state.now.options.now html_5_rows
 
 abbrev pub start_ends : Tokenizer → Bool → Tokenizer → Type 0
 start_ends T ok U = EndsAs (reference_here T) None T.tokenize_state T ok U

@@ -5,8 +5,7 @@ use Rattle.markdown_engine.specs.Ops.{Op, Enter, Exit, Consume, done, current_of
 use Rattle.markdown_engine.specs.Past.{EndsAs, TreeReading}
 use Rattle.markdown_engine.specs.Runs.{Stepped, stepped}
 use Rattle.markdown_model.specs.CodeTests.{next_is}
-use Rattle.markdown_model.specs.Grammar.{◌>>◌, provided}
-use Rattle.markdown_model.specs.Leaf.{hard_break_escape}
+use Rattle.markdown_model.specs.Single as Single
 use Rattle.markdown_construct.specs.Plan.{Plan, KeepsAs}
 use Rattle.markdown_engine.specs.declared.event.Name.TheVariants as N
 use Rattle.markdown_engine.specs.declared.state.State.TheVariants.{Next, Nok}
@@ -45,7 +44,7 @@ after_step T = after_at (current_of T) T
 
 -- the codes at hand read as a hard break, where these are on
 abbrev pub break_here : Tokenizer → TreeReading
-break_here T = provided (is_on T) >> hard_break_escape
+break_here T = Single.break_here T.parse_state.now.options.now
 
 abbrev pub start_ends : Tokenizer → Bool → Tokenizer → Type 0
 start_ends T ok U = EndsAs (break_here T) None T.tokenize_state T ok U

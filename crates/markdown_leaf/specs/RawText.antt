@@ -1,5 +1,5 @@
 -- What the states of code spans and math spans do, and how runs from them end.
-use Rattle.std.specs.Prelude.{◌≡◌, ℕ, ◌+◌, ◌<◌, ◌^◌, Bool, true, false, ◌&&◌, ◌||◌, not, nat_lt, ◌==◌, if◌then◌else◌, Option, Some, None, codes, List, [], ◌∷◌, ◌++◌, length}
+use Rattle.std.specs.Prelude.{◌≡◌, ℕ, ◌+◌, Bool, false, ◌&&◌, ◌||◌, not, ◌==◌, if◌then◌else◌, Option, Some, None, codes, List, [], ◌∷◌, ◌++◌, length}
 use Rattle.markdown_engine.specs.Codes.{Code, is_line_ending}
 use Rattle.markdown_engine.specs.Ops.{Op, Enter, Exit, Consume, IsOpen, done, current_of, previous_of, scratched}
 use Rattle.markdown_engine.specs.Past.{EndsAs, TreeReading}
@@ -10,15 +10,13 @@ use Rattle.markdown_engine.specs.Steady.{alone_among}
 use Rattle.markdown_engine.specs.Tree.{◌⊕◌, leaf}
 use Rattle.markdown_engine.specs.TreeOps.{consumes, ops_of}
 use Rattle.markdown_model.specs.CodeTests.{is_value}
-use Rattle.markdown_model.specs.Grammar.{◌>>◌, provided, either, span}
-use Rattle.markdown_model.specs.Leaf.{SpanNames, code_names, math_names, span_here, closing}
+use Rattle.markdown_model.specs.Grammar.{span}
+use Rattle.markdown_model.specs.Leaf.{SpanNames, code_names, math_names, closing}
+use Rattle.markdown_model.specs.Single.{follows_escape, code_or_math_here}
 use Rattle.markdown_model.specs.Lines.{line_leaves}
 use Rattle.markdown_construct.specs.Plan.{Plan, preceded, DoesAs}
 use Rattle.markdown_construct.specs.Scratch.{Fits, AreOpen, with_size, with_size_b}
 use Rattle.markdown_construct.specs.Renaming.{Naming, NamesAs, under, renamed, HasEvent}
-use Rattle.markdown_engine.specs.declared.event.Event.{Event}
-use Rattle.markdown_engine.specs.declared.event.Kind.{Kind}
-use Rattle.markdown_engine.specs.declared.event.Name.{Name}
 use Rattle.markdown_engine.specs.declared.event.Name.TheVariants as N
 use Rattle.markdown_engine.specs.declared.state.State.TheVariants.{Next, Retry, Nok}
 use Rattle.markdown_engine.specs.declared.state.State.TheVariants as State
@@ -43,22 +41,6 @@ abbrev pub rested : TokenizeState → TokenizeState
 rested s = record s { marker = 0; size = 0; size_b = 0; token_1 = N.Data; token_2 = N.Data; token_3 = N.Data }
 
 -- Where a span may start.
-
-abbrev pub is_exit : Kind → Bool
-is_exit Kind.Exit = true
-is_exit Kind.Enter = false
-
-abbrev pub is_escape : Name → Bool
-is_escape N.CharacterEscape = true
-is_escape _ = false
-
-abbrev pub ends_escape : Event → Bool
-ends_escape e = is_exit e.kind && is_escape e.name
-
--- the last event is the end of an escape
-abbrev pub follows_escape : List Event → Bool
-follows_escape [] = false
-follows_escape (e ∷ es) = elim es [ [] ↦ ends_escape e | x ∷ xs ↦ follows_escape es ]
 
 abbrev pub is_same : ℕ → Option ℕ → Bool
 is_same n None = false
@@ -206,9 +188,7 @@ code_just_before T = last_of T.cursor.codes T.cursor.at
 
 -- the codes at hand read as a code span or as a math span, where these are on
 abbrev pub span_at : Tokenizer → TreeReading
-span_at T =
-    either (provided (code_is_on T) >> span_here (byte "`") code_names (λ n. true) (follows_escape T.events) (code_just_before T))
-    (provided (math_is_on T) >> span_here (byte "$") math_names (λ n. single_dollar T || nat_lt 1 n) (follows_escape T.events) (code_just_before T))
+span_at T = code_or_math_here T.parse_state.now.options.now (follows_escape T.events) (code_just_before T)
 
 abbrev pub start_ends : Tokenizer → Bool → Tokenizer → Type 0
 start_ends T ok U = EndsAs (span_at T) None T.tokenize_state T ok U

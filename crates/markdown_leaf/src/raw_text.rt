@@ -8,7 +8,8 @@
 
 ghost use Rattle.std.specs.Prelude.{◌≡◌, IfOk, OnErr, IsTrue};
 ghost use Rattle.markdown_engine.specs.Ops.{HasCode, scratched};
-ghost use Rattle.markdown_leaf.specs.RawText.{start_step, sequence_open_step, between_step, data_step, data_stops, sequence_close_step, after_opening, after_run, opened, is_barred, is_hopeless, ends_escape, follows_escape, rested, names_in, SequenceOpenReady, BetweenReady, DataReady, SequenceCloseReady};
+ghost use Rattle.markdown_leaf.specs.RawText.{start_step, sequence_open_step, between_step, data_step, data_stops, sequence_close_step, after_opening, after_run, opened, is_barred, is_hopeless, rested, names_in, SequenceOpenReady, BetweenReady, DataReady, SequenceCloseReady};
+ghost use Rattle.markdown_model.specs.Single.{ends_escape, follows_escape};
 
 use crate::renaming::rename_entered;
 use markdown_engine::byte_set;

@@ -14,5 +14,6 @@ pub mod Runs
 pub mod Pairs
 pub mod Groups
 pub mod Passes
+pub mod Single
 pub mod Inline
 pub mod Laws

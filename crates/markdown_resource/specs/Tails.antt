@@ -1,7 +1,7 @@
 -- What may follow a label, as the rows of a text ask for it.
 use Rattle.std.specs.Prelude.{◌≡◌, false}
 use Rattle.markdown_engine.specs.Tree.{Forest, empty, leaf_then, group_then}
-use Rattle.markdown_leaf.specs.RawText.{is_escape}
+use Rattle.markdown_model.specs.Single.{is_escape}
 use Rattle.markdown_partial.specs.DataLines.{HasLines}
 
 -- nothing, or one group that is no escape

@@ -19,7 +19,8 @@ use Rattle.markdown_engine.specs.declared.tokenizer.Tokenizer.{Tokenizer}
 use Rattle.markdown_engine.proofs.EndsLemmas.{row-empty, scratched-same}
 use Rattle.markdown_engine.proofs.OpRules.{ahead-moved, ahead-none, current-ahead, first-drop, left-ahead}
 use Rattle.markdown_engine.specs.declared.resolve.ResolveName.TheVariants as R
-use Rattle.markdown_leaf.specs.RawText.{ends_escape, follows_escape, code_just_before, is_escape}
+use Rattle.markdown_leaf.specs.RawText.{code_just_before}
+use Rattle.markdown_model.specs.Single.{ends_escape, follows_escape, is_escape}
 use Rattle.markdown_construct.proofs.StretchLemmas.{BeginsWith, stretches-begin}
 use Rattle.markdown_construct.proofs.WholeReadings.{both-parts}
 use Rattle.markdown_model.specs.CodeTests.{is_among, next_is, last_code}

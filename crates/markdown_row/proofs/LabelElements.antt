@@ -24,7 +24,8 @@ use Rattle.markdown_label.specs.LabelEnd.{point_or, place_at, end_made, end_tree
 use Rattle.markdown_label.specs.Starts.{StandFor, KeepsStarts}
 use Rattle.markdown_label.proofs.LabelEndLemmas.{cursor-before, events-before, scratch-before}
 use Rattle.markdown_label.proofs.StartStack.{starts-start, starts-made, starts-lost}
-use Rattle.markdown_leaf.specs.RawText.{is_escape, follows_escape, code_just_before}
+use Rattle.markdown_leaf.specs.RawText.{code_just_before}
+use Rattle.markdown_model.specs.Single.{is_escape, follows_escape}
 use Rattle.markdown_model.proofs.DataLaws.{code_leaf}
 use Rattle.markdown_model.proofs.ReadingLaws.{code_before-append}
 use Rattle.markdown_model.specs.CodeTests.{is_among, last_code}

@@ -13,7 +13,8 @@ use Rattle.markdown_engine.proofs.TreeLemmas.{ops-past, ahead-past}
 use Rattle.markdown_attention.specs.Reading.{is_run}
 use Rattle.markdown_emphasis.proofs.Quiet.{is_mark, marks, IsQuiet, quiet_after_label}
 use Rattle.markdown_label.specs.Fields.{bars}
-use Rattle.markdown_label.specs.LabelEnd.{outcome, outcome_by, end_reading, is_on}
+use Rattle.markdown_label.specs.LabelEnd.{outcome_by, end_reading, is_on}
+use Rattle.markdown_model.specs.Single.{outcome}
 use Rattle.markdown_label.specs.LabelStarts.{kept_start, link_ops, link_ends, footnote_front, footnote_back, footnote_ends, image_front, image_back, image_ends}
 use Rattle.markdown_label.specs.Settings.{setting_in}
 use Rattle.markdown_label.proofs.LabelEndLemmas.{cursor-before}

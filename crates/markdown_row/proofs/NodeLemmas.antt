@@ -9,7 +9,8 @@ use Rattle.markdown_engine.specs.declared.event.Content.{Content}
 use Rattle.markdown_engine.specs.declared.event.Name.{Name}
 use Rattle.markdown_engine.specs.declared.event.Name.TheVariants as N
 use Rattle.markdown_engine.specs.declared.tokenizer.Tokenizer.{Tokenizer}
-use Rattle.markdown_leaf.specs.RawText.{is_escape, span_at, single_dollar, follows_escape, code_just_before}
+use Rattle.markdown_leaf.specs.RawText.{span_at, single_dollar, code_just_before}
+use Rattle.markdown_model.specs.Single.{is_escape, follows_escape}
 use Rattle.std.specs.List.{list_any}
 use Rattle.std.proofs.lemmas.Bool.{eqb-true, or_from}
 use Rattle.markdown_model.specs.CodeTests.{is_empty, is_value, next_is, is_among}

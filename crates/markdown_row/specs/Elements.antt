@@ -6,7 +6,8 @@ use Rattle.markdown_engine.specs.Past.{TreeReading, Reads}
 use Rattle.markdown_engine.specs.Weights.{codes_left}
 use Rattle.markdown_engine.specs.declared.tokenizer.Tokenizer.{Tokenizer}
 use Rattle.markdown_label.specs.Starts.{KeepsStarts}
-use Rattle.markdown_leaf.specs.RawText.{follows_escape, code_just_before}
+use Rattle.markdown_leaf.specs.RawText.{code_just_before}
+use Rattle.markdown_model.specs.Single.{follows_escape}
 use Rattle.markdown_model.specs.Element.{Choice, AreElementsFrom, ends_escaped}
 use Rattle.markdown_model.specs.LabelEnd.{Element}
 use Rattle.markdown_row.specs.Row.{Row, past_row, row_codes, split_row, row_of_elements, kinds_of, IsRowAt, HaveCodes}

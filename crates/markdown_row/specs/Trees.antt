@@ -8,7 +8,7 @@ use Rattle.markdown_engine.specs.declared.event.Name.{Name}
 use Rattle.markdown_engine.specs.declared.event.Name.TheVariants as N
 use Rattle.markdown_attention.specs.Reading.{is_run}
 use Rattle.markdown_attention.specs.Rows.{has_run}
-use Rattle.markdown_leaf.specs.RawText.{is_escape}
+use Rattle.markdown_model.specs.Single.{is_escape}
 use Rattle.markdown_partial.specs.Merge.{is_data}
 use Rattle.markdown_partial.specs.TrimEvents.{is_ending}
 

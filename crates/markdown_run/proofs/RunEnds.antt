@@ -25,7 +25,7 @@ use Rattle.markdown_emphasis.specs.Pass.{IsProbed}
 use Rattle.markdown_emphasis.proofs.Good.{IsGood}
 use Rattle.markdown_label.specs.Starts.{StandFor}
 use Rattle.markdown_label_pass.specs.Brackets.{grouped}
-use Rattle.markdown_leaf.specs.RawText.{follows_escape}
+use Rattle.markdown_model.specs.Single.{follows_escape}
 use Rattle.markdown_model.specs.Element.{Choice, AreElementsFrom}
 use Rattle.markdown_model.specs.Groups.{paired}
 use Rattle.markdown_model.specs.LabelEnd.{Element}

@@ -1,12 +1,12 @@
 -- Single constructs: what is read at a tokenizer's place, by the name of the state that starts it.
-use Rattle.std.specs.Prelude.{◌≡◌, ℕ, Bool, true, false, List, Option, Some, None}
+use Rattle.std.specs.Prelude.{◌≡◌, ℕ, Bool, true, false, List, Option, Some, None, is_none}
 use Rattle.markdown_engine.specs.Codes.{Code}
-use Rattle.markdown_engine.specs.Ops.{ahead, registered, scratched}
+use Rattle.markdown_engine.specs.Ops.{ahead, previous_of, registered, scratched}
 use Rattle.markdown_engine.specs.Past.{TreeReading, Reads, link_before}
+use Rattle.markdown_engine.specs.Place.{last_of}
 use Rattle.markdown_engine.specs.Tree.{Forest}
-use Rattle.markdown_engine.specs.declared.configuration.Constructs.{Constructs}
+use Rattle.markdown_engine.specs.declared.configuration.ParseOptions.{ParseOptions}
 use Rattle.markdown_engine.specs.declared.resolve.ResolveName.{ResolveName}
-use Rattle.markdown_engine.specs.declared.resolve.ResolveName.TheVariants as R
 use Rattle.markdown_engine.specs.declared.state.StateName.{StateName}
 use Rattle.markdown_engine.specs.declared.state.StateName.TheVariants.{AttentionStart, AutolinkStart, CharacterEscapeStart, CharacterReferenceStart, DataStart, DestinationStart, LabelStart, TitleStart, GfmAutolinkLiteralProtocolStart, GfmAutolinkLiteralWwwStart, GfmLabelStartFootnoteStart, GfmTaskListItemCheckStart, HardBreakEscapeStart, HtmlTextStart, LabelEndStart, LabelStartImageStart, LabelStartLinkStart, RawTextStart, SpaceOrTabStart, SpaceOrTabEolStart}
 use Rattle.markdown_engine.specs.declared.tokenizer.LabelKind.{LabelKind}
@@ -19,20 +19,21 @@ use Rattle.markdown_html.specs.HtmlText as HtmlText
 use Rattle.markdown_label.specs.LabelEnd as LabelEnd
 use Rattle.markdown_leaf.specs.CharacterReference as CharacterReference
 use Rattle.markdown_leaf.specs.RawText as RawText
-use Rattle.markdown_model.specs.Element.{switched, image_start, footnote_start, link_start}
-use Rattle.markdown_model.specs.Grammar.{Reading, ◌>>◌, provided}
+use Rattle.markdown_model.specs.Grammar.{Reading}
+use Rattle.markdown_label.specs.LabelEnd.{last_start, lost_fields}
+use Rattle.markdown_text.specs.Settings.{setting_of}
 use Rattle.markdown_model.specs.LabelEnd.{Element, starts}
-use Rattle.markdown_model.specs.Leaf.{escape, reference, hard_break_escape, autolink}
 use Rattle.markdown_model.specs.Lines.{data_up_to}
+use Rattle.markdown_model.specs.Resource.{DestinationNames, StringNames, destination, title, label}
+use Rattle.markdown_model.specs.Single.{follows_escape}
+use Rattle.markdown_model.specs.Single as Single
 use Rattle.markdown_model.specs.Whitespace.{space_or_tab, spacing}
-use Rattle.markdown_model.specs.Resource.{destination, title, label}
 use Rattle.markdown_partial.specs.EolSteps as EolSteps
 use Rattle.markdown_partial.specs.SpaceSteps as SpaceSteps
 use Rattle.markdown_row.specs.Row.{begins, makes, past_mark}
 use Rattle.markdown_string.specs.Destination as Destination
 use Rattle.markdown_string.specs.Title as Title
 use Rattle.markdown_string.specs.Label as Label
-use Rattle.markdown_string.specs.Text as Text
 use Rattle.markdown_util.specs.Reference.{html_5_rows}
 
 -- The states that start a construct, each with what it asks for: the scratch fields that it counts in are at rest. A span, whitespace with a
@@ -64,23 +65,51 @@ IsConstruct SpaceOrTabStart T = SpaceSteps.StartReady T
 IsConstruct SpaceOrTabEolStart T = EolSteps.StartReady T
 IsConstruct _ T = ⊥
 
+-- What a reading takes of a tokenizer: the options, whether an escape ends right before the place, the code before it, whether that is the content's
+-- first place, the document, and where the content ends.
+
+abbrev pub options_here : Tokenizer → ParseOptions
+options_here T = T.parse_state.now.options.now
+
+abbrev pub escaped_here : Tokenizer → Bool
+escaped_here T = follows_escape T.events
+
+abbrev pub before_here : Tokenizer → Option Code
+before_here T = last_of T.cursor.codes T.cursor.at
+
+abbrev pub is_first_here : Tokenizer → Bool
+is_first_here T = is_none (previous_of T)
+
+abbrev pub bytes_here : Tokenizer → List ℕ
+bytes_here T = T.parse_state.now.bytes.now
+
+abbrev pub end_here : Tokenizer → ℕ
+end_here T = T.cursor.end.index
+
+-- the names that are asked for, of a destination and of another text
+abbrev pub destination_names : TokenizeState → DestinationNames
+destination_names s = record { whole = s.token_1; literal = s.token_2; marker = s.token_3; raw = s.token_4; text = s.token_5 }
+
+abbrev pub string_names : TokenizeState → StringNames
+string_names s = record { whole = s.token_1; marker = s.token_2; text = s.token_3 }
+
 -- what is read: what stands in the standard under the construct's name, where it is looked for; data up to the next marker; or the
 -- whitespace that is asked for
 abbrev pub construct_reading : StateName → Tokenizer → TreeReading
-construct_reading CharacterEscapeStart T = provided T.parse_state.now.options.now.constructs.character_escape >> escape
-construct_reading CharacterReferenceStart T = provided T.parse_state.now.options.now.constructs.character_reference >> reference html_5_rows
-construct_reading HardBreakEscapeStart T = provided T.parse_state.now.options.now.constructs.hard_break_escape >> hard_break_escape
-construct_reading AutolinkStart T = provided T.parse_state.now.options.now.constructs.autolink >> autolink
-construct_reading DestinationStart T = destination T.tokenize_state.size_b (Destination.names_in T.tokenize_state)
-construct_reading TitleStart T = title (Text.names_in T.tokenize_state)
-construct_reading LabelStart T = label (Text.names_in T.tokenize_state)
-construct_reading HtmlTextStart T = HtmlText.html_here T
-construct_reading RawTextStart T = RawText.span_at T
-construct_reading AttentionStart T = Attention.run_tree T
+construct_reading CharacterEscapeStart T = Single.escape_here (options_here T)
+construct_reading CharacterReferenceStart T = Single.reference_here (options_here T) html_5_rows
+construct_reading HardBreakEscapeStart T = Single.break_here (options_here T)
+construct_reading AutolinkStart T = Single.autolink_here (options_here T)
+construct_reading DestinationStart T = destination T.tokenize_state.size_b (destination_names T.tokenize_state)
+construct_reading TitleStart T = title (string_names T.tokenize_state)
+construct_reading LabelStart T = label (string_names T.tokenize_state)
+construct_reading HtmlTextStart T = Single.html_here (options_here T)
+construct_reading RawTextStart T = Single.code_or_math_here (options_here T) (escaped_here T) (before_here T)
+construct_reading AttentionStart T = Single.run_here (options_here T)
 construct_reading DataStart T = data_up_to T.tokenize_state.markers
-construct_reading GfmTaskListItemCheckStart T = GfmTaskListItemCheck.check_here T
-construct_reading GfmAutolinkLiteralProtocolStart T = GfmAutolinkLiteral.protocol_here T
-construct_reading GfmAutolinkLiteralWwwStart T = GfmAutolinkLiteral.www_here T
+construct_reading GfmTaskListItemCheckStart T = Single.check_here (options_here T) T.tokenize_state.document_at_first_paragraph_of_list_item (is_first_here T)
+construct_reading GfmAutolinkLiteralProtocolStart T = Single.protocol_here (options_here T) (bytes_here T) (end_here T) (before_here T)
+construct_reading GfmAutolinkLiteralWwwStart T = Single.www_here (options_here T) (bytes_here T) (end_here T) (before_here T)
 construct_reading SpaceOrTabStart T =
     let s : TokenizeState = T.tokenize_state in
     space_or_tab s.space_or_tab_token s.space_or_tab_content s.space_or_tab_min s.space_or_tab_max
@@ -101,19 +130,19 @@ fields_after _ s = s
 
 -- the pass that is registered after: that of runs after a run of markers
 abbrev pub pass_after : StateName → Option ResolveName
-pass_after AttentionStart = Some R.Attention
+pass_after AttentionStart = Some CharacterReference.Attention
 pass_after _ = None
-
--- where it is looked for
-abbrev pub on_here : Tokenizer → Constructs
-on_here T = T.parse_state.now.options.now.constructs
 
 -- the start of a label that is read (CommonMark 6.3 and 6.4; footnotes)
 abbrev pub start_reading : StateName → Tokenizer → Reading Element
-start_reading LabelStartImageStart T = switched (on_here T).label_start_image (image_start (on_here T).gfm_label_start_footnote)
-start_reading LabelStartLinkStart T = switched (on_here T).label_start_link link_start
-start_reading GfmLabelStartFootnoteStart T = switched (on_here T).gfm_label_start_footnote footnote_start
+start_reading LabelStartImageStart T = Single.image_start_here (options_here T)
+start_reading LabelStartLinkStart T = Single.link_start_here (options_here T)
+start_reading GfmLabelStartFootnoteStart T = Single.footnote_start_here (options_here T)
 start_reading _ T = λ cs. None
+
+-- the end of a label that is read, by the last start kept
+abbrev pub end_reading : Tokenizer → Reading (List Code × (LabelKind × Forest))
+end_reading T = Single.end_here (setting_of T.parse_state.now) (last_start T.events T.tokenize_state.label_starts)
 
 -- the codes at the place are read so, and U is T past the tree, with these scratch fields and this pass registered
 abbrev pub ReadsWith : Option ResolveName → TreeReading → Option ℕ → TokenizeState → Tokenizer → Tokenizer → Type 0
@@ -134,8 +163,8 @@ BeginsOrStays reading T false U = (reading (ahead T) ≡ None) × (U ≡ T)
 -- T but for the scratch fields: where a `]` stands here and ends are on, the last start is used up
 abbrev pub EndsOrLoses : Tokenizer → Bool → Tokenizer → Type 0
 EndsOrLoses T true U =
-    (back : List Code) × ((kind : LabelKind) × ((tail : Forest) × ((LabelEnd.end_reading T (ahead T) ≡ Some ((back, (kind, tail)), ahead U)) × (U ≡ past_mark (makes back kind tail) T))))
-EndsOrLoses T false U = (LabelEnd.end_reading T (ahead T) ≡ None) × (U ≡ scratched (LabelEnd.lost_fields T) T)
+    (back : List Code) × ((kind : LabelKind) × ((tail : Forest) × ((end_reading T (ahead T) ≡ Some ((back, (kind, tail)), ahead U)) × (U ≡ past_mark (makes back kind tail) T))))
+EndsOrLoses T false U = (end_reading T (ahead T) ≡ None) × (U ≡ scratched (lost_fields T) T)
 
 -- how a construct ends
 abbrev pub ConstructEnds : StateName → Tokenizer → Bool → Tokenizer → Type 0

@@ -8,7 +8,6 @@ use Rattle.markdown_engine.specs.Ops.{ahead, current_of}
 use Rattle.markdown_engine.specs.Past.{Reads}
 use Rattle.markdown_engine.specs.Tree.{Forest}
 use Rattle.markdown_engine.specs.declared.tokenizer.LabelKind.{LabelKind}
-use Rattle.markdown_engine.specs.declared.tokenizer.LabelStart as Kept
 use Rattle.markdown_engine.specs.declared.tokenizer.Tokenizer.{Tokenizer}
 use Rattle.markdown_engine.proofs.OpRules.{Begins, ahead-some}
 use Rattle.markdown_gfm.specs.GfmTaskListItemCheck.{check_here}
@@ -16,7 +15,7 @@ use Rattle.markdown_label.specs.LabelEnd.{Ends, end_reading, is_on, outcome_by}
 use Rattle.markdown_label.specs.LabelStarts.{link_test, link_ends, footnote_test, footnote_ends, footnotes_on, image_test, image_ends}
 use Rattle.markdown_label.specs.Settings.{setting_in}
 use Rattle.markdown_label.proofs.LabelEndStartLaw.{reading-at}
-use Rattle.markdown_label.proofs.StartStack.{end-made, end-fails, made_by}
+use Rattle.markdown_label.proofs.StartStack.{end-made, end-fails}
 use Rattle.markdown_model.proofs.ReadingSteps.{and-left, and-right, bind-some, bind-none, one-here, one-not, before-some, before-other, before-none, either-some, either-second, switched-on, switched-off}
 use Rattle.markdown_model.specs.CodeTests.{is_value, next_is}
 use Rattle.markdown_model.specs.Element.{image_start, footnote_start, link_start, switched}
@@ -236,10 +235,6 @@ none-back : (x : List Code) (o : Option ((LabelKind × Forest) × List Code)) �
 none-back x None e = refl
 none-back x (Some r) e = cc
 
-same-made : (ls : List Kept.LabelStart) (T : Tokenizer) (back cs : List Code) → outcome_by ls T back cs ≡ made_by (setting_in T) T.events ls back cs
-same-made [] T back cs = refl
-same-made (l ∷ ls) T back cs = refl
-
 module _ (T : Tokenizer) (here : current_of T ≡ Some (byte "]")) (on : is_on T ≡ true) where
   abbrev B : Begins (byte "]") (ahead T)
   B = ahead-some T (byte "]") here
@@ -262,7 +257,7 @@ module _ (T : Tokenizer) (here : current_of T ≡ Some (byte "]")) (on : is_on T
       ap (text_choice_of T earlier previous) B.whole
       ∙ end-element (text_setting T) (end_in T) earlier previous B.code behind (ends (B.code ∷ []) (Some (k.kind, k.tail)), k.rest) B.value on
       (same-end T earlier (B.code ∷ behind)
-      ∙ end-made (setting_in T) earlier T.events T.tokenize_state.label_starts B.code behind k.kind k.tail k.rest stands.keeps closes (sym (same-made T.tokenize_state.label_starts T (B.code ∷ []) behind) ∙ parts.1))
+      ∙ end-made (setting_in T) earlier T.events T.tokenize_state.label_starts B.code behind k.kind k.tail k.rest stands.keeps closes parts.1)
       ∙ ap (λ ws. Some (ends ws (Some (k.kind, k.tail)), k.rest)) parts.0)
 
   -- where it makes none, its `]` is the first code of the data behind it
@@ -273,7 +268,7 @@ module _ (T : Tokenizer) (here : current_of T ≡ Some (byte "]")) (on : is_on T
       end-element (text_setting T) (end_in T) earlier previous B.code behind (ends (B.code ∷ []) None, behind) B.value on
       (same-end T earlier (B.code ∷ behind)
       ∙ end-fails (setting_in T) earlier T.events T.tokenize_state.label_starts B.code behind stands.keeps closes
-      (sym (same-made T.tokenize_state.label_starts T (B.code ∷ []) behind) ∙ none-back (B.code ∷ []) _ (sym reads ∙ none))))
+      (none-back (B.code ∷ []) _ (sym reads ∙ none))))
       (other-data T)
 
 -- where ends are off

@@ -32,9 +32,9 @@ use Rattle.markdown_row.specs.Elements.{StandsAfter}
 use Rattle.markdown_row.specs.Trees.{IsNode, IsRunLeaf}
 use Rattle.markdown_text.proofs.TableLemmas.{one-of}
 use Rattle.markdown_text.specs.TextSteps.{text_markers, text_setting, text_choice_of, EndsWithCodes, StandsAlone}
-use Rattle.markdown_attention.specs.Attention.{begins_run, switches_of, run_at_code, plain_tree, run_tree}
-use Rattle.markdown_attention.proofs.AttentionLaws.{run-some, run-none}
-use Rattle.markdown_model.specs.Element.{switched, attention_run}
+use Rattle.markdown_attention.specs.Attention.{switches_of, run_tree}
+use Rattle.markdown_model.specs.Single.{begins_run}
+use Rattle.markdown_attention.proofs.AttentionLaws.{run-some, run-none, run-at, run-ahead}
 use Rattle.markdown_row.proofs.NodeLemmas.{run-node}
 use Rattle.markdown_run.specs.Laws.TextElements.{is_marker, run_markers, run-element, run-off, plain_of, plain-switched, off-or-none, check-element, span-element, reference-element, autolink-element, html-element, escape-element, break-element, other-element, protocol-element, www-element}
 use Rattle.markdown_model.proofs.ReadingSteps.{bind-none}
@@ -177,24 +177,20 @@ www-alone T v last e h =
 
 -- Runs of markers.
 
--- what stands at a marker
-run-at : (T : Tokenizer) (v : ℕ) (cs : List Code) → current_of T ≡ Some v → plain_tree (switched (begins_run (switches_of T) v) (attention_run v) cs) ≡ run_tree T cs
-run-at T v cs e = ap (λ o. plain_tree (run_at_code (switches_of T) o cs)) (sym e)
-
 pub run-reads : (T : Tokenizer) (v : ℕ) → current_of T ≡ Some v → is_marker v ≡ true → ReadsElements (run_tree T) T
 run-reads T v e m =
     at-hand (run_tree T) T v e (λ c cs t rest k holds earlier previous stands.
-    run-element (text_setting T) (end_in T) earlier previous v c cs t rest m k (run-some t rest v (begins_run (switches_of T) v) (c ∷ cs) (run-at T v (c ∷ cs) e ∙ holds)))
+    run-element (text_setting T) (end_in T) earlier previous v c cs t rest m k (run-some t rest v (begins_run (switches_of T) v) (c ∷ cs) (sym (run-at T v c cs k) ∙ holds)))
 
 pub run-alone : (T : Tokenizer) (v : ℕ) → current_of T ≡ Some v → is_marker v ≡ true → OrStandsAlone (run_tree T) T
 run-alone T v e m =
     alone-at (run_tree T) T v e (λ c cs k none earlier previous stands.
-    run-off (text_setting T) (end_in T) earlier previous v c cs m k (run-none v (begins_run (switches_of T) v) (c ∷ cs) (run-at T v (c ∷ cs) e ∙ none)))
+    run-off (text_setting T) (end_in T) earlier previous v c cs m k (run-none v (begins_run (switches_of T) v) (c ∷ cs) (sym (run-at T v c cs k) ∙ none)))
 
 -- and it is a leaf that stands by itself
 pub run-leaf : (T : Tokenizer) (v : ℕ) (t : Forest) (rest : List Code) → current_of T ≡ Some v → is_marker v ≡ true → run_tree T (ahead T) ≡ Some (t, rest) → IsRunLeaf t
 run-leaf T v t rest e m holds =
-    run-node v (begins_run (switches_of T) v) (ahead T) t rest (no-ending v m) (run-some t rest v (begins_run (switches_of T) v) (ahead T) (run-at T v (ahead T) e ∙ holds))
+    run-node v (begins_run (switches_of T) v) (ahead T) t rest (no-ending v m) (run-some t rest v (begins_run (switches_of T) v) (ahead T) (sym (run-ahead T v e) ∙ holds))
   where
     no-ending : (n : ℕ) → is_marker n ≡ true → (n == byte "\n") ≡ false
     no-ending n h = one-of (λ x. (x == byte "\n") ≡ false) run_markers n (refl, (refl, (refl, tt))) h
