@@ -14,8 +14,8 @@ use Rattle.markdown_model.specs.Grammar.{Reading, ◌>>=◌, ◌>>◌, gives, ei
 use Rattle.markdown_model.specs.LabelEnd.{is_footnote, full_reference, collapsed_reference, shortcut, shortcut_before_bracket, reference_after_label, after_label, link_kind, link_identifier}
 use Rattle.markdown_model.specs.Resource.{resource, label, reference_names}
 use Rattle.markdown_model.specs.Setting.{Setting, is_defined}
-use Rattle.markdown_model.proofs.ReadingSteps.{bind-some, bind-none, one-here, one-not, either-some, either-second, switched-on, switched-off, and-false}
-use Rattle.markdown_label.specs.LabelEnd.{outcome, collapsed_front, collapsed_back, collapsed_open_plan}
+use Rattle.markdown_model.proofs.ReadingSteps.{bind-some, bind-none, one-here, one-not, either-some, either-second, switched-on, switched-off}
+use Rattle.markdown_label.specs.LabelEnd.{collapsed_front, collapsed_back, collapsed_open_plan}
 use Rattle.markdown_model.specs.Single.{outcome}
 
 -- at a `(`, at a `[`, and elsewhere
