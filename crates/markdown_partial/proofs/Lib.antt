@@ -11,6 +11,7 @@ pub mod MergeMarks
 pub mod MergeLaws
 pub mod TrimWalks
 pub mod TrimRows
+pub mod TrimEnds
 pub mod TrimMarks
 pub mod TrimLaws
 pub mod DataRows

@@ -1,8 +1,9 @@
 -- the events of a tree, with its data trimmed
-use Rattle.std.proofs.Common.{◌≡◌, ℕ, zero, suc, ◌+◌, ◌&&◌, ◌||◌, Bool, true, false, List, [], ◌∷◌, ◌++◌, length, drop, Option, Some, None, if◌then◌else◌, cond, refl, sym, ap, subst, ◌∙◌, arith, append_assoc, append-nil}
+use Rattle.std.proofs.Common.{◌≡◌, ◌≢◌, ℕ, zero, suc, ◌+◌, ◌&&◌, ◌||◌, Bool, true, false, List, [], ◌∷◌, ◌++◌, length, drop, reverse, inl, inr, Option, Some, None, if◌then◌else◌, cond, refl, sym, ap, subst, ◌∙◌, arith, append_assoc, append-nil}
 use Rattle.std.specs.Option.{option_map}
-use Rattle.std.proofs.lemmas.List.{drop_all}
-use Rattle.markdown_engine.specs.Codes.{Code, stop_of, document_start}
+use Rattle.std.proofs.lemmas.List.{drop_all, reverse-reverse}
+use Rattle.std.proofs.lemmas.Bool.{cases_Bool, or_parts}
+use Rattle.markdown_engine.specs.Codes.{Code, is_blank, stop_of, document_start}
 use Rattle.markdown_engine.specs.Edits.{is_removed, added_at, moved_number, moved, edited_from, edited}
 use Rattle.markdown_engine.specs.Lists.{rest_of}
 use Rattle.markdown_engine.specs.Ops.{link_back}
@@ -19,8 +20,8 @@ use Rattle.markdown_engine.proofs.EditLemmas.{start, moved-start}
 use Rattle.markdown_engine.proofs.TreeLemmas.{length-appended_from, appended_from-row}
 use Rattle.markdown_model.specs.Passes.{trimmed, trimmed_data, blank_name, begins_line_ending, is_nothing}
 use Rattle.markdown_partial.specs.Merge.{is_data, opens_data}
-use Rattle.markdown_partial.specs.Trim.{trimmed_events, between}
-use Rattle.markdown_partial.specs.TrimEvents.{is_ending, closes_ending, goes_before, HasParts}
+use Rattle.markdown_partial.specs.Trim.{trimmed_events, between, loses_blank, starts_blank, ends_blank}
+use Rattle.markdown_partial.specs.TrimEvents.{is_ending, closes_ending, goes_before, loses, HasParts}
 use Rattle.markdown_partial.proofs.MergeLaws.{drop-part}
 use Rattle.markdown_engine.specs.Walk.{IsPoint}
 use Rattle.markdown_engine.specs.Codes.{codes_of, is_code_before, place_of, point_at}
@@ -32,8 +33,9 @@ use Rattle.markdown_engine.proofs.Points.{chain-split, point-split, after-split}
 use Rattle.markdown_partial.specs.Trim.{IsStretch}
 use Rattle.markdown_partial.specs.TrimEvents.{IsPart, HasPlaces}
 use Rattle.markdown_partial.proofs.TrimWalks.{forward-as}
-use Rattle.markdown_partial.proofs.TrimMarks.{begins_data, comes, flag, log_of, added-here, stays-here, goes-first, goes-second}
-use Rattle.markdown_partial.proofs.TrimRows.{three-leaves, kept_of, lead_of, tail_of}
+use Rattle.markdown_partial.proofs.TrimMarks.{comes, flag, log_of, added-here, stays-here, goes-first, goes-second, begins_cut}
+use Rattle.markdown_partial.proofs.TrimRows.{three-leaves, kept_of, lead_of, tail_of, cut}
+use Rattle.markdown_model.proofs.ReadingSteps.{span-none}
 use Rattle.markdown_engine.proofs.OpRules.{drop-more}
 
 -- Trimming, step by step.
@@ -61,6 +63,32 @@ trimmed-group hard front whole n p q inside rest = refl
 pub data-name : (n : Name) → is_data n ≡ true → n ≡ N.Data
 data-name N.Data e = refl
 data-name _ e = cc
+
+-- data that loses no code
+
+cut-none : (back : Bool) (cs : List Code) → back && ends_blank cs ≡ false → cut back cs ≡ ([], reverse cs)
+cut-none true cs h = span-none is_blank (reverse cs) h
+cut-none false cs h = refl
+
+lead-none : (front : Bool) (cs : List Code) → front && starts_blank cs ≡ false → lead_of front cs ≡ ([], cs)
+lead-none true cs h = span-none is_blank cs h
+lead-none false cs h = refl
+
+leaf-alone : (name : Name) (cs : List Code) → leaf name cs ⊕ empty ≡ leaf name cs
+leaf-alone name [] = refl
+leaf-alone name (c ∷ cs) = refl
+
+leaf-some : (name : Name) (cs : List Code) (rest : Forest) → cs ≢ [] → leaf name cs ⊕ rest ≡ leaf_then name None cs rest
+leaf-some name [] rest h = absurd (h refl)
+leaf-some name (c ∷ cs) rest h = refl
+
+trimmed-none : (front back hard : Bool) (cs : List Code) → loses_blank front back cs ≡ false → trimmed_data front back hard cs ≡ leaf N.Data cs
+trimmed-none front back hard cs h =
+    let parts = or_parts (front && starts_blank cs) (back && ends_blank cs) h in
+    ap (λ (d : List Code × List Code). leaf N.SpaceOrTab (lead_of front (reverse d.1)).0 ⊕ leaf N.Data (lead_of front (reverse d.1)).1 ⊕ leaf (blank_name hard (reverse d.0)) (reverse d.0)) (cut-none back cs parts.1)
+    ∙ ap (λ ds. leaf N.SpaceOrTab (lead_of front ds).0 ⊕ leaf N.Data (lead_of front ds).1 ⊕ empty) (reverse-reverse cs)
+    ∙ ap (λ (d : List Code × List Code). leaf N.SpaceOrTab d.0 ⊕ leaf N.Data d.1 ⊕ empty) (lead-none front cs parts.0)
+    ∙ leaf-alone N.Data cs
 
 -- What follows a data.
 
@@ -154,16 +182,16 @@ events-are front back hard bytes p q = refl
 
 -- One event.
 
-cut-first : (xs : List Event) (e : Event) (rest : List Event) → xs ≡ e ∷ rest → opens_data e ≡ false → begins_data xs ≡ false
-cut-first [] e rest h o = cc
-cut-first (x ∷ []) e rest h o = refl
-cut-first (x ∷ y ∷ xs) e rest h o = ap first-opens h ∙ o
+cut-first : (bytes : List ℕ) (whole front : Bool) (xs : List Event) (e : Event) (rest : List Event) → xs ≡ e ∷ rest → opens_data e ≡ false → begins_cut bytes whole front xs ≡ false
+cut-first bytes whole front [] e rest h o = cc
+cut-first bytes whole front (x ∷ []) e rest h o = refl
+cut-first bytes whole front (x ∷ y ∷ xs) e rest h o = ap (λ b. b && loses front (goes_before whole xs) bytes x.point y.point) (ap first-opens h ∙ o)
   where
     first-opens : List Event → Bool
     first-opens [] = false
     first-opens (z ∷ zs) = opens_data z
 
-comes-none : (bytes : List ℕ) (hard whole front : Bool) (xs : List Event) → begins_data xs ≡ false → comes bytes hard whole front xs ≡ []
+comes-none : (bytes : List ℕ) (hard whole front : Bool) (xs : List Event) → begins_cut bytes whole front xs ≡ false → comes bytes hard whole front xs ≡ []
 comes-none bytes hard whole front [] h = refl
 comes-none bytes hard whole front (e ∷ []) h = refl
 comes-none bytes hard whole front (e ∷ x ∷ xs) h = ap (λ b. if b then trimmed_events front (goes_before whole xs) (hard && goes_before false xs) bytes e.point x.point else []) h
@@ -183,10 +211,17 @@ module _ (bytes : List ℕ) (hard whole : Bool) (es : List Event) where
   log = log_of bytes hard whole es
 
   abbrev Fresh : ℕ → Type 0
-  Fresh n = (p : ℕ) → suc p ≡ n → begins_data (drop p es) ≡ false
+  Fresh n = (p : ℕ) → suc p ≡ n → begins_cut bytes whole (flag p whole es) (drop p es) ≡ false
 
-  fresh-after : (n : ℕ) (e : Event) (rest : List Event) → drop n es ≡ e ∷ rest → opens_data e ≡ false → Fresh (n + 1)
-  fresh-after n e rest h o p k = let same : p ≡ n = omega (arith, k) in ap (λ i. begins_data (drop i es)) same ∙ cut-first (drop n es) e rest h o
+  -- no data that loses codes begins here
+  abbrev Stays : ℕ → Type 0
+  Stays n = begins_cut bytes whole (flag n whole es) (drop n es) ≡ false
+
+  other-stays : (n : ℕ) (e : Event) (rest : List Event) → drop n es ≡ e ∷ rest → opens_data e ≡ false → Stays n
+  other-stays n e rest h o = cut-first bytes whole (flag n whole es) (drop n es) e rest h o
+
+  fresh-after : (n : ℕ) → Stays n → Fresh (n + 1)
+  fresh-after n s p k = let same : p ≡ n = omega (arith, k) in ap (λ i. begins_cut bytes whole (flag i whole es) (drop i es)) same ∙ s
 
   -- past an event that stays
   record Step (n : ℕ) (e : Event) (rest : List Event) : Type 0 where
@@ -203,10 +238,9 @@ module _ (bytes : List ℕ) (hard whole : Bool) (es : List Event) where
   flag-after : (n : ℕ) (e : Event) (rest : List Event) → drop n es ≡ e ∷ rest → flag (n + 1) whole es ≡ closes_ending e
   flag-after n e rest h = let one : n + 1 ≡ suc n = omega arith in ap (λ i. flag i whole es) one ∙ flag-next n whole es e rest h ∙ ap first_closes h
 
-  step : (n : ℕ) (e : Event) (rest : List Event) → drop n es ≡ e ∷ rest → opens_data e ≡ false → Fresh n → Step n e rest
-  step n e rest h o f =
+  stay-step : (n : ℕ) (e : Event) (rest : List Event) → drop n es ≡ e ∷ rest → Stays n → Fresh n → Step n e rest
+  stay-step n e rest h begins f =
       let one : suc n ≡ n + 1 = omega arith in
-      let begins : begins_data (drop n es) ≡ false = cut-first (drop n es) e rest h o in
       let stay : is_removed log n ≡ false = stays-here bytes hard whole n es begins f in
       let added : added_at n log ≡ [] = added-here bytes hard whole n es ∙ comes-none bytes hard whole (flag n whole es) (drop n es) begins in
       let size : length (added_at n log) ≡ 0 = ap length added in
@@ -219,8 +253,11 @@ module _ (bytes : List ℕ) (hard whole : Bool) (es : List Event) where
         number = moved-start log n ∙ omega (arith, size);
         there = drop-next n e rest h;
         flagged = flag-after n e rest h;
-        fresh = fresh-after n e rest h o;
+        fresh = fresh-after n begins;
       }
+
+  step : (n : ℕ) (e : Event) (rest : List Event) → drop n es ≡ e ∷ rest → opens_data e ≡ false → Fresh n → Step n e rest
+  step n e rest h o f = stay-step n e rest h (other-stays n e rest h o) f
 
   -- past two events that stay
   record Pair (n : ℕ) (e x : Event) (rest : List Event) : Type 0 where
@@ -231,9 +268,9 @@ module _ (bytes : List ℕ) (hard whole : Bool) (es : List Event) where
     flagged : flag (n + 2) whole es ≡ closes_ending x
     fresh : Fresh (n + 2)
 
-  pair : (n : ℕ) (e x : Event) (rest : List Event) → drop n es ≡ e ∷ x ∷ rest → opens_data e ≡ false → opens_data x ≡ false → Fresh n → Pair n e x rest
+  pair : (n : ℕ) (e x : Event) (rest : List Event) → drop n es ≡ e ∷ x ∷ rest → Stays n → opens_data x ≡ false → Fresh n → Pair n e x rest
   pair n e x rest h o k f =
-      let a : Step n e (x ∷ rest) = step n e (x ∷ rest) h o f in
+      let a : Step n e (x ∷ rest) = stay-step n e (x ∷ rest) h o f in
       let b : Step (n + 1) x rest = step (n + 1) x rest a.there k a.fresh in
       let same : n + 1 + 1 ≡ n + 2 = omega arith in
       record {
@@ -245,7 +282,7 @@ module _ (bytes : List ℕ) (hard whole : Bool) (es : List Event) where
         fresh = subst (λ (i : ℕ). Fresh i) same b.fresh;
       }
 
-  -- past data
+  -- past data that loses codes
   record Cut (n : ℕ) (front : Bool) (e x : Event) (rest : List Event) : Type 0 where
     events : edited_from log n (e ∷ x ∷ rest) ≡ trimmed_events front (goes_before whole rest) (hard && goes_before false rest) bytes e.point x.point ++ edited_from log (n + 2) rest
     placed : start log (n + 2) ≡ start log n + length (trimmed_events front (goes_before whole rest) (hard && goes_before false rest) bytes e.point x.point)
@@ -253,13 +290,14 @@ module _ (bytes : List ℕ) (hard whole : Bool) (es : List Event) where
     flagged : flag (n + 2) whole es ≡ closes_ending x
     fresh : Fresh (n + 2)
 
-  data-cut : (n : ℕ) (front : Bool) (e x : Event) (rest : List Event) → drop n es ≡ e ∷ x ∷ rest → opens_data e ≡ true → opens_data x ≡ false → flag n whole es ≡ front → Cut n front e x rest
-  data-cut n front e x rest h o k f =
+  data-cut : (n : ℕ) (front : Bool) (e x : Event) (rest : List Event) → drop n es ≡ e ∷ x ∷ rest → opens_data e ≡ true → opens_data x ≡ false → flag n whole es ≡ front → loses front (goes_before whole rest) bytes e.point x.point ≡ true → Cut n front e x rest
+  data-cut n front e x rest h o k f l =
       let T : List Event = trimmed_events front (goes_before whole rest) (hard && goes_before false rest) bytes e.point x.point in
       let same : suc (suc n) ≡ n + 2 = omega arith in
       let again : n + 1 + 1 ≡ n + 2 = omega arith in
       let one : n + 1 ≡ suc n = omega arith in
-      let begins : begins_data (drop n es) ≡ true = ap begins_data h ∙ o in
+      let both : opens_data e && loses front (goes_before whole rest) bytes e.point x.point ≡ true = ap (λ b. b && loses front (goes_before whole rest) bytes e.point x.point) o ∙ l in
+      let begins : begins_cut bytes whole (flag n whole es) (drop n es) ≡ true = ap (λ b. begins_cut bytes whole b (drop n es)) f ∙ ap (begins_cut bytes whole front) h ∙ both in
       let next : drop (n + 1) es ≡ x ∷ rest = drop-next n e (x ∷ rest) h in
       let behind : drop (suc n) es ≡ x ∷ rest = ap (λ i. drop i es) (sym one) ∙ next in
       let gone : is_removed log n ≡ true = goes-first bytes hard whole n es begins in
@@ -268,8 +306,9 @@ module _ (bytes : List ℕ) (hard whole : Bool) (es : List Event) where
       added-here bytes hard whole n es
       ∙ ap (λ b. comes bytes hard whole b (drop n es)) f
       ∙ ap (comes bytes hard whole front) h
-      ∙ ap (λ b. if b then T else []) o in
-      let added2 : added_at (suc n) log ≡ [] = added-here bytes hard whole (suc n) es ∙ comes-none bytes hard whole (flag (suc n) whole es) (drop (suc n) es) (cut-first (drop (suc n) es) x rest behind k) in
+      ∙ ap (λ b. if b then T else []) both in
+      let after : Stays (suc n) = cut-first bytes whole (flag (suc n) whole es) (drop (suc n) es) x rest behind k in
+      let added2 : added_at (suc n) log ≡ [] = added-here bytes hard whole (suc n) es ∙ comes-none bytes hard whole (flag (suc n) whole es) (drop (suc n) es) after in
       let size : length (added_at n log) ≡ length T = ap length added in
       let size2 : length (added_at (suc n) log) ≡ 0 = ap length added2 in
       let p1 : start log (suc n) ≡ start log n + length (added_at n log) + 0 = ap (λ b. start log n + length (added_at n log) + cond b 0 1) gone in
@@ -284,7 +323,7 @@ module _ (bytes : List ℕ) (hard whole : Bool) (es : List Event) where
         placed = ap (start log) (sym same) ∙ p2 ∙ omega (arith, p1, size, size2);
         there = ap (λ i. drop i es) (sym again) ∙ drop-next (n + 1) x rest next;
         flagged = ap (λ i. flag i whole es) (sym again) ∙ flag-after (n + 1) x rest next;
-        fresh = subst (λ (i : ℕ). Fresh i) again (fresh-after (n + 1) x rest next k);
+        fresh = subst (λ (i : ℕ). Fresh i) again (fresh-after (n + 1) (other-stays (n + 1) x rest next k));
       }
 
   -- Rows.
@@ -323,7 +362,7 @@ module _ (bytes : List ℕ) (hard whole : Bool) (es : List Event) where
       let e : Event = event Kind.Enter name (start_of cs) in
       let x : Event = event Kind.Exit name (stop_of document_start cs) in
       let q : Option ℕ = option_map (moved_number log) previous in
-      let p : Pair n e x (appended_from (n + 2) previous rest ++ tail) = pair n e x (appended_from (n + 2) previous rest ++ tail) h.there (and_left (is_data name) true other) refl h.fresh in
+      let p : Pair n e x (appended_from (n + 2) previous rest ++ tail) = pair n e x (appended_from (n + 2) previous rest ++ tail) h.there (other-stays n e (x ∷ appended_from (n + 2) previous rest ++ tail) h.there (and_left (is_data name) true other)) refl h.fresh in
       let r : Trims (n + 2) (m + 2) (is_ending name) w previous rest tail =
       law (n + 2) (m + 2) (is_ending name) w previous tail (record { there = p.there; flagged = p.flagged; placed = omega (arith, p.placed, h.placed); fresh = p.fresh; ends = h.ends; plain = h.plain; has_parts = h.has_parts.1 }) in
       let same : n + 2 + event_count rest ≡ n + (2 + event_count rest) = omega arith in
@@ -342,7 +381,7 @@ module _ (bytes : List ℕ) (hard whole : Bool) (es : List Event) where
       let x : Event = event Kind.Exit name (stop_of document_start cs) in
       let q : Option ℕ = option_map (moved_number log) previous in
       let e2 : Event = record { kind = Kind.Enter; name = name; point = start_of cs; link = Some (link_back q c) } in
-      let p : Pair n e x (appended_from (n + 2) (Some n) rest ++ tail) = pair n e x (appended_from (n + 2) (Some n) rest ++ tail) h.there (and-false (is_data name)) refl h.fresh in
+      let p : Pair n e x (appended_from (n + 2) (Some n) rest ++ tail) = pair n e x (appended_from (n + 2) (Some n) rest ++ tail) h.there (other-stays n e (x ∷ appended_from (n + 2) (Some n) rest ++ tail) h.there (and-false (is_data name))) refl h.fresh in
       let r : Trims (n + 2) (m + 2) (is_ending name) w (Some n) rest tail =
       law (n + 2) (m + 2) (is_ending name) w (Some n) tail (record { there = p.there; flagged = p.flagged; placed = omega (arith, p.placed, h.placed); fresh = p.fresh; ends = h.ends; plain = h.plain; has_parts = h.has_parts.1 }) in
       let same : n + 2 + event_count rest ≡ n + (2 + event_count rest) = omega arith in
@@ -355,8 +394,42 @@ module _ (bytes : List ℕ) (hard whole : Bool) (es : List Event) where
         fresh = subst (λ (i : ℕ). Fresh i) same r.fresh;
       }
 
-  leaf-data : (cs : List Code) (rest : Forest) → Law rest → Law (leaf_then N.Data None cs rest)
-  leaf-data cs rest law n m front w previous tail h =
+  -- whether data loses codes, by the tree
+  abbrev lost : Bool → Bool → List Code → Forest → Bool
+  lost front w cs rest = loses_blank front (begins_line_ending rest || (w && is_nothing rest)) cs
+
+  lost-is : (n m : ℕ) (front w : Bool) (previous : Option ℕ) (tail : List Event) (cs : List Code) (rest : Forest) → Here n m front w previous (leaf_then N.Data None cs rest) tail → loses front (goes_before whole (appended_from (n + 2) previous rest ++ tail)) bytes (start_of cs) (stop_of document_start cs) ≡ lost front w cs rest
+  lost-is n m front w previous tail cs rest h =
+      ap (λ b. loses_blank front b (between bytes (start_of cs) (stop_of document_start cs))) (before-row bytes whole w (n + 2) previous rest tail h.has_parts.1 h.ends)
+      ∙ ap (loses_blank front (begins_line_ending rest || (w && is_nothing rest))) (part-of bytes cs (h.has_parts.0 refl refl)).codes
+
+  -- data that loses none stays
+  data-whole : (cs : List Code) (rest : Forest) → Law rest → (n m : ℕ) (front w : Bool) (previous : Option ℕ) (tail : List Event) → Here n m front w previous (leaf_then N.Data None cs rest) tail → lost front w cs rest ≡ false → Trims n m front w previous (leaf_then N.Data None cs rest) tail
+  data-whole cs rest law n m front w previous tail h l =
+      let e : Event = event Kind.Enter N.Data (start_of cs) in
+      let x : Event = event Kind.Exit N.Data (stop_of document_start cs) in
+      let q : Option ℕ = option_map (moved_number log) previous in
+      let more : List Event = appended_from (n + 2) previous rest ++ tail in
+      let stays : Stays n =
+      ap (λ b. begins_cut bytes whole b (drop n es)) h.flagged ∙ ap (begins_cut bytes whole front) h.there ∙ lost-is n m front w previous tail cs rest h ∙ l in
+      let p : Pair n e x more = pair n e x more h.there stays refl h.fresh in
+      let r : Trims (n + 2) (m + 2) false w previous rest tail =
+      law (n + 2) (m + 2) false w previous tail (record { there = p.there; flagged = p.flagged; placed = omega (arith, p.placed, h.placed); fresh = p.fresh; ends = h.ends; plain = h.plain; has_parts = h.has_parts.1 }) in
+      let same : n + 2 + event_count rest ≡ n + (2 + event_count rest) = omega arith in
+      let is : trimmed hard front w (leaf_then N.Data None cs rest) ≡ leaf_then N.Data None cs (trimmed hard false w rest) =
+      trimmed-data hard front w cs rest
+      ∙ ap (λ D. D ⊕ trimmed hard false w rest) (trimmed-none front (begins_line_ending rest || (w && is_nothing rest)) (hard && begins_line_ending rest) cs l)
+      ∙ leaf-some N.Data cs (trimmed hard false w rest) (h.has_parts.0 refl refl).some in
+      record {
+        events = p.events
+            ∙ ap (λ xs. e ∷ x ∷ xs) (r.events ∙ ap (λ i. appended_from (m + 2) q (trimmed hard false w rest) ++ edited_from log i tail) same)
+            ∙ ap (λ t. appended_from m q t ++ edited_from log (n + (2 + event_count rest)) tail) (sym is);
+        placed = ap (start log) (sym same) ∙ r.placed ∙ omega arith ∙ ap (λ t. m + event_count t) (sym is);
+        fresh = subst (λ (i : ℕ). Fresh i) same r.fresh;
+      }
+
+  data-trimmed : (cs : List Code) (rest : Forest) → Law rest → (n m : ℕ) (front w : Bool) (previous : Option ℕ) (tail : List Event) → Here n m front w previous (leaf_then N.Data None cs rest) tail → lost front w cs rest ≡ true → Trims n m front w previous (leaf_then N.Data None cs rest) tail
+  data-trimmed cs rest law n m front w previous tail h l =
       let e : Event = event Kind.Enter N.Data (start_of cs) in
       let x : Event = event Kind.Exit N.Data (stop_of document_start cs) in
       let q : Option ℕ = option_map (moved_number log) previous in
@@ -367,7 +440,7 @@ module _ (bytes : List ℕ) (hard whole : Bool) (es : List Event) where
       let D : Forest = trimmed_data front back may cs in
       let R : Forest = trimmed hard false w rest in
       let T : List Event = trimmed_events front (goes_before whole more) (hard && goes_before false more) bytes e.point x.point in
-      let k : Cut n front e x more = data-cut n front e x more h.there refl refl h.flagged in
+      let k : Cut n front e x more = data-cut n front e x more h.there refl refl h.flagged (lost-is n m front w previous tail cs rest h ∙ l) in
       let T-is : T ≡ appended_from 0 None D =
       events-are front (goes_before whole more) (hard && goes_before false more) bytes e.point x.point
       ∙ ap (λ b. appended_from 0 None (trimmed_data front b (hard && goes_before false more) (between bytes e.point x.point))) (before-row bytes whole w (n + 2) previous rest tail h.has_parts.1 h.ends)
@@ -391,6 +464,13 @@ module _ (bytes : List ℕ) (hard whole : Bool) (es : List Event) where
         placed = ap (start log) (sym same) ∙ r.placed ∙ omega (arith, count) ∙ ap (λ t. m + event_count t) (sym is);
         fresh = subst (λ (i : ℕ). Fresh i) same r.fresh;
       }
+
+  leaf-data : (cs : List Code) (rest : Forest) → Law rest → Law (leaf_then N.Data None cs rest)
+  leaf-data cs rest law n m front w previous tail h =
+      elim (cases_Bool (lost front w cs rest)) [
+        | inl l ↦ data-trimmed cs rest law n m front w previous tail h l
+        | inr l ↦ data-whole cs rest law n m front w previous tail h l
+      ]
 
   law-group : (name : Name) (a b : Point) (inside rest : Forest) → Law inside → Law rest → Law (group_then name a b inside rest)
   law-group name a b inside rest law_inside law_rest n m front w previous tail h =

@@ -11,7 +11,7 @@ use Rattle.markdown_engine.specs.declared.util.edit_map.Edit.{Edit}
 use Rattle.markdown_engine.proofs.EditFacts.{stays-where, goes-where}
 use Rattle.markdown_partial.specs.Merge.{is_enter, is_data, opens_data}
 use Rattle.markdown_partial.specs.Trim.{trimmed_events}
-use Rattle.markdown_partial.specs.TrimEvents.{closes_ending, goes_before, trim, trim_first, trims, ClosesAt, FirstHasPlaces, HasPlaces}
+use Rattle.markdown_partial.specs.TrimEvents.{closes_ending, goes_before, trim, trim_first, trims, ClosesAt, FirstHasPlaces, HasPlaces, loses}
 
 -- At the first event.
 
@@ -51,16 +51,16 @@ trims-more bytes hard whole i front more es e old new all l h c g k =
 
 -- What the edits collect at a place.
 
--- the events begin with data
-abbrev pub begins_data : List Event → Bool
-begins_data [] = false
-begins_data (e ∷ []) = false
-begins_data (e ∷ x ∷ es) = opens_data e
+-- the first two events are data that loses codes
+abbrev pub begins_cut : List ℕ → Bool → Bool → List Event → Bool
+begins_cut bytes whole front [] = false
+begins_cut bytes whole front (e ∷ []) = false
+begins_cut bytes whole front (e ∷ x ∷ es) = opens_data e && loses front (goes_before whole es) bytes e.point x.point
 
 abbrev pub comes : List ℕ → Bool → Bool → Bool → List Event → List Event
 comes bytes hard whole front [] = []
 comes bytes hard whole front (e ∷ []) = []
-comes bytes hard whole front (e ∷ x ∷ es) = if opens_data e then trimmed_events front (goes_before whole es) (hard && goes_before false es) bytes e.point x.point else []
+comes bytes hard whole front (e ∷ x ∷ es) = if opens_data e && loses front (goes_before whole es) bytes e.point x.point then trimmed_events front (goes_before whole es) (hard && goes_before false es) bytes e.point x.point else []
 
 -- whether blank codes behind what stands before event k go
 abbrev pub flag : ℕ → Bool → List Event → Bool
@@ -109,6 +109,10 @@ opens-unlinked true true false h = refl
 opens-unlinked true false l h = cc
 opens-unlinked false b l h = cc
 
+and-first : (a b : Bool) → a && b ≡ true → a ≡ true
+and-first true b h = refl
+and-first false b h = cc
+
 module _ (bytes : List ℕ) (hard whole : Bool) where
   front-by : (i n : ℕ) (front : Bool) (e x : Event) (es : List Event) (log : List Edit) (b : Bool) → front_at i log ≡ [] → front_at i ((if b then trim bytes hard whole n front e x es ∷ [] else []) ++ log) ≡ []
   front-by i n front e x es log true h = ap (λ xs. xs ++ (if (n == i) && false then trimmed_events front (goes_before whole es) (hard && goes_before false es) bytes e.point x.point else [])) h ∙ no-front (n == i) (trimmed_events front (goes_before whole es) (hard && goes_before false es) bytes e.point x.point)
@@ -117,7 +121,7 @@ module _ (bytes : List ℕ) (hard whole : Bool) where
   front-first : (i n : ℕ) (front : Bool) (es : List Event) (log : List Edit) → front_at i log ≡ [] → front_at i (trim_first bytes hard whole n front es ++ log) ≡ []
   front-first i n front [] log h = h
   front-first i n front (e ∷ []) log h = h
-  front-first i n front (e ∷ x ∷ es) log h = front-by i n front e x es log (opens_data e) h
+  front-first i n front (e ∷ x ∷ es) log h = front-by i n front e x es log (opens_data e && loses front (goes_before whole es) bytes e.point x.point) h
 
   front-trims : (i n : ℕ) (front : Bool) (es : List Event) → front_at i (trims bytes hard whole n front es) ≡ []
   front-trims i n front [] = refl
@@ -130,16 +134,16 @@ module _ (bytes : List ℕ) (hard whole : Bool) where
   back-first : (i n : ℕ) (front : Bool) (es : List Event) (log : List Edit) → back_at i (trim_first bytes hard whole n front es ++ log) ≡ (if n == i then comes bytes hard whole front es else []) ++ back_at i log
   back-first i n front [] log = ap (λ xs. xs ++ back_at i log) (sym (never (n == i)))
   back-first i n front (e ∷ []) log = ap (λ xs. xs ++ back_at i log) (sym (never (n == i)))
-  back-first i n front (e ∷ x ∷ es) log = back-by i n front e x es log (opens_data e)
+  back-first i n front (e ∷ x ∷ es) log = back-by i n front e x es log (opens_data e && loses front (goes_before whole es) bytes e.point x.point)
 
   removed-by : (i n : ℕ) (front : Bool) (e x : Event) (es : List Event) (log : List Edit) (b : Bool) → removed_at i ((if b then trim bytes hard whole n front e x es ∷ [] else []) ++ log) ≡ (if n == i then two b else 0) + removed_at i log
   removed-by i n front e x es log true = refl
   removed-by i n front e x es log false = zero-plus (removed_at i log) ∙ ap (λ k. k + removed_at i log) (sym (zero-if (n == i)))
 
-  removed-first : (i n : ℕ) (front : Bool) (es : List Event) (log : List Edit) → removed_at i (trim_first bytes hard whole n front es ++ log) ≡ (if n == i then two (begins_data es) else 0) + removed_at i log
+  removed-first : (i n : ℕ) (front : Bool) (es : List Event) (log : List Edit) → removed_at i (trim_first bytes hard whole n front es ++ log) ≡ (if n == i then two (begins_cut bytes whole front es) else 0) + removed_at i log
   removed-first i n front [] log = zero-plus (removed_at i log) ∙ ap (λ k. k + removed_at i log) (sym (zero-if (n == i)))
   removed-first i n front (e ∷ []) log = zero-plus (removed_at i log) ∙ ap (λ k. k + removed_at i log) (sym (zero-if (n == i)))
-  removed-first i n front (e ∷ x ∷ es) log = removed-by i n front e x es log (opens_data e)
+  removed-first i n front (e ∷ x ∷ es) log = removed-by i n front e x es log (opens_data e && loses front (goes_before whole es) bytes e.point x.point)
 
   back-earlier : (i n : ℕ) (front : Bool) (es : List Event) → i < n → back_at i (trims bytes hard whole n front es) ≡ []
   back-earlier i n front [] l = refl
@@ -152,7 +156,7 @@ module _ (bytes : List ℕ) (hard whole : Bool) where
   removed-earlier i n front [] l = refl
   removed-earlier i n front (e ∷ es) l =
       removed-first i n front (e ∷ es) (trims bytes hard whole (suc n) (closes_ending e) es)
-      ∙ ap (λ b. (if b then two (begins_data (e ∷ es)) else 0) + removed_at i (trims bytes hard whole (suc n) (closes_ending e) es)) (ne_eqb n i (λ h. omega (arith, h)))
+      ∙ ap (λ b. (if b then two (begins_cut bytes whole front (e ∷ es)) else 0) + removed_at i (trims bytes hard whole (suc n) (closes_ending e) es)) (ne_eqb n i (λ h. omega (arith, h)))
       ∙ sym (zero-plus (removed_at i (trims bytes hard whole (suc n) (closes_ending e) es)))
       ∙ removed-earlier i (suc n) (closes_ending e) es (omega arith)
 
@@ -169,17 +173,17 @@ module _ (bytes : List ℕ) (hard whole : Bool) where
       ∙ ap (λ b. (if b then comes bytes hard whole front (x ∷ es) else []) ++ back_at i (trims bytes hard whole (suc n) (closes_ending x) es)) (ne_eqb n i (λ h. omega (arith, e, h)))
       ∙ back-place i (suc n) k (closes_ending x) es (omega (arith, e))
 
-  removed-place : (i n k : ℕ) (front : Bool) (es : List Event) → i ≡ n + k → removed_at i (trims bytes hard whole n front es) ≡ two (begins_data (drop k es))
+  removed-place : (i n k : ℕ) (front : Bool) (es : List Event) → i ≡ n + k → removed_at i (trims bytes hard whole n front es) ≡ two (begins_cut bytes whole (flag k front es) (drop k es))
   removed-place i n zero front [] e = refl
   removed-place i n (suc k) front [] e = refl
   removed-place i n zero front (x ∷ es) e =
       removed-first i n front (x ∷ es) (trims bytes hard whole (suc n) (closes_ending x) es)
-      ∙ ap (λ b. (if b then two (begins_data (x ∷ es)) else 0) + removed_at i (trims bytes hard whole (suc n) (closes_ending x) es)) (eq-eqb n i (omega (arith, e)))
-      ∙ ap (λ j. two (begins_data (x ∷ es)) + j) (removed-earlier i (suc n) (closes_ending x) es (omega (arith, e)))
+      ∙ ap (λ b. (if b then two (begins_cut bytes whole front (x ∷ es)) else 0) + removed_at i (trims bytes hard whole (suc n) (closes_ending x) es)) (eq-eqb n i (omega (arith, e)))
+      ∙ ap (λ j. two (begins_cut bytes whole front (x ∷ es)) + j) (removed-earlier i (suc n) (closes_ending x) es (omega (arith, e)))
       ∙ omega arith
   removed-place i n (suc k) front (x ∷ es) e =
       removed-first i n front (x ∷ es) (trims bytes hard whole (suc n) (closes_ending x) es)
-      ∙ ap (λ b. (if b then two (begins_data (x ∷ es)) else 0) + removed_at i (trims bytes hard whole (suc n) (closes_ending x) es)) (ne_eqb n i (λ h. omega (arith, e, h)))
+      ∙ ap (λ b. (if b then two (begins_cut bytes whole front (x ∷ es)) else 0) + removed_at i (trims bytes hard whole (suc n) (closes_ending x) es)) (ne_eqb n i (λ h. omega (arith, e, h)))
       ∙ sym (zero-plus (removed_at i (trims bytes hard whole (suc n) (closes_ending x) es)))
       ∙ removed-place i (suc n) k (closes_ending x) es (omega (arith, e))
 
@@ -189,32 +193,32 @@ module _ (bytes : List ℕ) (hard whole : Bool) where
   pub added-here : (k : ℕ) (es : List Event) → added_at k (log_of es) ≡ comes bytes hard whole (flag k whole es) (drop k es)
   added-here k es = ap (λ xs. xs ++ back_at k (log_of es)) (front-trims k 0 whole es) ∙ back-place k 0 k whole es (omega arith)
 
-  pub removed-here : (k : ℕ) (es : List Event) → removed_at k (log_of es) ≡ two (begins_data (drop k es))
+  pub removed-here : (k : ℕ) (es : List Event) → removed_at k (log_of es) ≡ two (begins_cut bytes whole (flag k whole es) (drop k es))
   removed-here k es = removed-place k 0 k whole es (omega arith)
 
   two-most : (b : Bool) → two b ≤ 2
   two-most true = omega arith
   two-most false = omega arith
 
-  -- what no data stands at, or just before, stays
-  pub stays-here : (j : ℕ) (es : List Event) → begins_data (drop j es) ≡ false → ((p : ℕ) → suc p ≡ j → begins_data (drop p es) ≡ false) → is_removed (log_of es) j ≡ false
+  -- what no data that loses codes stands at, or just before, stays
+  pub stays-here : (j : ℕ) (es : List Event) → begins_cut bytes whole (flag j whole es) (drop j es) ≡ false → ((p : ℕ) → suc p ≡ j → begins_cut bytes whole (flag p whole es) (drop p es) ≡ false) → is_removed (log_of es) j ≡ false
   stays-here j es h k = stays-where (log_of es) j (λ p l. reach p l)
     where
       reach : (p : ℕ) → p ≤ j → p + removed_at p (log_of es) ≤ j
       reach p l =
           elim (cases_lt (p + 1) j) [
-            | inl far ↦ let most = two-most (begins_data (drop p es)) in let r = removed-here p es in omega (arith, far, most, r)
+            | inl far ↦ let most = two-most (begins_cut bytes whole (flag p whole es) (drop p es)) in let r = removed-here p es in omega (arith, far, most, r)
             | inr near ↦
                 elim (cases_lt p j) [
                   | inl below ↦ let next : suc p ≡ j = omega (arith, near, below) in let r = removed-here p es ∙ ap two (k p next) in omega (arith, r, next)
-                  | inr at ↦ let same : p ≡ j = omega (arith, at, l) in let r = removed-here p es ∙ ap (λ i. two (begins_data (drop i es))) same ∙ ap two h in omega (arith, r, same)
+                  | inr at ↦ let same : p ≡ j = omega (arith, at, l) in let r = removed-here p es ∙ ap (λ i. two (begins_cut bytes whole (flag i whole es) (drop i es))) same ∙ ap two h in omega (arith, r, same)
                 ]
           ]
 
-  pub goes-first : (j : ℕ) (es : List Event) → begins_data (drop j es) ≡ true → is_removed (log_of es) j ≡ true
+  pub goes-first : (j : ℕ) (es : List Event) → begins_cut bytes whole (flag j whole es) (drop j es) ≡ true → is_removed (log_of es) j ≡ true
   goes-first j es h = let r = removed-here j es ∙ ap two h in goes-where (log_of es) j j (omega arith) (omega (arith, r))
 
-  pub goes-second : (j : ℕ) (es : List Event) → begins_data (drop j es) ≡ true → is_removed (log_of es) (suc j) ≡ true
+  pub goes-second : (j : ℕ) (es : List Event) → begins_cut bytes whole (flag j whole es) (drop j es) ≡ true → is_removed (log_of es) (suc j) ≡ true
   goes-second j es h = let r = removed-here j es ∙ ap two h in goes-where (log_of es) (suc j) j (omega arith) (omega (arith, r))
 
   -- The edits may be made.
@@ -226,7 +230,7 @@ module _ (bytes : List ℕ) (hard whole : Bool) where
   within-first : (n m : ℕ) (front : Bool) (es : List Event) (log : List Edit) → n ≤ m → All (λ d. d.at ≤ m) log → All (λ d. d.at ≤ m) (trim_first bytes hard whole n front es ++ log)
   within-first n m front [] log h a = a
   within-first n m front (e ∷ []) log h a = a
-  within-first n m front (e ∷ x ∷ es) log h a = within-by n m front e x es log (opens_data e) h a
+  within-first n m front (e ∷ x ∷ es) log h a = within-by n m front e x es log (opens_data e && loses front (goes_before whole es) bytes e.point x.point) h a
 
   within : (n m : ℕ) (front : Bool) (es : List Event) → n + length es ≤ m → All (λ d. d.at ≤ m) (trims bytes hard whole n front es)
   within n m front [] h = All-nil (λ d. d.at ≤ m)
@@ -237,29 +241,29 @@ module _ (bytes : List ℕ) (hard whole : Bool) where
   places-drop (suc j) [] h = h
   places-drop (suc j) (e ∷ es) h = places-drop j es h.1
 
-  first-linked-none : (xs : List Event) → begins_data xs ≡ true → HasPlaces bytes xs → linked_at xs 0 ≡ false
-  first-linked-none [] h p = refl
-  first-linked-none (e ∷ []) h p = cc
-  first-linked-none (e ∷ x ∷ xs) h p = opens-unlinked (is_enter e.kind) (is_data e.name) (has_link e.link) h
+  first-linked-none : (front : Bool) (xs : List Event) → begins_cut bytes whole front xs ≡ true → HasPlaces bytes xs → linked_at xs 0 ≡ false
+  first-linked-none front [] h p = refl
+  first-linked-none front (e ∷ []) h p = cc
+  first-linked-none front (e ∷ x ∷ xs) h p = opens-unlinked (is_enter e.kind) (is_data e.name) (has_link e.link) (and-first (opens_data e) (loses front (goes_before whole xs) bytes e.point x.point) h)
 
-  second-linked-none : (xs : List Event) → begins_data xs ≡ true → HasPlaces bytes xs → linked_at xs 1 ≡ false
-  second-linked-none [] h p = refl
-  second-linked-none (e ∷ []) h p = refl
-  second-linked-none (e ∷ x ∷ xs) h p = ap has_link (p.0 h).1
+  second-linked-none : (front : Bool) (xs : List Event) → begins_cut bytes whole front xs ≡ true → HasPlaces bytes xs → linked_at xs 1 ≡ false
+  second-linked-none front [] h p = refl
+  second-linked-none front (e ∷ []) h p = refl
+  second-linked-none front (e ∷ x ∷ xs) h p = ap has_link (p.0 (and-first (opens_data e) (loses front (goes_before whole xs) bytes e.point x.point) h)).1
 
   goes-unlinked : (j : ℕ) (es : List Event) → HasPlaces bytes es → is_removed (log_of es) j ≡ true → linked_at es j ≡ false
   goes-unlinked j es p h =
-      elim (cases_Bool (begins_data (drop j es))) [
-        | inl b ↦ linked-drop 0 j es j (omega arith) ∙ first-linked-none (drop j es) b (places-drop j es p)
+      elim (cases_Bool (begins_cut bytes whole (flag j whole es) (drop j es))) [
+        | inl b ↦ linked-drop 0 j es j (omega arith) ∙ first-linked-none (flag j whole es) (drop j es) b (places-drop j es p)
         | inr b ↦ unlinked-before j es p h b
       ]
     where
-      unlinked-before : (j : ℕ) (es : List Event) → HasPlaces bytes es → is_removed (log_of es) j ≡ true → begins_data (drop j es) ≡ false → linked_at es j ≡ false
+      unlinked-before : (j : ℕ) (es : List Event) → HasPlaces bytes es → is_removed (log_of es) j ≡ true → begins_cut bytes whole (flag j whole es) (drop j es) ≡ false → linked_at es j ≡ false
       unlinked-before zero es p h b = absurd (both_ways (is_removed (log_of es) zero) (stays-here zero es b (λ q e. absurd (omega (arith, e)))) h)
       unlinked-before (suc j) es p h b =
-          elim (cases_Bool (begins_data (drop j es))) [
-            | inl d ↦ linked-drop 1 j es (suc j) (omega arith) ∙ second-linked-none (drop j es) d (places-drop j es p)
-            | inr d ↦ absurd (both_ways (is_removed (log_of es) (suc j)) (stays-here (suc j) es b (λ q e. let same : q ≡ j = omega (arith, e) in ap (λ i. begins_data (drop i es)) same ∙ d)) h)
+          elim (cases_Bool (begins_cut bytes whole (flag j whole es) (drop j es))) [
+            | inl d ↦ linked-drop 1 j es (suc j) (omega arith) ∙ second-linked-none (flag j whole es) (drop j es) d (places-drop j es p)
+            | inr d ↦ absurd (both_ways (is_removed (log_of es) (suc j)) (stays-here (suc j) es b (λ q e. let same : q ≡ j = omega (arith, e) in ap (λ i. begins_cut bytes whole (flag i whole es) (drop i es)) same ∙ d)) h)
           ]
 
   pub can-trim : (es : List Event) → HasPlaces bytes es → CanEdit (log_of es) es

@@ -67,7 +67,7 @@ split bytes p q (c ∷ front) back s e =
       | inr n ↦ absurd (cons≢nil c (front ++ back) (sym e ∙ n.none))
     ]
 
-none-ends : (bytes : List ℕ) (p q : Point) → IsStretch bytes p q → between bytes p q ≡ [] → IsEnded bytes p q
+pub none-ends : (bytes : List ℕ) (p q : Point) → IsStretch bytes p q → between bytes p q ≡ [] → IsEnded bytes p q
 none-ends bytes p q s e =
     elim (stretch-cases bytes p q s) [
       | inl f ↦ absurd (cons≢nil (code_here bytes p) (between bytes (stop_at bytes p) q) (sym f.codes ∙ e))

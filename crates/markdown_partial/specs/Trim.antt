@@ -1,5 +1,5 @@
 -- Trimming: the codes of data between two places, and where its blank codes stop in front and begin at its back.
-use Rattle.std.specs.Prelude.{ℕ, Bool, false, ◌&&◌, ◌==◌, nat_le, List, [], ◌∷◌, length, filter, reverse, IsTrue, Option, Some, None, if◌then◌else◌}
+use Rattle.std.specs.Prelude.{ℕ, Bool, false, ◌&&◌, ◌||◌, ◌==◌, nat_le, List, [], ◌∷◌, length, filter, reverse, IsTrue, Option, Some, None, if◌then◌else◌}
 use Rattle.std.specs.List.{list_all}
 use Rattle.markdown_engine.specs.Codes.{Code, space_value, is_blank, is_code_before, is_at_or_after, place_of, stop_of}
 use Rattle.markdown_engine.specs.Past.{appended_from}
@@ -9,7 +9,7 @@ use Rattle.markdown_engine.specs.declared.event.Event.{Event}
 use Rattle.markdown_engine.specs.declared.event.Kind.TheVariants as Kind
 use Rattle.markdown_engine.specs.declared.event.Name.{Name}
 use Rattle.markdown_engine.specs.declared.event.Point.{Point}
-use Rattle.markdown_model.specs.CodeTests.{is_real_space}
+use Rattle.markdown_model.specs.CodeTests.{is_real_space, next_is}
 use Rattle.markdown_model.specs.Grammar.{span}
 use Rattle.markdown_model.specs.Passes.{trimmed_data}
 
@@ -30,6 +30,17 @@ end_of_kept from cs = stop_of from (reverse (span is_blank (reverse cs)).1)
 -- where the blank codes in front of them end
 unfoldable pub end_of_lead : Point → List Code → Point
 end_of_lead from cs = stop_of from (span is_blank cs).0
+
+-- codes that begin with a blank one, and those that end with one
+abbrev pub starts_blank : List Code → Bool
+starts_blank cs = next_is is_blank cs
+
+abbrev pub ends_blank : List Code → Bool
+ends_blank cs = next_is is_blank (reverse cs)
+
+-- codes some of which go, where blank ones go in front, at their back, or both
+abbrev pub loses_blank : Bool → Bool → List Code → Bool
+loses_blank front back cs = (front && starts_blank cs) || (back && ends_blank cs)
 
 -- the code that begins at a place is a space that is no column of a tab
 abbrev pub at_real_space : Option ℕ → Point → Bool

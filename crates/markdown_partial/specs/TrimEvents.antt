@@ -6,9 +6,10 @@ use Rattle.markdown_engine.specs.Tree.{Forest, empty, leaf_then, group_then}
 use Rattle.markdown_engine.specs.declared.event.Event.{Event}
 use Rattle.markdown_engine.specs.declared.event.Name.{Name}
 use Rattle.markdown_engine.specs.declared.event.Name.TheVariants as N
+use Rattle.markdown_engine.specs.declared.event.Point.{Point}
 use Rattle.markdown_engine.specs.declared.util.edit_map.Edit.{Edit}
 use Rattle.markdown_partial.specs.Merge.{is_data, is_enter, opens_data}
-use Rattle.markdown_partial.specs.Trim.{IsStretch, trimmed_events}
+use Rattle.markdown_partial.specs.Trim.{IsStretch, between, loses_blank, trimmed_events}
 
 abbrev pub is_ending : Name → Bool
 is_ending N.LineEnding = true
@@ -31,14 +32,19 @@ abbrev pub trim : List ℕ → Bool → Bool → ℕ → Bool → Event → Even
 trim bytes hard whole n front e x es =
     record { at = n; remove = 2; events = trimmed_events front (goes_before whole es) (hard && goes_before false es) bytes e.point x.point; before = false }
 
--- the edit of the first two events, where they are data; the first has this number, and `front` says that blank codes behind what
--- stands before it go
+-- data from one place to another that loses codes, where blank ones go in front, at its back, or both
+abbrev pub loses : Bool → Bool → List ℕ → Point → Point → Bool
+loses front back bytes from to = loses_blank front back (between bytes from to)
+
+-- the edit of the first two events, where they are data that loses codes; the first has this number, and `front` says that blank codes
+-- behind what stands before it go
 abbrev pub trim_first : List ℕ → Bool → Bool → ℕ → Bool → List Event → List Edit
 trim_first bytes hard whole n front [] = []
 trim_first bytes hard whole n front (e ∷ []) = []
-trim_first bytes hard whole n front (e ∷ x ∷ es) = if opens_data e then trim bytes hard whole n front e x es ∷ [] else []
+trim_first bytes hard whole n front (e ∷ x ∷ es) =
+    if opens_data e && loses front (goes_before whole es) bytes e.point x.point then trim bytes hard whole n front e x es ∷ [] else []
 
--- one edit for each data
+-- one edit for each data that loses codes
 abbrev pub trims : List ℕ → Bool → Bool → ℕ → Bool → List Event → List Edit
 trims bytes hard whole n front [] = []
 trims bytes hard whole n front (e ∷ es) = trim_first bytes hard whole n front (e ∷ es) ++ trims bytes hard whole (suc n) (closes_ending e) es

@@ -7,8 +7,8 @@ ghost use Rattle.markdown_engine.specs.Chain.{IsUnlinked};
 ghost use Rattle.markdown_engine.specs.Content.{document_limit};
 ghost use Rattle.markdown_engine.specs.Walk.{value_from, IsPoint};
 ghost use Rattle.markdown_partial.specs.SpaceSteps.{at_blank};
-ghost use Rattle.markdown_partial.specs.Trim.{between, IsStretch, end_of_kept, end_of_lead, at_real_space, is_hard_break, is_same_place, leaf_events, trimmed_events};
-ghost use Rattle.markdown_partial.specs.TrimEvents.{opens_ending, closes_ending, goes_before, trim_first, trims, FirstHasPlaces, HasPlaces, HasParts};
+ghost use Rattle.markdown_partial.specs.Trim.{between, IsStretch, end_of_kept, end_of_lead, at_real_space, starts_blank, ends_blank, is_hard_break, is_same_place, leaf_events, trimmed_events};
+ghost use Rattle.markdown_partial.specs.TrimEvents.{opens_ending, closes_ending, goes_before, loses, trim_first, trims, FirstHasPlaces, HasPlaces, HasParts};
 ghost use Rattle.markdown_engine.specs.Past.{appended_from};
 ghost use Rattle.markdown_engine.specs.Tree.{Forest};
 ghost use Rattle.markdown_model.specs.Passes.{blank_name, trimmed};
@@ -22,13 +22,20 @@ use markdown_engine::walk::{code_from, past_code};
 use markdown_util::util::constant::HARD_BREAK_PREFIX_SIZE_MIN;
 use std::alloc::{AllocError, Global};
 
+// Whether this is a space or a tab.
+fn is_blank_byte(byte: u8) -> bool
+    ensures { result ≡ at_blank (Some byte) }
+{
+    matches!(byte, b' ' | b'\t')
+}
+
 // Whether this is a space, a tab or a column of a tab.
 fn is_blank(bytes: &[u8], point: Point) -> bool
     requires is_point { IsPoint bytes.now point }
     requires begins { point.index < length bytes.now }
     ensures { result ≡ at_blank (value_from bytes.now point) }
 {
-    matches!(code_from(bytes, point), b' ' | b'\t')
+    is_blank_byte(code_from(bytes, point))
 }
 
 // Whether this is a space that is no column of a tab.
@@ -45,6 +52,33 @@ pub fn is_same_place(left: Point, right: Point) -> bool
     ensures { result ≡ is_same_place left right }
 {
     left.index == right.index && left.vs == right.vs
+}
+
+// Whether a stretch begins with a blank code.
+fn starts_blank(bytes: &[u8], from: Point, to: Point) -> bool
+    requires stretch { IsStretch bytes.now from to }
+    ensures { result ≡ starts_blank (between bytes.now from to) }
+{
+    !is_same_place(from, to) && is_blank(bytes, from)
+}
+
+// Whether a stretch ends with a blank code: that inside a tab is one, and any other ends with its last byte.
+fn ends_blank(bytes: &[u8], from: Point, to: Point) -> bool
+    requires stretch { IsStretch bytes.now from to }
+    ensures { result ≡ ends_blank (between bytes.now from to) }
+{
+    if is_same_place(from, to) {
+        return false;
+    }
+    to.vs > 0 || is_blank_byte(bytes[to.index - 1])
+}
+
+// Whether a stretch loses codes, where blank ones go in front, at its back, or both.
+fn loses_blank(bytes: &[u8], front: bool, back: bool, from: Point, to: Point) -> bool
+    requires stretch { IsStretch bytes.now from to }
+    ensures { result ≡ loses front back bytes.now from to }
+{
+    (front && starts_blank(bytes, from, to)) || (back && ends_blank(bytes, from, to))
 }
 
 // Answers where the codes of a stretch end, without the blank ones at its back.
@@ -212,7 +246,8 @@ struct Trimming {
     whole: bool,
 }
 
-// Where data begins at this event: puts its trimmed events in place of its own. They are made in the room, whatever it holds.
+// Where data begins at this event, and blank codes stand where they go: puts its trimmed events in place of its own. They are made in
+// the room, whatever it holds.
 fn trim_first(
     room: &mut Vec<Event>,
     bytes: &[u8],
@@ -232,14 +267,16 @@ fn trim_first(
     if opens_data(&enter) {
         let exit = events.bare_at(index + 1);
         let back = goes_before(events, index + 2, trimming.whole);
-        let hard = trimming.hard_break && goes_before(events, index + 2, false);
-        trimmed_data(room, bytes, front, back, hard, enter.point, exit.point)?;
-        map.add_slice(index, 2, room)?;
+        if loses_blank(bytes, front, back, enter.point, exit.point) {
+            let hard = trimming.hard_break && goes_before(events, index + 2, false);
+            trimmed_data(room, bytes, front, back, hard, enter.point, exit.point)?;
+            map.add_slice(index, 2, room)?;
+        }
     }
     Ok(())
 }
 
-// Collects the edits of all data.
+// Collects the edits of all data that loses codes.
 fn trim_each(
     alloc: Global,
     bytes: &[u8],
