@@ -69,8 +69,8 @@ fn pair_and_group(tokenizer: &mut Tokenizer) -> Result<u128, AllocError>
         alloc,
         &mut tokenizer.events,
         &mut tokenizer.map,
-        &pairing.runs,
-        &pairing.pairs,
+        pairing.runs,
+        pairing.pairs,
     )?;
     Ok(pairing.probes)
 }

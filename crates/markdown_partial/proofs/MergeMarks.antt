@@ -30,6 +30,31 @@ pub joint-found : (es : List Event) (i j k : ℕ) (a b c : Event) (x y z : Bool)
 joint-found es i j k a b c x y z p q l e f g u v w =
     and-three x y z ∙ ap (λ t. t && (y && z)) u ∙ ap (λ t. opens_data a && (t && z)) v ∙ ap (λ t. opens_data a && (closes_data b && t)) w ∙ sym (joint-three es i j k a b c p q l e f g)
 
+-- events whose third is no data's Enter are none
+
+third-none : (a b : Bool) → false ≡ a && (b && false)
+third-none true true = refl
+third-none true false = refl
+third-none false b = refl
+
+pub joint-none : (es : List Event) (i k : ℕ) (c : Event) → k ≡ i + 2 → k < length es → c ≡ get_or es k c → opens_data c ≡ false → false ≡ joint (drop i es)
+joint-none es i k c p l g h =
+    let next : i + 1 + 1 ≡ k = omega (arith, p) in
+    let third : opening (drop k es) ≡ false = ap opening (drop_more es k c l) ∙ ap opens_data (sym g) ∙ h in
+    let second : drop (i + 1) es ≡ get_or es (i + 1) c ∷ drop k es = drop_more es (i + 1) c (omega (arith, p, l)) ∙ ap (λ n. get_or es (i + 1) c ∷ drop n es) next in
+    third-none (opens_data (get_or es i c)) (closes_data (get_or es (i + 1) c))
+    ∙ ap (λ t. opens_data (get_or es i c) && (closes_data (get_or es (i + 1) c) && t)) (sym third)
+    ∙ ap (λ xs. opens_data (get_or es i c) && closing xs) (sym second)
+    ∙ ap joint (sym (drop_more es i c (omega (arith, p, l))))
+
+and-last : (t z : Bool) → z ≡ true → t ≡ t && z
+and-last true z h = sym h
+and-last false z h = refl
+
+-- and others are one by the first two
+pub joint-two : (es : List Event) (i j k : ℕ) (a b c : Event) (x y z : Bool) → j ≡ i + 1 → k ≡ i + 2 → k < length es → a ≡ get_or es i a → b ≡ get_or es j b → c ≡ get_or es k c → x ≡ opens_data a → y ≡ closes_data b → z ≡ opens_data c → z ≡ true → x && y ≡ joint (drop i es)
+joint-two es i j k a b c x y z p q l e f g u v w h = and-last (x && y) z h ∙ joint-found es i j k a b c x y z p q l e f g u v w
+
 -- too few events for a joint
 
 two-short : (a b : Bool) → a && (b && false) ≡ false

@@ -134,10 +134,13 @@ fn is_joint(events: &Events, index: usize) -> bool
     requires within { index < length events.now }
     ensures { result ≡ joint (drop (index - 2) events.now) }
 {
+    let third = events.bare_at(index);
+    if !opens_data(&third) {
+        return false;
+    }
     let first = events.bare_at(index - 2);
     let second = events.bare_at(index - 1);
-    let third = events.bare_at(index);
-    opens_data(&first) & closes_data(&second) & opens_data(&third)
+    opens_data(&first) & closes_data(&second)
 }
 
 // Where data stands behind data: marks the Exit of the one and the Enter of the other to go.

@@ -93,10 +93,10 @@ fn edit_runs(
     Ok(())
 }
 
-/// Makes groups of these pairs of runs in the events.
-pub(crate) fn group_runs(
+// Adds the edits that make groups of these pairs of runs.
+fn mark_runs(
     alloc: Global,
-    events: &mut Events,
+    events: &Events,
     map: &mut EditMap,
     runs: &[Sequence],
     pairs: &[Pair],
@@ -104,13 +104,32 @@ pub(crate) fn group_runs(
     requires empty { map.old ≡ [] }
     requires closers { All (λ p. side_of true p < length runs.now) pairs.now }
     requires openers { All (λ p. side_of false p < length runs.now) pairs.now }
-    requires room { (i : ℕ) → i < length runs.now → HasRoomFor events.old (length runs.now) pairs.now (run_at runs.now i) }
-    requires can { CanEdit (run_edits (point_in events.old) pairs.now runs.now) events.old }
-    ensures edited { OnOk result (events.new ≡ edited (run_edits (point_in events.old) pairs.now runs.now) events.old) }
-    ensures map { OnOk result (map.new ≡ []) }
+    requires room { (i : ℕ) → i < length runs.now → HasRoomFor events.now (length runs.now) pairs.now (run_at runs.now i) }
+    ensures { OnOk result (map.new ≡ run_edits (point_in events.now) pairs.now runs.now) }
 {
     let fronts = sizes_of(alloc, runs.len(), pairs, true)?;
     let backs = sizes_of(alloc, runs.len(), pairs, false)?;
-    edit_runs(alloc, events, map, runs, &fronts, &backs)?;
+    edit_runs(alloc, events, map, runs, &fronts, &backs)
+}
+
+/// Makes groups of these pairs of runs in the events. What is known of the pairs is let go before the events are made.
+pub(crate) fn group_runs(
+    alloc: Global,
+    events: &mut Events,
+    map: &mut EditMap,
+    runs: Vec<Sequence>,
+    pairs: Vec<Pair>,
+) -> Result<(), AllocError>
+    requires empty { map.old ≡ [] }
+    requires closers { All (λ p. side_of true p < length runs.items) pairs.items }
+    requires openers { All (λ p. side_of false p < length runs.items) pairs.items }
+    requires room { (i : ℕ) → i < length runs.items → HasRoomFor events.old (length runs.items) pairs.items (run_at runs.items i) }
+    requires can { CanEdit (run_edits (point_in events.old) pairs.items runs.items) events.old }
+    ensures edited { OnOk result (events.new ≡ edited (run_edits (point_in events.old) pairs.items runs.items) events.old) }
+    ensures map { OnOk result (map.new ≡ []) }
+{
+    mark_runs(alloc, events, map, &runs, &pairs)?;
+    drop(runs);
+    drop(pairs);
     map.consume(events)
 }
