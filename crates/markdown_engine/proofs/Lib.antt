@@ -41,6 +41,7 @@ pub mod ChainTree
 pub mod SolidLemmas
 pub mod Bounds
 pub mod ByteSets
+pub mod EightPlain
 pub mod PlainRuns
 pub mod Stretches
 pub mod SteadyLemmas

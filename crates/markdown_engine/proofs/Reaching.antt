@@ -1,22 +1,24 @@
 -- A walk that finds out whether it ends at a place.
-use Rattle.std.proofs.Common.{ℕ, ◌+◌, ◌*◌, ◌<◌, ◌≤◌, Bool, true, false, ◌&&◌, ◌||◌, ◌==◌, ◌≡◌, arith, List, [], ◌∷◌, ◌++◌, length, refl, sym, ap, subst, ◌∙◌, inl, inr, Some, IsTrue}
+use Rattle.std.proofs.Common.{ℕ, ◌+◌, ◌*◌, ◌<◌, ◌≤◌, Bool, true, false, ◌&&◌, ◌||◌, ◌==◌, ◌≡◌, arith, List, [], ◌∷◌, ◌++◌, length, refl, sym, ap, subst, ◌∙◌, inl, inr, Some, IsTrue, zero, suc, get_or, ◌-◌}
 use Rattle.std.proofs.lemmas.Option.{same_Some}
 use Rattle.std.proofs.Math.Bool.{or-false}
 use Rattle.std.specs.List.{list_any}
-use Rattle.std.proofs.lemmas.Bool.{cases_Bool, or_left, or_right, and_from, eq-eqb, false_from_ne_true}
+use Rattle.std.proofs.lemmas.Bool.{cases_Bool, cases_lt, or_left, or_right, and_from, eq-eqb, false_from_ne_true}
 use Rattle.std.proofs.lemmas.Bool.Decides.{nat_tests}
 use Rattle.markdown_engine.specs.declared.content.Stretch.{Stretch}
 use Rattle.markdown_engine.specs.declared.event.Point.{Point}
-use Rattle.markdown_engine.specs.Codes.{Code, line_feed, document_start, codes_of, stop_of, place_of, point_at, is_code_before, is_line_ending, is_at_or_after}
+use Rattle.markdown_engine.specs.Codes.{Code, line_feed, tab_value, next_column, is_line_ending_byte, document_start, codes_of, stop_of, place_of, point_at, is_code_before, is_line_ending, is_at_or_after}
 use Rattle.markdown_engine.specs.Content.{is_place, ends_line}
 use Rattle.markdown_engine.specs.Walk.{codes_after, IsPoint, next_point, value_from}
-use Rattle.markdown_engine.specs.Checks.{codes_up, IsStretch}
+use Rattle.markdown_engine.specs.Checks.{codes_up, columns_on, longer_by, IsStretch}
+use Rattle.markdown_engine.specs.Plain.{ArePlain}
+use Rattle.markdown_engine.proofs.ByteSets.{plain-parts}
 use Rattle.markdown_engine.proofs.Order.{is_before, same_place, before-self}
 use Rattle.markdown_engine.proofs.Chain.{before_in}
 use Rattle.markdown_engine.proofs.Steps.{code_here, value_at, stop_at}
 use Rattle.markdown_engine.proofs.Walks.{few-end}
-use Rattle.markdown_engine.proofs.Points.{next, IsNext, there, toward, stands-there, stands-point, inside-before, document-split, same-pair}
-use Rattle.markdown_engine.proofs.Past.{value-is}
+use Rattle.markdown_engine.proofs.Points.{next, IsNext, there, toward, stands-there, stands-point, inside-before, document-split, same-pair, vs-small}
+use Rattle.markdown_engine.proofs.Past.{value-is, next_byte, value_byte, other_byte}
 use Rattle.markdown_engine.proofs.Strides.{not_past, codes_left_at, falls, few-less}
 use Rattle.markdown_engine.proofs.Standings.{none-before, passes}
 
@@ -88,12 +90,6 @@ reaching-next bytes p at s q v t b h lt before value test stop has =
     let stopped : IsReaching bytes p at (record { point = q; has_line_ending = s.has_line_ending || t; ends_line = t }) = subst (λ (x : Point). IsReaching bytes p at (record { point = x; has_line_ending = s.has_line_ending || t; ends_line = t })) (sym (stop ∙ (next bytes s.point h.point lt).next)) (reaching-stop bytes p at s t h lt before is) in
     subst (λ (x : Bool). IsReaching bytes p at (record { point = q; has_line_ending = x; ends_line = t })) (sym has) stopped
 
-pub or-first : (a b : Bool) → a ≡ true → a ≡ (a || b)
-or-first a b h = rw h refl
-
-pub or-second : (a b : Bool) → a ≡ false → b ≡ (a || b)
-or-second a b h = rw h refl
-
 pub reaching-less : (bytes : List ℕ) (p q : Point) → IsPoint bytes p → p.index < length bytes → q ≡ next_point bytes p → codes_left_at bytes q < codes_left_at bytes p
 reaching-less bytes p q h lt stop =
     let one : IsNext bytes p = next bytes p h lt in
@@ -131,3 +127,66 @@ both-tests a b c d r e h = grind (arith, nat_tests)
 
 pub not-both : (a b c d : ℕ) (r : Bool) → r ≡ (a == c && b == d) → r ≡ false → (a ≡ c) × (b ≡ d) → ⊥
 not-both a b c d r e h k = grind (arith, nat_tests)
+
+-- Ordinary bytes.
+
+none-some : (b : Bool) → b ≡ (b || false)
+none-some true = refl
+none-some false = refl
+
+not-feed : (v : ℕ) → 13 < v → false ≡ (v == line_feed)
+not-feed v h = grind (arith, nat_tests)
+
+index-before : (a b c d : ℕ) → a < c → is_before (a, b) (c, d) ≡ true
+index-before a b c d h = grind (arith, nat_tests)
+
+control : (v c : ℕ) → 13 < v → c ≤ 13 → v ≡ c → ⊥
+control v c h l e = omega arith
+
+-- one ordinary byte further
+reaching-byte : (bytes : List ℕ) (p : Point) (at : ℕ × ℕ) (s : Stretch) → IsReaching bytes p at s → s.point.index < length bytes → s.point.index < at.0 → 13 < get_or bytes s.point.index 0 → IsReaching bytes p at (record { point = next_column s.point (s.point.index + 1) 0; has_line_ending = s.has_line_ending; ends_line = false })
+reaching-byte bytes p at s h lt before plain =
+    let v : ℕ = get_or bytes s.point.index 0 in
+    let ending : is_line_ending_byte v ≡ false = other_byte v (control v 10 plain (omega arith)) (control v 13 plain (omega arith)) in
+    reaching-next bytes p at s (next_column s.point (s.point.index + 1) 0) v false s.has_line_ending h lt (index-before s.point.index s.point.vs at.0 at.1 before)
+    (value_byte bytes s.point h.point lt ending (λ e. absurd (control v tab_value plain (omega arith) e))) (not-feed v plain) (next_byte bytes s.point h.point lt ending (λ e. absurd (control v tab_value plain (omega arith) e))) (none-some s.has_line_ending)
+
+further : (p : Point) (m : ℕ) → next_column (columns_on p m) ((columns_on p m).index + 1) 0 ≡ columns_on p (suc m)
+further p m =
+    ap (λ (c : ℕ). record { line = p.line; column = c; index = p.index + m + 1; vs = 0 }) (omega arith)
+    ∙ ap (λ (i : ℕ). record { line = p.line; column = p.column + suc m; index = i; vs = 0 }) (omega arith)
+
+-- past ordinary bytes before the place
+reaching-plain : (bytes : List ℕ) (p : Point) (at : ℕ × ℕ) (s : Stretch) (m : ℕ) → IsReaching bytes p at s → s.point.index + m ≤ length bytes → s.point.index + m ≤ at.0 → ArePlain [] bytes s.point.index (s.point.index + m) → IsReaching bytes p at (longer_by m s)
+reaching-plain bytes p at s zero h inside before plain = h
+reaching-plain bytes p at s (suc zero) h inside before plain =
+    reaching-byte bytes p at s h (omega (arith, inside)) (omega (arith, before)) (plain-parts [] _ (plain s.point.index (omega arith) (omega arith))).0
+reaching-plain bytes p at s (suc (suc m)) h inside before plain =
+    let t : Stretch = longer_by (suc m) s in
+    let more : IsReaching bytes p at t = reaching-plain bytes p at s (suc m) h (omega (arith, inside)) (omega (arith, before)) (λ i low high. plain i low (omega (arith, high))) in
+    subst (λ (q : Point). IsReaching bytes p at (record { point = q; has_line_ending = s.has_line_ending; ends_line = false })) (further s.point (suc m))
+    (reaching-byte bytes p at t more (omega (arith, inside)) (omega (arith, before)) (plain-parts [] _ (plain (s.point.index + suc m) (omega arith) (omega arith))).0)
+
+-- no more codes are left behind them
+longer-left : (bytes : List ℕ) (m : ℕ) (s : Stretch) → IsPoint bytes s.point → codes_left_at bytes (longer_by m s).point ≤ codes_left_at bytes s.point
+longer-left bytes zero s h = omega arith
+longer-left bytes (suc m) s h =
+    let few : s.point.vs ≤ 3 = vs-small bytes s.point (stands-point bytes s.point h) in
+    omega (arith, few)
+
+pub left-past : (bytes : List ℕ) (s t : Stretch) → IsPoint bytes s.point → t ≡ longer_by (t.point.index - s.point.index) s → codes_left_at bytes t.point ≤ codes_left_at bytes s.point
+left-past bytes s t h e = subst (λ (x : Stretch). codes_left_at bytes x.point ≤ codes_left_at bytes s.point) (sym e) (longer-left bytes (t.point.index - s.point.index) s h)
+
+-- a stretch with ordinary bytes behind it is on the same way
+pub reaching-past : (bytes : List ℕ) (p : Point) (at : ℕ × ℕ) (s t : Stretch) → IsReaching bytes p at s → t ≡ longer_by (t.point.index - s.point.index) s → s.point.index ≤ t.point.index
+    → (s.point.index < t.point.index → (t.point.index ≤ at.0) × (t.point.index ≤ length bytes)) → ArePlain [] bytes s.point.index t.point.index → IsReaching bytes p at t
+reaching-past bytes p at s t h e forward within plain =
+    let m : ℕ = t.point.index - s.point.index in
+    elim (cases_lt s.point.index t.point.index) [
+      | inl lt ↦
+          subst (λ (x : Stretch). IsReaching bytes p at x) (sym e)
+          (reaching-plain bytes p at s m h (omega (arith, lt, (within lt).1)) (omega (arith, lt, (within lt).0)) (λ i low high. plain i low (omega (arith, lt, high))))
+      | inr ge ↦
+          let none : m ≡ 0 = omega (arith, ge) in
+          subst (λ (x : Stretch). IsReaching bytes p at x) (sym (e ∙ ap (λ (n : ℕ). longer_by n s) none)) h
+    ]

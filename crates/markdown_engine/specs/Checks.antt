@@ -1,5 +1,5 @@
 -- What the test of a content finds, stretch by stretch.
-use Rattle.std.specs.Prelude.{◌≡◌, ℕ, Bool, true, false, ◌&&◌, List, MatchOption, Option, filter}
+use Rattle.std.specs.Prelude.{◌≡◌, ℕ, zero, suc, ◌+◌, Bool, true, false, ◌&&◌, List, MatchOption, Option, filter}
 use Rattle.std.specs.List.{list_any}
 use Rattle.markdown_engine.specs.declared.content.Stretch.{Stretch}
 use Rattle.markdown_engine.specs.declared.event.Point.{Point}
@@ -22,6 +22,15 @@ pub record IsStretch (bytes : List ℕ) (p : Point) (at : ℕ × ℕ) (s : Stret
 -- the stretch to a place, if it is one
 abbrev pub Reaches : List ℕ → Point → ℕ × ℕ → Option Stretch → Type 0
 Reaches bytes p at s = MatchOption s (is_place bytes at ≡ false) (IsStretch bytes p at)
+
+-- the place so many columns on, at a byte
+abbrev pub columns_on : Point → ℕ → Point
+columns_on p m = record { line = p.line; column = p.column + m; index = p.index + m; vs = 0 }
+
+-- a stretch with so many bytes behind it that are codes by themselves, and no line endings
+abbrev pub longer_by : ℕ → Stretch → Stretch
+longer_by zero s = s
+longer_by (suc m) s = record { point = columns_on s.point (suc m); has_line_ending = s.has_line_ending; ends_line = false }
 
 -- the end of a piece, and whether its last code is a line ending
 pub record IsPieceEnd (bytes : List ℕ) (piece : Piece) (s : Stretch) : Type 0 where

@@ -1,10 +1,14 @@
 -- Bytes over which text goes on at once.
-use Rattle.std.specs.Prelude.{◌≡◌, ℕ, suc, ◌<◌, ◌≤◌, Bool, true, not, ◌&&◌, nat_lt, ◌==◌, if◌then◌else◌, List, [], ◌∷◌, get_or}
-use Rattle.std.specs.List.{list_any}
+use Rattle.std.specs.Prelude.{◌≡◌, ℕ, suc, ◌<◌, ◌≤◌, Bool, true, not, ◌&&◌, nat_lt, nat_le, ◌==◌, if◌then◌else◌, List, [], ◌∷◌, length, take, get_or}
+use Rattle.std.specs.List.{list_all, list_any}
 
 -- neither a tab nor of a line ending, and none of these bytes
 abbrev pub is_plain : List ℕ → ℕ → Bool
 is_plain set b = nat_lt 13 b && not (list_any (λ n. b == n) set)
+
+-- eight bytes come first, and all of them are such
+abbrev pub are_eight_plain : List ℕ → List ℕ → Bool
+are_eight_plain set bytes = nat_le 8 (length bytes) && list_all (is_plain set) (take 8 bytes)
 
 abbrev pub same : Bool → Bool → Bool
 same b c = if b then c else not c

@@ -1,14 +1,15 @@
 // Tests whether pieces of a document are a content, and a text.
-ghost use Rattle.std.specs.Prelude.{◌≡◌, ◌≤◌, ◌^◌, ◌&&◌, ◌||◌, ◌==◌, ◌↔◌, nat_lt, not, false, if◌then◌else◌, length, All, IsTrue, IsCharBoundary};
+ghost use Rattle.std.specs.Prelude.{◌≡◌, ◌≤◌, ◌^◌, ◌&&◌, ◌||◌, ◌==◌, ◌↔◌, nat_lt, not, false, if◌then◌else◌, ◌-◌, ◌<◌, [], length, All, IsTrue, IsCharBoundary};
 ghost use Rattle.std.specs.Str.{byte};
 ghost use Rattle.markdown_engine.specs.Codes.{place_of, is_at_or_after};
 ghost use Rattle.markdown_engine.specs.Content.{document_limit, content_of, has_no_blank_line, is_text_codes, IsContent, IsTextContent, IsBetweenCharacters, are_pieces};
-ghost use Rattle.markdown_engine.specs.Checks.{Reaches, PassesPiece, PassesNext};
+ghost use Rattle.markdown_engine.specs.Checks.{Reaches, longer_by, PassesPiece, PassesNext};
 ghost use Rattle.markdown_engine.specs.Place.{ahead_at};
+ghost use Rattle.markdown_engine.specs.Plain.{ArePlain};
 ghost use Rattle.markdown_engine.specs.Walk.{IsPoint};
 
 use crate::byte_set;
-use crate::cursor::Cursor;
+use crate::cursor::{Cursor, plain_end};
 use crate::event::Point;
 use crate::parser::Piece;
 use crate::walk::{DOCUMENT_START, code_from, past_code};
@@ -34,6 +35,36 @@ fn is_before(place: (usize, usize), other: (usize, usize)) -> bool
     place.0 < other.0 || (place.0 == other.0 && place.1 < other.1)
 }
 
+// Walks on over the ordinary bytes that come next, as far as an index.
+fn pass_ordinary(bytes: &[u8], stretch: Stretch, to: usize) -> Stretch
+    requires fits { length bytes.now ≤ document_limit }
+    requires is_point { IsPoint bytes.now stretch.point }
+    ensures longer { result ≡ longer_by (result.point.index - stretch.point.index) stretch }
+    ensures forward { stretch.point.index ≤ result.point.index }
+    ensures within { stretch.point.index < result.point.index → (result.point.index ≤ to) × (result.point.index ≤ length bytes.now) }
+    ensures plain { ArePlain [] bytes.now stretch.point.index result.point.index }
+{
+    let start = stretch.point.index;
+    let end = to.min(bytes.len());
+    if end <= start {
+        return stretch;
+    }
+    let count = plain_end(bytes, start, end, &byte_set!()) - start;
+    if count == 0 {
+        return stretch;
+    }
+    Stretch {
+        point: Point {
+            line: stretch.point.line,
+            column: stretch.point.column + count,
+            index: start + count,
+            vs: 0,
+        },
+        has_line_ending: stretch.has_line_ending,
+        ends_line: false,
+    }
+}
+
 // Walks forward to a place, if it is one of the document.
 fn reach(bytes: &[u8], point: Point, place: (usize, usize)) -> Option<Stretch>
     requires fits { length bytes.now ≤ document_limit }
@@ -50,11 +81,12 @@ fn reach(bytes: &[u8], point: Point, place: (usize, usize)) -> Option<Stretch>
         && is_before((stretch.point.index, stretch.point.vs), place)
     {
         let ends_line = code_from(bytes, stretch.point) == b'\n';
-        stretch = Stretch {
+        let next = Stretch {
             point: past_code(bytes, stretch.point),
-            has_line_ending: stretch.has_line_ending || ends_line,
+            has_line_ending: stretch.has_line_ending | ends_line,
             ends_line,
         };
+        stretch = pass_ordinary(bytes, next, place.0);
     }
     if (stretch.point.index, stretch.point.vs) == place {
         Some(stretch)

@@ -254,8 +254,8 @@ impl<'a> Cursor<'a> {
     }
 }
 
-// Where the ordinary bytes from this index on end, not past `to`.
-fn plain_end(bytes: &[u8], from: usize, to: usize, stops: &ByteSet) -> usize
+// Where the groups of eight ordinary bytes from this index on end, not past `to`.
+fn plain_groups_end(bytes: &[u8], from: usize, to: usize, stops: &ByteSet) -> usize
     requires order { from ≤ to }
     requires within { to ≤ length bytes.now }
     ensures from { from ≤ result }
@@ -263,6 +263,21 @@ fn plain_end(bytes: &[u8], from: usize, to: usize, stops: &ByteSet) -> usize
     ensures plain { ArePlain stops.now bytes.now from result }
 {
     let mut index = from;
+    while stops.are_eight_plain(&bytes[index..to]) {
+        index += 8;
+    }
+    index
+}
+
+// Where the ordinary bytes from this index on end, not past `to`.
+pub(crate) fn plain_end(bytes: &[u8], from: usize, to: usize, stops: &ByteSet) -> usize
+    requires order { from ≤ to }
+    requires within { to ≤ length bytes.now }
+    ensures from { from ≤ result }
+    ensures to { result ≤ to }
+    ensures plain { ArePlain stops.now bytes.now from result }
+{
+    let mut index = plain_groups_end(bytes, from, to, stops);
     while index < to && stops.is_plain(bytes[index]) {
         index += 1;
     }
