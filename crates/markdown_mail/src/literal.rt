@@ -46,20 +46,13 @@ struct Literal {
     end: Point,
 }
 
-// Whether an `@` stands among the codes of a stretch.
+// Whether an `@` stands among the codes of a stretch: among its bytes, since no other byte is the code `@`.
 pub(crate) fn has_sign(bytes: &[u8], from: Point, to: Point) -> bool
     requires fits { length bytes.now ≤ document_limit }
     requires stretch { IsStretch bytes.now from to }
     ensures { result ≡ has_sign bytes.now from to }
 {
-    let mut point = from;
-    while !is_same_place(point, to) {
-        if code_from(bytes, point) == b'@' {
-            return true;
-        }
-        point = past_code(bytes, point);
-    }
-    false
+    bytes[from.index..to.index].contains(&b'@')
 }
 
 // Nothing stands before the start of data.
