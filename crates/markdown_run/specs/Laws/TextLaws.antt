@@ -200,9 +200,9 @@ tree-kept : (T U : Tokenizer) (t : Forest) → U ≡ past None t T → AreWithin
 unfolding past
 tree-kept T U t left k = subst (λ (x : Tokenizer). AreWithin x x.tokenize_state.label_starts) (sym left) (within-grown T (past None t T) _ refl refl T.tokenize_state.label_starts k)
 
-registered-within : (b : Bool) (V W : Tokenizer) → W ≡ record V { resolvers = SpaceSteps.resolvers } → AreWithin V V.tokenize_state.label_starts → AreWithin (if b then V else W) (if b then V else W).tokenize_state.label_starts
+registered-within : (b : Bool) (V W : Tokenizer) → W ≡ record V { resolvers = W.resolvers } → AreWithin V V.tokenize_state.label_starts → AreWithin (if b then V else W) (if b then V else W).tokenize_state.label_starts
 registered-within true V W e k = k
-registered-within false V W e k = subst (λ (x : Tokenizer). AreWithin x x.tokenize_state.label_starts) (sym e) (within-grown V (record V { resolvers = SpaceSteps.resolvers }) [] refl (sym (append-nil V.events)) V.tokenize_state.label_starts k)
+registered-within false V W e k = subst (λ (x : Tokenizer). AreWithin x x.tokenize_state.label_starts) (sym e) (within-grown V (record V { resolvers = W.resolvers }) [] refl (sym (append-nil V.events)) V.tokenize_state.label_starts k)
 
 registered-kept : (T U V : Tokenizer) (t : Forest) → V ≡ past None t T → U ≡ registered R.Attention V → AreWithin T T.tokenize_state.label_starts → AreWithin U U.tokenize_state.label_starts
 unfolding registered
