@@ -1,5 +1,4 @@
-use Rattle.std.proofs.Common.{◌≡◌, ◌∙◌, sym, ap, false, arith}
-use Rattle.markdown_partial.specs.Trim.{is_same_place}
+use Rattle.std.proofs.Common.{◌∙◌, sym, arith}
 use Rattle.markdown_partial.proofs.TrimEnds.{ends-none, ends-inside, ends-byte, end-within}
 use Rattle.markdown_partial.proofs.partial_whitespace.ends_blank.Goals as goal
 
