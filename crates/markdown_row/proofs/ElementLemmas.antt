@@ -31,7 +31,7 @@ use Rattle.markdown_model.specs.Lines.{linked_leaf, data_up_to, line_leaf, line_
 use Rattle.markdown_model.proofs.DataLaws.{code_leaf, code_leaves}
 use Rattle.markdown_model.proofs.ReadingLaws.{code_before-append}
 use Rattle.markdown_model.proofs.Leaves.{span-append}
-use Rattle.markdown_row.specs.Elements.{StandsAfter, Elements, Advances, AllElements, Finishes}
+use Rattle.markdown_row.specs.Elements.{AreSingle, StandsAfter, Elements, Advances, AllElements, Finishes}
 use Rattle.markdown_row.specs.Row.{Row, row_end, row_then, loses, tree_onto, joined_rows, past_tree, past_row, row_codes, kinds_of, split_row, row_of_elements, element_onto, HasElementCodes, HaveCodes, IsRowAt}
 use Rattle.markdown_row.specs.Trees.{makes_data, HasLines, HasOuterRuns, IsPart, IsRunless, IsRunLeaf, IsSingle, IsNode}
 use Rattle.markdown_row.proofs.NodeLemmas.{quiet-lines-of, quiet-node-unlinked}
@@ -151,14 +151,18 @@ data-next : (choice : Choice) (earlier : List Element) (previous : Option Code) 
 data-next choice earlier previous c cs es e h =
     (cs, e, subst (λ o. AreElementsFrom choice (plain (code_leaf c) ∷ earlier) o cs es) (sym (code_before-append (c ∷ []) cs)) h)
 
-data-others : (choice : Choice) (markers : List ℕ) → ((earlier : List Element) (previous : Option Code) (c : Code) (cs : List Code) → is_among markers c ≡ false → choice earlier previous (c ∷ cs) ≡ Some (plain (code_leaf c), cs)) → (earlier : List Element) (previous : Option Code) (cs : List Code) (es : List Element) → AreElementsFrom choice (past_leaves earlier (unmarked markers cs).0) (past_code previous (unmarked markers cs).0) (unmarked markers cs).1 es → AreElementsFrom choice earlier previous cs (leaf_elements (unmarked markers cs).0 ++ es)
+-- what is said of each code, is said of those behind the first
+single-behind : (choice : Choice) (markers : List ℕ) (c : Code) (cs : List Code) → AreSingle choice markers (c ∷ cs) → AreSingle choice markers cs
+single-behind choice markers c cs others front earlier previous d ds e free = others (c ∷ front) earlier previous d ds (ap (λ xs. c ∷ xs) e) free
+
+data-others : (choice : Choice) (markers : List ℕ) (earlier : List Element) (previous : Option Code) (cs : List Code) → AreSingle choice markers cs → (es : List Element) → AreElementsFrom choice (past_leaves earlier (unmarked markers cs).0) (past_code previous (unmarked markers cs).0) (unmarked markers cs).1 es → AreElementsFrom choice earlier previous cs (leaf_elements (unmarked markers cs).0 ++ es)
 unfolding leaf_elements past_leaves past_code
-data-others choice markers others earlier previous [] es h = h
-data-others choice markers others earlier previous (c ∷ cs) es h =
+data-others choice markers earlier previous [] others es h = h
+data-others choice markers earlier previous (c ∷ cs) others es h =
     let s : List Code × List Code = unmarked markers cs in
     let cut : Bool → List Code × List Code = λ b. elim b [ true ↦ (c ∷ s.0, s.1) | false ↦ ([], c ∷ cs) ] in
     elim (not (is_among markers c)) as (λ b. not (is_among markers c) ≡ b → AreElementsFrom choice (past_leaves earlier (cut b).0) (past_code previous (cut b).0) (cut b).1 es → AreElementsFrom choice earlier previous (c ∷ cs) (leaf_elements (cut b).0 ++ es)) [
-      | true ↦ λ e k. data-next choice earlier previous c cs (leaf_elements s.0 ++ es) (others earlier previous c cs (not-true (is_among markers c) e)) (data-others choice markers others (plain (code_leaf c) ∷ earlier) (Some c) cs es k)
+      | true ↦ λ e k. data-next choice earlier previous c cs (leaf_elements s.0 ++ es) (others [] earlier previous c cs refl (not-true (is_among markers c) e)) (data-others choice markers (plain (code_leaf c) ∷ earlier) (Some c) cs (single-behind choice markers c cs others) es k)
       | false ↦ λ e k. k
     ] refl h
 
@@ -379,16 +383,16 @@ stands-behind markers T U c cs d next plainly keeps =
     }
 
 -- the elements behind the first of data, and those that follow
-pub follow-behind : (choice : Choice) (markers : List ℕ) (T U : Tokenizer) (c : Code) (cs : List Code) (d : DataRead markers T U c cs) (next : List Element) → ((earlier : List Element) (previous : Option Code) (x : Code) (xs : List Code) → is_among markers x ≡ false → choice earlier previous (x ∷ xs) ≡ Some (plain (code_leaf x), xs))
+pub follow-behind : (choice : Choice) (markers : List ℕ) (T U : Tokenizer) (c : Code) (cs : List Code) (d : DataRead markers T U c cs) (next : List Element) → AreSingle choice markers (c ∷ cs)
     → (es : List Element) → AreElementsFrom choice (past_leaves next (unmarked markers cs).0) (past_code (Some c) (unmarked markers cs).0) (ahead U) es → AreElementsFrom choice next (Some c) cs (leaf_elements (unmarked markers cs).0 ++ es)
 follow-behind choice markers T U c cs d next others es h =
     let s : List Code × List Code = unmarked markers cs in
-    data-others choice markers others next (Some c) cs es (subst (λ xs. AreElementsFrom choice (past_leaves next s.0) (past_code (Some c) s.0) xs es) (sym d.rest) h)
+    data-others choice markers next (Some c) cs (single-behind choice markers c cs others) es (subst (λ xs. AreElementsFrom choice (past_leaves next s.0) (past_code (Some c) s.0) xs es) (sym d.rest) h)
 
 -- past data: the code at hand and those up to the next marker, each an element by itself
 pub data-advances : (choice : Choice) (markers : List ℕ) (T U : Tokenizer) (c : Code) (cs : List Code) → ahead T ≡ c ∷ cs → Reads (data_up_to markers) None T.tokenize_state T U
     → ((earlier : List Element) (previous : Option Code) → StandsAfter earlier previous T → choice earlier previous (c ∷ cs) ≡ Some (plain (code_leaf c), cs))
-    → ((earlier : List Element) (previous : Option Code) (x : Code) (xs : List Code) → is_among markers x ≡ false → choice earlier previous (x ∷ xs) ≡ Some (plain (code_leaf x), xs)) → Advances choice T U
+    → AreSingle choice markers (c ∷ cs) → Advances choice T U
 unfolding leaf_elements
 data-advances choice markers T U c cs whole k first others =
     let d : DataRead markers T U c cs = data-read markers T U c cs whole k in

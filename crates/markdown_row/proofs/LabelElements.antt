@@ -36,7 +36,7 @@ use Rattle.markdown_model.specs.Lines.{data_up_to, line_leaves, lines_of}
 use Rattle.markdown_model.specs.Passes.{start_tree}
 use Rattle.markdown_partial.specs.DataLines.{HasLines}
 use Rattle.markdown_resource.specs.Tails.{IsTail}
-use Rattle.markdown_row.specs.Elements.{StandsAfter, Advances}
+use Rattle.markdown_row.specs.Elements.{AreSingle, StandsAfter, Advances}
 use Rattle.markdown_row.specs.Row.{Mark, begins, makes, loses, row_end, row_then, tree_onto, past_tree, past_mark, past_row, mark_codes, kinds_of, IsFront, IsStart, IsMade, IsMarkAt, split_row, row_of_elements, HasElementCodes}
 use Rattle.markdown_row.specs.Trees.{IsPart}
 use Rattle.markdown_row.proofs.ElementLemmas.{DataRead, data-read, group-escaped, last-some, fewer-left, one-element, kept-tree, unmarked, leaf_elements, have-leaves, past_leaves, past_code, stands-behind, follow-behind, data-alike, leaves-first}
@@ -261,7 +261,7 @@ lost-alike c cs t plainly e =
 -- past the `]` of an end that makes none, and the data that it begins
 pub lost-advances : (choice : Choice) (markers : List ℕ) (T U : Tokenizer) (c : Code) (cs : List Code) → ahead T ≡ c ∷ cs → is_line_ending c ≡ false → (let L : Tokenizer = past_mark loses T in Reads (data_up_to markers) None L.tokenize_state L U)
     → ((earlier : List Element) (previous : Option Code) → StandsAfter earlier previous T → choice earlier previous (c ∷ cs) ≡ Some (ends (c ∷ []) None, cs))
-    → ((earlier : List Element) (previous : Option Code) (x : Code) (xs : List Code) → is_among markers x ≡ false → choice earlier previous (x ∷ xs) ≡ Some (plain (code_leaf x), xs)) → Advances choice T U
+    → AreSingle choice markers (c ∷ cs) → Advances choice T U
 lost-advances choice markers T U c cs whole plainly k first others =
     let L : Tokenizer = past_mark loses T in
     let d : DataRead markers L U c cs = data-read markers L U c cs (lost-ahead T ∙ whole) k in

@@ -85,7 +85,7 @@ text-ready p pieces first T text k =
       };
     }
 
--- where data stops at the markers of a text, and where the runs of its spans stand
+-- where data stops where an element may begin, and where the runs of its spans stand
 marked-start : (p : ParseState) (pieces : List Piece) (first : Bool) (T : Tokenizer) → text_start p pieces first T → Starts p pieces (marked_fields T.cursor.codes T.parse_state.now (text_fields first)) (text_marked T)
 unfolding scratched
 marked-start p pieces first T k =

@@ -1,2 +1,3 @@
 pub mod FinishTexts
 pub mod TableLemmas
+pub mod SignWalks

@@ -4,7 +4,7 @@ use Rattle.std.specs.Str.{byte}
 use Rattle.markdown_engine.specs.Codes.{Code, count_of, stop_of, document_start}
 use Rattle.markdown_engine.specs.NameIndex.{names_in_order}
 use Rattle.markdown_engine.specs.Ops.{attempted, scratched, registered, current_of, ahead}
-use Rattle.markdown_engine.specs.Place.{Place}
+use Rattle.markdown_engine.specs.Place.{Place, ahead_at, code_before}
 use Rattle.markdown_engine.specs.RunIndex.{last_runs}
 use Rattle.markdown_engine.specs.Runs.{Stepped, stepped}
 use Rattle.markdown_engine.specs.StateWords.{StateWords}
@@ -32,7 +32,7 @@ use Rattle.markdown_model.specs.Element.{Choice, text_choice}
 use Rattle.markdown_model.specs.LabelEnd.{Element, plain}
 use Rattle.markdown_model.specs.Lines.{data_up_to}
 use Rattle.markdown_model.specs.Setting.{Setting}
-use Rattle.markdown_row.specs.Elements.{DataFinishes, Finishes, StandsAfter}
+use Rattle.markdown_row.specs.Elements.{AreSingle, DataFinishes, Finishes, StandsAfter}
 use Rattle.markdown_text.specs.Settings.{text_setting_of}
 use Rattle.markdown_text.specs.Table.{Table, codes_in, said_at}
 
@@ -59,6 +59,41 @@ text_markers = codes_in text_tries
 abbrev pub first_try : ℕ → Option (StateName × StateName)
 first_try = said_at text_tries
 
+-- Where no literal may begin, data goes on over the letters that literals begin with.
+
+-- a colon before a slash, as behind a protocol, or a `w` before a dot, as in `www.`
+abbrev pub is_sign : ℕ → ℕ → Bool
+is_sign v next = (v == byte ":" && next == byte "/") || ((v == byte "W" || v == byte "w") && next == byte ".")
+
+abbrev pub ends_sign : Option ℕ → ℕ → Bool
+ends_sign None next = false
+ends_sign (Some v) next = is_sign v next
+
+-- such a sign ends in these codes, behind a code of this value
+unfoldable pub has_sign : Option ℕ → List Code → Bool
+has_sign previous [] = false
+has_sign previous (c ∷ cs) = ends_sign previous c.value || has_sign (Some c.value) cs
+
+-- such a sign ends at the place or behind it
+abbrev pub sign_ahead : Place → Bool
+sign_ahead p = has_sign (code_before p) (ahead_at p)
+
+-- the letters that literals begin with
+abbrev pub literal_letters : List ℕ
+literal_letters = codes "HhWw"
+
+-- the codes of the other rows
+abbrev pub plain_markers : List ℕ
+plain_markers = codes "!$`&*_~<[\\]"
+
+-- a literal may begin in these codes
+abbrev pub may_hold_literals : List Code → ParseState → Bool
+may_hold_literals cs p = p.options.now.constructs.gfm_autolink_literal && has_sign None cs
+
+-- the codes at which data of these codes stops
+abbrev pub markers_for : List Code → ParseState → List ℕ
+markers_for cs p = if may_hold_literals cs p then text_markers else plain_markers
+
 -- the codes whose runs close spans
 abbrev pub span_markers : List ℕ
 span_markers = codes "`$"
@@ -82,7 +117,7 @@ titles_for cs = if titles_pay cs then Some (closers_of cs) else None
 -- the scratch fields of a text of these codes: where data stops, where the last runs begin at which spans may close, where the sequences
 -- last begin that end HTML and resources, where titles may end, and the names of what is defined
 abbrev pub marked_fields : List Code → ParseState → TokenizeState → TokenizeState
-marked_fields cs p s = record s { markers = text_markers; runs = last_runs span_markers cs; sequences = Some (last_begins cs); titles = titles_for cs; names = names_for cs p }
+marked_fields cs p s = record s { markers = markers_for cs p; runs = last_runs span_markers cs; sequences = Some (last_begins cs); titles = titles_for cs; names = names_for cs p }
 
 abbrev pub text_marked : Tokenizer → Tokenizer
 text_marked T = scratched (marked_fields T.cursor.codes T.parse_state.now T.tokenize_state) T
@@ -145,9 +180,13 @@ pub record StartReady (T : Tokenizer) : Type 0 where
   pub ends : LabelEnd.StartReady T
   pub last : EndsWithCodes T.cursor
 
--- besides, data stops at the markers of a text
+-- each code of the content at which data does not stop is an element by itself
+abbrev pub StopsAtElements : Tokenizer → Type 0
+StopsAtElements T = AreSingle (text_choice_of T) T.tokenize_state.markers T.cursor.codes
+
+-- besides, data stops where another element may begin
 pub record IsMarked (T : Tokenizer) : Type 0 where
-  pub markers : T.tokenize_state.markers ≡ text_markers
+  pub stops : StopsAtElements T
   pub spans : RawText.StartReady T
   pub look : GfmTaskListItemCheck.MayLook T
   pub literals : GfmAutolinkLiteral.StartReady T
@@ -198,7 +237,7 @@ before_ends T false U = ⊥
 
 -- where it is not known what element the code at hand begins: data is read, and behind it so
 abbrev pub data_ends : Tokenizer → Bool → Tokenizer → Type 0
-data_ends T true U = DataFinishes (text_choice_of T) (data_up_to text_markers) text_passed T U
+data_ends T true U = DataFinishes (text_choice_of T) (data_up_to T.tokenize_state.markers) text_passed T U
 data_ends T false U = ⊥
 
 abbrev pub start_ends : Tokenizer → Bool → Tokenizer → Type 0

@@ -3,15 +3,17 @@
 //! Each state answers the error where a growth is refused; then `failed` is true.
 #![tactic(auto, using(markdown_engine::proofs::OpRules::op_rules))]
 
-ghost use Rattle.std.specs.Prelude.{◌≡◌, IfOk, OnOk, OnErr, IsTrue, None, Some, true};
+ghost use Rattle.std.specs.Prelude.{◌≡◌, ◌≤◌, length, IfOk, OnOk, OnErr, IsTrue, None, Some, true};
 ghost use Rattle.markdown_engine.specs.Ops.{scratched};
+ghost use Rattle.markdown_engine.specs.Place.{ahead_at};
 ghost use Rattle.markdown_engine.specs.RunIndex.{last_runs};
 ghost use Rattle.markdown_engine.specs.SequenceIndex.{last_begins};
 ghost use Rattle.markdown_text.specs.Resolve.{MayFinish, FinishesText};
-ghost use Rattle.markdown_text.specs.TextSteps.{names_for, order_pays, titles_for, titles_pay, span_markers, text_markers, first_try, attempt_step, start_step, before_step, before_html_step, before_hard_break_escape_step, before_label_start_link_step, before_data_step};
+ghost use Rattle.markdown_text.specs.TextSteps.{names_for, order_pays, titles_for, titles_pay, span_markers, is_sign, ends_sign, has_sign, sign_ahead, may_hold_literals, markers_for, first_try, attempt_step, start_step, before_step, before_html_step, before_hard_break_escape_step, before_label_start_link_step, before_data_step};
 
 use markdown_engine::byte_set;
 use markdown_engine::bytes::ByteSet;
+use markdown_engine::cursor::Cursor;
 use markdown_engine::name_index::Names;
 use markdown_engine::resolve::ResolveName;
 use markdown_engine::run_index::RunIndex;
@@ -65,11 +67,70 @@ macro_rules! row_of {
     };
 }
 
-// The bytes at which data of a text stops: those at which something is tried.
-fn markers() -> ByteSet
-    ensures { result ≡ text_markers }
+// Whether this is a colon before a slash, or a `w` before a dot.
+fn is_sign(code: u8, next: u8) -> bool
+    ensures { result ≡ is_sign code next }
 {
-    tries!(bytes_of)
+    (code == b':' && next == b'/') || ((code == b'W' || code == b'w') && next == b'.')
+}
+
+// Whether a sign of literals ends with this code, behind that one.
+fn ends_sign(previous: Option<u8>, code: u8) -> bool
+    ensures { result ≡ ends_sign previous code }
+{
+    match previous {
+        Some(before) => is_sign(before, code),
+        None => false,
+    }
+}
+
+// Moves to the next code with which a sign may end, if there is one.
+fn seek_sign(cursor: &mut Cursor)
+    ensures sign { sign_ahead cursor.new ≡ sign_ahead cursor.old }
+    ensures left { length (ahead_at cursor.new) ≤ length (ahead_at cursor.old) }
+{
+    cursor.consume_stretch(&byte_set!(b'.', b'/'));
+}
+
+// Whether a sign of literals stands in the whole content of a cursor.
+fn has_sign(cursor: &Cursor) -> bool
+    ensures { result ≡ has_sign None cursor.now.codes }
+{
+    let mut place = cursor.restart();
+    seek_sign(&mut place);
+    while let Some(code) = place.current() {
+        if ends_sign(place.previous(), code) {
+            return true;
+        }
+        place.consume();
+        seek_sign(&mut place);
+    }
+    false
+}
+
+// Whether a literal may begin in the content.
+fn may_hold_literals(tokenizer: &Tokenizer) -> bool
+    ensures { result ≡ may_hold_literals tokenizer.now.cursor.codes tokenizer.now.parse_state.now }
+{
+    tokenizer
+        .parse_state
+        .options
+        .constructs
+        .gfm_autolink_literal
+        && has_sign(&tokenizer.cursor)
+}
+
+// The bytes at which data of a text stops: those at which something is tried, but for the letters of literals where none may begin.
+fn markers(tokenizer: &Tokenizer) -> ByteSet
+    ensures { result ≡ markers_for tokenizer.now.cursor.codes tokenizer.now.parse_state.now }
+{
+    if may_hold_literals(tokenizer) {
+        tries!(bytes_of)
+    } else {
+        byte_set!(
+            b'!', b'$', b'`', b'&', b'*', b'_', b'~', b'<', b'[', b'\\', b']'
+        )
+    }
 }
 
 // Answers the start of what is tried first at this byte, and the state to go on with where that does not hold.
@@ -179,7 +240,7 @@ fn index_titles(tokenizer: &mut Tokenizer) -> Result<(), AllocError>
 /// At the start of a text, where the check of a task may stand.
 ///
 /// One walk over the content finds the sequences that end HTML and resources, and a second one the runs at which spans may close, so
-/// that none is looked for in vain. Where many titles in parentheses may begin, and a resource may end behind one, a third one finds where
+/// that none is looked for in vain; a third one finds whether literals may begin, so that data need not stop at each of their letters. Where many titles in parentheses may begin, and a resource may end behind one, a fourth one finds where
 /// each may end. Where many names are defined and many labels may end, the names are put in order, so that each is found by a search.
 ///
 ///     > | [ ] do *it*
@@ -189,7 +250,7 @@ pub fn start(tokenizer: &mut Tokenizer) -> Result<State, AllocError>
     ensures ok { IfOk result (λ s. start_step tokenizer.old ≡ record { state = s; left = tokenizer.new }) }
     ensures err { OnErr result (IsTrue tokenizer.new.failed) }
 {
-    tokenizer.tokenize_state.markers = markers();
+    tokenizer.tokenize_state.markers = markers(tokenizer);
     tokenizer.tokenize_state.sequences = SequenceIndex::over(&tokenizer.cursor);
     index_titles(tokenizer)?;
     index_runs(tokenizer)?;

@@ -61,4 +61,4 @@ data-past T U marked some none plain_code k =
     let a = some-ahead T (ahead T) refl some in
     data-advances (string_here T) string_markers T U a.0 a.1.0 a.1.1 (subst (λ ns. Reads (data_up_to ns) None T.tokenize_state T U) marked k)
     (λ earlier previous stands. single-element (setting_of T.parse_state.now) a.0 a.1.0 (ap (escape_here T) (sym a.1.1) ∙ none) (ap (reference_here T) (sym a.1.1) ∙ plain_code))
-    (λ earlier previous c cs free. unmarked-element T.parse_state.now c cs free)
+    (λ front earlier previous c cs w free. unmarked-element T.parse_state.now c cs free)

@@ -1,6 +1,6 @@
 -- The laws of the states of a text.
 use Rattle.markdown_model.specs.Leaf.{task_check}
-use Rattle.markdown_model.specs.CodeTests.{is_value, last_code, next_is}
+use Rattle.markdown_model.specs.CodeTests.{is_among, is_value, last_code, next_is}
 use Rattle.std.proofs.Common.{◌≡◌, ◌≢◌, ℕ, ◌+◌, ◌*◌, ◌<◌, ◌≤◌, ◌==◌, ◌||◌, Bool, true, false, if◌then◌else◌, Option, Some, None, List, [], ◌∷◌, refl, sym, ap, subst, ◌∙◌, arith, length, length-append, is_none, ◌&&◌, ◌++◌, append-nil}
 use Rattle.std.specs.List.{list_any}
 use Rattle.std.specs.Prelude.{codes}
@@ -56,17 +56,18 @@ use Rattle.markdown_leaf.specs.RawText as RawText
 use Rattle.markdown_model.specs.Element.{text_choice}
 use Rattle.markdown_model.specs.Lines.{data_up_to}
 use Rattle.markdown_util.specs.Reference.{html_5_rows}
-use Rattle.markdown_row.specs.Elements.{Advances, DataFinishes, Finishes}
+use Rattle.markdown_row.specs.Elements.{AreSingle, Advances, DataFinishes, Finishes}
 use Rattle.markdown_run.specs.Layer.{inline}
 use Rattle.markdown_row.specs.Row.{EndsRest, Row, loses, row_end, row_then, past_mark, past_row, row_codes, kinds_of, IsRowAt}
 use Rattle.markdown_row.proofs.LabelElements.{empty-part, mark-alone}
 use Rattle.markdown_row.proofs.RowFields.{relisted, row-cursor, row-input, row-text, row-fields, tree-within, made-within, lost-within}
 use Rattle.markdown_text.specs.StringSteps.{is_on}
-use Rattle.markdown_text.specs.TextSteps.{text_tries, text_markers, order_pays, titles_pay, marked_fields, text_marked, text_passed, attempt_step, start_step, first_try, tries_at, before_at, before_step, text_choice_of, EndsWithCodes, StartReady, IsMarked, BeforeReady, StandsAlone, before_ends, data_ends, start_words, before_words, before_html_words, before_hard_break_escape_words, before_label_start_link_words, before_data_words}
+use Rattle.markdown_text.specs.TextSteps.{text_tries, text_markers, order_pays, titles_pay, marked_fields, text_marked, text_passed, attempt_step, start_step, first_try, tries_at, before_at, before_step, text_choice_of, EndsWithCodes, StartReady, IsMarked, BeforeReady, StandsAlone, before_ends, data_ends, start_words, before_words, before_html_words, before_hard_break_escape_words, before_label_start_link_words, before_data_words, text_setting, StopsAtElements}
 use Rattle.markdown_text.proofs.TableLemmas.{EachOf, by-row}
 use Rattle.markdown_row.proofs.NodeLemmas.{protocol-node, www-node, check-node, html-node, escape-node, reference-node, break-node, autolink-node, span-node}
 use Rattle.markdown_run.specs.Laws.TextElements.{is_marker, data-holds}
-use Rattle.markdown_run.specs.Laws.TextTries.{ReadsNodes, ReadsElements, none-valued, check-reads, no-check-at-end, reference-reads, reference-alone, autolink-reads, html-reads, html-alone, escape-reads, break-reads, break-alone, span-reads, span-alone, run-reads, run-alone, run-leaf, protocol-reads, protocol-alone, www-reads, www-alone, other-alone, other-data}
+use Rattle.markdown_run.specs.Laws.DataStops.{stops-where}
+use Rattle.markdown_run.specs.Laws.TextTries.{end_in, ReadsNodes, ReadsElements, none-valued, check-reads, no-check-at-end, reference-reads, reference-alone, autolink-reads, html-reads, html-alone, escape-reads, break-reads, break-alone, span-reads, span-alone, run-reads, run-alone, run-leaf, protocol-reads, protocol-alone, www-reads, www-alone, other-alone, other-data}
 use Rattle.markdown_row.proofs.ElementLemmas.{DataRead, data-read, last-some, some-ahead, advances-finishes, finishes-end, node-advances, run-advances, data-advances}
 use Rattle.markdown_model.proofs.ReadingSteps.{if-true, if-false, switched-off}
 use Rattle.markdown_text.specs.Settings.{text_setting_of}
@@ -135,11 +136,19 @@ last-past : (T U : Tokenizer) → IsSame T U → EndsWithCodes T.cursor → Ends
 last-past T U e last =
     λ some. ap (λ (p : Point). p.index) e.end ∙ last (subst (λ cs. cs ≢ []) e.codes some) ∙ ap (λ cs. (stop_of document_start cs).index) (sym e.codes)
 
+-- data stops at the same codes
+markers-same : (T U : Tokenizer) → IsSame T U → U.tokenize_state.markers ≡ T.tokenize_state.markers
+markers-same T U e = ap (λ (s : TokenizeState). s.markers) e.fields
+
+stops-past : (T U : Tokenizer) → IsSame T U → StopsAtElements T → StopsAtElements U
+stops-past T U e stops front earlier previous c cs w free =
+    (λ i. choice-same T U e i earlier previous (c ∷ cs)) ∙ stops front earlier previous c cs (sym e.codes ∙ w) (ap (λ ms. is_among ms c) (sym (markers-same T U e)) ∙ free)
+
 marked-past : (T U : Tokenizer) → IsSame T U → codes_left U ≤ codes_left T → AreWithin U U.tokenize_state.label_starts → IsMarked T → IsMarked U
 marked-past T U e l within r =
     let u : TokenizeState = U.tokenize_state in
     record {
-      markers = ap (λ (s : TokenizeState). s.markers) e.fields ∙ r.markers;
+      stops = stops-past T U e r.stops;
       spans = record { rest = e.fields ∙ ap (relisted u) r.spans.rest ∙ ap RawText.rested (sym e.fields); fits = omega (arith, l, r.spans.fits); indexed = indexed-past T U e r.spans.indexed };
       look = record { resting = ap SpaceSteps.rested e.fields ∙ ap (relisted u) r.look.resting ∙ sym e.fields; short = omega (arith, l, r.look.short) };
       literals = record { text = e.text; resting = ap GfmAutolinkLiteral.rested e.fields ∙ ap (relisted u) r.literals.resting ∙ sym e.fields; short = omega (arith, l, r.literals.short) };
@@ -186,13 +195,14 @@ on-before n T U room r within a =
 
 -- Data, where the code at hand is an element by itself.
 
-alone-ends : (T : Tokenizer) → current_of T ≢ None → StandsAlone T → (ok : Bool) (V : Tokenizer) → data_ends T ok V → before_ends T ok V
-alone-ends T some alone true V k =
+alone-ends : (T : Tokenizer) → StopsAtElements T → current_of T ≢ None → StandsAlone T → (ok : Bool) (V : Tokenizer) → data_ends T ok V → before_ends T ok V
+alone-ends T stops some alone true V k =
     let a = some-ahead T (ahead T) refl some in
     advances-finishes (text_choice_of T) text_passed T k.behind V
-    (data-advances (text_choice_of T) text_markers T k.behind a.0 a.1.0 a.1.1 k.data_read (λ earlier previous stands. alone earlier previous a.0 a.1.0 stands a.1.1) (other-data T))
+    (data-advances (text_choice_of T) T.tokenize_state.markers T k.behind a.0 a.1.0 a.1.1 k.data_read (λ earlier previous stands. alone earlier previous a.0 a.1.0 stands a.1.1)
+    (subst (λ xs. AreSingle (text_choice_of T) T.tokenize_state.markers xs) a.1.1 (other-data T stops)))
     k.finishes
-alone-ends T some alone false V k = k
+alone-ends T stops some alone false V k = k
 
 -- The starts that are kept, past what holds.
 
@@ -240,7 +250,7 @@ some-none o v e = λ h. cc
 to-data : (rank : ℕ) (T : Tokenizer) (v : ℕ) → 5 < rank → BeforeReady T → current_of T ≡ Some v → StandsAlone T → FollowsIn inline (weight_at rank T) (before_ends T) (Next TextBeforeData) T
 to-data rank T v l ready e alone =
     let some : current_of T ≢ None = some-none (current_of T) v e in
-    record { goes_on = record { marked = ready.marked; some_code = some }; falls = omega (arith, l); closed = λ ok V h. alone-ends T some alone ok V h }
+    record { goes_on = record { marked = ready.marked; some_code = some }; falls = omega (arith, l); closed = λ ok V h. alone-ends T ready.marked.stops some alone ok V h }
 
 -- The laws.
 
@@ -376,8 +386,10 @@ module _ (T : Tokenizer) (alone : T.attempts ≡ []) (ready : BeforeReady T) whe
       lost-ends : (let F : Tokenizer = past_mark loses T in IsSame T F → (ok : Bool) (V : Tokenizer) → data_ends F ok V → before_ends T ok V)
       lost-ends e true V k =
           let F : Tokenizer = past_mark loses T in
-          let there : DataFinishes (text_choice_of T) (data_up_to text_markers) text_passed F V = subst (λ c. DataFinishes c (data_up_to text_markers) text_passed F V) (choice-same T F e) k in
-          advances-finishes (text_choice_of T) text_passed T there.behind V (failed-advances T d on there.behind none there.data_read) there.finishes
+          let ms : List ℕ = T.tokenize_state.markers in
+          let there : DataFinishes (text_choice_of T) (data_up_to ms) text_passed F V =
+          subst (λ c. DataFinishes c (data_up_to ms) text_passed F V) (choice-same T F e) (subst (λ ns. DataFinishes (text_choice_of F) (data_up_to ns) text_passed F V) (markers-same T F e) k) in
+          advances-finishes (text_choice_of T) text_passed T there.behind V (failed-advances T d on there.behind ready.marked.stops none there.data_read) there.finishes
       lost-ends e false V k = k
 
   tries-end : current_of T ≡ Some (byte "]") → Before (attempt_step LabelEndStart TextBeforeData T)
@@ -462,8 +474,9 @@ before_data-law T alone r =
     let a = some-ahead T (ahead T) refl r.some_code in
     Goes-attempt inline (weight_at 5 T) (data_ends T) (Retry DataStart) refl (Next TextBefore) Nok T alone tt (omega arith)
     (λ U now k.
-    let read : Reads (data_up_to text_markers) None T.tokenize_state T U = subst (λ ns. Reads (data_up_to ns) None T.tokenize_state T U) r.marked.markers k in
-    let d : DataRead text_markers T U a.0 a.1.0 = data-read text_markers T U a.0 a.1.0 a.1.1 read in
+    let ms : List ℕ = T.tokenize_state.markers in
+    let read : Reads (data_up_to ms) None T.tokenize_state T U = k in
+    let d : DataRead ms T U a.0 a.1.0 = data-read ms T U a.0 a.1.0 a.1.1 read in
     let e : IsSame T U = same-row (row_end d.tree) T U d.left d.part r.marked.ends in
     let within : AreWithin U U.tokenize_state.label_starts = subst (λ (x : Tokenizer). AreWithin x x.tokenize_state.label_starts) (sym d.left) (tree-within d.tree T r.marked.ends.within) in
     let less : codes_left U < codes_left T = d.less in
@@ -477,7 +490,7 @@ before_data-law T alone r =
     })
     (λ U now k. absurd (data-holds T.tokenize_state.markers (ahead T) k.refused))
   where
-    data-then : (T U : Tokenizer) → IsSame T U → Reads (data_up_to text_markers) None T.tokenize_state T U → (ok : Bool) (V : Tokenizer) → before_ends U ok V → data_ends T ok V
+    data-then : (T U : Tokenizer) → IsSame T U → Reads (data_up_to T.tokenize_state.markers) None T.tokenize_state T U → (ok : Bool) (V : Tokenizer) → before_ends U ok V → data_ends T ok V
     data-then T U e read true V h = record { behind = U; data_read = read; finishes = subst (λ c. Finishes c text_passed U V) (choice-same T U e) h }
     data-then T U e read false V h = h
 
@@ -513,11 +526,15 @@ ends-marked T r =
       resting = r.resting;
     }
 
+stops-marked : (T : Tokenizer) → StopsAtElements (text_marked T)
+unfolding scratched
+stops-marked T = stops-where (text_setting T) (end_in T) T.cursor.codes T.parse_state.now refl
+
 marked-start : (T : Tokenizer) → StartReady T → IsMarked (text_marked T)
 unfolding scratched
 marked-start T r =
     record {
-      markers = refl;
+      stops = stops-marked T;
       spans = spans-marked T r.spans;
       look = look-marked T r.look;
       literals = literals-marked T r.literals;

@@ -1,10 +1,11 @@
 -- What is tried at a code of a text: where it holds, it is the element at hand, and where nothing holds, the code is one by itself.
 use Rattle.markdown_model.specs.Element.{first_check}
 use Rattle.markdown_model.specs.Grammar.{◌>>◌, provided, one}
-use Rattle.std.proofs.Common.{◌≡◌, ℕ, zero, suc, drop, ◌+◌, ◌≤◌, ◌==◌, ◌||◌, true, false, Option, Some, None, List, ◌∷◌, length, refl, sym, ap, ◌∙◌, Bool, ◌&&◌, is_none, []}
+use Rattle.std.proofs.Common.{◌≡◌, ℕ, zero, suc, drop, ◌+◌, ◌≤◌, ◌==◌, ◌||◌, true, false, Option, Some, None, List, ◌∷◌, length, refl, sym, ap, ◌∙◌, Bool, ◌&&◌, is_none, [], take, ◌++◌, append_assoc}
 use Rattle.std.proofs.lemmas.Option.{same_Some}
 use Rattle.std.specs.Str.{byte}
 use Rattle.std.specs.List.{list_any}
+use Rattle.std.proofs.lemmas.List.{take-append-drop}
 use Rattle.markdown_engine.specs.Codes.{Code, stop_of, document_start}
 use Rattle.markdown_engine.specs.Lists.{first_of, rest_of}
 use Rattle.markdown_engine.specs.Ops.{ahead, current_of}
@@ -23,16 +24,16 @@ use Rattle.markdown_leaf.specs.CharacterReference.{reference_here}
 use Rattle.markdown_leaf.specs.HardBreakEscape.{break_here}
 use Rattle.markdown_leaf.specs.RawText.{span_at, code_just_before}
 use Rattle.markdown_model.proofs.DataLaws.{code_leaf}
-use Rattle.markdown_model.specs.CodeTests.{is_among, is_value}
+use Rattle.markdown_model.specs.CodeTests.{is_value}
 use Rattle.markdown_model.specs.Leaf.{task_check}
 use Rattle.markdown_model.specs.Literal.{protocol_literal, www_literal}
 use Rattle.markdown_model.specs.LabelEnd.{Element, plain}
 use Rattle.markdown_model.specs.Setting.{Setting}
-use Rattle.markdown_row.specs.Elements.{StandsAfter}
+use Rattle.markdown_row.specs.Elements.{AreSingle, StandsAfter}
 use Rattle.markdown_row.specs.Trees.{IsNode, IsRunLeaf}
 use Rattle.markdown_text.proofs.TableLemmas.{one-of}
-use Rattle.markdown_text.specs.TextSteps.{text_markers, text_setting, text_choice_of, EndsWithCodes, StandsAlone}
-use Rattle.markdown_attention.specs.Attention.{switches_of, run_tree}
+use Rattle.markdown_text.specs.TextSteps.{text_markers, text_setting, text_choice_of, EndsWithCodes, StandsAlone, StopsAtElements}
+use Rattle.markdown_attention.specs.Attention.{switches_of, run_tree, begins_run}
 use Rattle.markdown_model.specs.Single.{begins_run}
 use Rattle.markdown_attention.proofs.AttentionLaws.{run-some, run-none, run-at, run-ahead}
 use Rattle.markdown_row.proofs.NodeLemmas.{run-node}
@@ -250,5 +251,8 @@ other-alone T v e h earlier previous c cs stands w =
     other-element (text_setting T) (end_in T) earlier previous c cs (ap (λ x. list_any (λ n. x == n) text_markers) (value-here T v c cs e w) ∙ h)
 
 -- each other code of data
-pub other-data : (T : Tokenizer) → (earlier : List Element) (previous : Option Code) (c : Code) (cs : List Code) → is_among text_markers c ≡ false → text_choice_of T earlier previous (c ∷ cs) ≡ Some (plain (code_leaf c), cs)
-other-data T earlier previous c cs h = other-element (text_setting T) (end_in T) earlier previous c cs h
+pub other-data : (T : Tokenizer) → StopsAtElements T → AreSingle (text_choice_of T) T.tokenize_state.markers (ahead T)
+unfolding ahead_at
+other-data T stops front earlier previous c cs w free =
+    stops (take T.cursor.at T.cursor.codes ++ front) earlier previous c cs
+    (sym (take-append-drop T.cursor.at T.cursor.codes) ∙ ap (λ xs. take T.cursor.at T.cursor.codes ++ xs) w ∙ sym (append_assoc (take T.cursor.at T.cursor.codes) front (c ∷ cs))) free
