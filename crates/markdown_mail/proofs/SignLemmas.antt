@@ -10,7 +10,7 @@ use Rattle.markdown_engine.specs.declared.event.Point.{Point}
 use Rattle.markdown_engine.proofs.Chain.{cons≢nil, tail_same}
 use Rattle.markdown_engine.proofs.Order.{is_before, before-reach}
 use Rattle.markdown_engine.proofs.Points.{stands-point}
-use Rattle.markdown_engine.proofs.Steps.{Stands, code_here, stop_at, tab_left, value_at}
+use Rattle.markdown_engine.proofs.Steps.{code_here, stop_at, tab_left, value_at}
 use Rattle.markdown_engine.proofs.Walks.{value-plain}
 use Rattle.markdown_model.specs.CodeTests.{is_value}
 use Rattle.markdown_partial.specs.Trim.{between, IsStretch}

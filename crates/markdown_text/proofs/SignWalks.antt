@@ -1,13 +1,11 @@
 -- a walk that looks for a sign of literals
-use Rattle.std.proofs.Common.{◌≡◌, ℕ, ◌+◌, ◌<◌, ◌≤◌, ◌==◌, ◌&&◌, ◌||◌, Bool, true, false, List, [], ◌∷◌, length, Option, Some, None, refl, sym, ap, subst, ◌∙◌, arith}
-use Rattle.std.specs.List.{list_any}
+use Rattle.std.proofs.Common.{◌≡◌, ℕ, ◌≤◌, ◌==◌, ◌&&◌, ◌||◌, Bool, true, false, List, [], ◌∷◌, length, Option, Some, None, refl, sym, ap, subst, ◌∙◌}
 use Rattle.std.proofs.lemmas.Bool.{or_parts}
-use Rattle.markdown_engine.specs.Codes.{Code}
 use Rattle.markdown_engine.specs.Place.{Place, ahead_at, code_at, code_before, moved}
 use Rattle.markdown_engine.specs.Stretch.{past_stretch}
-use Rattle.markdown_engine.proofs.PlaceRules.{IsAhead, ahead_some, ahead_none, code_before_moved, left_moved}
+use Rattle.markdown_engine.proofs.PlaceRules.{IsAhead, ahead_some, ahead_none, code_before_moved}
 use Rattle.markdown_engine.proofs.Stretches.{IsKept, kept, left-stretch}
-use Rattle.markdown_text.specs.TextSteps.{is_sign, ends_sign, has_sign, sign_ahead}
+use Rattle.markdown_text.specs.TextSteps.{ends_sign, has_sign, sign_ahead}
 
 -- the codes with which a sign may end
 abbrev pub ends : List ℕ

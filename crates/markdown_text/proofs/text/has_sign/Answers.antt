@@ -1,5 +1,5 @@
 use Rattle.std.proofs.Common.{◌≡◌, ◌∙◌, ◌+◌, ◌≤◌, Some, length, sym, ap, subst, arith}
-use Rattle.markdown_engine.specs.Place.{Place, ahead_at, code_at, code_before, moved}
+use Rattle.markdown_engine.specs.Place.{Place, ahead_at, code_at, moved}
 use Rattle.markdown_engine.proofs.PlaceRules.{left_moved}
 use Rattle.markdown_text.specs.TextSteps.{ends_sign}
 use Rattle.markdown_text.proofs.SignWalks.{sign-start, sign-here, sign-next, sign-end}

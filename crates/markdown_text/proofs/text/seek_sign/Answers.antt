@@ -1,6 +1,6 @@
-use Rattle.std.proofs.Common.{◌≡◌, ◌∙◌, ap}
+use Rattle.std.proofs.Common.{◌∙◌, ap}
 use Rattle.markdown_engine.specs.Stretch.{past_stretch}
-use Rattle.markdown_text.proofs.SignWalks.{ends, sign-stretch, left-sign}
+use Rattle.markdown_text.proofs.SignWalks.{sign-stretch, left-sign}
 use Rattle.markdown_text.proofs.text.seek_sign.Goals as goal
 
 pub returns-clause-sign : goal.returns-clause-sign
