@@ -2,9 +2,9 @@
 
 pub use markdown_laws::{
     data_is_tight, destinations_are_found, each_marker_is_held, each_pair_is_a_group,
-    emails_stand_in_data, escapes, labels_are_found, pairs_are_even, pairs_take_their_markers,
-    probes_are_few, resources_are_found, runs_in_order_may_pair, titles_are_found,
-    trees_are_filled, what_follows_is_found,
+    emails_stand_in_data, escapes, events_never_go_back, labels_are_found, links_hold_no_email,
+    pairs_are_even, pairs_take_their_markers, probes_are_few, resources_are_found,
+    runs_in_order_may_pair, titles_are_found, trees_are_filled, what_follows_is_found,
 };
 pub use markdown_model::laws::{
     counts_suffice, ends_take_the_nearest, events_nest, labels_match, leaves_cover,

@@ -3,16 +3,17 @@ use Rattle.std.proofs.Common.{◌≡◌, ℕ, Bool, true, false, ◌&&◌, ◌||
 use Rattle.std.proofs.lemmas.Bool.{and_parts, not-true}
 use Rattle.markdown_engine.specs.declared.event.Name.{Name}
 use Rattle.markdown_engine.specs.Codes.{Code}
-use Rattle.markdown_engine.specs.Tree.{Forest, empty, leaf_then, group_then, leaf, ◌⊕◌, leaf_codes}
+use Rattle.markdown_engine.specs.Tree.{Forest, empty, leaf_then, group_then, leaf, ◌⊕◌, leaf_codes, enter_of, exit_after}
 use Rattle.markdown_model.specs.CodeTests.{is_empty}
 use Rattle.markdown_model.specs.Groups.{assembled, tokens_of}
 use Rattle.markdown_model.specs.Pairs.{Pair, pair_list}
 use Rattle.markdown_model.specs.Passes.{is_nothing}
 use Rattle.markdown_model.specs.Setting.{Setting}
 use Rattle.markdown_model.proofs.Coverage.{codes-assembled, codes-tokens_of}
+use Rattle.markdown_laws.specs.Emails.{is_email}
 use Rattle.markdown_laws.specs.Filled.{is_label_text, IsFilled}
 use Rattle.markdown_laws.specs.PairGroups.{is_pair}
-use Rattle.markdown_laws.proofs.MadeReadings.{made}
+use Rattle.markdown_laws.proofs.MadeReadings.{is_at, reaches, made}
 
 -- Rows.
 
@@ -27,21 +28,21 @@ filled-join (group_then name enter exit inside rest) b h k = (h.0, h.1, filled-j
 
 -- What labels make.
 
-either-text : (a b : Bool) → (a || not b) ≡ true → b ≡ true → a ≡ true
-either-text true b h k = refl
-either-text false true h k = h
-either-text false false h k = k
+either-text : (a b c : Bool) → (a || (not b && c)) ≡ true → b ≡ true → a ≡ true
+either-text true b c h k = refl
+either-text false true c h k = h
+either-text false false c h k = cc
 
-pub made-filled : (f : Forest) → made f ≡ true → IsFilled f
+pub made-filled : (f : Forest) → made true f ≡ true → IsFilled f
 made-filled empty h = tt
 made-filled (leaf_then name link cs rest) h =
-    let p = and_parts (not (is_empty cs)) (made rest) h in
-    (not-true (is_empty cs) p.0, made-filled rest p.1)
+    let p = and_parts (not (is_empty cs)) (not (is_email name) && made true rest) h in
+    (not-true (is_empty cs) p.0, made-filled rest (and_parts (not (is_email name)) (made true rest) p.1).1)
 made-filled (group_then name enter exit inside rest) h =
-    let p = and_parts (is_label_text name || not (is_nothing inside)) (not (is_pair name) && (made inside && made rest)) h in
-    let q = and_parts (not (is_pair name)) (made inside && made rest) p.1 in
-    let r = and_parts (made inside) (made rest) q.1 in
-    ((λ e. either-text (is_label_text name) (is_nothing inside) p.0 e), made-filled inside r.0, made-filled rest r.1)
+    let p = and_parts (is_label_text name || reaches enter exit inside) (not (is_pair name) && (made true inside && made true rest)) h in
+    let q = and_parts (not (is_pair name)) (made true inside && made true rest) p.1 in
+    let r = and_parts (made true inside) (made true rest) q.1 in
+    ((λ e. either-text (is_label_text name) (is_nothing inside) (is_at enter (enter_of inside) && is_at exit (exit_after (enter_of inside) inside)) p.0 e), made-filled inside r.0, made-filled rest r.1)
 
 pub nothing-codes : (f : Forest) → is_nothing f ≡ true → leaf_codes f ≡ []
 nothing-codes empty h = refl

@@ -11,6 +11,11 @@ pub mod MadeReadings
 pub mod MadeLabels
 pub mod RunRows
 pub mod FilledRows
+pub mod PlaceRows
+pub mod TreePlaces
+pub mod PairPlaces
+pub mod EventPlaces
+pub mod LinkEmails
 pub mod PairSides
 pub mod TextPairs
 pub mod FilledLaws

@@ -1,12 +1,13 @@
--- What is made of the elements of a content: each leaf has a code, no group but the text of a label stands around nothing,
--- and none is a pair's.
-use Rattle.std.proofs.Common.{◌≡◌, ℕ, Bool, true, false, ◌==◌, ◌&&◌, List, [], ◌∷◌, ◌++◌, length, drop, map, refl, ◌∙◌, subst, Option, Some, None}
+-- What is made of the elements of a content: each leaf has a code and is no email literal, each group but the text of a label reaches from where its first
+-- tree begins to where its last one ends, and none is a pair's.
+use Rattle.std.proofs.Common.{◌≡◌, ℕ, Bool, true, false, ◌==◌, ◌&&◌, ◌||◌, not, List, [], ◌∷◌, ◌++◌, length, drop, map, refl, ◌∙◌, subst, Option, Some, None}
 use Rattle.std.specs.List.{list_any}
+use Rattle.std.proofs.lemmas.Bool.{and_parts}
 use Rattle.markdown_engine.specs.declared.event.Name.{Name}
 use Rattle.markdown_engine.specs.declared.event.Point.{Point}
 use Rattle.markdown_engine.specs.declared.tokenizer.LabelKind.{LabelKind}
 use Rattle.markdown_engine.specs.Codes.{Code, stop_of, document_start}
-use Rattle.markdown_engine.specs.Tree.{Forest, leaf_then, leaf, group, text_group, start_of, ◌⊕◌}
+use Rattle.markdown_engine.specs.Tree.{Forest, empty, leaf_then, group_then, leaf, group, text_group, start_of, ◌⊕◌}
 use Rattle.markdown_model.specs.Grammar.{Reading}
 use Rattle.markdown_model.specs.Setting.{Setting}
 use Rattle.markdown_model.specs.LabelEnd.{Element, plain, starts, ends, Label, label_before, outcome_of, footnote_call, link_or_image, label_end}
@@ -17,8 +18,11 @@ use Rattle.markdown_model.proofs.Consuming.{text_takes}
 use Rattle.markdown_model.proofs.ElementLaws.{text_elements, string_elements}
 use Rattle.markdown_model.proofs.LinkFree.{Passes, Yields, yields_bind, yields_gives, yields_passed, yields_either, yields_before, then_any}
 use Rattle.markdown_model.proofs.Readings.{takes_word}
+use Rattle.markdown_model.specs.CodeTests.{is_empty}
+use Rattle.markdown_laws.specs.Emails.{is_email}
+use Rattle.markdown_laws.specs.Filled.{is_label_text}
 use Rattle.markdown_laws.specs.PairGroups.{is_pair}
-use Rattle.markdown_laws.proofs.MadeReadings.{made-join, made-leaf, made-group, IsSome, IsMade, Makes, gives-some, one-gives, makes_escape, makes_hard_break_escape, makes_reference, makes_autolink, makes_html, makes_task_check, makes_span_here, makes_protocol, makes_www, makes_after_label}
+use Rattle.markdown_laws.proofs.MadeReadings.{made, reaches, or-true, made-join, made-leaf, made-group, IsSome, IsMade, Makes, gives-some, one-gives, makes_escape, makes_hard_break_escape, makes_reference, makes_autolink, makes_html, makes_task_check, makes_span_here, makes_protocol, makes_www, makes_after_label}
 
 -- Elements.
 
@@ -44,15 +48,15 @@ good_switched on a h = yields_passed _ _ _ h
 
 good_line_ending : Yields IsGood line_ending
 unfolding line_ending
-good_line_ending = then_any _ _ _ λ c. yields_gives _ (plain (leaf Name.LineEnding c)) (made-leaf Name.LineEnding c)
+good_line_ending = then_any _ _ _ λ c. yields_gives _ (plain (leaf Name.LineEnding c)) (made-leaf false Name.LineEnding c)
 
 good_data_code : Yields IsGood data_code
 unfolding data_code
-good_data_code = then_any _ _ _ λ c. yields_gives _ (plain (leaf Name.Data c)) (made-leaf Name.Data c)
+good_data_code = then_any _ _ _ λ c. yields_gives _ (plain (leaf Name.Data c)) (made-leaf false Name.Data c)
 
 good_run : (marker : ℕ) → Yields IsGood (attention_run marker)
 unfolding attention_run
-good_run marker = then_any _ _ _ λ markers. yields_gives _ (plain (leaf Name.AttentionSequence markers)) (made-leaf Name.AttentionSequence markers)
+good_run marker = then_any _ _ _ λ markers. yields_gives _ (plain (leaf Name.AttentionSequence markers)) (made-leaf false Name.AttentionSequence markers)
 
 good_image_start : (footnotes : Bool) → Yields IsGood (image_start footnotes)
 unfolding image_start
@@ -68,11 +72,11 @@ good_link_start = yields_bind IsSome _ _ _ (one-gives _) λ marker h. yields_giv
 
 good_code_span : (earlier : List Element) (previous : Option Code) → Yields IsGood (code_span earlier previous)
 unfolding code_span
-good_code_span earlier previous = good_plain _ (makes_span_here _ _ _ _ _ refl)
+good_code_span earlier previous = good_plain _ (makes_span_here _ _ _ _ _ (record { whole = refl; sequence = refl; text = refl }))
 
 good_math_span : (single : Bool) (earlier : List Element) (previous : Option Code) → Yields IsGood (math_span single earlier previous)
 unfolding math_span
-good_math_span single earlier previous = good_plain _ (makes_span_here _ _ _ _ _ refl)
+good_math_span single earlier previous = good_plain _ (makes_span_here _ _ _ _ _ (record { whole = refl; sequence = refl; text = refl }))
 
 good_outcome : (s : Setting) (l : Label) (back : List Code) → Yields IsGoodOutcome (outcome_of s (Some l) back)
 unfolding outcome_of footnote_call link_or_image
@@ -179,23 +183,43 @@ all_good choice yields (e ∷ es) earlier previous cs h =
 
 -- Groups of labels.
 
+abbrev pub IsLabelled : Forest → Type 0
+IsLabelled t = made true t ≡ true
+
+one-way : (a b : Bool) → b ≡ true → (a || b) ≡ true
+one-way a true h = or-true a
+one-way a false h = cc
+
+-- what constructs make, among groups of labels
+made-labelled-tree : (t : Forest) → IsMade t → IsLabelled t
+made-labelled-tree empty h = refl
+made-labelled-tree (leaf_then name link cs rest) h =
+    let p = and_parts (not (is_empty cs)) (not (is_email name) && made false rest) h in
+    let q = and_parts (not (is_email name)) (made false rest) p.1 in
+    λ i. p.0 i && (q.0 i && made-labelled-tree rest q.1 i)
+made-labelled-tree (group_then name enter exit inside rest) h =
+    let p = and_parts (reaches enter exit inside) (not (is_pair name) && (made false inside && made false rest)) h in
+    let q = and_parts (not (is_pair name)) (made false inside && made false rest) p.1 in
+    let r = and_parts (made false inside) (made false rest) q.1 in
+    λ i. one-way (is_label_text name) (reaches enter exit inside) p.0 i && (q.0 i && (made-labelled-tree inside r.0 i && made-labelled-tree rest r.1 i))
+
 abbrev AllMade : List Forest → Type 0
 AllMade [] = Unit {0}
-AllMade (f ∷ fs) = IsMade f × AllMade fs
+AllMade (f ∷ fs) = IsLabelled f × AllMade fs
 
 made-append : (fs gs : List Forest) → AllMade fs → AllMade gs → AllMade (fs ++ gs)
 made-append [] gs h k = k
 made-append (f ∷ fs) gs h k = (h.0, made-append fs gs h.1 k)
 
-made-both : (a b : Forest) → IsMade a → IsMade b → IsMade (a ⊕ b)
-made-both a b h k = made-join a b ∙ (λ i. h i && k i)
+made-both : (a b : Forest) → IsLabelled a → IsLabelled b → IsLabelled (a ⊕ b)
+made-both a b h k = made-join true a b ∙ (λ i. h i && k i)
 
-made-joined : (fs : List Forest) → AllMade fs → IsMade (joined fs)
+made-joined : (fs : List Forest) → AllMade fs → IsLabelled (joined fs)
 made-joined [] h = refl
 made-joined (f ∷ fs) h = made-both f (joined fs) h.0 (made-joined fs h.1)
 
 made-loose : (cs : List Code) → AllMade (loose cs)
-made-loose cs = (made-leaf Name.Data cs, tt)
+made-loose cs = (made-leaf true Name.Data cs, tt)
 
 no-pair : (kind : LabelKind) → is_pair (label_name kind) ≡ false
 no-pair LabelKind.Image = refl
@@ -203,15 +227,15 @@ no-pair LabelKind.Link = refl
 no-pair LabelKind.GfmFootnote = refl
 no-pair LabelKind.GfmUndefinedFootnote = refl
 
-made-start : (kind : LabelKind) (c : Code) (cs : List Code) → IsMade (start_tree kind (start_marker kind (c ∷ cs)))
-made-start LabelKind.Image c cs = made-group Name.LabelImage (leaf_then Name.LabelImageMarker None (c ∷ []) (leaf Name.LabelMarker cs)) refl refl (made-leaf Name.LabelMarker cs)
-made-start LabelKind.GfmFootnote c cs = made-group Name.GfmFootnoteCallLabel (leaf_then Name.LabelMarker None (c ∷ []) (leaf Name.GfmFootnoteCallMarker cs)) refl refl (made-leaf Name.GfmFootnoteCallMarker cs)
-made-start LabelKind.Link c cs = refl
-made-start LabelKind.GfmUndefinedFootnote c cs = refl
+made-start : (kind : LabelKind) (c : Code) (cs : List Code) → IsLabelled (start_tree kind (start_marker kind (c ∷ cs)))
+made-start LabelKind.Image c cs = made-group true Name.LabelImage (leaf_then Name.LabelImageMarker None (c ∷ []) (leaf Name.LabelMarker cs)) refl refl (made-leaf true Name.LabelMarker cs)
+made-start LabelKind.GfmFootnote c cs = made-group true Name.GfmFootnoteCallLabel (leaf_then Name.LabelMarker None (c ∷ []) (leaf Name.GfmFootnoteCallMarker cs)) refl refl (made-leaf true Name.GfmFootnoteCallMarker cs)
+made-start LabelKind.Link c cs = made-group true Name.LabelLink (leaf_then Name.LabelMarker None (c ∷ cs) empty) refl refl refl
+made-start LabelKind.GfmUndefinedFootnote c cs = made-group true Name.LabelLink (leaf_then Name.LabelMarker None (c ∷ []) empty) refl refl refl
 
-made-end : (back : List Code) → IsSome back → IsMade (group Name.LabelEnd (leaf Name.LabelMarker back))
+made-end : (back : List Code) → IsSome back → IsLabelled (group Name.LabelEnd (leaf Name.LabelMarker back))
 made-end [] h = cc
-made-end (c ∷ cs) h = refl
+made-end (c ∷ cs) h = made-group true Name.LabelEnd (leaf_then Name.LabelMarker None (c ∷ cs) empty) refl refl refl
 
 start-some : (kind : LabelKind) (cs : List Code) (g : Forest) → is_nothing (start_tree kind cs ⊕ g) ≡ false
 start-some LabelKind.Image cs g = refl
@@ -219,14 +243,14 @@ start-some LabelKind.GfmFootnote cs g = refl
 start-some LabelKind.Link cs g = refl
 start-some LabelKind.GfmUndefinedFootnote cs g = refl
 
-made-text : (a b : Point) (f : Forest) → IsMade f → IsMade (text_group Name.LabelText a b f)
+made-text : (a b : Point) (f : Forest) → IsLabelled f → IsLabelled (text_group Name.LabelText a b f)
 made-text a b f h = λ i. h i && true
 
-made-label : (kind : LabelKind) (marker : List Code) (inside : Forest) (back : List Code) (tail : Forest) → IsSome marker → IsMade inside → IsSome back → IsMade tail → IsMade (label_group kind marker inside back tail)
+made-label : (kind : LabelKind) (marker : List Code) (inside : Forest) (back : List Code) (tail : Forest) → IsSome marker → IsLabelled inside → IsSome back → IsLabelled tail → IsLabelled (label_group kind marker inside back tail)
 made-label kind [] inside back tail h k l m = cc
 made-label kind (c ∷ cs) inside back tail h k l m =
-    made-group (label_name kind) (group Name.Label row ⊕ tail) (no-pair kind) refl
-    (made-both (group Name.Label row) tail (made-group Name.Label row refl (start-some kind front rest) made-row) m)
+    made-group true (label_name kind) (group Name.Label row ⊕ tail) (no-pair kind) refl
+    (made-both (group Name.Label row) tail (made-group true Name.Label row refl (start-some kind front rest) made-row) m)
   where
     front : List Code
     front = start_marker kind (c ∷ cs)
@@ -240,15 +264,15 @@ made-label kind (c ∷ cs) inside back tail h k l m =
     row : Forest
     row = start_tree kind front ⊕ rest
 
-    made-row : IsMade row
+    made-row : IsLabelled row
     made-row =
         made-both (start_tree kind front) rest (made-start kind c cs)
         (made-both (text_group Name.LabelText (stop_of document_start front) (start_of back) text) (group Name.LabelEnd (leaf Name.LabelMarker back))
-        (made-text (stop_of document_start front) (start_of back) text (made-both (leaf Name.Data (drop (length front) (c ∷ cs))) inside (made-leaf Name.Data (drop (length front) (c ∷ cs))) k)) (made-end back l))
+        (made-text (stop_of document_start front) (start_of back) text (made-both (leaf Name.Data (drop (length front) (c ∷ cs))) inside (made-leaf true Name.Data (drop (length front) (c ∷ cs))) k)) (made-end back l))
 
 made-labelled : (start : Start) (inside : List Forest) (end : End) → IsSome start.1 → AllMade inside → IsGoodEnd end → AllMade (labelled start inside end)
 made-labelled start inside (back, None) h k l = made-append (loose start.1) (inside ++ loose back) (made-loose start.1) (made-append inside (loose back) k (made-loose back))
-made-labelled start inside (back, Some outcome) h k l = (made-label outcome.0 start.1 (joined inside) back outcome.1 h (made-joined inside k) l.0 l.1, tt)
+made-labelled start inside (back, Some outcome) h k l = (made-label outcome.0 start.1 (joined inside) back outcome.1 h (made-joined inside k) l.0 (made-labelled-tree outcome.1 l.1), tt)
 
 abbrev Frames : Type 0
 Frames = List (End × List Forest)
@@ -268,7 +292,7 @@ made-onto start inside (f ∷ fs) h k l = (made-append (labelled start inside f.
 
 made-nest : (es : List Element) → AllGood es → AllMade (nest_labels es).0 × AreFrames (nest_labels es).1
 made-nest [] h = (tt, tt)
-made-nest (plain tree ∷ es) h = let r = made-nest es h.1 in ((h.0, r.0), r.1)
+made-nest (plain tree ∷ es) h = let r = made-nest es h.1 in ((made-labelled-tree tree h.0, r.0), r.1)
 made-nest (starts kind marker ∷ es) h = let r = made-nest es h.1 in made-onto (kind, marker) (nest_labels es).0 (nest_labels es).1 h.0 r.0 r.1
 made-nest (ends back outcome ∷ es) h = let r = made-nest es h.1 in (tt, (h.0, r.0, r.1))
 
@@ -277,7 +301,7 @@ made-after [] h = tt
 made-after (f ∷ fs) h =
     made-append (loose_end f.0 ++ f.1) (after_loose labelled loose_start loose_end fs) (made-append (loose_end f.0) f.1 (made-loose f.0.0) h.1) (made-after fs h.2)
 
-made-labels : (es : List Element) → AllGood es → IsMade (labels_of es)
+made-labels : (es : List Element) → AllGood es → IsLabelled (labels_of es)
 unfolding labels_of
 made-labels es h =
     let r = made-nest es h in
@@ -286,8 +310,11 @@ made-labels es h =
 pub good-text : (s : Setting) (cs : List Code) → AllGood (elements_of s cs)
 good-text s cs = all_good (text_choice s cs) (λ earlier previous. good_text_element s _ earlier previous) (elements_of s cs) [] None cs (text_elements s cs)
 
-pub made-text-labels : (s : Setting) (cs : List Code) → IsMade (labels_of (elements_of s cs))
+pub made-text-labels : (s : Setting) (cs : List Code) → IsLabelled (labels_of (elements_of s cs))
 made-text-labels s cs = made-labels (elements_of s cs) (good-text s cs)
 
-pub made-string-labels : (s : Setting) (cs : List Code) → IsMade (labels_of (string_elements_of s cs))
-made-string-labels s cs = made-labels (string_elements_of s cs) (all_good (string_choice s) (λ earlier previous. good_string_element s) (string_elements_of s cs) [] None cs (string_elements s cs))
+pub good-string : (s : Setting) (cs : List Code) → AllGood (string_elements_of s cs)
+good-string s cs = all_good (string_choice s) (λ earlier previous. good_string_element s) (string_elements_of s cs) [] None cs (string_elements s cs)
+
+pub made-string-labels : (s : Setting) (cs : List Code) → IsLabelled (labels_of (string_elements_of s cs))
+made-string-labels s cs = made-labels (string_elements_of s cs) (good-string s cs)

@@ -1,14 +1,16 @@
--- What constructs make: each leaf has a code, no group stands around nothing, and none is a pair's.
-use Rattle.std.proofs.Common.{◌≡◌, ℕ, ◌+◌, ◌≤◌, Bool, true, false, ◌&&◌, ◌||◌, not, List, [], ◌∷◌, ◌++◌, length, refl, sym, ◌∙◌, ap, arith, Option, Some, None}
+-- What constructs make: each leaf has a code and is no email literal, each group reaches from where its first tree begins to where its last one ends, and
+-- none is a pair's.
+use Rattle.std.proofs.Common.{◌≡◌, ◌==◌, ℕ, ◌+◌, ◌≤◌, codes, Bool, true, false, ◌&&◌, ◌||◌, not, List, [], ◌∷◌, ◌++◌, length, refl, sym, ◌∙◌, ap, arith, Option, Some, None}
+use Rattle.std.proofs.lemmas.Bool.Decides.{nat_tests}
 use Rattle.markdown_model.proofs.LinkLaws.{yields_passed_if}
-use Rattle.std.proofs.Math.Bool.{and-true}
 use Rattle.std.proofs.lemmas.Bool.{not-true}
 use Rattle.markdown_engine.specs.declared.event.Name.{Name}
 use Rattle.markdown_engine.specs.declared.event.Content.{Content}
+use Rattle.markdown_engine.specs.declared.event.Point.{Point}
 use Rattle.markdown_engine.specs.Codes.{Code, is_line_ending, is_blank}
-use Rattle.markdown_engine.specs.Tree.{Forest, empty, leaf_then, group_then, leaf, linked, group, ◌⊕◌, leaf_codes}
+use Rattle.markdown_engine.specs.Tree.{Forest, empty, leaf_then, group_then, leaf, linked, group, ◌⊕◌, leaf_codes, enter_of, exit_after}
 use Rattle.markdown_util.specs.Reference.{Table}
-use Rattle.markdown_model.specs.CodeTests.{is_empty, next_is}
+use Rattle.markdown_model.specs.CodeTests.{is_empty, next_is, is_among}
 use Rattle.markdown_model.specs.Grammar.{Reading, one, some, span, optional_tree}
 use Rattle.markdown_model.specs.Lines.{linked_leaf, line_leaf, line_leaves, lines_from, lines_of, lines}
 use Rattle.markdown_model.specs.Whitespace.{spacing, spaces_across, spaces_on_line}
@@ -24,12 +26,23 @@ use Rattle.markdown_model.proofs.LinkFree.{Passes, Yields, yields_bind, yields_g
 use Rattle.markdown_model.proofs.Readings.{Takes, takes_one, takes_some, takes_html_text, codes-lines, itself}
 use Rattle.markdown_model.proofs.ReadingLaws.{read-codes, read-shorter}
 use Rattle.markdown_laws.specs.PairGroups.{is_pair}
+use Rattle.markdown_laws.specs.Emails.{is_email}
 use Rattle.markdown_laws.specs.Filled.{is_label_text}
 
-abbrev pub made : Forest → Bool
-made empty = true
-made (leaf_then name link cs rest) = not (is_empty cs) && made rest
-made (group_then name enter exit inside rest) = (is_label_text name || not (is_nothing inside)) && (not (is_pair name) && (made inside && made rest))
+-- both stand at one place
+abbrev pub is_at : Point → Point → Bool
+is_at p q = p.index == q.index && p.vs == q.vs
+
+-- around something, from where it begins to where it ends
+abbrev pub reaches : Point → Point → Forest → Bool
+reaches enter exit inside = not (is_nothing inside) && (is_at enter (enter_of inside) && is_at exit (exit_after (enter_of inside) inside))
+
+-- where `texts`, texts of labels stand anywhere and around anything
+abbrev pub made : Bool → Forest → Bool
+made texts empty = true
+made texts (leaf_then name link cs rest) = not (is_empty cs) && (not (is_email name) && made texts rest)
+made texts (group_then name enter exit inside rest) =
+    ((texts && is_label_text name) || reaches enter exit inside) && (not (is_pair name) && (made texts inside && made texts rest))
 
 -- Rows.
 
@@ -37,12 +50,15 @@ and-assoc : (a b c : Bool) → ((a && b) && c) ≡ (a && (b && c))
 and-assoc true b c = refl
 and-assoc false b c = refl
 
-pub made-join : (a b : Forest) → made (a ⊕ b) ≡ (made a && made b)
-made-join empty b = refl
-made-join (leaf_then name link cs rest) b = ap (λ x. not (is_empty cs) && x) (made-join rest b) ∙ sym (and-assoc (not (is_empty cs)) (made rest) (made b))
-made-join (group_then name enter exit inside rest) b =
-    ap (λ x. (is_label_text name || not (is_nothing inside)) && (not (is_pair name) && (made inside && x))) (made-join rest b)
-    ∙ regroup (is_label_text name || not (is_nothing inside)) (not (is_pair name)) (made inside) (made rest) (made b)
+pub made-join : (texts : Bool) (a b : Forest) → made texts (a ⊕ b) ≡ (made texts a && made texts b)
+made-join texts empty b = refl
+made-join texts (leaf_then name link cs rest) b =
+    ap (λ x. not (is_empty cs) && (not (is_email name) && x)) (made-join texts rest b)
+    ∙ ap (λ x. not (is_empty cs) && x) (sym (and-assoc (not (is_email name)) (made texts rest) (made texts b)))
+    ∙ sym (and-assoc (not (is_empty cs)) (not (is_email name) && made texts rest) (made texts b))
+made-join texts (group_then name enter exit inside rest) b =
+    ap (λ x. ((texts && is_label_text name) || reaches enter exit inside) && (not (is_pair name) && (made texts inside && x))) (made-join texts rest b)
+    ∙ regroup ((texts && is_label_text name) || reaches enter exit inside) (not (is_pair name)) (made texts inside) (made texts rest) (made texts b)
   where
     regroup : (a b c d e : Bool) → (a && (b && (c && (d && e)))) ≡ ((a && (b && (c && d))) && e)
     regroup false b c d e = refl
@@ -50,78 +66,103 @@ made-join (group_then name enter exit inside rest) b =
     regroup true true false d e = refl
     regroup true true true d e = refl
 
-pub made-leaf : (name : Name) (cs : List Code) → made (leaf name cs) ≡ true
-made-leaf name [] = refl
-made-leaf name (c ∷ cs) = refl
+pub or-true : (a : Bool) → (a || true) ≡ true
+or-true true = refl
+or-true false = refl
 
-made-linked : (name : Name) (cs : List Code) → made (linked name cs) ≡ true
-made-linked name [] = refl
-made-linked name (c ∷ cs) = refl
-
-made-linked_leaf : (name : Name) (link : Option Content) (cs : List Code) → made (linked_leaf name link cs) ≡ true
-made-linked_leaf name link [] = refl
-made-linked_leaf name link (c ∷ cs) = refl
-
-made-line_leaf : (name : Name) (link : Option Content) (s : List Code) → made (line_leaf name link s) ≡ true
-made-line_leaf name link s = by_test (next_is is_line_ending s)
+pub made-leaf : (texts : Bool) (name : Name) (cs : List Code) → made texts (leaf name cs) ≡ (not (is_email name) || is_empty cs)
+made-leaf texts name [] = sym (or-true (not (is_email name)))
+made-leaf texts name (c ∷ cs) = by_test (is_email name)
   where
-    by_test : (b : Bool) → made (elim b [ true ↦ linked_leaf Name.LineEnding link s | false ↦ linked_leaf name link s ]) ≡ true
-    by_test true = made-linked_leaf Name.LineEnding link s
-    by_test false = made-linked_leaf name link s
+    by_test : (b : Bool) → (not b && true) ≡ (not b || false)
+    by_test true = refl
+    by_test false = refl
 
-made-line_leaves : (name : Name) (ss : List (List Code)) → made (line_leaves name ss) ≡ true
-made-line_leaves name [] = refl
-made-line_leaves name (s ∷ ss) = made-join (line_leaf name None s) (line_leaves name ss) ∙ (λ i. made-line_leaf name None s i && made-line_leaves name ss i)
+made-linked_leaf : (name : Name) (link : Option Content) (cs : List Code) → is_email name ≡ false → made false (linked_leaf name link cs) ≡ true
+made-linked_leaf name link [] h = refl
+made-linked_leaf name link (c ∷ cs) h = λ i. not (h i) && true
 
-made-lines_from : (name : Name) (link : Option Content) (later : Bool) (ss : List (List Code)) → made (lines_from name link later ss) ≡ true
-made-lines_from name link later [] = refl
-made-lines_from name link later (s ∷ ss) = by_test (later && not (next_is is_line_ending s)) (λ b. made-lines_from name link b ss)
+made-space : (link : Option Content) (cs : List Code) → made false (linked_leaf Name.SpaceOrTab link cs) ≡ true
+made-space link cs = made-linked_leaf Name.SpaceOrTab link cs refl
+
+made-ending : (link : Option Content) (cs : List Code) → made false (linked_leaf Name.LineEnding link cs) ≡ true
+made-ending link cs = made-linked_leaf Name.LineEnding link cs refl
+
+made-linked : (cs : List Code) → made false (linked Name.Data cs) ≡ true
+made-linked [] = refl
+made-linked (c ∷ cs) = refl
+
+made-line_leaf : (name : Name) (link : Option Content) (s : List Code) → is_email name ≡ false → made false (line_leaf name link s) ≡ true
+made-line_leaf name link s h = by_test (next_is is_line_ending s)
   where
-    by_test : (b : Bool) → ((f : Bool) → made (lines_from name link f ss) ≡ true)
-        → made (elim b [
+    by_test : (b : Bool) → made false (elim b [ true ↦ linked_leaf Name.LineEnding link s | false ↦ linked_leaf name link s ]) ≡ true
+    by_test true = made-ending link s
+    by_test false = made-linked_leaf name link s h
+
+made-line_leaves : (name : Name) (ss : List (List Code)) → is_email name ≡ false → made false (line_leaves name ss) ≡ true
+made-line_leaves name [] h = refl
+made-line_leaves name (s ∷ ss) h = made-join false (line_leaf name None s) (line_leaves name ss) ∙ (λ i. made-line_leaf name None s h i && made-line_leaves name ss h i)
+
+made-lines_from : (name : Name) (link : Option Content) (later : Bool) (ss : List (List Code)) → is_email name ≡ false → made false (lines_from name link later ss) ≡ true
+made-lines_from name link later [] h = refl
+made-lines_from name link later (s ∷ ss) h = by_test (later && not (next_is is_line_ending s)) (λ b. made-lines_from name link b ss h)
+  where
+    by_test : (b : Bool) → ((f : Bool) → made false (lines_from name link f ss) ≡ true)
+        → made false (elim b [
           | true ↦ linked_leaf Name.SpaceOrTab link (span is_blank s).0 ⊕ linked_leaf name link (span is_blank s).1 ⊕ lines_from name link false ss
           | false ↦ line_leaf name link s ⊕ lines_from name link (next_is is_line_ending s) ss
         ]) ≡ true
-    by_test true h =
-        made-join (linked_leaf Name.SpaceOrTab link (span is_blank s).0) (linked_leaf name link (span is_blank s).1 ⊕ lines_from name link false ss)
-        ∙ (λ i. made-linked_leaf Name.SpaceOrTab link (span is_blank s).0 i && (made-join (linked_leaf name link (span is_blank s).1) (lines_from name link false ss) ∙ (λ j. made-linked_leaf name link (span is_blank s).1 j && h false j)) i)
-    by_test false h = made-join (line_leaf name link s) (lines_from name link (next_is is_line_ending s) ss) ∙ (λ i. made-line_leaf name link s i && h (next_is is_line_ending s) i)
+    by_test true k =
+        made-join false (linked_leaf Name.SpaceOrTab link (span is_blank s).0) (linked_leaf name link (span is_blank s).1 ⊕ lines_from name link false ss)
+        ∙ (λ i. made-space link (span is_blank s).0 i && (made-join false (linked_leaf name link (span is_blank s).1) (lines_from name link false ss) ∙ (λ j. made-linked_leaf name link (span is_blank s).1 h j && k false j)) i)
+    by_test false k = made-join false (line_leaf name link s) (lines_from name link (next_is is_line_ending s) ss) ∙ (λ i. made-line_leaf name link s h i && k (next_is is_line_ending s) i)
 
-made-lines : (name : Name) (link : Option Content) (cs : List Code) → made (lines name link cs) ≡ true
-made-lines name link cs = made-lines_from name link false (lines_of cs)
+made-lines : (link : Option Content) (cs : List Code) → made false (lines Name.Data link cs) ≡ true
+made-lines link cs = made-lines_from Name.Data link false (lines_of cs) refl
 
-made-string_group : (name : Name) (f : Forest) → is_label_text name ≡ false → is_pair name ≡ false → made (string_group name f) ≡ made f
-made-string_group name empty h k = refl
-made-string_group name (leaf_then n l c r) h k = λ i. (h i || true) && (not (k i) && and-true (made (leaf_then n l c r)) i)
-made-string_group name (group_then n a b x r) h k = λ i. (h i || true) && (not (k i) && and-true (made (group_then n a b x r)) i)
+made-html_lines : (cs : List Code) → made false (lines Name.HtmlTextData None cs) ≡ true
+made-html_lines cs = made-lines_from Name.HtmlTextData None false (lines_of cs) refl
 
-made-reference_string : (f : Forest) → made (string_group Name.ReferenceString f) ≡ made f
-made-reference_string f = made-string_group Name.ReferenceString f refl refl
+-- Groups.
 
-made-title_string : (f : Forest) → made (string_group Name.ResourceTitleString f) ≡ made f
-made-title_string f = made-string_group Name.ResourceTitleString f refl refl
+at-itself : (p : Point) → is_at p p ≡ true
+at-itself p = λ i. same p.index i && same p.vs i
+  where
+    same : (n : ℕ) → (n == n) ≡ true
+    same n = grind (arith, nat_tests)
 
-made-destination_string : (f : Forest) → made (string_group Name.ResourceDestinationString f) ≡ made f
-made-destination_string f = made-string_group Name.ResourceDestinationString f refl refl
-
-ruleset made_laws = (made-reference_string, made-title_string, made-destination_string, made-join, made-leaf, made-linked, made-linked_leaf, made-line_leaves, made-lines)
+reaches-itself : (f : Forest) → is_nothing f ≡ false → reaches (enter_of f) (exit_after (enter_of f) f) f ≡ true
+reaches-itself f h = λ i. not (h i) && (at-itself (enter_of f) i && at-itself (exit_after (enter_of f) f) i)
 
 -- a group around something
-pub made-group : (name : Name) (f : Forest) → is_pair name ≡ false → is_nothing f ≡ false → made f ≡ true → made (group name f) ≡ true
-made-group name f h k l = (λ i. (is_label_text name || not (k i)) && (not (h i) && (l i && true))) ∙ or-true-and (is_label_text name)
-  where
-    or-true-and : (a : Bool) → ((a || true) && true) ≡ true
-    or-true-and true = refl
-    or-true-and false = refl
+pub made-group : (texts : Bool) (name : Name) (f : Forest) → is_pair name ≡ false → is_nothing f ≡ false → made texts f ≡ true → made texts (group name f) ≡ true
+made-group texts name f h k l = (λ i. ((texts && is_label_text name) || reaches-itself f k i) && (not (h i) && (l i && true))) ∙ (λ i. or-true (texts && is_label_text name) i && true)
+
+made-string_group : (name : Name) (f : Forest) → is_pair name ≡ false → made false f ≡ true → made false (string_group name f) ≡ true
+made-string_group name empty h k = refl
+made-string_group name (leaf_then n l c r) h k = made-group false name (leaf_then n l c r) h refl k
+made-string_group name (group_then n a b x r) h k = made-group false name (group_then n a b x r) h refl k
+
+made-reference_string : (cs : List Code) → made false (string_group Name.ReferenceString (lines Name.Data (Some Content.String) cs)) ≡ true
+made-reference_string cs = made-string_group Name.ReferenceString (lines Name.Data (Some Content.String) cs) refl (made-lines (Some Content.String) cs)
+
+made-title_string : (cs : List Code) → made false (string_group Name.ResourceTitleString (lines Name.Data (Some Content.String) cs)) ≡ true
+made-title_string cs = made-string_group Name.ResourceTitleString (lines Name.Data (Some Content.String) cs) refl (made-lines (Some Content.String) cs)
+
+made-destination_string : (cs : List Code) → made false (string_group Name.ResourceDestinationString (linked Name.Data cs)) ≡ true
+made-destination_string cs = made-string_group Name.ResourceDestinationString (linked Name.Data cs) refl (made-linked cs)
+
+ruleset made_laws = (made-reference_string, made-title_string, made-destination_string, made-join, made-leaf, made-space, made-ending)
 
 pub front-some : (name : Name) (cs : List Code) (f : Forest) → is_empty cs ≡ false → is_nothing (leaf name cs ⊕ f) ≡ false
 front-some name [] f h = cc
 front-some name (c ∷ cs) f h = refl
 
 -- a group that begins with a marker
-pub made-front : (name marker : Name) (cs : List Code) (f : Forest) → is_pair name ≡ false → is_empty cs ≡ false → made f ≡ true → made (group name (leaf marker cs ⊕ f)) ≡ true
-made-front name marker cs f h k l =
-    made-group name (leaf marker cs ⊕ f) h (front-some marker cs f k) (made-join (leaf marker cs) f ∙ (λ i. made-leaf marker cs i && l i))
+pub made-front : (name marker : Name) (cs : List Code) (f : Forest) → is_pair name ≡ false → is_email marker ≡ false → is_empty cs ≡ false → made false f ≡ true → made false (group name (leaf marker cs ⊕ f)) ≡ true
+made-front name marker cs f h e k l =
+    made-group false name (leaf marker cs ⊕ f) h (front-some marker cs f k)
+    (made-join false (leaf marker cs) f ∙ (λ i. (made-leaf false marker cs ∙ (λ j. not (e j) || is_empty cs)) i && l i))
 
 codes-some : (f : Forest) → is_empty (leaf_codes f) ≡ false → is_nothing f ≡ false
 codes-some empty h = cc
@@ -134,7 +175,7 @@ abbrev pub IsSome : List Code → Type 0
 IsSome cs = is_empty cs ≡ false
 
 abbrev pub IsMade : Forest → Type 0
-IsMade t = made t ≡ true
+IsMade t = made false t ≡ true
 
 abbrev pub Makes : Reading Forest → Type 0
 Makes a = Yields IsMade a
@@ -172,7 +213,7 @@ makes_spacing link = yields_either _ _ _
 
 pub makes_escape : Makes escape
 unfolding escape
-makes_escape = yields_bind IsSome _ _ _ (one-gives _) λ slash h. then_any _ _ _ λ value. yields_gives _ _ (made-front Name.CharacterEscape Name.CharacterEscapeMarker slash (leaf Name.CharacterEscapeValue value) refl h (simp made_laws))
+makes_escape = yields_bind IsSome _ _ _ (one-gives _) λ slash h. then_any _ _ _ λ value. yields_gives _ _ (made-front Name.CharacterEscape Name.CharacterEscapeMarker slash (leaf Name.CharacterEscapeValue value) refl refl h (simp made_laws))
 
 pub makes_hard_break_escape : Makes hard_break_escape
 unfolding hard_break_escape
@@ -200,28 +241,41 @@ makes_reference table =
     yields_bind HasFront _ _ _ (yields_either _ _ _ (parts_named table) (yields_either _ _ _ parts_decimal parts_hexadecimal))
     λ parts h. yields_gives _ _
     (made-front Name.CharacterReference Name.CharacterReferenceMarker parts.front
-    (leaf Name.CharacterReferenceMarkerNumeric parts.number ⊕ leaf Name.CharacterReferenceMarkerHexadecimal parts.hexadecimal ⊕ leaf Name.CharacterReferenceValue parts.value ⊕ leaf Name.CharacterReferenceMarkerSemi parts.back) refl h (simp made_laws))
+    (leaf Name.CharacterReferenceMarkerNumeric parts.number ⊕ leaf Name.CharacterReferenceMarkerHexadecimal parts.hexadecimal ⊕ leaf Name.CharacterReferenceValue parts.value ⊕ leaf Name.CharacterReferenceMarkerSemi parts.back) refl refl h (simp made_laws))
 
-makes_in_angle_brackets : (inside : Reading (List Code)) (name : Name) → Makes (in_angle_brackets inside name)
+makes_in_angle_brackets : (inside : Reading (List Code)) (name : Name) → is_email name ≡ false → Makes (in_angle_brackets inside name)
 unfolding in_angle_brackets
-makes_in_angle_brackets inside name =
-    yields_bind IsSome _ _ _ (one-gives _) λ front h. then_any _ _ _ λ text. then_any _ _ _ λ back. yields_gives _ _ (made-front Name.Autolink Name.AutolinkMarker front (leaf name text ⊕ leaf Name.AutolinkMarker back) refl h (simp made_laws))
+makes_in_angle_brackets inside name e =
+    yields_bind IsSome _ _ _ (one-gives _) λ front h. then_any _ _ _ λ text. then_any _ _ _ λ back. yields_gives _ _ (made-front Name.Autolink Name.AutolinkMarker front (leaf name text ⊕ leaf Name.AutolinkMarker back) refl refl h (simp (made_laws, e)))
 
 pub makes_autolink : Makes autolink
 unfolding autolink
-makes_autolink = yields_either _ _ _ (makes_in_angle_brackets _ _) (makes_in_angle_brackets _ _)
+makes_autolink = yields_either _ _ _ (makes_in_angle_brackets _ _ refl) (makes_in_angle_brackets _ _ refl)
+
+check-made : (cs : List Code) → is_email (check_name cs) ≡ false
+check-made cs = by_test (next_is (is_among (codes "xX")) cs)
+  where
+    by_test : (b : Bool) → is_email (elim b [ true ↦ Name.GfmTaskListItemValueChecked | false ↦ Name.GfmTaskListItemValueUnchecked ]) ≡ false
+    by_test true = refl
+    by_test false = refl
 
 pub makes_task_check : Makes task_check
 unfolding task_check
 makes_task_check =
-    yields_bind IsSome _ _ _ (one-gives _) λ front h. then_any _ _ _ λ value. then_any _ _ _ λ back. yields_gives _ _ (made-front Name.GfmTaskListItemCheck Name.GfmTaskListItemMarker front (leaf (check_name value) value ⊕ leaf Name.GfmTaskListItemMarker back) refl h (simp made_laws))
+    yields_bind IsSome _ _ _ (one-gives _) λ front h. then_any _ _ _ λ value. then_any _ _ _ λ back. yields_gives _ _ (made-front Name.GfmTaskListItemCheck Name.GfmTaskListItemMarker front (leaf (check_name value) value ⊕ leaf Name.GfmTaskListItemMarker back) refl refl h (simp (made_laws, check-made)))
 
-makes_span_of : (marker : ℕ) (names : SpanNames) (allowed : ℕ → Bool) → is_pair names.whole ≡ false → Makes (span_of marker names allowed)
+-- neither a pair nor email literals
+pub record IsSpan (names : SpanNames) : Type 0 where
+  pub whole : is_pair names.whole ≡ false
+  pub sequence : is_email names.sequence ≡ false
+  pub text : is_email names.text ≡ false
+
+makes_span_of : (marker : ℕ) (names : SpanNames) (allowed : ℕ → Bool) → IsSpan names → Makes (span_of marker names allowed)
 unfolding span_of
 makes_span_of marker names allowed k =
-    yields_bind IsSome _ _ _ (some-gives _) λ front h. yields_passed _ _ _ (then_any _ _ _ λ inside. yields_gives _ _ (made-front names.whole names.sequence front (line_leaves names.text inside.0 ⊕ leaf names.sequence inside.1) k h (simp made_laws)))
+    yields_bind IsSome _ _ _ (some-gives _) λ front h. yields_passed _ _ _ (then_any _ _ _ λ inside. yields_gives _ _ (made-front names.whole names.sequence front (line_leaves names.text inside.0 ⊕ leaf names.sequence inside.1) k.whole k.sequence h (simp (made_laws, made-line_leaves names.text inside.0 k.text, k.sequence))))
 
-pub makes_span_here : (marker : ℕ) (names : SpanNames) (allowed : ℕ → Bool) (escaped : Bool) (previous : Option Code) → is_pair names.whole ≡ false → Makes (span_here marker names allowed escaped previous)
+pub makes_span_here : (marker : ℕ) (names : SpanNames) (allowed : ℕ → Bool) (escaped : Bool) (previous : Option Code) → IsSpan names → Makes (span_here marker names allowed escaped previous)
 unfolding span_here
 makes_span_here marker names allowed escaped previous h = yields_passed _ _ _ (makes_span_of marker names allowed h)
 
@@ -229,7 +283,7 @@ pub makes_html : Makes html
 unfolding html
 makes_html =
     yields_bind IsSome _ _ _ (gives-some _ takes_html_text html_text_takes) λ text h.
-    yields_gives _ _ (made-group Name.HtmlText (lines Name.HtmlTextData None text) refl (codes-some (lines Name.HtmlTextData None text) (ap is_empty (codes-lines Name.HtmlTextData None text) ∙ h)) (simp made_laws))
+    yields_gives _ _ (made-group false Name.HtmlText (lines Name.HtmlTextData None text) refl (codes-some (lines Name.HtmlTextData None text) (ap is_empty (codes-lines Name.HtmlTextData None text) ∙ h)) (made-html_lines text))
 
 pub makes_protocol : (bytes : List ℕ) (end : ℕ) (previous : Option Code) → Makes (protocol_literal bytes end previous)
 unfolding protocol_literal
@@ -250,13 +304,13 @@ makes_label : Makes (label reference_names)
 unfolding label
 makes_label =
     yields_bind IsSome _ _ _ (one-gives _) λ front h. then_any _ _ _ λ text. yields_passed _ _ _ (yields_passed _ _ _ (then_any _ _ _ λ back. yields_passed _ _ _
-    (yields_gives _ _ (made-front Name.Reference Name.ReferenceMarker front (string_group Name.ReferenceString (lines Name.Data (Some Content.String) text) ⊕ leaf Name.ReferenceMarker back) refl h (simp made_laws)))))
+    (yields_gives _ _ (made-front Name.Reference Name.ReferenceMarker front (string_group Name.ReferenceString (lines Name.Data (Some Content.String) text) ⊕ leaf Name.ReferenceMarker back) refl refl h (simp made_laws)))))
 
 makes_title_between : (opener closer : ℕ) → Makes (title_between opener closer title_names)
 unfolding title_between
 makes_title_between opener closer =
     yields_bind IsSome _ _ _ (one-gives _) λ front h. then_any _ _ _ λ text. then_any _ _ _ λ back. yields_passed _ _ _
-    (yields_gives _ _ (made-front Name.ResourceTitle Name.ResourceTitleMarker front (string_group Name.ResourceTitleString (lines Name.Data (Some Content.String) text) ⊕ leaf Name.ResourceTitleMarker back) refl h (simp made_laws)))
+    (yields_gives _ _ (made-front Name.ResourceTitle Name.ResourceTitleMarker front (string_group Name.ResourceTitleString (lines Name.Data (Some Content.String) text) ⊕ leaf Name.ResourceTitleMarker back) refl refl h (simp made_laws)))
 
 makes_title : Makes (title title_names)
 unfolding title
@@ -268,18 +322,20 @@ makes_literal_destination =
     yields_bind IsSome _ _ _ (one-gives _) λ front h. then_any _ _ _ λ text. then_any _ _ _ λ back.
     yields_gives _ _ (literal front (string_group Name.ResourceDestinationString (linked Name.Data text) ⊕ leaf Name.ResourceDestinationLiteralMarker back) h (simp made_laws))
   where
-    literal : (front : List Code) (f : Forest) → is_empty front ≡ false → made f ≡ true → made (group Name.ResourceDestination (group Name.ResourceDestinationLiteral (leaf Name.ResourceDestinationLiteralMarker front ⊕ f))) ≡ true
+    literal : (front : List Code) (f : Forest) → is_empty front ≡ false → made false f ≡ true → made false (group Name.ResourceDestination (group Name.ResourceDestinationLiteral (leaf Name.ResourceDestinationLiteralMarker front ⊕ f))) ≡ true
     literal front f h k =
-        made-group Name.ResourceDestination (group Name.ResourceDestinationLiteral (leaf Name.ResourceDestinationLiteralMarker front ⊕ f)) refl refl (made-front Name.ResourceDestinationLiteral Name.ResourceDestinationLiteralMarker front f refl h k)
+        made-group false Name.ResourceDestination (group Name.ResourceDestinationLiteral (leaf Name.ResourceDestinationLiteralMarker front ⊕ f)) refl refl (made-front Name.ResourceDestinationLiteral Name.ResourceDestinationLiteralMarker front f refl refl h k)
 
 makes_raw_destination : (max : ℕ) → Makes (raw_destination max resource_names)
 unfolding raw_destination
 makes_raw_destination max =
     then_any _ _ _ λ text. yields_passed_if _ _ _ λ h. yields_gives _ _ (raw text (not-true (is_empty text) h))
   where
-    raw : (text : List Code) → is_empty text ≡ false → made (group Name.ResourceDestination (group Name.ResourceDestinationRaw (group Name.ResourceDestinationString (linked Name.Data text)))) ≡ true
+    raw : (text : List Code) → is_empty text ≡ false → made false (group Name.ResourceDestination (group Name.ResourceDestinationRaw (group Name.ResourceDestinationString (linked Name.Data text)))) ≡ true
     raw [] k = cc
-    raw (c ∷ cs) k = refl
+    raw (c ∷ cs) k =
+        made-group false Name.ResourceDestination (group Name.ResourceDestinationRaw (group Name.ResourceDestinationString (linked Name.Data (c ∷ cs)))) refl refl
+        (made-group false Name.ResourceDestinationRaw (group Name.ResourceDestinationString (linked Name.Data (c ∷ cs))) refl refl (made-group false Name.ResourceDestinationString (linked Name.Data (c ∷ cs)) refl refl refl))
 
 makes_destination : (max : ℕ) → Makes (destination max resource_names)
 unfolding destination
@@ -302,7 +358,7 @@ unfolding resource
 makes_resource =
     yields_bind IsSome _ _ _ (one-gives _) λ front e. yields_bind IsMade _ _ _ (makes_optional _ (makes_spacing None)) λ space h.
     yields_bind IsMade _ _ _ (yields_next _ _ _ _ (yields_gives _ _ refl) makes_destination_and_title) λ inside k.
-    then_any _ _ _ λ back. yields_gives _ _ (made-front Name.Resource Name.ResourceMarker front (space ⊕ inside ⊕ leaf Name.ResourceMarker back) refl e (simp (made_laws, h, k)))
+    then_any _ _ _ λ back. yields_gives _ _ (made-front Name.Resource Name.ResourceMarker front (space ⊕ inside ⊕ leaf Name.ResourceMarker back) refl refl e (simp (made_laws, h, k)))
 
 makes_full_reference : (s : Setting) → Makes (full_reference s)
 unfolding full_reference
@@ -310,7 +366,7 @@ makes_full_reference s = yields_bind IsMade _ _ _ makes_label λ tree h. yields_
 
 makes_collapsed_reference : Makes collapsed_reference
 unfolding collapsed_reference
-makes_collapsed_reference = yields_bind IsSome _ _ _ (one-gives _) λ front h. then_any _ _ _ λ back. yields_gives _ _ (made-front Name.Reference Name.ReferenceMarker front (leaf Name.ReferenceMarker back) refl h (simp made_laws))
+makes_collapsed_reference = yields_bind IsSome _ _ _ (one-gives _) λ front h. then_any _ _ _ λ back. yields_gives _ _ (made-front Name.Reference Name.ReferenceMarker front (leaf Name.ReferenceMarker back) refl refl h (simp made_laws))
 
 makes_shortcut : (defined : Bool) → Makes (shortcut defined)
 unfolding shortcut

@@ -1,9 +1,12 @@
--- Email literals stand in data.
-use Rattle.std.specs.Prelude.{◌≡◌, Bool, true, false, if◌then◌else◌, Some, None}
+-- Where email literals stand: in data, and in no link.
+use Rattle.std.specs.Prelude.{◌≡◌, Bool, true, false, ◌||◌, if◌then◌else◌, List, Some, None}
 use Rattle.markdown_engine.specs.declared.event.Name.{Name}
+use Rattle.markdown_engine.specs.Codes.{Code}
 use Rattle.markdown_engine.specs.Tree.{Forest, empty, leaf_then, group_then}
 use Rattle.markdown_model.specs.CodeTests.{is_empty}
+use Rattle.markdown_model.specs.Inline.{text_tree, string_tree}
 use Rattle.markdown_model.specs.Passes.{merged, mailed}
+use Rattle.markdown_model.specs.Setting.{Setting}
 
 abbrev pub is_email : Name → Bool
 is_email Name.GfmAutolinkLiteralEmail = true
@@ -29,3 +32,20 @@ HasFullData (group_then name enter exit inside rest) = HasFullData inside × Has
 -- them, the tree is as it was before.
 abbrev pub EmailsStandInData : Type 0
 EmailsStandInData = (tree : Forest) → HasFullData tree → merged (as_data (mailed tree)) ≡ merged (as_data tree)
+
+-- an email literal stands in a row, or inside it
+abbrev pub holds_email : Forest → Bool
+holds_email empty = false
+holds_email (leaf_then name link cs rest) = is_email name || holds_email rest
+holds_email (group_then name enter exit inside rest) = holds_email inside || holds_email rest
+
+-- none stands inside a link of a row, or of a row inside it, however deep
+abbrev pub HasPlainLinks : Forest → Type 0
+HasPlainLinks empty = Unit {0}
+HasPlainLinks (leaf_then name link cs rest) = HasPlainLinks rest
+HasPlainLinks (group_then Name.Link enter exit inside rest) = (holds_email inside ≡ false) × HasPlainLinks rest
+HasPlainLinks (group_then name enter exit inside rest) = HasPlainLinks inside × HasPlainLinks rest
+
+-- in the inline tree of a text no email literal stands in a link, and in that of a string none stands at all
+abbrev pub LinksHoldNoEmail : Type 0
+LinksHoldNoEmail = (s : Setting) (cs : List Code) → HasPlainLinks (text_tree s cs) × (holds_email (string_tree s cs) ≡ false)

@@ -9,3 +9,4 @@ pub mod Markers
 pub mod InOrder
 pub mod LinkParts
 pub mod Resources
+pub mod EventOrder

@@ -9,10 +9,11 @@ ghost use Rattle.markdown_laws.specs.Escapes.{Escapes};
 ghost use Rattle.markdown_laws.specs.PairGroups.{EachPairIsAGroup, PairsAreEven, PairsTakeTheirMarkers};
 ghost use Rattle.markdown_laws.specs.Markers.{EachMarkerIsHeld};
 ghost use Rattle.markdown_laws.specs.ProbeBounds.{ProbesAreFew};
-ghost use Rattle.markdown_laws.specs.Emails.{EmailsStandInData};
+ghost use Rattle.markdown_laws.specs.Emails.{EmailsStandInData, LinksHoldNoEmail};
 ghost use Rattle.markdown_laws.specs.Trimming.{DataIsTight};
 ghost use Rattle.markdown_laws.specs.Filled.{TreesAreFilled};
 ghost use Rattle.markdown_laws.specs.InOrder.{RunsInOrderMayPair};
+ghost use Rattle.markdown_laws.specs.EventOrder.{EventsNeverGoBack};
 ghost use Rattle.markdown_laws.specs.LinkParts.{TitlesAreFound, LabelsAreFound, DestinationsAreFound};
 ghost use Rattle.markdown_laws.specs.Resources.{ResourcesAreFound, WhatFollowsIsFound};
 
@@ -37,6 +38,11 @@ pub fn probes_are_few()
 /// Finding emails cuts data and does nothing else.
 pub fn emails_stand_in_data()
     ensures { EmailsStandInData }
+{}
+
+/// In the inline tree of a text no email literal stands in a link, and in that of a string none stands at all.
+pub fn links_hold_no_email()
+    ensures { LinksHoldNoEmail }
 {}
 
 /// No blank code stands in data beside a line ending, nor first or last in a text.
@@ -64,6 +70,12 @@ pub fn trees_are_filled()
 /// email literals are cut from data, by one of these.
 pub fn each_marker_is_held()
     ensures { EachMarkerIsHeld }
+{}
+
+/// No event of a content, read as text or as a string, stands before an earlier one. So an `Enter` and an `Exit` around nothing, as of an empty label's
+/// text, stand behind the codes before them and not behind those after.
+pub fn events_never_go_back()
+    ensures { EventsNeverGoBack }
 {}
 
 /// Events whose runs stand in order over a document meet all that the pass of emphasis, `attention::resolve_counted`, asks for: behind the `Enter` of a run

@@ -1,0 +1,250 @@
+-- No email literal stands in a link: none stands in the tree before they are found, and they are not sought there.
+use Rattle.std.proofs.Common.{◌≡◌, ℕ, ◌-◌, ◌==◌, zero, suc, Bool, true, false, ◌&&◌, ◌||◌, not, nat_le, List, [], ◌∷◌, ◌++◌, length, take, drop, reverse, map, sum_by, refl, sym, ap, subst, ◌∙◌, Option, Some, None}
+use Rattle.std.specs.List.{list_all}
+use Rattle.std.proofs.lemmas.Bool.{and_parts, or_parts}
+use Rattle.markdown_engine.specs.declared.event.Name.{Name}
+use Rattle.markdown_engine.specs.Codes.{Code, is_blank, document_start, stop_of}
+use Rattle.markdown_engine.specs.Tree.{Forest, empty, leaf_then, group_then, leaf, text_group, start_of, ◌⊕◌}
+use Rattle.markdown_model.specs.CodeTests.{is_empty, is_real_space}
+use Rattle.markdown_model.specs.Element.{elements_of, string_elements_of}
+use Rattle.markdown_model.specs.Email.{email_at, email_leaves, with_emails}
+use Rattle.markdown_model.specs.Grammar.{span}
+use Rattle.markdown_model.specs.Groups.{Token, item, opens, closes, nested, joined, loose, pair_names, pair_group, closing_sizes, opening_sizes, cut_front, run_tokens, assembled, tokens_of, paired}
+use Rattle.markdown_model.specs.Inline.{raw_tree, finished_text, finished_string, text_tree, string_tree}
+use Rattle.markdown_model.specs.Pairs.{Pair, pair_list}
+use Rattle.markdown_model.specs.Passes.{data_onto, merged, begins_line_ending, is_nothing, blank_name, trimmed_data, trimmed, mailed, labels_of}
+use Rattle.markdown_model.specs.Runs.{Run, marker_of, run_of, runs_of}
+use Rattle.markdown_model.specs.Setting.{Setting}
+use Rattle.markdown_laws.specs.Emails.{is_email, holds_email, HasPlainLinks, LinksHoldNoEmail}
+use Rattle.markdown_laws.specs.Filled.{is_label_text}
+use Rattle.markdown_laws.specs.PairGroups.{is_pair}
+use Rattle.markdown_laws.proofs.EmailLeaves.{AnswerIsEmail, answer-email}
+use Rattle.markdown_laws.proofs.MadeReadings.{reaches, made}
+use Rattle.markdown_laws.proofs.MadeLabels.{made-text-labels, made-string-labels}
+use Rattle.markdown_laws.proofs.TestParts.{neither}
+use Rattle.markdown_stretch.proofs.Words.{AllHave, WordHas, joined-has, nested-has, word-append}
+
+-- Trees without email literals.
+
+abbrev IsPlain : Forest → Type 0
+IsPlain f = holds_email f ≡ false
+
+plain-join : (a b : Forest) → IsPlain a → IsPlain b → IsPlain (a ⊕ b)
+plain-join empty b h k = k
+plain-join (leaf_then name link cs rest) b h k =
+    let p = or_parts (is_email name) (holds_email rest) h in
+    neither (is_email name) (holds_email (rest ⊕ b)) p.0 (plain-join rest b p.1 k)
+plain-join (group_then name enter exit inside rest) b h k =
+    let p = or_parts (holds_email inside) (holds_email rest) h in
+    neither (holds_email inside) (holds_email (rest ⊕ b)) p.0 (plain-join rest b p.1 k)
+
+plain-leaf : (name : Name) (cs : List Code) → is_email name ≡ false → IsPlain (leaf name cs)
+plain-leaf name [] h = refl
+plain-leaf name (c ∷ cs) h = neither (is_email name) false h refl
+
+full : (b : Bool) → not b ≡ true → b ≡ false
+full true h = cc
+full false h = refl
+
+-- what labels are made of
+plain-made : (f : Forest) → made true f ≡ true → IsPlain f
+plain-made empty h = refl
+plain-made (leaf_then name link cs rest) h =
+    let p = and_parts (not (is_empty cs)) (not (is_email name) && made true rest) h in
+    let q = and_parts (not (is_email name)) (made true rest) p.1 in
+    neither (is_email name) (holds_email rest) (full (is_email name) q.0) (plain-made rest q.1)
+plain-made (group_then name enter exit inside rest) h =
+    let p = and_parts (is_label_text name || reaches enter exit inside) (not (is_pair name) && (made true inside && made true rest)) h in
+    let q = and_parts (not (is_pair name)) (made true inside && made true rest) p.1 in
+    let r = and_parts (made true inside) (made true rest) q.1 in
+    neither (holds_email inside) (holds_email rest) (plain-made inside r.0) (plain-made rest r.1)
+
+-- Pairs.
+
+sequence-plain : (marker size : ℕ) → is_email (pair_names marker size).1 ≡ false
+sequence-plain marker size = by_tests (marker == 126) (size == 2)
+  where
+    by_tests : (a b : Bool) → is_email (elim a as (λ _. Name × Name × Name) [
+      | true ↦ (Name.GfmStrikethrough, Name.GfmStrikethroughSequence, Name.GfmStrikethroughText)
+      | false ↦ elim b [ true ↦ (Name.Strong, Name.StrongSequence, Name.StrongText) | false ↦ (Name.Emphasis, Name.EmphasisSequence, Name.EmphasisText) ]
+    ]).1 ≡ false
+    by_tests true b = refl
+    by_tests false true = refl
+    by_tests false false = refl
+
+abbrev Any : List Code → Type 0
+Any cs = Unit {0}
+
+abbrev PlainWord : List Token → Type 0
+PlainWord w = WordHas IsPlain Any Any w
+
+plain-joined : (fs : List Forest) → AllHave IsPlain fs → IsPlain (joined fs)
+plain-joined fs h = joined-has IsPlain refl (λ t u a b. plain-join t u a b) fs h
+
+plain-loose : (cs : List Code) → AllHave IsPlain (loose cs)
+plain-loose cs = (plain-leaf Name.Data cs refl, tt)
+
+plain-pair : (front : List Code) (inside : List Forest) (back : List Code) → Any front → AllHave IsPlain inside → Any back → AllHave IsPlain (pair_group front inside back)
+plain-pair front inside back f h b = (neither (holds_email row) false whole refl, tt)
+  where
+    names : Name × Name × Name
+    names = pair_names (marker_of front) (length front)
+
+    text : Forest
+    text = text_group names.2 (stop_of document_start front) (start_of back) (joined inside)
+
+    row : Forest
+    row = leaf names.1 front ⊕ text ⊕ leaf names.1 back
+
+    whole : IsPlain row
+    whole =
+        plain-join (leaf names.1 front) (text ⊕ leaf names.1 back) (plain-leaf names.1 front (sequence-plain (marker_of front) (length front)))
+        (plain-join text (leaf names.1 back) (neither (holds_email (joined inside)) false (plain-joined inside h) refl) (plain-leaf names.1 back (sequence-plain (marker_of front) (length front))))
+
+plain-assembled : (w : List Token) → PlainWord w → IsPlain (assembled w)
+plain-assembled w h =
+    plain-joined (nested pair_group loose loose w) (nested-has IsPlain Any Any pair_group loose loose plain-pair (λ o k. plain-loose o) (λ c k. plain-loose c) w h)
+
+plain-closes : (cs : List (List Code)) → PlainWord (map closes cs)
+plain-closes [] = tt
+plain-closes (c ∷ cs) = (tt, plain-closes cs)
+
+plain-opens : (cs : List (List Code)) → PlainWord (map opens cs)
+plain-opens [] = tt
+plain-opens (c ∷ cs) = (tt, plain-opens cs)
+
+plain-run : (pairs : List Pair) (i : ℕ) (r : Run) → PlainWord (run_tokens pairs i r)
+plain-run pairs i r = word-append IsPlain Any Any (map closes front.0) (item (leaf Name.Data (take kept front.1)) ∷ map opens back.0) (plain-closes front.0) (plain-leaf Name.Data (take kept front.1) refl, plain-opens back.0)
+  where
+    front : List (List Code) × List Code
+    front = cut_front (closing_sizes i pairs) r.codes
+
+    sizes : List ℕ
+    sizes = reverse (opening_sizes i pairs)
+
+    kept : ℕ
+    kept = length front.1 - sum_by (λ n. n) sizes
+
+    back : List (List Code) × List Code
+    back = cut_front sizes (drop kept front.1)
+
+module _ (s : Setting) (pairs_of : List Run → List Pair) where
+  plain-tokens : (f : Forest) (pairs : List Pair) (n : ℕ) → IsPlain f → PlainWord (tokens_of s pairs_of f pairs n)
+  unfolding tokens_of
+  plain-tokens empty pairs n h = tt
+  plain-tokens (leaf_then Name.AttentionSequence link cs rest) pairs n h =
+      word-append IsPlain Any Any (run_tokens pairs n (run_of s cs)) (tokens_of s pairs_of rest pairs (suc n)) (plain-run pairs n (run_of s cs)) (plain-tokens rest pairs (suc n) h)
+  plain-tokens (leaf_then name link cs rest) pairs n h =
+      let p = or_parts (is_email name) (holds_email rest) h in
+      (neither (is_email name) false p.0 refl, plain-tokens rest pairs n p.1)
+  plain-tokens (group_then name enter exit inside rest) pairs n h =
+      let p = or_parts (holds_email inside) (holds_email rest) h in
+      (neither (holds_email (assembled (tokens_of s pairs_of inside (pairs_of (runs_of s inside)) 0))) false (plain-assembled (tokens_of s pairs_of inside (pairs_of (runs_of s inside)) 0) (plain-tokens inside (pairs_of (runs_of s inside)) 0 p.0)) refl, plain-tokens rest pairs n p.1)
+
+  plain-paired : (f : Forest) → IsPlain f → IsPlain (paired s pairs_of f)
+  unfolding paired
+  plain-paired f h = plain-assembled (tokens_of s pairs_of f (pairs_of (runs_of s f)) 0) (plain-tokens f (pairs_of (runs_of s f)) 0 h)
+
+-- Merging and trimming.
+
+plain-onto : (cs : List Code) (f : Forest) → holds_email (data_onto cs f) ≡ holds_email f
+plain-onto cs (leaf_then Name.Data None more rest) = refl
+plain-onto cs rest = refl
+
+plain-merged : (f : Forest) → holds_email (merged f) ≡ holds_email f
+unfolding merged
+plain-merged empty = refl
+plain-merged (leaf_then Name.Data None cs rest) = plain-onto cs (merged rest) ∙ plain-merged rest
+plain-merged (leaf_then name link cs rest) = ap (λ x. is_email name || x) (plain-merged rest)
+plain-merged (group_then name enter exit inside rest) = λ i. plain-merged inside i || plain-merged rest i
+
+blank-plain : (hard : Bool) (cs : List Code) → is_email (blank_name hard cs) ≡ false
+blank-plain hard cs = by_test ((hard && nat_le 2 (length cs)) && list_all is_real_space cs)
+  where
+    by_test : (b : Bool) → is_email (elim b [ true ↦ Name.HardBreakTrailing | false ↦ Name.SpaceOrTab ]) ≡ false
+    by_test true = refl
+    by_test false = refl
+
+plain-trimmed_data : (front back hard : Bool) (cs : List Code) → IsPlain (trimmed_data front back hard cs)
+plain-trimmed_data front back hard cs =
+    plain-join (leaf Name.SpaceOrTab lead.0) (leaf Name.Data lead.1 ⊕ leaf (blank_name hard (reverse cut.0)) (reverse cut.0)) (plain-leaf Name.SpaceOrTab lead.0 refl)
+    (plain-join (leaf Name.Data lead.1) (leaf (blank_name hard (reverse cut.0)) (reverse cut.0)) (plain-leaf Name.Data lead.1 refl) (plain-leaf (blank_name hard (reverse cut.0)) (reverse cut.0) (blank-plain hard (reverse cut.0))))
+  where
+    cut : List Code × List Code
+    cut = elim back [ true ↦ span is_blank (reverse cs) | false ↦ ([], reverse cs) ]
+
+    lead : List Code × List Code
+    lead = elim front [ true ↦ span is_blank (reverse cut.1) | false ↦ ([], reverse cut.1) ]
+
+plain-trimmed : (hard front whole : Bool) (f : Forest) → IsPlain f → IsPlain (trimmed hard front whole f)
+unfolding trimmed
+plain-trimmed hard front whole empty h = refl
+plain-trimmed hard front whole (leaf_then Name.Data None cs rest) h =
+    plain-join (trimmed_data front (begins_line_ending rest || (whole && is_nothing rest)) (hard && begins_line_ending rest) cs) (trimmed hard false whole rest)
+    (plain-trimmed_data front (begins_line_ending rest || (whole && is_nothing rest)) (hard && begins_line_ending rest) cs) (plain-trimmed hard false whole rest h)
+plain-trimmed hard front whole (leaf_then Name.LineEnding link cs rest) h = plain-trimmed hard true whole rest h
+plain-trimmed hard front whole (leaf_then name link cs rest) h =
+    let p = or_parts (is_email name) (holds_email rest) h in
+    neither (is_email name) (holds_email (trimmed hard false whole rest)) p.0 (plain-trimmed hard false whole rest p.1)
+plain-trimmed hard front whole (group_then name enter exit inside rest) h =
+    let p = or_parts (holds_email inside) (holds_email rest) h in
+    neither (holds_email (trimmed hard false false inside)) (holds_email (trimmed hard false whole rest)) (plain-trimmed hard false false inside p.0) (plain-trimmed hard false whole rest p.1)
+
+-- Emails.
+
+links-join : (a b : Forest) → HasPlainLinks a → HasPlainLinks b → HasPlainLinks (a ⊕ b)
+links-join empty b h k = k
+links-join (leaf_then name link cs rest) b h k = links-join rest b h k
+links-join (group_then Name.Link enter exit inside rest) b h k = (h.0, links-join rest b h.1 k)
+links-join (group_then name enter exit inside rest) b h k = (h.0, links-join rest b h.1 k)
+
+links-leaf : (name : Name) (cs : List Code) → HasPlainLinks (leaf name cs)
+links-leaf name [] = tt
+links-leaf name (c ∷ cs) = tt
+
+links-emails : (n : ℕ) (before cs : List Code) → HasPlainLinks (email_leaves n before cs)
+unfolding email_leaves
+links-emails n before [] = links-leaf Name.Data (reverse before)
+links-emails zero before (c ∷ cs) = links-leaf Name.Data (reverse before ++ c ∷ cs)
+links-emails (suc n) before (c ∷ cs) = by_answer (email_at before c cs) (answer-email before c cs) (links-emails n)
+  where
+    by_answer : (r : Option (List Code × Forest × List Code)) → AnswerIsEmail r → ((front ds : List Code) → HasPlainLinks (email_leaves n front ds))
+        → HasPlainLinks (elim r as (λ _. Forest) [ None ↦ email_leaves n (c ∷ before) cs | Some x ↦ leaf Name.Data x.0 ⊕ x.1 ⊕ email_leaves n [] x.2 ])
+    by_answer None h more = more (c ∷ before) cs
+    by_answer (Some x) h more = links-join (leaf Name.Data x.0) (x.1 ⊕ email_leaves n [] x.2) (links-leaf Name.Data x.0) (subst (λ t. HasPlainLinks (t ⊕ email_leaves n [] x.2)) (sym h.is) (more [] x.2))
+
+links-mailed : (f : Forest) → IsPlain f → HasPlainLinks (mailed f)
+unfolding mailed with_emails
+links-mailed empty h = tt
+links-mailed (leaf_then Name.Data None cs rest) h = links-join (email_leaves (length cs) [] cs) (mailed rest) (links-emails (length cs) [] cs) (links-mailed rest h)
+links-mailed (leaf_then name link cs rest) h = links-mailed rest (or_parts (is_email name) (holds_email rest) h).1
+links-mailed (group_then Name.Link enter exit inside rest) h = let p = or_parts (holds_email inside) (holds_email rest) h in (p.0, links-mailed rest p.1)
+links-mailed (group_then name enter exit inside rest) h = let p = or_parts (holds_email inside) (holds_email rest) h in (links-mailed inside p.0, links-mailed rest p.1)
+
+links-plain : (f : Forest) → IsPlain f → HasPlainLinks f
+links-plain empty h = tt
+links-plain (leaf_then name link cs rest) h = links-plain rest (or_parts (is_email name) (holds_email rest) h).1
+links-plain (group_then Name.Link enter exit inside rest) h = let p = or_parts (holds_email inside) (holds_email rest) h in (p.0, links-plain rest p.1)
+links-plain (group_then name enter exit inside rest) h = let p = or_parts (holds_email inside) (holds_email rest) h in (links-plain inside p.0, links-plain rest p.1)
+
+pub links_hold_no_email : LinksHoldNoEmail
+unfolding text_tree string_tree finished_text finished_string raw_tree
+links_hold_no_email s cs = (by_test s.options.constructs.gfm_autolink_literal, plain-trimmed false false false (merged plain) (plain-merged plain ∙ plain-made plain (made-string-labels s cs)))
+  where
+    labels : Forest
+    labels = labels_of (elements_of s cs)
+
+    plain : Forest
+    plain = labels_of (string_elements_of s cs)
+
+    done : Forest
+    done = trimmed s.options.constructs.hard_break_trailing true true (merged (paired s (pair_list s) labels))
+
+    is_plain : IsPlain done
+    is_plain =
+        plain-trimmed s.options.constructs.hard_break_trailing true true (merged (paired s (pair_list s) labels))
+        (plain-merged (paired s (pair_list s) labels) ∙ plain-paired s (pair_list s) labels (plain-made labels (made-text-labels s cs)))
+
+    by_test : (b : Bool) → HasPlainLinks (elim b [ true ↦ mailed done | false ↦ done ])
+    by_test true = links-mailed done is_plain
+    by_test false = links-plain done is_plain
