@@ -12,8 +12,7 @@ use Rattle.markdown_model.specs.Setting.{Setting}
 use Rattle.markdown_model.proofs.Coverage.{codes-assembled, codes-tokens_of}
 use Rattle.markdown_laws.specs.Emails.{is_email}
 use Rattle.markdown_laws.specs.Filled.{is_label_text, IsFilled}
-use Rattle.markdown_laws.specs.PairGroups.{is_pair}
-use Rattle.markdown_laws.proofs.MadeReadings.{is_at, reaches, made}
+use Rattle.markdown_laws.proofs.MadeReadings.{is_at, is_single, reaches, made}
 
 -- Rows.
 
@@ -39,8 +38,8 @@ made-filled (leaf_then name link cs rest) h =
     let p = and_parts (not (is_empty cs)) (not (is_email name) && made true rest) h in
     (not-true (is_empty cs) p.0, made-filled rest (and_parts (not (is_email name)) (made true rest) p.1).1)
 made-filled (group_then name enter exit inside rest) h =
-    let p = and_parts (is_label_text name || reaches enter exit inside) (not (is_pair name) && (made true inside && made true rest)) h in
-    let q = and_parts (not (is_pair name)) (made true inside && made true rest) p.1 in
+    let p = and_parts (is_label_text name || reaches enter exit inside) (is_single name inside && (made true inside && made true rest)) h in
+    let q = and_parts (is_single name inside) (made true inside && made true rest) p.1 in
     let r = and_parts (made true inside) (made true rest) q.1 in
     ((λ e. either-text (is_label_text name) (is_nothing inside) (is_at enter (enter_of inside) && is_at exit (exit_after (enter_of inside) inside)) p.0 e), made-filled inside r.0, made-filled rest r.1)
 

@@ -1,5 +1,5 @@
 -- What is made of the elements of a content: each leaf has a code and is no email literal, each group but the text of a label reaches from where its first
--- tree begins to where its last one ends, and none is a pair's.
+-- tree begins to where its last one ends, none is a pair's, and an autolink holds leaves of its own.
 use Rattle.std.proofs.Common.{◌≡◌, ℕ, Bool, true, false, ◌==◌, ◌&&◌, ◌||◌, not, List, [], ◌∷◌, ◌++◌, length, drop, map, refl, ◌∙◌, subst, Option, Some, None}
 use Rattle.std.specs.List.{list_any}
 use Rattle.std.proofs.lemmas.Bool.{and_parts}
@@ -21,8 +21,7 @@ use Rattle.markdown_model.proofs.Readings.{takes_word}
 use Rattle.markdown_model.specs.CodeTests.{is_empty}
 use Rattle.markdown_laws.specs.Emails.{is_email}
 use Rattle.markdown_laws.specs.Filled.{is_label_text}
-use Rattle.markdown_laws.specs.PairGroups.{is_pair}
-use Rattle.markdown_laws.proofs.MadeReadings.{made, reaches, or-true, made-join, made-leaf, made-group, IsSome, IsMade, Makes, gives-some, one-gives, makes_escape, makes_hard_break_escape, makes_reference, makes_autolink, makes_html, makes_task_check, makes_span_here, makes_protocol, makes_www, makes_after_label}
+use Rattle.markdown_laws.proofs.MadeReadings.{is_single, made, reaches, or-true, made-join, made-leaf, made-group, IsSome, IsMade, Makes, gives-some, one-gives, makes_escape, makes_hard_break_escape, makes_reference, makes_autolink, makes_html, makes_task_check, makes_span_here, makes_protocol, makes_www, makes_after_label}
 
 -- Elements.
 
@@ -72,11 +71,11 @@ good_link_start = yields_bind IsSome _ _ _ (one-gives _) λ marker h. yields_giv
 
 good_code_span : (earlier : List Element) (previous : Option Code) → Yields IsGood (code_span earlier previous)
 unfolding code_span
-good_code_span earlier previous = good_plain _ (makes_span_here _ _ _ _ _ (record { whole = refl; sequence = refl; text = refl }))
+good_code_span earlier previous = good_plain _ (makes_span_here _ _ _ _ _ (record { whole = λ f. refl; sequence = refl; text = refl }))
 
 good_math_span : (single : Bool) (earlier : List Element) (previous : Option Code) → Yields IsGood (math_span single earlier previous)
 unfolding math_span
-good_math_span single earlier previous = good_plain _ (makes_span_here _ _ _ _ _ (record { whole = refl; sequence = refl; text = refl }))
+good_math_span single earlier previous = good_plain _ (makes_span_here _ _ _ _ _ (record { whole = λ f. refl; sequence = refl; text = refl }))
 
 good_outcome : (s : Setting) (l : Label) (back : List Code) → Yields IsGoodOutcome (outcome_of s (Some l) back)
 unfolding outcome_of footnote_call link_or_image
@@ -198,8 +197,8 @@ made-labelled-tree (leaf_then name link cs rest) h =
     let q = and_parts (not (is_email name)) (made false rest) p.1 in
     λ i. p.0 i && (q.0 i && made-labelled-tree rest q.1 i)
 made-labelled-tree (group_then name enter exit inside rest) h =
-    let p = and_parts (reaches enter exit inside) (not (is_pair name) && (made false inside && made false rest)) h in
-    let q = and_parts (not (is_pair name)) (made false inside && made false rest) p.1 in
+    let p = and_parts (reaches enter exit inside) (is_single name inside && (made false inside && made false rest)) h in
+    let q = and_parts (is_single name inside) (made false inside && made false rest) p.1 in
     let r = and_parts (made false inside) (made false rest) q.1 in
     λ i. one-way (is_label_text name) (reaches enter exit inside) p.0 i && (q.0 i && (made-labelled-tree inside r.0 i && made-labelled-tree rest r.1 i))
 
@@ -221,11 +220,11 @@ made-joined (f ∷ fs) h = made-both f (joined fs) h.0 (made-joined fs h.1)
 made-loose : (cs : List Code) → AllMade (loose cs)
 made-loose cs = (made-leaf true Name.Data cs, tt)
 
-no-pair : (kind : LabelKind) → is_pair (label_name kind) ≡ false
-no-pair LabelKind.Image = refl
-no-pair LabelKind.Link = refl
-no-pair LabelKind.GfmFootnote = refl
-no-pair LabelKind.GfmUndefinedFootnote = refl
+single-label : (kind : LabelKind) (f : Forest) → is_single (label_name kind) f ≡ true
+single-label LabelKind.Image f = refl
+single-label LabelKind.Link f = refl
+single-label LabelKind.GfmFootnote f = refl
+single-label LabelKind.GfmUndefinedFootnote f = refl
 
 made-start : (kind : LabelKind) (c : Code) (cs : List Code) → IsLabelled (start_tree kind (start_marker kind (c ∷ cs)))
 made-start LabelKind.Image c cs = made-group true Name.LabelImage (leaf_then Name.LabelImageMarker None (c ∷ []) (leaf Name.LabelMarker cs)) refl refl (made-leaf true Name.LabelMarker cs)
@@ -249,7 +248,7 @@ made-text a b f h = λ i. h i && true
 made-label : (kind : LabelKind) (marker : List Code) (inside : Forest) (back : List Code) (tail : Forest) → IsSome marker → IsLabelled inside → IsSome back → IsLabelled tail → IsLabelled (label_group kind marker inside back tail)
 made-label kind [] inside back tail h k l m = cc
 made-label kind (c ∷ cs) inside back tail h k l m =
-    made-group true (label_name kind) (group Name.Label row ⊕ tail) (no-pair kind) refl
+    made-group true (label_name kind) (group Name.Label row ⊕ tail) (single-label kind (group Name.Label row ⊕ tail)) refl
     (made-both (group Name.Label row) tail (made-group true Name.Label row refl (start-some kind front rest) made-row) m)
   where
     front : List Code

@@ -1,5 +1,5 @@
--- What constructs make: each leaf has a code and is no email literal, each group reaches from where its first tree begins to where its last one ends, and
--- none is a pair's.
+-- What constructs make: each leaf has a code and is no email literal, each group reaches from where its first tree begins to where its last one ends,
+-- none is a pair's, and an autolink holds leaves of its own.
 use Rattle.std.proofs.Common.{◌≡◌, ◌==◌, ℕ, ◌+◌, ◌≤◌, codes, Bool, true, false, ◌&&◌, ◌||◌, not, List, [], ◌∷◌, ◌++◌, length, refl, sym, ◌∙◌, ap, arith, Option, Some, None}
 use Rattle.std.proofs.lemmas.Bool.Decides.{nat_tests}
 use Rattle.markdown_model.proofs.LinkLaws.{yields_passed_if}
@@ -19,6 +19,7 @@ use Rattle.markdown_model.specs.Leaf.{Parts, reference, named_parts, decimal_par
 use Rattle.markdown_model.specs.Html.{html}
 use Rattle.markdown_model.specs.Literal.{protocol_literal, www_from_here, www_literal, may_precede_www, begins_with_www}
 use Rattle.markdown_model.specs.Passes.{is_nothing}
+use Rattle.markdown_model.specs.Laws.{is_run}
 use Rattle.markdown_model.specs.Setting.{Setting}
 use Rattle.markdown_model.specs.LabelEnd.{full_reference, collapsed_reference, shortcut, shortcut_before_bracket, reference_after_label, after_label}
 use Rattle.markdown_model.proofs.Consuming.{Consumes, one_takes, some_takes, html_text_takes}
@@ -28,6 +29,7 @@ use Rattle.markdown_model.proofs.ReadingLaws.{read-codes, read-shorter}
 use Rattle.markdown_laws.specs.PairGroups.{is_pair}
 use Rattle.markdown_laws.specs.Emails.{is_email}
 use Rattle.markdown_laws.specs.Filled.{is_label_text}
+use Rattle.markdown_laws.specs.Markers.{is_data}
 
 -- both stand at one place
 abbrev pub is_at : Point → Point → Bool
@@ -37,12 +39,30 @@ is_at p q = p.index == q.index && p.vs == q.vs
 abbrev pub reaches : Point → Point → Forest → Bool
 reaches enter exit inside = not (is_nothing inside) && (is_at enter (enter_of inside) && is_at exit (exit_after (enter_of inside) inside))
 
+abbrev pub is_autolink : Name → Bool
+is_autolink Name.Autolink = true
+is_autolink _ = false
+
+-- leaves alone, none of them data or a run
+abbrev pub is_sealed : Forest → Bool
+is_sealed empty = true
+is_sealed (leaf_then name link cs rest) = not (is_data name || is_run name) && is_sealed rest
+is_sealed (group_then name enter exit inside rest) = false
+
+-- an autolink holds such leaves
+abbrev pub is_shut : Name → Forest → Bool
+is_shut name inside = not (is_autolink name) || is_sealed inside
+
+-- and no group is a pair's
+abbrev pub is_single : Name → Forest → Bool
+is_single name inside = not (is_pair name) && is_shut name inside
+
 -- where `texts`, texts of labels stand anywhere and around anything
 abbrev pub made : Bool → Forest → Bool
 made texts empty = true
 made texts (leaf_then name link cs rest) = not (is_empty cs) && (not (is_email name) && made texts rest)
 made texts (group_then name enter exit inside rest) =
-    ((texts && is_label_text name) || reaches enter exit inside) && (not (is_pair name) && (made texts inside && made texts rest))
+    ((texts && is_label_text name) || reaches enter exit inside) && (is_single name inside && (made texts inside && made texts rest))
 
 -- Rows.
 
@@ -57,8 +77,8 @@ made-join texts (leaf_then name link cs rest) b =
     ∙ ap (λ x. not (is_empty cs) && x) (sym (and-assoc (not (is_email name)) (made texts rest) (made texts b)))
     ∙ sym (and-assoc (not (is_empty cs)) (not (is_email name) && made texts rest) (made texts b))
 made-join texts (group_then name enter exit inside rest) b =
-    ap (λ x. ((texts && is_label_text name) || reaches enter exit inside) && (not (is_pair name) && (made texts inside && x))) (made-join texts rest b)
-    ∙ regroup ((texts && is_label_text name) || reaches enter exit inside) (not (is_pair name)) (made texts inside) (made texts rest) (made texts b)
+    ap (λ x. ((texts && is_label_text name) || reaches enter exit inside) && (is_single name inside && (made texts inside && x))) (made-join texts rest b)
+    ∙ regroup ((texts && is_label_text name) || reaches enter exit inside) (is_single name inside) (made texts inside) (made texts rest) (made texts b)
   where
     regroup : (a b c d e : Bool) → (a && (b && (c && (d && e)))) ≡ ((a && (b && (c && d))) && e)
     regroup false b c d e = refl
@@ -135,22 +155,22 @@ reaches-itself : (f : Forest) → is_nothing f ≡ false → reaches (enter_of f
 reaches-itself f h = λ i. not (h i) && (at-itself (enter_of f) i && at-itself (exit_after (enter_of f) f) i)
 
 -- a group around something
-pub made-group : (texts : Bool) (name : Name) (f : Forest) → is_pair name ≡ false → is_nothing f ≡ false → made texts f ≡ true → made texts (group name f) ≡ true
-made-group texts name f h k l = (λ i. ((texts && is_label_text name) || reaches-itself f k i) && (not (h i) && (l i && true))) ∙ (λ i. or-true (texts && is_label_text name) i && true)
+pub made-group : (texts : Bool) (name : Name) (f : Forest) → is_single name f ≡ true → is_nothing f ≡ false → made texts f ≡ true → made texts (group name f) ≡ true
+made-group texts name f h k l = (λ i. ((texts && is_label_text name) || reaches-itself f k i) && (h i && (l i && true))) ∙ (λ i. or-true (texts && is_label_text name) i && true)
 
-made-string_group : (name : Name) (f : Forest) → is_pair name ≡ false → made false f ≡ true → made false (string_group name f) ≡ true
+made-string_group : (name : Name) (f : Forest) → ((g : Forest) → is_single name g ≡ true) → made false f ≡ true → made false (string_group name f) ≡ true
 made-string_group name empty h k = refl
-made-string_group name (leaf_then n l c r) h k = made-group false name (leaf_then n l c r) h refl k
-made-string_group name (group_then n a b x r) h k = made-group false name (group_then n a b x r) h refl k
+made-string_group name (leaf_then n l c r) h k = made-group false name (leaf_then n l c r) (h (leaf_then n l c r)) refl k
+made-string_group name (group_then n a b x r) h k = made-group false name (group_then n a b x r) (h (group_then n a b x r)) refl k
 
 made-reference_string : (cs : List Code) → made false (string_group Name.ReferenceString (lines Name.Data (Some Content.String) cs)) ≡ true
-made-reference_string cs = made-string_group Name.ReferenceString (lines Name.Data (Some Content.String) cs) refl (made-lines (Some Content.String) cs)
+made-reference_string cs = made-string_group Name.ReferenceString (lines Name.Data (Some Content.String) cs) (λ g. refl) (made-lines (Some Content.String) cs)
 
 made-title_string : (cs : List Code) → made false (string_group Name.ResourceTitleString (lines Name.Data (Some Content.String) cs)) ≡ true
-made-title_string cs = made-string_group Name.ResourceTitleString (lines Name.Data (Some Content.String) cs) refl (made-lines (Some Content.String) cs)
+made-title_string cs = made-string_group Name.ResourceTitleString (lines Name.Data (Some Content.String) cs) (λ g. refl) (made-lines (Some Content.String) cs)
 
 made-destination_string : (cs : List Code) → made false (string_group Name.ResourceDestinationString (linked Name.Data cs)) ≡ true
-made-destination_string cs = made-string_group Name.ResourceDestinationString (linked Name.Data cs) refl (made-linked cs)
+made-destination_string cs = made-string_group Name.ResourceDestinationString (linked Name.Data cs) (λ g. refl) (made-linked cs)
 
 ruleset made_laws = (made-reference_string, made-title_string, made-destination_string, made-join, made-leaf, made-space, made-ending)
 
@@ -159,7 +179,7 @@ front-some name [] f h = cc
 front-some name (c ∷ cs) f h = refl
 
 -- a group that begins with a marker
-pub made-front : (name marker : Name) (cs : List Code) (f : Forest) → is_pair name ≡ false → is_email marker ≡ false → is_empty cs ≡ false → made false f ≡ true → made false (group name (leaf marker cs ⊕ f)) ≡ true
+pub made-front : (name marker : Name) (cs : List Code) (f : Forest) → is_single name (leaf marker cs ⊕ f) ≡ true → is_email marker ≡ false → is_empty cs ≡ false → made false f ≡ true → made false (group name (leaf marker cs ⊕ f)) ≡ true
 made-front name marker cs f h e k l =
     made-group false name (leaf marker cs ⊕ f) h (front-some marker cs f k)
     (made-join false (leaf marker cs) f ∙ (λ i. (made-leaf false marker cs ∙ (λ j. not (e j) || is_empty cs)) i && l i))
@@ -243,14 +263,23 @@ makes_reference table =
     (made-front Name.CharacterReference Name.CharacterReferenceMarker parts.front
     (leaf Name.CharacterReferenceMarkerNumeric parts.number ⊕ leaf Name.CharacterReferenceMarkerHexadecimal parts.hexadecimal ⊕ leaf Name.CharacterReferenceValue parts.value ⊕ leaf Name.CharacterReferenceMarkerSemi parts.back) refl refl h (simp made_laws))
 
-makes_in_angle_brackets : (inside : Reading (List Code)) (name : Name) → is_email name ≡ false → Makes (in_angle_brackets inside name)
+sealed-leaf : (name : Name) (cs : List Code) (f : Forest) → (is_data name || is_run name) ≡ false → is_sealed f ≡ true → is_sealed (leaf name cs ⊕ f) ≡ true
+sealed-leaf name [] f h k = k
+sealed-leaf name (c ∷ cs) f h k = λ i. not (h i) && k i
+
+makes_in_angle_brackets : (inside : Reading (List Code)) (name : Name) → is_email name ≡ false → (is_data name || is_run name) ≡ false → Makes (in_angle_brackets inside name)
 unfolding in_angle_brackets
-makes_in_angle_brackets inside name e =
-    yields_bind IsSome _ _ _ (one-gives _) λ front h. then_any _ _ _ λ text. then_any _ _ _ λ back. yields_gives _ _ (made-front Name.Autolink Name.AutolinkMarker front (leaf name text ⊕ leaf Name.AutolinkMarker back) refl refl h (simp (made_laws, e)))
+makes_in_angle_brackets inside name e k =
+    yields_bind IsSome _ _ _ (one-gives _) λ front h. then_any _ _ _ λ text. then_any _ _ _ λ back. yields_gives _ _ (made-front Name.Autolink Name.AutolinkMarker front (leaf name text ⊕ leaf Name.AutolinkMarker back)
+    (sealed-leaf Name.AutolinkMarker front (leaf name text ⊕ leaf Name.AutolinkMarker back) refl (sealed-leaf name text (leaf Name.AutolinkMarker back) k (last back))) refl h (simp (made_laws, e)))
+  where
+    last : (cs : List Code) → is_sealed (leaf Name.AutolinkMarker cs) ≡ true
+    last [] = refl
+    last (c ∷ cs) = refl
 
 pub makes_autolink : Makes autolink
 unfolding autolink
-makes_autolink = yields_either _ _ _ (makes_in_angle_brackets _ _ refl) (makes_in_angle_brackets _ _ refl)
+makes_autolink = yields_either _ _ _ (makes_in_angle_brackets _ _ refl refl) (makes_in_angle_brackets _ _ refl refl)
 
 check-made : (cs : List Code) → is_email (check_name cs) ≡ false
 check-made cs = by_test (next_is (is_among (codes "xX")) cs)
@@ -266,14 +295,14 @@ makes_task_check =
 
 -- neither a pair nor email literals
 pub record IsSpan (names : SpanNames) : Type 0 where
-  pub whole : is_pair names.whole ≡ false
+  pub whole : (f : Forest) → is_single names.whole f ≡ true
   pub sequence : is_email names.sequence ≡ false
   pub text : is_email names.text ≡ false
 
 makes_span_of : (marker : ℕ) (names : SpanNames) (allowed : ℕ → Bool) → IsSpan names → Makes (span_of marker names allowed)
 unfolding span_of
 makes_span_of marker names allowed k =
-    yields_bind IsSome _ _ _ (some-gives _) λ front h. yields_passed _ _ _ (then_any _ _ _ λ inside. yields_gives _ _ (made-front names.whole names.sequence front (line_leaves names.text inside.0 ⊕ leaf names.sequence inside.1) k.whole k.sequence h (simp (made_laws, made-line_leaves names.text inside.0 k.text, k.sequence))))
+    yields_bind IsSome _ _ _ (some-gives _) λ front h. yields_passed _ _ _ (then_any _ _ _ λ inside. yields_gives _ _ (made-front names.whole names.sequence front (line_leaves names.text inside.0 ⊕ leaf names.sequence inside.1) (k.whole (leaf names.sequence front ⊕ line_leaves names.text inside.0 ⊕ leaf names.sequence inside.1)) k.sequence h (simp (made_laws, made-line_leaves names.text inside.0 k.text, k.sequence))))
 
 pub makes_span_here : (marker : ℕ) (names : SpanNames) (allowed : ℕ → Bool) (escaped : Bool) (previous : Option Code) → IsSpan names → Makes (span_here marker names allowed escaped previous)
 unfolding span_here

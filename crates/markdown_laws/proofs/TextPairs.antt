@@ -18,7 +18,7 @@ use Rattle.markdown_laws.specs.Filled.{is_label_text}
 use Rattle.markdown_laws.specs.PairGroups.{is_pair, is_sequence, pair_groups, HasSides, EachPairHas, AreOfPair, EachPairIsAGroup, PairsAreEven, PairsTakeTheirMarkers}
 use Rattle.markdown_laws.proofs.EmailLeaves.{AnswerIsEmail, answer-email}
 use Rattle.markdown_laws.proofs.FilledRows.{made-filled}
-use Rattle.markdown_laws.proofs.MadeReadings.{reaches, made}
+use Rattle.markdown_laws.proofs.MadeReadings.{is_shut, is_single, reaches, made}
 use Rattle.markdown_laws.proofs.MadeLabels.{made-text-labels}
 use Rattle.markdown_laws.proofs.PairGroupLaws.{groups-leaf, groups-join, groups-paired}
 use Rattle.markdown_laws.proofs.PairSides.{right-paired, pairs-join}
@@ -89,10 +89,10 @@ pub no-groups : (f : Forest) → made true f ≡ true → pair_groups f ≡ 0
 no-groups empty h = refl
 no-groups (leaf_then name link cs rest) h = no-groups rest (and_parts (not (is_email name)) (made true rest) (and_parts (not (is_empty cs)) (not (is_email name) && made true rest) h).1).1
 no-groups (group_then name enter exit inside rest) h =
-    let p = and_parts (is_label_text name || reaches enter exit inside) (not (is_pair name) && (made true inside && made true rest)) h in
-    let q = and_parts (not (is_pair name)) (made true inside && made true rest) p.1 in
+    let p = and_parts (is_label_text name || reaches enter exit inside) (is_single name inside && (made true inside && made true rest)) h in
+    let q = and_parts (is_single name inside) (made true inside && made true rest) p.1 in
     let r = and_parts (made true inside) (made true rest) q.1 in
-    omega (arith, not-pair (is_pair name) q.0, no-groups inside r.0, no-groups rest r.1)
+    omega (arith, not-pair (is_pair name) (and_parts (not (is_pair name)) (is_shut name inside) q.0).0, no-groups inside r.0, no-groups rest r.1)
 
 pub each_pair_is_a_group : EachPairIsAGroup
 unfolding text_tree finished_text raw_tree label_tree

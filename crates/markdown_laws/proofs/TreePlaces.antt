@@ -13,8 +13,7 @@ use Rattle.markdown_model.specs.LabelEnd.{Element, plain, starts, ends}
 use Rattle.markdown_model.specs.Passes.{Start, End, as_bracket, start_marker, start_tree, label_name, label_group, loose_start, loose_end, labelled, labels_of, is_nothing}
 use Rattle.markdown_model.proofs.Leaves.{codes-leaf}
 use Rattle.markdown_laws.specs.Emails.{is_email}
-use Rattle.markdown_laws.specs.PairGroups.{is_pair}
-use Rattle.markdown_laws.proofs.MadeReadings.{IsSome, IsMade, is_at, reaches, made}
+use Rattle.markdown_laws.proofs.MadeReadings.{IsSome, IsMade, is_at, is_single, reaches, made}
 use Rattle.markdown_laws.proofs.MadeLabels.{AllGood, IsGoodEnd}
 use Rattle.markdown_laws.proofs.PlaceRows.{Place, last_of, last-join, Allows, allows-itself, allows-then, allows-join, allows-behind, allows-same, allows-around, allows-between}
 use Rattle.markdown_stretch.proofs.Words.{AllHave, WordHas, all-append, joined-has, nested-has}
@@ -117,8 +116,8 @@ fit-made (leaf_then name link cs rest) h =
     let q = and_parts (not (is_email name)) (made false rest) p.1 in
     subst (λ x. Allows x (ends_of cs ++ places_of rest)) (sym (ends-join cs (leaf_codes rest))) (allows-behind (ends_of cs) (ends_of (leaf_codes rest)) (places_of rest) (fit-made rest q.1))
 fit-made (group_then name enter exit inside rest) h =
-    let p = and_parts (reaches enter exit inside) (not (is_pair name) && (made false inside && made false rest)) h in
-    let q = and_parts (not (is_pair name)) (made false inside && made false rest) p.1 in
+    let p = and_parts (reaches enter exit inside) (is_single name inside && (made false inside && made false rest)) h in
+    let q = and_parts (is_single name inside) (made false inside && made false rest) p.1 in
     let r = and_parts (made false inside) (made false rest) q.1 in
     let a = and_parts (not (is_nothing inside)) (is_at enter (enter_of inside) && is_at exit (exit_after (enter_of inside) inside)) p.0 in
     let b = and_parts (is_at enter (enter_of inside)) (is_at exit (exit_after (enter_of inside) inside)) a.1 in

@@ -39,13 +39,14 @@ holds_email empty = false
 holds_email (leaf_then name link cs rest) = is_email name || holds_email rest
 holds_email (group_then name enter exit inside rest) = holds_email inside || holds_email rest
 
--- none stands inside a link of a row, or of a row inside it, however deep
+-- none stands inside a link or an autolink of a row, or of a row inside it, however deep
 abbrev pub HasPlainLinks : Forest → Type 0
 HasPlainLinks empty = Unit {0}
 HasPlainLinks (leaf_then name link cs rest) = HasPlainLinks rest
 HasPlainLinks (group_then Name.Link enter exit inside rest) = (holds_email inside ≡ false) × HasPlainLinks rest
+HasPlainLinks (group_then Name.Autolink enter exit inside rest) = (holds_email inside ≡ false) × HasPlainLinks rest
 HasPlainLinks (group_then name enter exit inside rest) = HasPlainLinks inside × HasPlainLinks rest
 
--- in the inline tree of a text no email literal stands in a link, and in that of a string none stands at all
+-- in the inline tree of a text no email literal stands in a link or an autolink, and in that of a string none stands at all
 abbrev pub LinksHoldNoEmail : Type 0
 LinksHoldNoEmail = (s : Setting) (cs : List Code) → HasPlainLinks (text_tree s cs) × (holds_email (string_tree s cs) ≡ false)

@@ -40,7 +40,7 @@ pub fn emails_stand_in_data()
     ensures { EmailsStandInData }
 {}
 
-/// In the inline tree of a text no email literal stands in a link, and in that of a string none stands at all.
+/// In the inline tree of a text no email literal stands in a link or an autolink, and in that of a string none stands at all.
 pub fn links_hold_no_email()
     ensures { LinksHoldNoEmail }
 {}
