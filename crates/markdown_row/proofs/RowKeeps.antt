@@ -18,7 +18,7 @@ use Rattle.markdown_model.specs.LabelEnd.{Element, plain, starts, ends}
 use Rattle.markdown_model.specs.Passes.{End, label_group, label_name, start_marker, start_tree, labels_of}
 use Rattle.markdown_model.proofs.LabelCodes.{codes-label_group}
 use Rattle.markdown_model.proofs.Leaves.{codes-leaf}
-use Rattle.markdown_partial.specs.DataLines as Single
+use Rattle.markdown_partial.specs.DataLines as DataLines
 use Rattle.markdown_partial.specs.Merge.{is_data}
 use Rattle.markdown_partial.specs.TrimEvents.{is_ending}
 use Rattle.markdown_row.specs.Trees.{makes_data, HasLines, IsRunless}
@@ -160,7 +160,7 @@ leaf-lines N.AttentionSequence e f = cc
 leaf-lines _ e f = cc
 
 -- what follows a label
-tail-lines : (t : Forest) → Single.HasLines t → IsRunless t → HasLines t
+tail-lines : (t : Forest) → DataLines.HasLines t → IsRunless t → HasLines t
 tail-lines empty h r = tt
 tail-lines (leaf_then n l cs rest) h r = ((λ e f. h.0 (leaf-lines n r.0 e) f), tail-lines rest h.1 r.1)
 tail-lines (group_then n a b inside rest) h r = (h.0, (tail-lines inside h.1.0 r.0, tail-lines rest h.1.1 r.1))
