@@ -3,8 +3,8 @@ use Rattle.std.proofs.Common.{◌≡◌, Bool, true, false, not, ◌&&◌, ◌||
 use Rattle.markdown_engine.specs.Codes.{Code, is_line_ending}
 use Rattle.markdown_engine.specs.Tree.{Forest, empty, leaf, ◌⊕◌}
 use Rattle.markdown_engine.specs.declared.event.Name.TheVariants as N
-use Rattle.markdown_model.specs.Lines.{linked_leaf, line_leaf, line_leaves, lines_of, onto_stretch}
-use Rattle.markdown_model.proofs.DataLaws.{code_leaf, code_leaves}
+use Rattle.markdown_model.specs.Lines.{linked_leaf, line_leaf, line_leaves, lines_of, onto_stretch, code_leaf}
+use Rattle.markdown_model.proofs.DataLaws.{code_leaves}
 use Rattle.markdown_cut.specs.CutData.{split}
 use Rattle.markdown_cut.proofs.Splitting.{split-join}
 

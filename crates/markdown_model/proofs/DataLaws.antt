@@ -6,7 +6,7 @@ use Rattle.markdown_engine.specs.declared.event.Name.{Name}
 use Rattle.markdown_engine.specs.Codes.{Code, is_line_ending}
 use Rattle.markdown_engine.specs.Tree.{Forest, empty, leaf, ◌⊕◌}
 use Rattle.markdown_model.specs.Grammar.{Reading}
-use Rattle.markdown_model.specs.Lines.{onto_stretch, lines_of, linked_leaf, line_leaf, line_leaves}
+use Rattle.markdown_model.specs.Lines.{onto_stretch, lines_of, linked_leaf, line_leaf, line_leaves, code_leaf}
 use Rattle.markdown_model.specs.Leaf.{escape, reference}
 use Rattle.markdown_model.specs.Setting.{Setting}
 use Rattle.markdown_model.specs.LabelEnd.{Element, plain, starts, ends}
@@ -15,10 +15,6 @@ use Rattle.markdown_model.specs.Groups.{nest, after_loose, joined}
 use Rattle.markdown_model.specs.Passes.{End, as_bracket, loose_start, loose_end, labelled, labels_of, merged}
 use Rattle.markdown_model.proofs.LinkFree.{Passes, Yields, yields_gives, yields_either, yields_passed, then_any}
 use Rattle.markdown_model.proofs.MergeLaws.{data_onto-twice, merged-alike}
-
--- a leaf for each code: a line ending or data
-abbrev pub code_leaf : Code → Forest
-code_leaf c = elim (is_line_ending c) [ true ↦ leaf Name.LineEnding (c ∷ []) | false ↦ leaf Name.Data (c ∷ []) ]
 
 abbrev pub code_leaves : List Code → Forest
 code_leaves [] = empty

@@ -1,7 +1,7 @@
 -- Text of several lines: which leaves cover it.
 use Rattle.std.specs.Prelude.{ℕ, Bool, true, false, ◌&&◌, ◌||◌, not, List, [], ◌∷◌, Option, Some, None}
 use Rattle.markdown_engine.specs.Codes.{Code, is_line_ending, is_blank}
-use Rattle.markdown_engine.specs.Tree.{Forest, empty, ◌⊕◌, leaf_then}
+use Rattle.markdown_engine.specs.Tree.{Forest, empty, ◌⊕◌, leaf, leaf_then}
 use Rattle.markdown_engine.specs.declared.event.Name.{Name}
 use Rattle.markdown_engine.specs.declared.event.Content.{Content}
 use Rattle.markdown_model.specs.CodeTests.{is_among, next_is}
@@ -58,3 +58,7 @@ data_up_to markers [] = Some (empty, [])
 data_up_to markers (c ∷ cs) =
     let s = span (λ d. not (is_among markers d)) cs in
     Some (line_leaves Name.Data (lines_of (c ∷ s.0)), s.1)
+
+-- a leaf for each code: a line ending or data
+abbrev pub code_leaf : Code → Forest
+code_leaf c = elim (is_line_ending c) [ true ↦ leaf Name.LineEnding (c ∷ []) | false ↦ leaf Name.Data (c ∷ []) ]

@@ -27,8 +27,8 @@ use Rattle.markdown_model.specs.CodeTests.{is_among, next_is, last_code}
 use Rattle.markdown_model.specs.Element.{Choice, AreElementsFrom, code_before, ends_escaped}
 use Rattle.markdown_model.specs.Grammar.{span}
 use Rattle.markdown_model.specs.LabelEnd.{Element, plain, starts, ends}
-use Rattle.markdown_model.specs.Lines.{linked_leaf, data_up_to, line_leaf, line_leaves, lines_of, onto_stretch}
-use Rattle.markdown_model.proofs.DataLaws.{code_leaf, code_leaves}
+use Rattle.markdown_model.specs.Lines.{linked_leaf, data_up_to, line_leaf, line_leaves, lines_of, onto_stretch, code_leaf}
+use Rattle.markdown_model.proofs.DataLaws.{code_leaves}
 use Rattle.markdown_model.proofs.ReadingLaws.{code_before-append}
 use Rattle.markdown_model.proofs.Leaves.{span-append}
 use Rattle.markdown_row.specs.Elements.{AreSingle, StandsAfter, Elements, Advances, AllElements, Finishes}

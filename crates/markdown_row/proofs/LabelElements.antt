@@ -26,13 +26,12 @@ use Rattle.markdown_label.proofs.LabelEndLemmas.{cursor-before, events-before, s
 use Rattle.markdown_label.proofs.StartStack.{starts-start, starts-made, starts-lost}
 use Rattle.markdown_leaf.specs.RawText.{code_just_before}
 use Rattle.markdown_model.specs.Single.{is_escape, follows_escape}
-use Rattle.markdown_model.proofs.DataLaws.{code_leaf}
 use Rattle.markdown_model.proofs.ReadingLaws.{code_before-append}
 use Rattle.markdown_model.specs.CodeTests.{last_code}
 use Rattle.markdown_model.specs.Element.{Choice, AreElementsFrom, ends_escaped}
 use Rattle.markdown_model.specs.LabelEnd.{Element, starts, ends, is_image}
 use Rattle.markdown_model.specs.Laws.{unused_starts}
-use Rattle.markdown_model.specs.Lines.{data_up_to, line_leaves, lines_of}
+use Rattle.markdown_model.specs.Lines.{data_up_to, line_leaves, lines_of, code_leaf}
 use Rattle.markdown_model.specs.Passes.{start_tree}
 use Rattle.markdown_partial.specs.DataLines.{HasLines}
 use Rattle.markdown_resource.specs.Tails.{IsTail}

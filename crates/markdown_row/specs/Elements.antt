@@ -6,9 +6,9 @@ use Rattle.markdown_engine.specs.Past.{TreeReading, Reads}
 use Rattle.markdown_engine.specs.Weights.{codes_left}
 use Rattle.markdown_engine.specs.declared.tokenizer.Tokenizer.{Tokenizer}
 use Rattle.markdown_label.specs.Starts.{KeepsStarts}
-use Rattle.markdown_leaf.specs.RawText.{code_just_before, follows_escape}
+use Rattle.markdown_leaf.specs.RawText.{code_just_before}
 use Rattle.markdown_model.specs.Single.{follows_escape}
-use Rattle.markdown_model.proofs.DataLaws.{code_leaf}
+use Rattle.markdown_model.specs.Lines.{code_leaf}
 use Rattle.markdown_model.specs.CodeTests.{is_among}
 use Rattle.markdown_model.specs.Element.{Choice, AreElementsFrom, ends_escaped}
 use Rattle.markdown_model.specs.LabelEnd.{Element, plain}

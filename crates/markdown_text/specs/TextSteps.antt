@@ -27,10 +27,9 @@ use Rattle.markdown_label.specs.LabelStarts.{footnote_test}
 use Rattle.markdown_leaf.specs.Autolink.{link_here}
 use Rattle.markdown_leaf.specs.CharacterEscape.{escape_here}
 use Rattle.markdown_leaf.specs.RawText as RawText
-use Rattle.markdown_model.proofs.DataLaws.{code_leaf}
 use Rattle.markdown_model.specs.Element.{Choice, text_choice}
 use Rattle.markdown_model.specs.LabelEnd.{Element, plain}
-use Rattle.markdown_model.specs.Lines.{data_up_to}
+use Rattle.markdown_model.specs.Lines.{data_up_to, code_leaf}
 use Rattle.markdown_model.specs.Setting.{Setting}
 use Rattle.markdown_row.specs.Elements.{AreSingle, DataFinishes, Finishes, StandsAfter}
 use Rattle.markdown_text.specs.Settings.{text_setting_of}

@@ -9,7 +9,7 @@ use Rattle.markdown_engine.specs.Tree.{Forest}
 use Rattle.markdown_engine.specs.declared.configuration.ParseOptions.{ParseOptions}
 use Rattle.markdown_engine.specs.declared.parser.ParseState.{ParseState}
 use Rattle.markdown_gfm.proofs.LiteralReadings.{letter_test, letters-more, letters-nil, letters-none}
-use Rattle.markdown_model.proofs.DataLaws.{code_leaf}
+use Rattle.markdown_model.specs.Lines.{code_leaf}
 use Rattle.markdown_model.proofs.ReadingSteps.{bind-some, bind-none, either-second, either-some, switched-off}
 use Rattle.markdown_model.specs.CodeTests.{is_among, is_empty, is_letter, is_some_code}
 use Rattle.markdown_model.specs.Element.{text_element}

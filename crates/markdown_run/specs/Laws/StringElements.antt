@@ -11,7 +11,7 @@ use Rattle.markdown_model.specs.Grammar.{Reading, either, provided, ◌>>◌, on
 use Rattle.markdown_model.specs.LabelEnd.{Element, plain}
 use Rattle.markdown_model.specs.Leaf.{escape, reference}
 use Rattle.markdown_model.specs.Setting.{Setting}
-use Rattle.markdown_model.proofs.DataLaws.{code_leaf}
+use Rattle.markdown_model.specs.Lines.{code_leaf}
 use Rattle.markdown_util.specs.Reference.{html_5_rows}
 use Rattle.markdown_construct.specs.Plan.{tree_ops}
 use Rattle.markdown_leaf.proofs.CharacterReferenceReading.{no-reference}

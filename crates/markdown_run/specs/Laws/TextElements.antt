@@ -17,11 +17,10 @@ use Rattle.markdown_model.specs.Element.{attention_run, as_plain, switched, line
 use Rattle.markdown_model.specs.Grammar.{Reading, ◌>>◌, ◌>>=◌, provided, either, gives, one}
 use Rattle.markdown_model.specs.Html.{html}
 use Rattle.markdown_model.specs.LabelEnd.{Element, plain, label_end}
-use Rattle.markdown_model.specs.Lines.{data_up_to}
+use Rattle.markdown_model.specs.Lines.{data_up_to, code_leaf}
 use Rattle.markdown_model.specs.Literal.{protocol_literal, www_literal}
 use Rattle.markdown_model.specs.Leaf.{escape, reference, hard_break_escape, autolink, task_check, span_here, code_names, math_names}
 use Rattle.markdown_model.specs.Setting.{Setting}
-use Rattle.markdown_model.proofs.DataLaws.{code_leaf}
 use Rattle.markdown_row.specs.Elements.{StandsAfter}
 use Rattle.markdown_text.specs.Table.{codes_in}
 use Rattle.markdown_text.specs.TextSteps.{text_markers}

@@ -23,7 +23,7 @@ use Rattle.markdown_leaf.specs.CharacterEscape.{escape_here}
 use Rattle.markdown_leaf.specs.CharacterReference.{reference_here}
 use Rattle.markdown_leaf.specs.HardBreakEscape.{break_here}
 use Rattle.markdown_leaf.specs.RawText.{span_at, code_just_before}
-use Rattle.markdown_model.proofs.DataLaws.{code_leaf}
+use Rattle.markdown_model.specs.Lines.{code_leaf}
 use Rattle.markdown_model.specs.CodeTests.{is_value}
 use Rattle.markdown_model.specs.Leaf.{task_check}
 use Rattle.markdown_model.specs.Literal.{protocol_literal, www_literal}
@@ -33,7 +33,7 @@ use Rattle.markdown_row.specs.Elements.{AreSingle, StandsAfter}
 use Rattle.markdown_row.specs.Trees.{IsNode, IsRunLeaf}
 use Rattle.markdown_text.proofs.TableLemmas.{one-of}
 use Rattle.markdown_text.specs.TextSteps.{text_markers, text_setting, text_choice_of, EndsWithCodes, StandsAlone, StopsAtElements}
-use Rattle.markdown_attention.specs.Attention.{switches_of, run_tree, begins_run}
+use Rattle.markdown_attention.specs.Attention.{switches_of, run_tree}
 use Rattle.markdown_model.specs.Single.{begins_run}
 use Rattle.markdown_attention.proofs.AttentionLaws.{run-some, run-none, run-at, run-ahead}
 use Rattle.markdown_row.proofs.NodeLemmas.{run-node}
