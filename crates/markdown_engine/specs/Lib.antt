@@ -14,6 +14,7 @@ pub mod Nesting
 pub mod RunIndex
 pub mod SequenceIndex
 pub mod TitleIndex
+pub mod PlaceIndex
 pub mod NameIndex
 pub mod Rest
 pub mod Begun

@@ -4,7 +4,7 @@ use Rattle.markdown_engine.specs.RunIndex.{no_runs}
 use Rattle.markdown_engine.specs.declared.event.Name.TheVariants as N
 use Rattle.markdown_engine.specs.declared.tokenizer.TokenizeState.{TokenizeState}
 
--- all at rest, with no labels, no markers, no probes, no known runs, sequences and titles, and no names
+-- all at rest, with no labels, no markers, no probes, no known runs, sequences, titles and domains, and no names
 abbrev pub at_rest : TokenizeState
 at_rest = record {
   marker = 0;
@@ -37,6 +37,7 @@ at_rest = record {
   runs = no_runs;
   sequences = None;
   titles = None;
+  no_domains = None;
   names = None;
   document_at_first_paragraph_of_list_item = false;
 }

@@ -10,6 +10,7 @@ pub mod events;
 pub mod layer;
 pub mod name_index;
 pub mod parser;
+pub mod place_index;
 pub mod resolve;
 pub mod run;
 pub mod run_index;

@@ -17,6 +17,7 @@ use crate::event::{Content, Event, Kind, Link, Name, Point};
 use crate::events::Events;
 use crate::name_index::Names;
 use crate::parser::{ParseState, Piece};
+use crate::place_index::PlaceIndex;
 use crate::resolve::ResolveName;
 use crate::run_index::RunIndex;
 use crate::seq::{Seq, Stack};
@@ -64,7 +65,7 @@ pub struct Label {
 }
 
 /// The scratch fields of the states: what one state leaves for another. Each is at rest between two constructs, but for the lists of
-/// labels, `markers`, `probes`, `runs`, `sequences`, `titles`, `names` and `document_at_first_paragraph_of_list_item`.
+/// labels, `markers`, `probes`, `runs`, `sequences`, `titles`, `no_domains`, `names` and `document_at_first_paragraph_of_list_item`.
 ///
 /// Some of them mean one thing in one construct, and another in the next:
 ///
@@ -155,6 +156,8 @@ pub struct TokenizeState {
     pub sequences: SequenceIndex,
     /// Where titles in parentheses may end in the content, and resources behind them; none at rest.
     pub titles: Option<TitleIndex>,
+    /// The places behind a `_` in the content at which no literal from `www.` on begins, since no domain does; none at rest.
+    pub no_domains: Option<PlaceIndex>,
     /// The names of what is defined, each found by a search; none at rest.
     pub names: Option<Names>,
     /// Whether the content is the first paragraph of a list item.
@@ -162,7 +165,7 @@ pub struct TokenizeState {
 }
 
 impl TokenizeState {
-    /// All at rest: no labels, no markers, no probes, no known runs, sequences and titles, no names.
+    /// All at rest: no labels, no markers, no probes, no known runs, sequences, titles and domains, no names.
     pub fn new(alloc: Global) -> TokenizeState
         ensures { result ≡ at_rest }
     {
@@ -197,6 +200,7 @@ impl TokenizeState {
             runs: RunIndex::new(alloc),
             sequences: SequenceIndex::new(),
             titles: None,
+            no_domains: None,
             names: None,
             document_at_first_paragraph_of_list_item: false,
         }

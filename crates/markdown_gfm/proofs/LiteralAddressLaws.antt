@@ -117,11 +117,11 @@ or-cases false false e = (refl, refl)
 no-mark : (v : ℕ) → among_values (codes "._") v ≡ false → ((v == 46) ≡ false) × ((v == 95) ≡ false)
 no-mark v e = or-cases (v == 46) (v == 95) e
 
-code-by : (bytes : List ℕ) (end : ℕ) (c : Code) (cs : List Code) → is_among (codes "._") c ≡ false → is_domain_code bytes end (c ∷ cs) ≡ ((is_value 45 c || is_later_byte c) || is_other (class_of (after_index bytes c.start.index)))
+pub code-by : (bytes : List ℕ) (end : ℕ) (c : Code) (cs : List Code) → is_among (codes "._") c ≡ false → is_domain_code bytes end (c ∷ cs) ≡ ((is_value 45 c || is_later_byte c) || is_other (class_of (after_index bytes c.start.index)))
 code-by bytes end c cs e =
     ap (λ b. elim b as (λ _. Bool) [ true ↦ not (trails bytes end (c ∷ cs)) | false ↦ (is_value 45 c || is_later_byte c) || is_other (class_of (after_index bytes c.start.index)) ]) e
 
-mark-by : (bytes : List ℕ) (end : ℕ) (c : Code) (cs : List Code) → is_among (codes "._") c ≡ true → is_domain_code bytes end (c ∷ cs) ≡ not (trails_in bytes end None (c ∷ cs))
+pub mark-by : (bytes : List ℕ) (end : ℕ) (c : Code) (cs : List Code) → is_among (codes "._") c ≡ true → is_domain_code bytes end (c ∷ cs) ≡ not (trails_in bytes end None (c ∷ cs))
 unfolding trails
 mark-by bytes end c cs e =
     ap (λ b. elim b as (λ _. Bool) [ true ↦ not (trails bytes end (c ∷ cs)) | false ↦ (is_value 45 c || is_later_byte c) || is_other (class_of (after_index bytes c.start.index)) ]) e

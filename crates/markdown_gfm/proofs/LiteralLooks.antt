@@ -29,7 +29,7 @@ use Rattle.markdown_engine.specs.declared.state.StateName.{StateName}
 
 -- Characters.
 
-class-by : (bytes : List ℕ) (p : Place) → IsText bytes p → at_later (code_at p) ≡ false → IsCharBoundary bytes (point_of p).index
+pub class-by : (bytes : List ℕ) (p : Place) → IsText bytes p → at_later (code_at p) ≡ false → IsCharBoundary bytes (point_of p).index
 unfolding code_at point_of
 class-by bytes p k h = by_code (slice_get p.codes p.at) refl h
   where
@@ -44,7 +44,7 @@ pub trail-ready : (T : Tokenizer) → LookReady T → TrailReady T
 trail-ready T k = record { class = may-class T k.text; begins = k.begins }
 
 -- after an ASCII code no later byte stands
-begins-by : (bytes : List ℕ) (p : Place) (v : ℕ) → IsText bytes p → code_at p ≡ Some v → nat_lt v 128 ≡ true → at_later (code_at (moved p)) ≡ false
+pub begins-by : (bytes : List ℕ) (p : Place) (v : ℕ) → IsText bytes p → code_at p ≡ Some v → nat_lt v 128 ≡ true → at_later (code_at (moved p)) ≡ false
 unfolding code_at moved
 begins-by bytes p v k e h = by_codes (slice_get p.codes p.at) (slice_get p.codes (p.at + 1)) refl refl e
   where

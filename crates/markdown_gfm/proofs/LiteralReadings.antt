@@ -49,11 +49,11 @@ saw-says s before k = record { last = k.last; both = k.both }
 -- The fold over the codes of a domain is the definition's test.
 
 -- a list the other way round, before another one
-turned : List Code → List Code → List Code
+unfoldable pub turned : List Code → List Code → List Code
 turned [] before = before
 turned (c ∷ cs) before = turned cs (c ∷ before)
 
-turned-is : (cs before : List Code) → turned cs before ≡ reverse cs ++ before
+pub turned-is : (cs before : List Code) → turned cs before ≡ reverse cs ++ before
 unfolding turned
 turned-is [] before = refl
 turned-is (c ∷ cs) before =

@@ -2,11 +2,13 @@
 use Rattle.std.proofs.Common.{◌≡◌, ℕ, ◌+◌, ◌≤◌, ◌==◌, ◌&&◌, ◌||◌, not, Bool, true, false, if◌then◌else◌, Option, Some, None, List, [], ◌∷◌, ◌++◌, refl, sym, ap, subst, ◌∙◌, arith}
 use Rattle.std.proofs.lemmas.Bool.{eqb-true, and_right, and_from}
 use Rattle.std.proofs.lemmas.Bool.Decides.{nat_tests}
+use Rattle.std.specs.Prelude.{codes, reverse}
+use Rattle.std.specs.List.{list_any}
 use Rattle.markdown_engine.specs.Codes.{Code}
 use Rattle.markdown_engine.specs.Grown.{Grown}
 use Rattle.markdown_engine.specs.Lists.{rest_of}
 use Rattle.markdown_engine.specs.Ops.{Op, Exit, Consume, ahead, applied, current_of, previous_of, done, frame_of, scratched}
-use Rattle.markdown_engine.specs.Place.{code_before, last_of, value_of}
+use Rattle.markdown_engine.specs.Place.{ahead_at, code_before, last_of, value_of}
 use Rattle.markdown_engine.specs.Runs.{Stepped, restored}
 use Rattle.markdown_engine.specs.TreeOps.{consumes}
 use Rattle.markdown_engine.specs.Weights.{weight_at}
@@ -19,17 +21,19 @@ use Rattle.markdown_engine.proofs.EndsLemmas.{scratched-same}
 use Rattle.markdown_engine.proofs.Laws.{if-step, code-step, Grown-refl, restored-grown}
 use Rattle.markdown_engine.proofs.OpRules.{ahead-none, ahead-some, ahead-consumed, attempts-applied, attempts-scratched, left-consumed, left-scratched, scratch-scratched}
 use Rattle.markdown_engine.proofs.OpsLemmas.{Grown-applied, Grown-scratched}
-use Rattle.markdown_model.specs.CodeTests.{is_empty}
-use Rattle.markdown_model.specs.Literal.{domain_from, path_from, may_precede_www, begins_with_www, www_from_here}
+use Rattle.markdown_model.specs.CodeTests.{is_empty, is_among}
+use Rattle.markdown_model.specs.Literal.{domain, domain_from, path, path_from, last_parts_plain, may_precede_www, begins_with_www, www_from_here}
 use Rattle.markdown_construct.specs.Plan.{Plan, plan_of, DoesAs}
 use Rattle.markdown_construct.proofs.PlanLemmas.{EndsAs-plan}
 use Rattle.markdown_construct.specs.Characters.{bytes_of}
-use Rattle.markdown_gfm.specs.GfmAutolinkLiteral.{end_of, before_of, is_on, rested, sized, refused, precedes_www, www_letter, may_begin_www, www_start_at, www_start_step, www_prefix_at, entered_literal, StartReady, LiteralReady, WwwReady, Tries, is_well, fields_after, domain_plan, address, pass_ops, domain_ends, www_test, www_prefix_ends, www_after_ends, www_here, www_start_ends, states, www_after_words, www_prefix_after_words, www_prefix_words, www_start_words}
+use Rattle.markdown_gfm.specs.GfmAutolinkLiteral.{end_of, before_of, is_on, rested, sized, refused, precedes_www, www_letter, may_begin_www, is_ruled_out, KnowsDomains, www_start_at, www_start_step, www_prefix_at, entered_literal, StartReady, LiteralReady, WwwReady, Tries, is_well, fields_after, domain_plan, address, pass_ops, domain_ends, www_test, www_prefix_ends, www_after_ends, www_here, www_start_ends, states, www_after_words, www_prefix_after_words, www_prefix_words, www_start_words}
 use Rattle.markdown_gfm.proofs.LiteralReadings.{address-is, www-more, www-other, www-left}
-use Rattle.markdown_gfm.proofs.LiteralWhole.{from-here-is, whole-www, www-is, www-none}
+use Rattle.markdown_gfm.specs.DomainOutlook.{is_barred}
+use Rattle.markdown_gfm.proofs.DomainFound.{ruled-out}
+use Rattle.markdown_gfm.proofs.LiteralWhole.{leaf_ops, from-here-is, whole-www, www-is, www-none}
 use Rattle.markdown_gfm.proofs.LiteralAttempts.{Begins, literal-law}
 use Rattle.markdown_gfm.proofs.LiteralAddressLaws.{does-same, follows-here}
-use Rattle.markdown_model.proofs.ReadingSteps.{if-false, and-left}
+use Rattle.markdown_model.proofs.ReadingSteps.{if-false, and-left, then-none}
 use Rattle.markdown_engine.specs.StateWords.{Words, Law, GoesIn}
 use Rattle.markdown_construct.proofs.StateLaws.{GoesOn-map, Goes-plain, Goes-end, Goes-check, Goes-no}
 use Rattle.markdown_construct.specs.Within.{Within}
@@ -160,14 +164,56 @@ module _ (W : Words) (within : Within states W) where
   and-three false m w = refl
 
   -- a literal stands here where it may begin and the word is seen
-  stands-by : (T : Tokenizer) (cs : List Code) → is_on T && (may_precede_www (before_of T) && begins_with_www cs) ≡ may_begin_www T && www_test 0 cs
+  may_be : Tokenizer → Bool
+  may_be T = is_on T && precedes_www (previous_of T)
+
+  stands-by : (T : Tokenizer) (cs : List Code) → is_on T && (may_precede_www (before_of T) && begins_with_www cs) ≡ may_be T && www_test 0 cs
+  unfolding may_be
   stands-by T cs = and-three (is_on T) (may_precede_www (before_of T)) (begins_with_www cs) ∙ ap (λ m. (is_on T && m) && begins_with_www cs) (sym (before-www T))
 
-  www-stands : (T : Tokenizer) (cs : List Code) → may_begin_www T && www_test 0 cs ≡ true → plan_of (www_here T) cs ≡ plan_of (www_from_here (bytes_of T) (end_of T)) cs
-  www-stands T cs e = www-is (bytes_of T) (end_of T) (is_on T) (before_of T) cs (stands-by T cs ∙ e)
+  -- no domain begins where that is known
+  barred-domain : (bytes : List ℕ) (end : ℕ) (cs : List Code) → is_barred bytes end cs ≡ true → domain bytes end cs ≡ None
+  unfolding domain
+  barred-domain bytes end cs e =
+      ap (λ b. elim b as (λ _. Option (List Code × List Code)) [ true ↦ Some (domain_from bytes end cs) | false ↦ None ])
+      (no-domain (list_any (λ c. not (is_among (codes "._-") c)) (domain_from bytes end cs).0) (last_parts_plain 0 (reverse (domain_from bytes end cs).0)) e)
+    where
+      no-domain : (a b : Bool) → not b ≡ true → a && b ≡ false
+      no-domain true true k = cc
+      no-domain true false k = refl
+      no-domain false b k = refl
 
-  www-fails : (T : Tokenizer) (cs : List Code) → may_begin_www T && www_test 0 cs ≡ false → plan_of (www_here T) cs ≡ None
-  www-fails T cs e = www-none (bytes_of T) (end_of T) (is_on T) (before_of T) cs (stands-by T cs ∙ e)
+  ruled-none : (T : Tokenizer) → KnowsDomains T → is_ruled_out T ≡ true → plan_of (www_from_here (bytes_of T) (end_of T)) (ahead T) ≡ None
+  unfolding ahead_at
+  ruled-none T knows e =
+      from-here-is (bytes_of T) (end_of T) (ahead T)
+      ∙ ap (leaf_ops N.GfmAutolinkLiteralWww) (then-none (domain (bytes_of T) (end_of T)) (path (bytes_of T) (end_of T)) (ahead T) (barred-domain (bytes_of T) (end_of T) (ahead T) (ruled-out (bytes_of T) (end_of T) T.cursor.codes T.tokenize_state.no_domains T.cursor.at knows e)))
+
+  first-part : (a k w : Bool) → (a && not k) && w ≡ true → a && w ≡ true
+  first-part true true w e = cc
+  first-part true false w e = e
+  first-part false k w e = cc
+
+  www-stands : (T : Tokenizer) (cs : List Code) → may_begin_www T && www_test 0 cs ≡ true → plan_of (www_here T) cs ≡ plan_of (www_from_here (bytes_of T) (end_of T)) cs
+  unfolding may_be
+  www-stands T cs e = www-is (bytes_of T) (end_of T) (is_on T) (before_of T) cs (stands-by T cs ∙ first-part (may_be T) (is_ruled_out T) (www_test 0 cs) e)
+
+  fails-by : (T : Tokenizer) (cs : List Code) (b : Bool) → KnowsDomains T → ahead T ≡ cs → may_be T && www_test 0 cs ≡ b → is_ruled_out T ≡ true → plan_of (www_here T) cs ≡ None
+  fails-by T cs true knows here e k =
+      www-is (bytes_of T) (end_of T) (is_on T) (before_of T) cs (stands-by T cs ∙ e) ∙ ap (plan_of (www_from_here (bytes_of T) (end_of T))) (sym here) ∙ ruled-none T knows k
+  fails-by T cs false knows here e k = www-none (bytes_of T) (end_of T) (is_on T) (before_of T) cs (stands-by T cs ∙ e)
+
+  and-same : (a : Bool) → a && true ≡ a
+  and-same true = refl
+  and-same false = refl
+
+  www-fails : (T : Tokenizer) (cs : List Code) → KnowsDomains T → ahead T ≡ cs → may_begin_www T && www_test 0 cs ≡ false → plan_of (www_here T) cs ≡ None
+  unfolding may_be
+  www-fails T cs knows here e = by_known (is_ruled_out T) refl e
+    where
+      by_known : (k : Bool) → is_ruled_out T ≡ k → (may_be T && not k) && www_test 0 cs ≡ false → plan_of (www_here T) cs ≡ None
+      by_known true h f = fails-by T cs (may_be T && www_test 0 cs) knows here refl h
+      by_known false h f = www-none (bytes_of T) (end_of T) (is_on T) (before_of T) cs (stands-by T cs ∙ ap (λ m. m && www_test 0 cs) (sym (and-same (may_be T))) ∙ f)
 
   no-word : (a b w : Bool) → a && b ≡ false → (b ≡ false → w ≡ false) → a && w ≡ false
   no-word true b w e h = h e
@@ -184,7 +230,7 @@ module _ (W : Words) (within : Within states W) where
       let size : s.size ≡ 0 = ap (λ (x : TokenizeState). x.size) (sym on.resting) in
       GoesOn-map W n F (www_start_ends T) (www_start_step T) (λ ok U k. EndsAs-plan (www_here T) (whole-www (bytes_of T) (end_of T) (is_on T) (before_of T)) s T ok U k)
       (code-step P (current_of T) (λ o. www_start_at (may_begin_www T) o T)
-      (λ e. Goes-no W 7 0 p T alone (ap p (ahead-none T e) ∙ www-fails T [] (and_right (may_begin_www T) (www_test 0 []) (www-other 0 [] (omega arith) refl))))
+      (λ e. Goes-no W 7 0 p T alone (ap p (ahead-none T e) ∙ www-fails T [] on.knows (ahead-none T e) (and_right (may_begin_www T) (www_test 0 []) (www-other 0 [] (omega arith) refl))))
       (λ c e. let b = ahead-some T c e in
       let more : List Code = rest_of (ahead T) in
       if-step P (may_begin_www T && (c == 119 || c == 87)) _ _
@@ -200,10 +246,10 @@ module _ (W : Words) (within : Within states W) where
       record {
         goes_on = tt;
         falls = omega arith;
-        closed = λ ok V z. no-fall T p (www-fails T (ahead T) (and_right (may_begin_www T) (www_test 0 (ahead T)) seen)) ok V (z.0, z.1 ∙ back-here T U _ false on.resting k);
+        closed = λ ok V z. no-fall T p (www-fails T (ahead T) on.knows refl (and_right (may_begin_www T) (www_test 0 (ahead T)) seen)) ok V (z.0, z.1 ∙ back-here T U _ false on.resting k);
       }))
       (λ h. Goes-no W 7 0 p T alone
-      (ap p b.whole ∙ www-fails T (b.code ∷ more) (no-word (may_begin_www T) (c == 119 || c == 87) (www_test 0 (b.code ∷ more)) h (λ f. www-other 0 (b.code ∷ more) (omega arith) (ap (λ v. v == 119 || v == 87) b.value ∙ f)))))))
+      (ap p b.whole ∙ www-fails T (b.code ∷ more) on.knows b.whole (no-word (may_begin_www T) (c == 119 || c == 87) (www_test 0 (b.code ∷ more)) h (λ f. www-other 0 (b.code ∷ more) (omega arith) (ap (λ v. v == 119 || v == 87) b.value ∙ f)))))))
 
 pub www_after-law : (W : Words) → Law W www_after_words
 www_after-law W T alone _ =

@@ -19,6 +19,7 @@ use Rattle.markdown_construct.specs.Values.{letter_value, among_values}
 use Rattle.markdown_construct.specs.Characters.{bytes_of, later_value, at_later, ReadsText}
 use Rattle.markdown_construct.specs.Plan.{Plan, preceded, plan_of, DoesAs, KeepsAs}
 use Rattle.markdown_partial.specs.SpaceSteps.{most}
+use Rattle.markdown_gfm.specs.DomainOutlook.{rules_out, IsRightFor}
 use Rattle.markdown_engine.specs.declared.event.Name.{Name}
 use Rattle.markdown_engine.specs.declared.event.Name.TheVariants as N
 use Rattle.markdown_engine.specs.declared.state.State.TheVariants.{Next, Retry, Nok}
@@ -281,8 +282,12 @@ precedes_www (Some v) = ((v == byte " " || v == byte "\t") || v == byte "\n") ||
 abbrev pub www_letter : ℕ → ℕ → Bool
 www_letter n v = if nat_lt n 3 then v == byte "w" || v == byte "W" else ((n == 3) && (v == byte "."))
 
+-- it is known that no domain begins at the place
+abbrev pub is_ruled_out : Tokenizer → Bool
+is_ruled_out T = rules_out T.tokenize_state.no_domains T.cursor.at
+
 abbrev pub may_begin_www : Tokenizer → Bool
-may_begin_www T = is_on T && precedes_www (previous_of T)
+may_begin_www T = (is_on T && precedes_www (previous_of T)) && not (is_ruled_out T)
 
 abbrev pub www_start_at : Bool → Option ℕ → Tokenizer → Stepped
 www_start_at may None T = stepped Nok T
@@ -367,11 +372,16 @@ pub record LookReady (T : Tokenizer) : Type 0 where
   pub text : ReadsText T
   pub begins : at_later (current_of T) ≡ false
 
+-- what is known of domains is right for the content
+abbrev pub KnowsDomains : Tokenizer → Type 0
+KnowsDomains T = IsRightFor (bytes_of T) (end_of T) T.cursor.codes T.tokenize_state.no_domains
+
 -- at the start of a literal
 pub record StartReady (T : Tokenizer) : Type 0 where
   pub text : ReadsText T
   pub resting : rested T.tokenize_state ≡ T.tokenize_state
   pub short : codes_left T ≤ most
+  pub knows : KnowsDomains T
 
 -- How runs end.
 

@@ -1,2 +1,4 @@
 pub mod GfmTaskListItemCheck
+pub mod DomainOutlook
+pub mod DomainLooks
 pub mod GfmAutolinkLiteral

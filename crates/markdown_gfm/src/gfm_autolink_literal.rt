@@ -12,7 +12,7 @@ ghost use Rattle.markdown_engine.specs.declared.event.Name.TheVariants.{GfmAutol
 ghost use Rattle.markdown_construct.specs.Values.{letter_value};
 ghost use Rattle.markdown_construct.specs.Characters.{at_later};
 ghost use Rattle.markdown_partial.specs.SpaceSteps.{most};
-ghost use Rattle.markdown_gfm.specs.GfmAutolinkLiteral.{kind_here, scheme_letter, trail_value, mark_value, known_after, is_known, count_value, marked, domain_on, rested, refused, protocol_start_step, protocol_after_step, prefix_step, slashes_step, precedes_www, www_letter, www_start_step, www_prefix_step, www_prefix_after_step, www_after_step, domain_step, domain_punctuation_step, domain_after_step, passing, path_step, path_punctuation_step, path_after_step, trail_step, bracket_after_step, reference_start_step, reference_step, MayClass, TrailReady, MayCount};
+ghost use Rattle.markdown_gfm.specs.GfmAutolinkLiteral.{kind_here, scheme_letter, trail_value, mark_value, known_after, is_known, count_value, marked, domain_on, rested, refused, protocol_start_step, protocol_after_step, prefix_step, slashes_step, precedes_www, www_letter, is_ruled_out, www_start_step, www_prefix_step, www_prefix_after_step, www_after_step, domain_step, domain_punctuation_step, domain_after_step, passing, path_step, path_punctuation_step, path_after_step, trail_step, bracket_after_step, reference_start_step, reference_step, MayClass, TrailReady, MayCount};
 
 use markdown_construct::bytes::is_letter;
 use markdown_engine::event::Name;
@@ -84,7 +84,7 @@ fn may_precede_www(previous: Option<u8>) -> bool
 }
 
 // Whether this is trailing punctuation by itself.
-fn is_trail(code: u8) -> bool
+pub(crate) fn is_trail(code: u8) -> bool
     ensures { result ≡ trail_value code }
 {
     matches!(
@@ -207,7 +207,18 @@ pub fn protocol_slashes_inside(tokenizer: &mut Tokenizer) -> Result<State, Alloc
     }
 }
 
-/// At the start of a literal from `www.` on: its first letter. The word is only looked at: it belongs to the domain.
+// Whether it is known that no domain begins at the place.
+fn is_ruled_out(tokenizer: &Tokenizer) -> bool
+    ensures { result ≡ is_ruled_out tokenizer.now }
+{
+    match &tokenizer.tokenize_state.no_domains {
+        Some(places) => places.holds(tokenizer.cursor.passed()),
+        None => false,
+    }
+}
+
+/// At the start of a literal from `www.` on: its first letter. The word is only looked at: it belongs to the domain. Where it is known that
+/// no domain begins here, it is given up at once.
 ///
 ///     > | to www.a.b and
 ///            ^
@@ -221,6 +232,7 @@ pub fn www_start(tokenizer: &mut Tokenizer) -> Result<State, AllocError>
         .constructs
         .gfm_autolink_literal
         && may_precede_www(tokenizer.previous())
+        && !is_ruled_out(tokenizer)
         && matches!(tokenizer.current(), Some(b'w' | b'W'))
     {
         tokenizer.check(

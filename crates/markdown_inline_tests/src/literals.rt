@@ -155,3 +155,26 @@ fn long_rows_of_marks(rt: HostRuntime) -> Result<(), Fail> {
     }
     Ok(())
 }
+
+// Rows in which a domain from each `www.` would hold the last `_` in one of its last two parts; a space and a literal stand behind them.
+const BARRED: &[&str] = &["_www.", "_WWW.-", "_www.a_www-", "_www\u{E9}."];
+
+// None of these domains is read again from each place in it, and the literal behind them is found.
+#[test]
+fn long_rows_of_underscores(rt: HostRuntime) -> Result<(), Fail> {
+    let alloc = rt.alloc();
+    for row in BARRED {
+        let mut document = String::new(alloc);
+        for _ in 0..20_000 {
+            document.push_str(row)?;
+        }
+        document.push_str("a_b ")?;
+        let begins = document.len();
+        document.push_str("www.a.b")?;
+        let ends = document.len();
+        let got = printed_up_to(alloc, document.as_str(), ends)?;
+        let want = format!(in alloc; "Data 0-{begins}, GfmAutolinkLiteralWww {begins}-{ends}")?;
+        assert_eq!(&rt; got.as_str(), want.as_str(), "{row}");
+    }
+    Ok(())
+}

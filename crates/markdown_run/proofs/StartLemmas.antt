@@ -20,6 +20,7 @@ use Rattle.markdown_construct.proofs.ContentTexts.{content-text}
 use Rattle.markdown_construct.proofs.ContentEnds.{content-ends}
 use Rattle.markdown_gfm.specs.GfmAutolinkLiteral as GfmAutolinkLiteral
 use Rattle.markdown_leaf.specs.RawText as RawText
+use Rattle.markdown_gfm.proofs.DomainFound as DomainFound
 use Rattle.markdown_partial.proofs.AskedLaws.{asked-ready, eol-asked-ready}
 use Rattle.markdown_partial.specs.EolSteps as EolSteps
 use Rattle.markdown_partial.specs.SpaceSteps as SpaceSteps
@@ -44,8 +45,14 @@ unfolding start_of_content
 start-reads bytes pieces T content input place =
     subst (λ (bs : List ℕ). IsText bs T.cursor) (sym input) (subst (λ (p : Place). IsText bytes p) (sym place) (content-text bytes pieces 0 content))
 
-pub start-literals : (bytes : List ℕ) (pieces : List Piece) (T : Tokenizer) → IsContent bytes pieces → bytes_of T ≡ bytes → T.cursor ≡ start_of_content bytes pieces → GfmAutolinkLiteral.rested T.tokenize_state ≡ T.tokenize_state → GfmAutolinkLiteral.StartReady T
-start-literals bytes pieces T content input place resting = record { text = start-reads bytes pieces T content input place; resting = resting; short = start-fits bytes pieces T content place }
+pub start-literals : (bytes : List ℕ) (pieces : List Piece) (T : Tokenizer) → IsContent bytes pieces → bytes_of T ≡ bytes → T.cursor ≡ start_of_content bytes pieces → GfmAutolinkLiteral.rested T.tokenize_state ≡ T.tokenize_state → T.tokenize_state.no_domains ≡ None → GfmAutolinkLiteral.StartReady T
+start-literals bytes pieces T content input place resting unknown =
+    record {
+      text = start-reads bytes pieces T content input place;
+      resting = resting;
+      short = start-fits bytes pieces T content place;
+      knows = DomainFound.right-unknown (bytes_of T) (GfmAutolinkLiteral.end_of T) T.cursor.codes T.tokenize_state.no_domains unknown;
+    }
 
 -- a text content that has codes ends with the last of them
 pub start-last : (bytes : List ℕ) (pieces : List Piece) (p : Place) → IsTextContent bytes pieces → p ≡ start_of_content bytes pieces → EndsWithCodes p

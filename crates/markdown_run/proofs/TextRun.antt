@@ -1,14 +1,14 @@
 -- A whole run over a text.
 use Rattle.markdown_partial.specs.SpaceSteps.{most}
 use Rattle.markdown_engine.specs.Weights.{codes_left}
-use Rattle.std.proofs.Common.{◌≡◌, Bool, true, false, List, [], None, refl, sym, ap, subst, ◌∙◌, arith, ◌≤◌}
+use Rattle.std.proofs.Common.{◌≡◌, ℕ, Bool, true, false, List, [], None, refl, sym, ap, subst, ◌∙◌, arith, ◌≤◌}
 use Rattle.markdown_engine.specs.Chain.{chained}
 use Rattle.markdown_engine.specs.Content.{IsContent, IsTextContent, content_of}
 use Rattle.markdown_engine.specs.Ops.{scratched}
 use Rattle.markdown_engine.specs.Place.{Place, start_of_content}
 use Rattle.markdown_engine.specs.Rest.{at_rest}
 use Rattle.markdown_engine.specs.Resolves.{MayResolve, Resolves, unregistered}
-use Rattle.markdown_engine.specs.Tree.{events_of}
+use Rattle.markdown_engine.specs.Tree.{events_of, Forest}
 use Rattle.markdown_engine.specs.declared.parser.ParseState.{ParseState}
 use Rattle.markdown_engine.specs.declared.parser.Piece.{Piece}
 use Rattle.markdown_engine.specs.declared.resolve.ResolveName.TheVariants as R
@@ -21,30 +21,27 @@ use Rattle.markdown_gfm.specs.GfmAutolinkLiteral as GfmAutolinkLiteral
 use Rattle.markdown_leaf.specs.RawText as RawText
 use Rattle.markdown_partial.specs.SpaceSteps as SpaceSteps
 use Rattle.markdown_model.specs.Element.{AreElements, AreElementsFrom, text_choice}
-use Rattle.markdown_model.specs.Inline.{text_events}
+use Rattle.markdown_model.specs.Inline.{text_events, label_tree}
 use Rattle.markdown_model.specs.Setting.{Setting}
 use Rattle.markdown_row.specs.Elements.{Finishes}
 use Rattle.markdown_text.specs.Resolve.{may_resolve_of, resolves_of}
 use Rattle.markdown_text.specs.Settings.{text_setting_of}
 use Rattle.markdown_text.specs.TextSteps.{StartReady, marked_fields, text_marked, text_passed, text_choice_of, start_ends}
-use Rattle.markdown_run.proofs.PassesRun.{text_finish, text-trims}
+use Rattle.markdown_run.proofs.PassesRun.{text_finish, text-trims, IsGiven}
 use Rattle.markdown_engine.specs.Codes.{Code}
 use Rattle.markdown_label.specs.LabelEnd.{AreWithin}
 use Rattle.markdown_label_pass.specs.Brackets.{grouped}
 use Rattle.markdown_partial.specs.EolSteps as EolSteps
 use Rattle.markdown_resource.specs.Parts as Parts
-use Rattle.markdown_engine.specs.Tree.{Forest}
 use Rattle.markdown_emphasis.specs.Pass.{IsProbed}
 use Rattle.markdown_emphasis.proofs.Good.{IsGood}
 use Rattle.markdown_emphasis.proofs.Singles.{singles-content}
 use Rattle.markdown_emphasis.proofs.Striped.{good-tree}
-use Rattle.markdown_model.specs.Inline.{label_tree}
 use Rattle.markdown_model.specs.Passes.{labels_of}
 use Rattle.markdown_row.specs.Opened.{brackets_of}
 use Rattle.markdown_row.specs.Row.{row_has_run}
 use Rattle.markdown_row.proofs.RowKeeps.{grouped-runless}
 use Rattle.markdown_run.proofs.GoodCut.{good-alike}
-use Rattle.markdown_run.proofs.PassesRun.{IsGiven}
 use Rattle.markdown_run.proofs.Runless.{probes-none}
 use Rattle.markdown_run.proofs.RunEnds.{Starts, start-with, AreFresh, IsFound, finished-may, finished-left, finished-events, finished-probes, finished-elements}
 use Rattle.markdown_run.proofs.StartLemmas.{start-fits, start-last, start-literals, start-reads, unknown-runs}
@@ -74,7 +71,7 @@ text-ready p pieces first T text k =
     record {
       spans = record { rest = k.fields ∙ sym (ap RawText.rested k.fields); fits = omega (arith, fits); indexed = unknown-runs T.tokenize_state T.cursor.codes (ap (λ (s : TokenizeState). s.runs) k.fields) };
       look = record { resting = ap SpaceSteps.rested k.fields ∙ sym k.fields; short = fits };
-      literals = start-literals p.bytes.now pieces T content input k.place (ap GfmAutolinkLiteral.rested k.fields ∙ sym k.fields);
+      literals = start-literals p.bytes.now pieces T content input k.place (ap GfmAutolinkLiteral.rested k.fields ∙ sym k.fields) (ap (λ (s : TokenizeState). s.no_domains) k.fields);
       last = start-last p.bytes.now pieces T.cursor text k.place;
       ends = record {
         part = record { short = fits; indexed = right-unknown T.cursor.codes T.tokenize_state.sequences (ap (λ (s : TokenizeState). s.sequences) k.fields); titled = TitleIndexLemmas.right-unknown T.cursor.codes T.tokenize_state.titles (ap (λ (s : TokenizeState). s.titles) k.fields); spaces = record { space = ap SpaceSteps.rested k.fields ∙ sym k.fields; eol = ap EolSteps.eol_rested k.fields ∙ sym k.fields }; rest = ap Parts.rested k.fields ∙ sym k.fields };
@@ -86,14 +83,14 @@ text-ready p pieces first T text k =
     }
 
 -- where data stops where an element may begin, and where the runs of its spans stand
-marked-start : (p : ParseState) (pieces : List Piece) (first : Bool) (T : Tokenizer) → text_start p pieces first T → Starts p pieces (marked_fields T.cursor.codes T.parse_state.now (text_fields first)) (text_marked T)
+marked-start : (p : ParseState) (pieces : List Piece) (first : Bool) (T : Tokenizer) → text_start p pieces first T → Starts p pieces (marked_fields T.cursor.codes T.cursor.end.index T.parse_state.now (text_fields first)) (text_marked T)
 unfolding scratched
 marked-start p pieces first T k =
-    let m : Starts p pieces (marked_fields T.cursor.codes T.parse_state.now T.tokenize_state) (text_marked T) = start-with p pieces (text_fields first) (marked_fields T.cursor.codes T.parse_state.now T.tokenize_state) T k in
-    subst (λ (s : TokenizeState). Starts p pieces (marked_fields T.cursor.codes T.parse_state.now s) (text_marked T)) k.fields m
+    let m : Starts p pieces (marked_fields T.cursor.codes T.cursor.end.index T.parse_state.now T.tokenize_state) (text_marked T) = start-with p pieces (text_fields first) (marked_fields T.cursor.codes T.cursor.end.index T.parse_state.now T.tokenize_state) T k in
+    subst (λ (s : TokenizeState). Starts p pieces (marked_fields T.cursor.codes T.cursor.end.index T.parse_state.now s) (text_marked T)) k.fields m
 
-fresh-fields : (first : Bool) (cs : List Code) (p : ParseState) → AreFresh (marked_fields cs p (text_fields first))
-fresh-fields first cs p = record { labels = refl; starts = refl; loose = refl; end = refl; seen = refl; probes = refl }
+fresh-fields : (first : Bool) (cs : List Code) (end : ℕ) (p : ParseState) → AreFresh (marked_fields cs end p (text_fields first))
+fresh-fields first cs end p = record { labels = refl; starts = refl; loose = refl; end = refl; seen = refl; probes = refl }
 
 module _ (p : ParseState) (pieces : List Piece) (first : Bool) (content : IsContent p.bytes.now pieces) (T U : Tokenizer) (start : text_start p pieces first T) where
   abbrev M : Tokenizer
@@ -123,11 +120,11 @@ module _ (p : ParseState) (pieces : List Piece) (first : Bool) (content : IsCont
     abbrev E : Finishes (text_choice_of M) text_passed M U
     E = ended ok k
 
-    abbrev S : Starts p pieces (marked_fields T.cursor.codes T.parse_state.now (text_fields first)) M
+    abbrev S : Starts p pieces (marked_fields T.cursor.codes T.cursor.end.index T.parse_state.now (text_fields first)) M
     S = marked-start p pieces first T start
 
-    abbrev F : AreFresh (marked_fields T.cursor.codes T.parse_state.now (text_fields first))
-    F = fresh-fields first T.cursor.codes T.parse_state.now
+    abbrev F : AreFresh (marked_fields T.cursor.codes T.cursor.end.index T.parse_state.now (text_fields first))
+    F = fresh-fields first T.cursor.codes T.cursor.end.index T.parse_state.now
 
     -- the row with its labels grouped
     abbrev Tree : Forest

@@ -5,6 +5,7 @@ mod cursor;
 mod edit_map;
 mod events;
 mod name_index;
+mod place_index;
 mod run;
 mod run_index;
 mod seq;

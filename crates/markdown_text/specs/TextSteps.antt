@@ -23,6 +23,7 @@ use Rattle.markdown_engine.specs.declared.tokenizer.Tokenizer.{Tokenizer}
 use Rattle.markdown_gfm.specs.GfmAutolinkLiteral as GfmAutolinkLiteral
 use Rattle.markdown_gfm.specs.GfmTaskListItemCheck as GfmTaskListItemCheck
 use Rattle.markdown_label.specs.LabelEnd as LabelEnd
+use Rattle.markdown_gfm.specs.DomainOutlook.{openings, no_domains}
 use Rattle.markdown_label.specs.LabelStarts.{footnote_test}
 use Rattle.markdown_leaf.specs.Autolink.{link_here}
 use Rattle.markdown_leaf.specs.CharacterEscape.{escape_here}
@@ -113,13 +114,30 @@ titles_pay cs = not (rules_out (Some (last_begins cs)) ResourceEnd 0) && nat_le 
 abbrev pub titles_for : List Code → Option (List Closer)
 titles_for cs = if titles_pay cs then Some (closers_of cs) else None
 
--- the scratch fields of a text of these codes: where data stops, where the last runs begin at which spans may close, where the sequences
--- last begin that end HTML and resources, where titles may end, and the names of what is defined
-abbrev pub marked_fields : List Code → ParseState → TokenizeState → TokenizeState
-marked_fields cs p s = record s { markers = markers_for cs p; runs = last_runs span_markers cs; sequences = Some (last_begins cs); titles = titles_for cs; names = names_for cs p }
+-- literals are on, and so many from `www.` on may begin behind a `_` in these codes that to note where no domain begins pays
+abbrev pub domains_pay : List Code → ParseState → Bool
+domains_pay cs p = p.options.now.constructs.gfm_autolink_literal && nat_le 16 (openings cs)
+
+-- where no domain begins behind a `_`, if that pays, in a content that ends at this index
+abbrev pub domains_for : List Code → ℕ → ParseState → Option (List ℕ)
+domains_for cs end p = if domains_pay cs p then Some (no_domains p.bytes.now end cs) else None
+
+-- the scratch fields of a text of these codes, which ends at this index: where data stops, where the last runs begin at which spans may
+-- close, where the sequences last begin that end HTML and resources, where titles may end, where no domain begins, and the names of what
+-- is defined
+abbrev pub marked_fields : List Code → ℕ → ParseState → TokenizeState → TokenizeState
+marked_fields cs end p s =
+    record s {
+      markers = markers_for cs p;
+      runs = last_runs span_markers cs;
+      sequences = Some (last_begins cs);
+      titles = titles_for cs;
+      no_domains = domains_for cs end p;
+      names = names_for cs p;
+    }
 
 abbrev pub text_marked : Tokenizer → Tokenizer
-text_marked T = scratched (marked_fields T.cursor.codes T.parse_state.now T.tokenize_state) T
+text_marked T = scratched (marked_fields T.cursor.codes T.cursor.end.index T.parse_state.now T.tokenize_state) T
 
 -- a construct is tried, from this state, and where it does not hold the run goes on with another
 abbrev pub attempt_step : StateName → StateName → Tokenizer → Stepped

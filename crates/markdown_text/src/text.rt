@@ -8,8 +8,9 @@ ghost use Rattle.markdown_engine.specs.Ops.{scratched};
 ghost use Rattle.markdown_engine.specs.Place.{ahead_at};
 ghost use Rattle.markdown_engine.specs.RunIndex.{last_runs};
 ghost use Rattle.markdown_engine.specs.SequenceIndex.{last_begins};
+ghost use Rattle.markdown_construct.specs.Characters.{ReadsText};
 ghost use Rattle.markdown_text.specs.Resolve.{MayFinish, FinishesText};
-ghost use Rattle.markdown_text.specs.TextSteps.{names_for, order_pays, titles_for, titles_pay, span_markers, is_sign, ends_sign, has_sign, sign_ahead, may_hold_literals, markers_for, first_try, attempt_step, start_step, before_step, before_html_step, before_hard_break_escape_step, before_label_start_link_step, before_data_step};
+ghost use Rattle.markdown_text.specs.TextSteps.{names_for, order_pays, titles_for, titles_pay, domains_for, domains_pay, span_markers, is_sign, ends_sign, has_sign, sign_ahead, may_hold_literals, markers_for, first_try, attempt_step, start_step, before_step, before_html_step, before_hard_break_escape_step, before_label_start_link_step, before_data_step};
 
 use markdown_engine::byte_set;
 use markdown_engine::bytes::ByteSet;
@@ -22,12 +23,13 @@ use markdown_engine::state::{State, StateName};
 use markdown_engine::subtokenize::Subresult;
 use markdown_engine::title_index::TitleIndex;
 use markdown_engine::tokenizer::Tokenizer;
+use markdown_gfm::domain_outlook;
 use markdown_mail::gfm_autolink_literal;
 use markdown_partial::partial_whitespace;
 use std::alloc::AllocError;
 
-// Where so many names are defined, and so many labels may end, an order of the names pays; and where so many titles may begin, to note
-// where they may end.
+// Where so many names are defined, and so many labels may end, an order of the names pays; where so many titles may begin, to note
+// where they may end; and where so many literals may begin behind a `_`, to note where no domain does.
 const MANY: usize = 16;
 
 // What is tried at which bytes: the start of what is tried first, and the state to go on with where that does not hold. The rows are
@@ -237,16 +239,51 @@ fn index_titles(tokenizer: &mut Tokenizer) -> Result<(), AllocError>
     }
 }
 
+// Whether literals are on, and so many from `www.` on may begin behind a `_` that to note where no domain begins pays.
+fn domains_pay(tokenizer: &Tokenizer) -> bool
+    ensures { result ≡ domains_pay tokenizer.now.cursor.codes tokenizer.now.parse_state.now }
+{
+    let constructs = &tokenizer.parse_state.options.constructs;
+    constructs.gfm_autolink_literal && domain_outlook::opens_often(&tokenizer.cursor, MANY)
+}
+
+// Makes known where no domain begins behind a `_`, where that pays.
+#[tactic(auto, unfolding(markdown_engine::specs::Ops::scratched))]
+fn index_domains(tokenizer: &mut Tokenizer) -> Result<(), AllocError>
+    requires { ReadsText tokenizer.old }
+    ensures ok { OnOk result (tokenizer.new ≡ scratched (record tokenizer.old.tokenize_state { no_domains = domains_for tokenizer.old.cursor.codes tokenizer.old.cursor.end.index tokenizer.old.parse_state.now }) tokenizer.old) }
+    ensures err { OnErr result (IsTrue tokenizer.new.failed) }
+{
+    if !domains_pay(tokenizer) {
+        tokenizer.tokenize_state.no_domains = None;
+        return Ok(());
+    }
+    let bytes = tokenizer.parse_state.bytes;
+    match domain_outlook::no_domains(tokenizer.alloc, bytes, &tokenizer.cursor) {
+        Ok(places) => {
+            tokenizer.tokenize_state.no_domains = Some(places);
+            Ok(())
+        }
+        Err(refused) => {
+            tokenizer.fail();
+            Err(refused)
+        }
+    }
+}
+
 /// At the start of a text, where the check of a task may stand.
 ///
 /// One walk over the content finds the sequences that end HTML and resources, and a second one the runs at which spans may close, so
-/// that none is looked for in vain; a third one finds whether literals may begin, so that data need not stop at each of their letters. Where many titles in parentheses may begin, and a resource may end behind one, a fourth one finds where
-/// each may end. Where many names are defined and many labels may end, the names are put in order, so that each is found by a search.
+/// that none is looked for in vain; a third one finds whether literals may begin, so that data need not stop at each of their letters.
+/// Where many titles in parentheses may begin, and a resource may end behind one, a fourth one finds where each may end. Where many
+/// literals from `www.` on may begin behind a `_`, another one finds at which of these places no domain begins. Where many names are
+/// defined and many labels may end, the names are put in order, so that each is found by a search.
 ///
 ///     > | [ ] do *it*
 ///         ^
 #[tactic(auto, using(markdown_engine::proofs::OpRules::op_rules), unfolding(markdown_engine::specs::Ops::scratched))]
 pub fn start(tokenizer: &mut Tokenizer) -> Result<State, AllocError>
+    requires { ReadsText tokenizer.old }
     ensures ok { IfOk result (λ s. start_step tokenizer.old ≡ record { state = s; left = tokenizer.new }) }
     ensures err { OnErr result (IsTrue tokenizer.new.failed) }
 {
@@ -254,6 +291,7 @@ pub fn start(tokenizer: &mut Tokenizer) -> Result<State, AllocError>
     tokenizer.tokenize_state.sequences = SequenceIndex::over(&tokenizer.cursor);
     index_titles(tokenizer)?;
     index_runs(tokenizer)?;
+    index_domains(tokenizer)?;
     index_names(tokenizer)?;
     attempt(
         tokenizer,

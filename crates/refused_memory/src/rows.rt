@@ -219,6 +219,9 @@ pub(crate) const NAMED: [Row; 2] = [
     ),
 ];
 
+// A text in which as many literals from `www.` on may begin behind a `_` as it takes to note where no domain begins.
+pub(crate) const BARRED: [Row; 1] = [("_w_w_w_w_w_w_w_w_w_w_w_w_w_w_w_w", &[Name::Data])];
+
 // A text with as many parentheses as it takes to note where titles may end.
 pub(crate) const TITLED: [Row; 1] = [(
     "(((((((((((((((([a](b (c))",

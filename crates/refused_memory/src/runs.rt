@@ -1,6 +1,6 @@
 // Whole runs, and the leaves of what they find.
 use crate::Came;
-use crate::rows::{GROUPS, LEAVES, NAMED, QUOTED, Row, STRINGS, TITLED};
+use crate::rows::{BARRED, GROUPS, LEAVES, NAMED, QUOTED, Row, STRINGS, TITLED};
 use markdown_engine::configuration::{Constructs, ParseOptions};
 use markdown_engine::event::{Event, Kind, Name};
 use markdown_engine::parser::ParseState;
@@ -158,5 +158,6 @@ pub(crate) fn all(alloc: Global) -> Came {
         .and(read_all(alloc, TEXT, &GROUPS))
         .and(read_all(alloc, MANY, &NAMED))
         .and(read_all(alloc, TEXT, &TITLED))
+        .and(read_all(alloc, TEXT, &BARRED))
         .and(came_of(read(alloc, TEXT, &QUOTED, &lines)))
 }

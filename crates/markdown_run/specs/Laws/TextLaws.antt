@@ -32,6 +32,7 @@ use Rattle.markdown_gfm.specs.GfmAutolinkLiteral as GfmAutolinkLiteral
 use Rattle.markdown_gfm.specs.GfmTaskListItemCheck as GfmTaskListItemCheck
 use Rattle.markdown_html.specs.HtmlText as HtmlText
 use Rattle.markdown_attention.specs.Attention as Attention
+use Rattle.markdown_gfm.specs.DomainOutlook.{no_domains}
 use Rattle.markdown_attention.specs.Attention.{ReadsRun, run_tree}
 use Rattle.markdown_partial.specs.SpaceSteps as SpaceSteps
 use Rattle.markdown_construct.specs.Characters.{bytes_of, ReadsText}
@@ -62,7 +63,7 @@ use Rattle.markdown_row.specs.Row.{EndsRest, Row, loses, row_end, row_then, past
 use Rattle.markdown_row.proofs.LabelElements.{empty-part, mark-alone}
 use Rattle.markdown_row.proofs.RowFields.{relisted, row-cursor, row-input, row-text, row-fields, tree-within, made-within, lost-within}
 use Rattle.markdown_text.specs.StringSteps.{is_on}
-use Rattle.markdown_text.specs.TextSteps.{text_tries, text_markers, order_pays, titles_pay, marked_fields, text_marked, text_passed, attempt_step, start_step, first_try, tries_at, before_at, before_step, text_choice_of, EndsWithCodes, StartReady, IsMarked, BeforeReady, StandsAlone, before_ends, data_ends, start_words, before_words, before_html_words, before_hard_break_escape_words, before_label_start_link_words, before_data_words, text_setting, StopsAtElements}
+use Rattle.markdown_text.specs.TextSteps.{text_tries, text_markers, order_pays, titles_pay, marked_fields, text_marked, text_passed, attempt_step, start_step, first_try, tries_at, before_at, before_step, text_choice_of, EndsWithCodes, StartReady, IsMarked, BeforeReady, StandsAlone, before_ends, data_ends, start_words, before_words, before_html_words, before_hard_break_escape_words, before_label_start_link_words, before_data_words, text_setting, StopsAtElements, domains_pay}
 use Rattle.markdown_text.proofs.TableLemmas.{EachOf, by-row}
 use Rattle.markdown_row.proofs.NodeLemmas.{protocol-node, www-node, check-node, html-node, escape-node, reference-node, break-node, autolink-node, span-node}
 use Rattle.markdown_run.specs.Laws.TextElements.{is_marker, data-holds}
@@ -120,6 +121,9 @@ sequences-past T U e k = indexed-same T U e.codes (ap (λ (s : TokenizeState). s
 listed-past : (T U : Tokenizer) → IsSame T U → IsListed T → IsListed U
 listed-past T U e k names known = k names (ap (λ (s : TokenizeState). s.names) (sym e.fields) ∙ known) ∙ (λ i. names_in_order (setting_of (sym e.input i).now).definitions (setting_of (sym e.input i).now).footnotes)
 
+domains-past : (T U : Tokenizer) → IsSame T U → GfmAutolinkLiteral.KnowsDomains T → GfmAutolinkLiteral.KnowsDomains U
+domains-past T U e k places known = k places (ap (λ (s : TokenizeState). s.no_domains) (sym e.fields) ∙ known) ∙ (λ i. no_domains (sym e.input i).now.bytes.now (sym e.end i).index (sym e.codes i))
+
 part-past : (T U : Tokenizer) → IsSame T U → codes_left U ≤ codes_left T → PartReady T → PartReady U
 part-past T U e l k =
     let u : TokenizeState = U.tokenize_state in
@@ -151,7 +155,7 @@ marked-past T U e l within r =
       stops = stops-past T U e r.stops;
       spans = record { rest = e.fields ∙ ap (relisted u) r.spans.rest ∙ ap RawText.rested (sym e.fields); fits = omega (arith, l, r.spans.fits); indexed = indexed-past T U e r.spans.indexed };
       look = record { resting = ap SpaceSteps.rested e.fields ∙ ap (relisted u) r.look.resting ∙ sym e.fields; short = omega (arith, l, r.look.short) };
-      literals = record { text = e.text; resting = ap GfmAutolinkLiteral.rested e.fields ∙ ap (relisted u) r.literals.resting ∙ sym e.fields; short = omega (arith, l, r.literals.short) };
+      literals = record { text = e.text; resting = ap GfmAutolinkLiteral.rested e.fields ∙ ap (relisted u) r.literals.resting ∙ sym e.fields; short = omega (arith, l, r.literals.short); knows = domains-past T U e r.literals.knows };
       ends = record { part = part-past T U e l r.ends.part; listed = listed-past T U e r.ends.listed; text = e.text; within = within; resting = ap (λ (s : TokenizeState). s.end) e.fields ∙ r.ends.resting };
       last = last-past T U e r.last;
     }
@@ -255,7 +259,7 @@ to-data rank T v l ready e alone =
 -- The laws.
 
 weight-marked : (T : Tokenizer) → weight_at 9 (text_marked T) ≡ weight_at 9 T
-weight-marked T = ap (λ n. 256 * n + 9 + 1) (left-scratched (marked_fields T.cursor.codes T.parse_state.now T.tokenize_state) T)
+weight-marked T = ap (λ n. 256 * n + 9 + 1) (left-scratched (marked_fields T.cursor.codes T.cursor.end.index T.parse_state.now T.tokenize_state) T)
 
 at-rest-reference : (T : Tokenizer) → IsMarked T → IsAtRest T
 at-rest-reference T r = record { marker = ap (λ (s : TokenizeState). s.marker) r.spans.rest; size = ap (λ (s : TokenizeState). s.size) r.spans.rest }
@@ -496,28 +500,28 @@ before_data-law T alone r =
 
 spans-marked : (T : Tokenizer) → RawText.StartReady T → RawText.StartReady (text_marked T)
 unfolding scratched
-spans-marked T r = record { rest = ap {A = TokenizeState} (λ s. marked_fields T.cursor.codes T.parse_state.now s) r.rest; fits = r.fits; indexed = refl }
+spans-marked T r = record { rest = ap {A = TokenizeState} (λ s. marked_fields T.cursor.codes T.cursor.end.index T.parse_state.now s) r.rest; fits = r.fits; indexed = refl }
 
 look-marked : (T : Tokenizer) → GfmTaskListItemCheck.MayLook T → GfmTaskListItemCheck.MayLook (text_marked T)
 unfolding scratched
-look-marked T r = record { resting = ap {A = TokenizeState} (λ s. marked_fields T.cursor.codes T.parse_state.now s) r.resting; short = r.short }
-
-literals-marked : (T : Tokenizer) → GfmAutolinkLiteral.StartReady T → GfmAutolinkLiteral.StartReady (text_marked T)
-unfolding scratched
-literals-marked T r =
-    let s : TokenizeState → TokenizeState = marked_fields T.cursor.codes T.parse_state.now in
-    record { text = text-scratched (s T.tokenize_state) T r.text; resting = ap s r.resting; short = r.short }
+look-marked T r = record { resting = ap {A = TokenizeState} (λ s. marked_fields T.cursor.codes T.cursor.end.index T.parse_state.now s) r.resting; short = r.short }
 
 -- what is known is what was made, where that pays
 made-known : {A : Type 0} (pays : Bool) (made known : A) → (if pays then Some made else None) ≡ Some known → known ≡ made
 made-known true made known e = cc
 made-known false made known e = cc
 
+literals-marked : (T : Tokenizer) → GfmAutolinkLiteral.StartReady T → GfmAutolinkLiteral.StartReady (text_marked T)
+unfolding scratched
+literals-marked T r =
+    let s : TokenizeState → TokenizeState = marked_fields T.cursor.codes T.cursor.end.index T.parse_state.now in
+    record { text = text-scratched (s T.tokenize_state) T r.text; resting = ap s r.resting; short = r.short; knows = λ places. made-known (domains_pay T.cursor.codes T.parse_state.now) (no_domains (bytes_of T) (GfmAutolinkLiteral.end_of T) T.cursor.codes) places }
+
 ends-marked : (T : Tokenizer) → LabelEnd.StartReady T → LabelEnd.StartReady (text_marked T)
 unfolding scratched
 ends-marked T r =
     let M : Tokenizer = text_marked T in
-    let s : TokenizeState → TokenizeState = marked_fields T.cursor.codes T.parse_state.now in
+    let s : TokenizeState → TokenizeState = marked_fields T.cursor.codes T.cursor.end.index T.parse_state.now in
     record {
       part = record { short = r.part.short; indexed = right-made T.cursor.codes (Some (last_begins T.cursor.codes)) refl; titled = λ closers. made-known (titles_pay T.cursor.codes) (closers_of T.cursor.codes) closers; spaces = record { space = ap s r.part.spaces.space; eol = ap s r.part.spaces.eol }; rest = ap s r.part.rest };
       listed = λ names. made-known (order_pays T.cursor.codes T.parse_state.now) (names_in_order (setting_in T).definitions (setting_in T).footnotes) names;
@@ -549,7 +553,7 @@ check-elements T (Some v) e = check-reads T v e
 pub start-law : Law inline start_words
 start-law T alone r =
     let M : Tokenizer = text_marked T in
-    let s : TokenizeState = marked_fields T.cursor.codes T.parse_state.now T.tokenize_state in
+    let s : TokenizeState = marked_fields T.cursor.codes T.cursor.end.index T.parse_state.now T.tokenize_state in
     let marked : IsMarked M = marked-start T r in
     subst (λ n. GoesIn inline n (before_ends M) (start_step T)) (weight-marked T)
     (try-law 9 M GfmTaskListItemCheckStart TextBefore (GfmTaskListItemCheck.check_here M) (attempts-scratched s T ∙ alone) marked.look (omega arith) marked (λ ok U g. g)

@@ -1,0 +1,29 @@
+-- By the code at hand.
+use Rattle.std.proofs.Common.{◌≡◌, ◌||◌, Bool, true, false, sym, ap, ◌∙◌}
+use Rattle.markdown_construct.specs.Characters.{at_later}
+use Rattle.markdown_model.specs.Literal.{is_other}
+use Rattle.markdown_engine.specs.Place.{point_of}
+use Rattle.markdown_util.specs.Neighbours.{class_of, after_index}
+use Rattle.markdown_gfm.proofs.DomainReadings.{go-mark, go-plain}
+use Rattle.markdown_gfm.proofs.domain_outlook.goes_on.Goals as goal
+
+pub returns-then-is_domain_mark : goal.returns-then-is_domain_mark
+returns-then-is_domain_mark c = c.mark_goes_on.ensures ∙ sym (go-mark c.args.bytes.now c.args.place.now c.args.code c.requires.code (sym c.is_domain_mark.ensures ∙ c.if-is_domain_mark.true))
+
+pub returns-then-is_plain : goal.returns-then-is_plain
+returns-then-is_plain c =
+    sym (go-plain c.args.bytes.now c.args.place.now c.args.code c.requires.code (sym c.is_domain_mark.ensures ∙ c.if-is_domain_mark.false)
+    ∙ ap (λ b. b || is_other (class_of (after_index c.args.bytes.now (point_of c.args.place.now).index))) (sym c.is_plain.ensures ∙ c.if-is_plain.true))
+
+pub returns-else-is_plain : goal.returns-else-is_plain
+returns-else-is_plain c =
+    c.is_at_other.ensures
+    ∙ sym (go-plain c.args.bytes.now c.args.place.now c.args.code c.requires.code (sym c.is_domain_mark.ensures ∙ c.if-is_domain_mark.false)
+    ∙ ap (λ b. b || is_other (class_of (after_index c.args.bytes.now (point_of c.args.place.now).index))) (sym c.is_plain.ensures ∙ c.if-is_plain.false))
+
+or-right : (a b : Bool) → a || b ≡ false → b ≡ false
+or-right true b e = cc
+or-right false b e = e
+
+pub is_at_other-requires-clause-begins : goal.is_at_other-requires-clause-begins
+is_at_other-requires-clause-begins c = ap at_later c.requires.code ∙ or-right _ _ (sym c.is_plain.ensures ∙ c.if-is_plain.false)
