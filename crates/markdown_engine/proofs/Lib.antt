@@ -14,6 +14,7 @@ pub mod Past
 pub mod Strides
 pub mod Standings
 pub mod Cursors
+pub mod EndIndex
 pub mod Follows
 pub mod CursorSteps
 pub mod ChainLemmas
@@ -29,6 +30,7 @@ pub mod SequenceIndexLemmas
 pub mod TitleIndexLemmas
 pub mod CountLemmas
 pub mod NameOrder
+pub mod BracketIndexLemmas
 pub mod NameSort
 pub mod ReachLemmas
 pub mod OpRules

@@ -15,6 +15,7 @@ pub mod RunIndex
 pub mod SequenceIndex
 pub mod TitleIndex
 pub mod PlaceIndex
+pub mod BracketIndex
 pub mod NameIndex
 pub mod Rest
 pub mod Begun

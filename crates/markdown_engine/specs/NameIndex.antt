@@ -2,6 +2,7 @@
 use Rattle.std.specs.Prelude.{ℕ, Bool, List, [], ◌∷◌, if◌then◌else◌}
 use Rattle.std.specs.Ordering.{is_lt, nat_cmp}
 use Rattle.std.specs.Cmp.Lexicographic.{slice_cmp}
+use Rattle.markdown_engine.specs.BracketIndex.{BracketPlaces}
 use Rattle.markdown_engine.specs.declared.name_index.Names.{Names}
 
 abbrev pub comes_before : List ℕ → List ℕ → Bool
@@ -17,6 +18,6 @@ abbrev pub in_order : List (List ℕ) → List (List ℕ)
 in_order [] = []
 in_order (n ∷ ns) = with_name n (in_order ns)
 
--- the names of what is defined, in order
-abbrev pub names_in_order : List (List ℕ) → List (List ℕ) → Names
-names_in_order definitions footnotes = record { definitions = in_order definitions; footnotes = in_order footnotes }
+-- the names of what is defined, in order, and where opening brackets stand in the document
+abbrev pub names_in_order : List (List ℕ) → List (List ℕ) → BracketPlaces → Names
+names_in_order definitions footnotes brackets = record { definitions = in_order definitions; footnotes = in_order footnotes; brackets = brackets }

@@ -113,6 +113,17 @@ impl<'a> Cursor<'a> {
         true
     }
 
+    /// Answers the index of the byte at which the content ends.
+    pub fn end_index(&self) -> usize
+        ensures { result ≡ self.now.end.index }
+    {
+        if self.pieces.is_empty() {
+            0
+        } else {
+            self.pieces[self.pieces.len() - 1].end.0
+        }
+    }
+
     /// Answers how many codes are passed.
     pub fn passed(&self) -> usize
         ensures { result ≡ self.now.at }

@@ -1,6 +1,7 @@
 //! The engine of the inline layer: codes, events, places, attempts, and the loop that runs a layer's states.
 #![tactic(auto)]
 
+pub mod bracket_index;
 pub mod bytes;
 pub mod configuration;
 pub mod content;

@@ -167,7 +167,7 @@ unknown-by s kind front name b h =
     calls true e = none-begins s.footnotes front b.0 e
     calls false e = refl
 
-range-parts : (bs : List ℕ) (i j k : ℕ) → i ≤ j → j ≤ k → j ≤ length bs → slice_range bs i k ≡ slice_range bs i j ++ slice_range bs j k
+pub range-parts : (bs : List ℕ) (i j k : ℕ) → i ≤ j → j ≤ k → j ≤ length bs → slice_range bs i k ≡ slice_range bs i j ++ slice_range bs j k
 range-parts bs i j k ij jk inside =
     let size : length (slice_range bs i j) ≡ j - i = omega (arith, length-take (j - i) (drop i bs), length-drop i bs) in
     let sum : k - i ≡ length (slice_range bs i j) + (k - j) = omega (arith, size) in

@@ -2,6 +2,7 @@
 pub mod TextBetween
 pub mod Fronts
 pub mod ListedNames
+pub mod BracketRules
 pub mod AfterSteps
 pub mod StartStack
 pub mod StartPlaces

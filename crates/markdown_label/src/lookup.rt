@@ -6,10 +6,11 @@ ghost use Rattle.std.specs.List.{list_any, starts_with};
 ghost use Rattle.std.specs.Str.{IsCharBoundary};
 ghost use Rattle.markdown_construct.specs.Characters.{bytes_of};
 ghost use Rattle.markdown_util.specs.Identifier.{identifier_of};
-ghost use Rattle.markdown_label.specs.Lookup.{AreCuts, begins_one, begins_defined, IsUnknown};
+ghost use Rattle.markdown_label.specs.Lookup.{AreCuts, begins_one, begins_defined, lacks_count, IsUnknown};
 ghost use Rattle.markdown_label.specs.Settings.{setting_in, IsListed};
 
 use crate::identifier::{identifier_of, is_footnote, link_identifier};
+use markdown_engine::name_index::Names;
 use markdown_engine::tokenizer::{LabelKind, Tokenizer};
 use std::alloc::AllocError;
 
@@ -92,9 +93,37 @@ fn defines_nothing(tokenizer: &Tokenizer) -> bool
         && tokenizer.parse_state.gfm_footnote_definitions.is_empty()
 }
 
-// Whether the front of a label, from an index of the document to another, shows that nothing is defined that it may stand for.
+// Whether it is known that none of these names has as many opening brackets as a label of this kind, from an index of the document to
+// another. Folding the case of a text and joining its words change no bracket.
+fn lacks_count(names: &Names, kind: LabelKind, start: usize, end: usize) -> bool
+    ensures { result ≡ lacks_count names.now kind start end }
+{
+    match names.brackets.between(start, end) {
+        Some(count) => {
+            !(is_footnote(kind) && names.footnotes.has_brackets(count)
+                || names.definitions.has_brackets(count))
+        }
+        None => false,
+    }
+}
+
+// Whether the brackets of a label, from an index of the document to another, show that nothing is defined that it may stand for.
+fn brackets_rule_out(tokenizer: &Tokenizer, kind: LabelKind, start: usize, end: usize) -> bool
+    requires cuts { AreCuts (bytes_of tokenizer.now) start end }
+    requires listed { IsListed tokenizer.now }
+    ensures { IsTrue result → IsUnknown (setting_in tokenizer.now) kind (identifier_of (slice_range (bytes_of tokenizer.now) start end)) }
+{
+    match &tokenizer.tokenize_state.names {
+        Some(names) => lacks_count(names, kind, start, end),
+        None => false,
+    }
+}
+
+// Whether the brackets or the front of a label, from an index of the document to another, show that nothing is defined that it may stand
+// for.
 //
-// Each front is twice as long as the one before, so a long label is read at most about twice as far as it begins like a definition.
+// Labels with as many brackets as one another do not nest. Each front is twice as long as the one before, so a long label is read at most
+// about twice as far as it begins like a definition.
 pub(crate) fn is_ruled_out(
     tokenizer: &Tokenizer,
     kind: LabelKind,
@@ -106,6 +135,9 @@ pub(crate) fn is_ruled_out(
     ensures { IfOk result (λ out. IsTrue out → IsUnknown (setting_in tokenizer.now) kind (identifier_of (slice_range (bytes_of tokenizer.now) start end))) }
 {
     if defines_nothing(tokenizer) {
+        return Ok(true);
+    }
+    if brackets_rule_out(tokenizer, kind, start, end) {
         return Ok(true);
     }
     for bits in FIRST_BITS..usize::BITS {

@@ -1,7 +1,7 @@
 -- A whole run over a text.
 use Rattle.markdown_partial.specs.SpaceSteps.{most}
 use Rattle.markdown_engine.specs.Weights.{codes_left}
-use Rattle.std.proofs.Common.{◌≡◌, ℕ, Bool, true, false, List, [], None, refl, sym, ap, subst, ◌∙◌, arith, ◌≤◌}
+use Rattle.std.proofs.Common.{◌≡◌, Bool, true, false, List, [], None, refl, sym, ap, subst, ◌∙◌, arith, ◌≤◌}
 use Rattle.markdown_engine.specs.Chain.{chained}
 use Rattle.markdown_engine.specs.Content.{IsContent, IsTextContent, content_of}
 use Rattle.markdown_engine.specs.Ops.{scratched}
@@ -83,14 +83,14 @@ text-ready p pieces first T text k =
     }
 
 -- where data stops where an element may begin, and where the runs of its spans stand
-marked-start : (p : ParseState) (pieces : List Piece) (first : Bool) (T : Tokenizer) → text_start p pieces first T → Starts p pieces (marked_fields T.cursor.codes T.cursor.end.index T.parse_state.now (text_fields first)) (text_marked T)
+marked-start : (p : ParseState) (pieces : List Piece) (first : Bool) (T : Tokenizer) → text_start p pieces first T → Starts p pieces (marked_fields T.cursor T.parse_state.now (text_fields first)) (text_marked T)
 unfolding scratched
 marked-start p pieces first T k =
-    let m : Starts p pieces (marked_fields T.cursor.codes T.cursor.end.index T.parse_state.now T.tokenize_state) (text_marked T) = start-with p pieces (text_fields first) (marked_fields T.cursor.codes T.cursor.end.index T.parse_state.now T.tokenize_state) T k in
-    subst (λ (s : TokenizeState). Starts p pieces (marked_fields T.cursor.codes T.cursor.end.index T.parse_state.now s) (text_marked T)) k.fields m
+    let m : Starts p pieces (marked_fields T.cursor T.parse_state.now T.tokenize_state) (text_marked T) = start-with p pieces (text_fields first) (marked_fields T.cursor T.parse_state.now T.tokenize_state) T k in
+    subst (λ (s : TokenizeState). Starts p pieces (marked_fields T.cursor T.parse_state.now s) (text_marked T)) k.fields m
 
-fresh-fields : (first : Bool) (cs : List Code) (end : ℕ) (p : ParseState) → AreFresh (marked_fields cs end p (text_fields first))
-fresh-fields first cs end p = record { labels = refl; starts = refl; loose = refl; end = refl; seen = refl; probes = refl }
+fresh-fields : (first : Bool) (c : Place) (p : ParseState) → AreFresh (marked_fields c p (text_fields first))
+fresh-fields first c p = record { labels = refl; starts = refl; loose = refl; end = refl; seen = refl; probes = refl }
 
 module _ (p : ParseState) (pieces : List Piece) (first : Bool) (content : IsContent p.bytes.now pieces) (T U : Tokenizer) (start : text_start p pieces first T) where
   abbrev M : Tokenizer
@@ -120,11 +120,11 @@ module _ (p : ParseState) (pieces : List Piece) (first : Bool) (content : IsCont
     abbrev E : Finishes (text_choice_of M) text_passed M U
     E = ended ok k
 
-    abbrev S : Starts p pieces (marked_fields T.cursor.codes T.cursor.end.index T.parse_state.now (text_fields first)) M
+    abbrev S : Starts p pieces (marked_fields T.cursor T.parse_state.now (text_fields first)) M
     S = marked-start p pieces first T start
 
-    abbrev F : AreFresh (marked_fields T.cursor.codes T.cursor.end.index T.parse_state.now (text_fields first))
-    F = fresh-fields first T.cursor.codes T.cursor.end.index T.parse_state.now
+    abbrev F : AreFresh (marked_fields T.cursor T.parse_state.now (text_fields first))
+    F = fresh-fields first T.cursor T.parse_state.now
 
     -- the row with its labels grouped
     abbrev Tree : Forest

@@ -1,4 +1,5 @@
 // Tests of `markdown_engine`, a module for each of its modules.
+mod bracket_index;
 mod bytes;
 mod content;
 mod cursor;

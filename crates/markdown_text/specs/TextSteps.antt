@@ -1,10 +1,12 @@
 -- What the states of a text do, and how runs from them end.
-use Rattle.std.specs.Prelude.{◌≡◌, ◌≢◌, ℕ, Bool, true, false, nat_le, ◌==◌, ◌&&◌, ◌||◌, not, if◌then◌else◌, List, [], ◌∷◌, Option, Some, None, length, map, codes, string_bytes}
+use Rattle.std.specs.Prelude.{◌≡◌, ◌≢◌, ℕ, Bool, true, false, nat_le, ◌==◌, ◌&&◌, ◌||◌, not, if◌then◌else◌, List, [], ◌∷◌, Option, Some, None, length, map, codes, string_bytes, String}
 use Rattle.std.specs.Str.{byte}
 use Rattle.markdown_engine.specs.Codes.{Code, count_of, stop_of, document_start}
 use Rattle.markdown_engine.specs.NameIndex.{names_in_order}
 use Rattle.markdown_engine.specs.Ops.{attempted, scratched, registered, current_of, ahead}
-use Rattle.markdown_engine.specs.Place.{Place, ahead_at, code_before}
+use Rattle.markdown_engine.specs.Place.{Place, ahead_at, code_before, point_of}
+use Rattle.std.specs.List.{list_any}
+use Rattle.markdown_engine.specs.BracketIndex.{brackets_between}
 use Rattle.markdown_engine.specs.RunIndex.{last_runs}
 use Rattle.markdown_engine.specs.Runs.{Stepped, stepped}
 use Rattle.markdown_engine.specs.StateWords.{StateWords}
@@ -98,13 +100,23 @@ markers_for cs p = if may_hold_literals cs p then text_markers else plain_marker
 abbrev pub span_markers : List ℕ
 span_markers = codes "`$"
 
--- so many names are defined, and so many labels may end in these codes, that an order of the names pays
-abbrev pub order_pays : List Code → ParseState → Bool
-order_pays cs p = (nat_le 16 (length p.definitions.items) || nat_le 16 (length p.gfm_footnote_definitions.items)) && nat_le 16 (count_of (byte "]") cs)
+-- these names are so many, or one of them is so long, that an order of them pays
+abbrev pub names_pay : {Z : Type 0} → List (String Z) → Bool
+names_pay names = nat_le 16 (length names) || list_any (λ name. nat_le 64 (length (string_bytes name))) names
 
--- the names of what is defined, in order, if that pays
-abbrev pub names_for : List Code → ParseState → Option Names
-names_for cs p = if order_pays cs p then Some (names_in_order (map string_bytes p.definitions.items) (map string_bytes p.gfm_footnote_definitions.items)) else None
+-- the names that are defined pay, and so many labels may end in these codes
+abbrev pub order_pays : List Code → ParseState → Bool
+order_pays cs p = (names_pay p.definitions.items || names_pay p.gfm_footnote_definitions.items) && nat_le 16 (count_of (byte "]") cs)
+
+-- the names of what is defined, in order, and the brackets of the document from where the content begins to where it ends
+abbrev pub names_in : Place → ParseState → Names
+names_in c p =
+    names_in_order (map string_bytes p.definitions.items) (map string_bytes p.gfm_footnote_definitions.items)
+    (brackets_between p.bytes.now (point_of (record c { at = 0 })).index c.end.index)
+
+-- these, if that pays
+abbrev pub names_for : Place → ParseState → Option Names
+names_for c p = if order_pays c.codes p then Some (names_in c p) else None
 
 -- so many titles in parentheses may begin in these codes, behind some of which a resource may end, that to note where each may end pays
 abbrev pub titles_pay : List Code → Bool
@@ -122,22 +134,21 @@ domains_pay cs p = p.options.now.constructs.gfm_autolink_literal && nat_le 16 (o
 abbrev pub domains_for : List Code → ℕ → ParseState → Option (List ℕ)
 domains_for cs end p = if domains_pay cs p then Some (no_domains p.bytes.now end cs) else None
 
--- the scratch fields of a text of these codes, which ends at this index: where data stops, where the last runs begin at which spans may
--- close, where the sequences last begin that end HTML and resources, where titles may end, where no domain begins, and the names of what
--- is defined
-abbrev pub marked_fields : List Code → ℕ → ParseState → TokenizeState → TokenizeState
-marked_fields cs end p s =
+-- the scratch fields of a text of this content: where data stops, where the last runs begin at which spans may close, where the sequences
+-- last begin that end HTML and resources, where titles may end, where no domain begins, and the names of what is defined
+abbrev pub marked_fields : Place → ParseState → TokenizeState → TokenizeState
+marked_fields c p s =
     record s {
-      markers = markers_for cs p;
-      runs = last_runs span_markers cs;
-      sequences = Some (last_begins cs);
-      titles = titles_for cs;
-      no_domains = domains_for cs end p;
-      names = names_for cs p;
+      markers = markers_for c.codes p;
+      runs = last_runs span_markers c.codes;
+      sequences = Some (last_begins c.codes);
+      titles = titles_for c.codes;
+      no_domains = domains_for c.codes c.end.index p;
+      names = names_for c p;
     }
 
 abbrev pub text_marked : Tokenizer → Tokenizer
-text_marked T = scratched (marked_fields T.cursor.codes T.cursor.end.index T.parse_state.now T.tokenize_state) T
+text_marked T = scratched (marked_fields T.cursor T.parse_state.now T.tokenize_state) T
 
 -- a construct is tried, from this state, and where it does not hold the run goes on with another
 abbrev pub attempt_step : StateName → StateName → Tokenizer → Stepped

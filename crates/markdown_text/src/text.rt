@@ -3,15 +3,17 @@
 //! Each state answers the error where a growth is refused; then `failed` is true.
 #![tactic(auto, using(markdown_engine::proofs::OpRules::op_rules))]
 
-ghost use Rattle.std.specs.Prelude.{◌≡◌, ◌≤◌, length, IfOk, OnOk, OnErr, IsTrue, None, Some, true};
+ghost use Rattle.std.specs.Prelude.{◌≡◌, ◌≤◌, nat_le, IfOk, OnOk, OnErr, IsTrue, None, Some, length, string_bytes, true};
+ghost use Rattle.std.specs.List.{list_any};
 ghost use Rattle.markdown_engine.specs.Ops.{scratched};
 ghost use Rattle.markdown_engine.specs.Place.{ahead_at};
 ghost use Rattle.markdown_engine.specs.RunIndex.{last_runs};
 ghost use Rattle.markdown_engine.specs.SequenceIndex.{last_begins};
 ghost use Rattle.markdown_construct.specs.Characters.{ReadsText};
 ghost use Rattle.markdown_text.specs.Resolve.{MayFinish, FinishesText};
-ghost use Rattle.markdown_text.specs.TextSteps.{names_for, order_pays, titles_for, titles_pay, domains_for, domains_pay, span_markers, is_sign, ends_sign, has_sign, sign_ahead, may_hold_literals, markers_for, first_try, attempt_step, start_step, before_step, before_html_step, before_hard_break_escape_step, before_label_start_link_step, before_data_step};
+ghost use Rattle.markdown_text.specs.TextSteps.{names_for, names_in, names_pay, order_pays, titles_for, titles_pay, domains_for, domains_pay, span_markers, is_sign, ends_sign, has_sign, sign_ahead, may_hold_literals, markers_for, first_try, attempt_step, start_step, before_step, before_html_step, before_hard_break_escape_step, before_label_start_link_step, before_data_step};
 
+use markdown_engine::bracket_index::BracketIndex;
 use markdown_engine::byte_set;
 use markdown_engine::bytes::ByteSet;
 use markdown_engine::cursor::Cursor;
@@ -31,6 +33,9 @@ use std::alloc::AllocError;
 // Where so many names are defined, and so many labels may end, an order of the names pays; where so many titles may begin, to note
 // where they may end; and where so many literals may begin behind a `_`, to note where no domain does.
 const MANY: usize = 16;
+
+// Where a name has so many bytes, labels are read past their first front, so that an order of the names pays.
+const LONG: usize = 64;
 
 // What is tried at which bytes: the start of what is tried first, and the state to go on with where that does not hold. The rows are
 // handed to the macro that is named, behind the words that come after its name.
@@ -173,28 +178,55 @@ fn index_runs(tokenizer: &mut Tokenizer) -> Result<(), AllocError>
     }
 }
 
-// Whether so many names are defined, and so many labels may end, that an order of the names pays.
+// Whether one of these names is so long that an order of them pays.
+fn one_is_long(names: &[String]) -> bool
+    ensures { result ≡ list_any (λ name. nat_le 64 (length (string_bytes name))) names.now }
+{
+    names.iter().any(|name| name.len() >= LONG)
+}
+
+// Whether these names are so many, or one of them is so long, that an order of them pays.
+fn names_pay(names: &[String]) -> bool
+    ensures { result ≡ names_pay names.now }
+{
+    names.len() >= MANY || one_is_long(names)
+}
+
+// Whether the names that are defined pay, and so many labels may end.
 fn order_pays(tokenizer: &Tokenizer) -> bool
     ensures { result ≡ order_pays tokenizer.now.cursor.codes tokenizer.now.parse_state.now }
 {
     let state = tokenizer.parse_state;
-    (state.definitions.len() >= MANY || state.gfm_footnote_definitions.len() >= MANY)
+    (names_pay(state.definitions.as_slice())
+        || names_pay(state.gfm_footnote_definitions.as_slice()))
         && tokenizer.cursor.holds(b']', MANY)
+}
+
+// The names of what is defined, in order, and the brackets of the document from where the content begins to where it ends.
+fn names_in(tokenizer: &Tokenizer) -> Result<Names, AllocError>
+    ensures { IfOk result (λ names. names ≡ names_in tokenizer.now.cursor tokenizer.now.parse_state.now) }
+{
+    let state = tokenizer.parse_state;
+    let first = tokenizer.cursor.restart();
+    let start = first.point().index;
+    let end = tokenizer.cursor.end_index();
+    let brackets = BracketIndex::over(tokenizer.alloc, state.bytes, start, end)?;
+    let definitions = state.definitions.as_slice();
+    let footnotes = state.gfm_footnote_definitions.as_slice();
+    Names::over(tokenizer.alloc, definitions, footnotes, brackets)
 }
 
 // Makes known the names of what is defined, where their order pays.
 #[tactic(auto, unfolding(markdown_engine::specs::Ops::scratched))]
 fn index_names(tokenizer: &mut Tokenizer) -> Result<(), AllocError>
-    ensures ok { OnOk result (tokenizer.new ≡ scratched (record tokenizer.old.tokenize_state { names = names_for tokenizer.old.cursor.codes tokenizer.old.parse_state.now }) tokenizer.old) }
+    ensures ok { OnOk result (tokenizer.new ≡ scratched (record tokenizer.old.tokenize_state { names = names_for tokenizer.old.cursor tokenizer.old.parse_state.now }) tokenizer.old) }
     ensures err { OnErr result (IsTrue tokenizer.new.failed) }
 {
     if !order_pays(tokenizer) {
         tokenizer.tokenize_state.names = None;
         return Ok(());
     }
-    let definitions = tokenizer.parse_state.definitions.as_slice();
-    let footnotes = tokenizer.parse_state.gfm_footnote_definitions.as_slice();
-    match Names::over(tokenizer.alloc, definitions, footnotes) {
+    match names_in(tokenizer) {
         Ok(names) => {
             tokenizer.tokenize_state.names = Some(names);
             Ok(())

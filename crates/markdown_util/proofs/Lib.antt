@@ -1,3 +1,4 @@
+pub mod BracketCounts
 pub mod FirstByte
 pub mod Joining
 pub mod LastChar

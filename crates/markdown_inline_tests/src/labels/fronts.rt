@@ -187,3 +187,40 @@ fn finds_names_in_order(rt: HostRuntime) -> Result<(), Fail> {
     expect_repeated(&rt, rt.alloc(), &given, &ORDERED)?;
     Ok(())
 }
+
+// Brackets within brackets, as many as a long name has, more, fewer, and with another text among them.
+const NESTED: [Row; 4] = [
+    (
+        &[("[", 41), ("B", 1), ("]", 41)],
+        "Link 0-83 [Label 0-83 [LabelLink 0-1, LabelText 1-82 [Data 1-82], LabelEnd 82-83]]",
+    ),
+    (
+        &[("[", 42), ("b", 1), ("]", 42)],
+        "Data 0-1, Link 1-84 [Label 1-84 [LabelLink 1-2, LabelText 2-83 [Data 2-83], LabelEnd 83-84]], Data 84-85",
+    ),
+    (&[("[", 40), ("b", 1), ("]", 40)], "Data 0-81"),
+    (&[("[", 41), ("c", 1), ("]", 41)], "Data 0-83"),
+];
+
+const NESTED_CALL: [Row; 2] = [
+    (
+        &[("[^", 1), ("[", 40), ("b", 1), ("]", 41)],
+        "GfmFootnoteCall 0-84 [Label 0-84 [GfmFootnoteCallLabel 0-2 [LabelMarker 0-1, GfmFootnoteCallMarker 1-2], LabelText 2-83 [Data 2-83], LabelEnd 83-84]]",
+    ),
+    (&[("[^", 1), ("[", 39), ("b", 1), ("]", 40)], "Data 0-82"),
+];
+
+#[test]
+fn finds_names_of_nested_brackets(rt: HostRuntime) -> Result<(), Fail> {
+    let alloc = rt.alloc();
+    let name = repeated(alloc, &[("[", 40), ("b", 1), ("]", 40)])?;
+    let other = repeated(alloc, &[("[", 7), ("b", 60)])?;
+    expect_repeated(
+        &rt,
+        alloc,
+        &defined(&[other.as_str(), name.as_str()]),
+        &NESTED,
+    )?;
+    expect_repeated(&rt, alloc, &noted(&[], &[name.as_str()]), &NESTED_CALL)?;
+    Ok(())
+}

@@ -6,11 +6,14 @@ use Rattle.std.specs.List.{list_any}
 use Rattle.std.specs.Prelude.{codes}
 use Rattle.std.specs.Str.{byte}
 use Rattle.markdown_engine.specs.Codes.{Code, stop_of, document_start}
+use Rattle.markdown_engine.specs.BracketIndex.{BracketPlaces, brackets_between}
 use Rattle.markdown_engine.specs.NameIndex.{names_in_order}
+use Rattle.markdown_engine.specs.declared.name_index.Names.{Names}
+use Rattle.markdown_engine.specs.declared.parser.ParseState.{ParseState}
 use Rattle.markdown_engine.specs.declared.event.Point.{Point}
 use Rattle.markdown_engine.specs.Ops.{ahead, current_of, is_registered, registered, scratched, previous_of}
 use Rattle.markdown_engine.specs.Past.{past, moved_by, EndsAs, Reads, Refuses, TreeReading}
-use Rattle.markdown_engine.specs.Place.{Place, moved, code_before, last_of, value_of}
+use Rattle.markdown_engine.specs.Place.{Place, moved, code_before, last_of, point_of, value_of}
 use Rattle.markdown_engine.specs.RunIndex.{LastRuns, last_runs}
 use Rattle.markdown_engine.specs.SequenceIndex.{last_begins}
 use Rattle.markdown_engine.specs.Runs.{Stepped, stepped}
@@ -40,7 +43,8 @@ use Rattle.markdown_construct.proofs.StateLaws.{FollowsIn, Goes-plain, Goes-end,
 use Rattle.markdown_construct.proofs.TextPasses.{text-scratched}
 use Rattle.markdown_label.specs.LabelEnd as LabelEnd
 use Rattle.markdown_label.specs.LabelEnd.{AreWithin}
-use Rattle.markdown_label.specs.Settings.{setting_of, setting_in, IsListed}
+use Rattle.markdown_model.specs.Setting.{Setting}
+use Rattle.markdown_label.specs.Settings.{setting_of, setting_in, AreListed, IsListed}
 use Rattle.markdown_label.specs.LabelStarts.{image_ends, footnote_ends, link_ends}
 use Rattle.markdown_label.proofs.BegunStarts.{link-within, footnote-within, image-within}
 use Rattle.markdown_label.proofs.StartPlaces.{within-grown}
@@ -63,7 +67,7 @@ use Rattle.markdown_row.specs.Row.{EndsRest, Row, loses, row_end, row_then, past
 use Rattle.markdown_row.proofs.LabelElements.{empty-part, mark-alone}
 use Rattle.markdown_row.proofs.RowFields.{relisted, row-cursor, row-input, row-text, row-fields, tree-within, made-within, lost-within}
 use Rattle.markdown_text.specs.StringSteps.{is_on}
-use Rattle.markdown_text.specs.TextSteps.{text_tries, text_markers, order_pays, titles_pay, marked_fields, text_marked, text_passed, attempt_step, start_step, first_try, tries_at, before_at, before_step, text_choice_of, EndsWithCodes, StartReady, IsMarked, BeforeReady, StandsAlone, before_ends, data_ends, start_words, before_words, before_html_words, before_hard_break_escape_words, before_label_start_link_words, before_data_words, text_setting, StopsAtElements, domains_pay}
+use Rattle.markdown_text.specs.TextSteps.{text_tries, text_markers, order_pays, titles_pay, marked_fields, text_marked, text_passed, attempt_step, start_step, first_try, tries_at, before_at, before_step, text_choice_of, EndsWithCodes, StartReady, IsMarked, BeforeReady, StandsAlone, before_ends, data_ends, start_words, before_words, before_html_words, before_hard_break_escape_words, before_label_start_link_words, before_data_words, text_setting, StopsAtElements, domains_pay, names_in}
 use Rattle.markdown_text.proofs.TableLemmas.{EachOf, by-row}
 use Rattle.markdown_row.proofs.NodeLemmas.{protocol-node, www-node, check-node, html-node, escape-node, reference-node, break-node, autolink-node, span-node}
 use Rattle.markdown_run.specs.Laws.TextElements.{is_marker, data-holds}
@@ -119,7 +123,7 @@ sequences-past : (T U : Tokenizer) → IsSame T U → HtmlText.IsIndexed T → H
 sequences-past T U e k = indexed-same T U e.codes (ap (λ (s : TokenizeState). s.sequences) e.fields) k
 
 listed-past : (T U : Tokenizer) → IsSame T U → IsListed T → IsListed U
-listed-past T U e k names known = k names (ap (λ (s : TokenizeState). s.names) (sym e.fields) ∙ known) ∙ (λ i. names_in_order (setting_of (sym e.input i).now).definitions (setting_of (sym e.input i).now).footnotes)
+listed-past T U e k names known = subst (λ (p : ParseState). AreListed (setting_of p) names) (λ i. (sym e.input i).now) (k names (ap (λ (s : TokenizeState). s.names) (sym e.fields) ∙ known))
 
 domains-past : (T U : Tokenizer) → IsSame T U → GfmAutolinkLiteral.KnowsDomains T → GfmAutolinkLiteral.KnowsDomains U
 domains-past T U e k places known = k places (ap (λ (s : TokenizeState). s.no_domains) (sym e.fields) ∙ known) ∙ (λ i. no_domains (sym e.input i).now.bytes.now (sym e.end i).index (sym e.codes i))
@@ -259,7 +263,7 @@ to-data rank T v l ready e alone =
 -- The laws.
 
 weight-marked : (T : Tokenizer) → weight_at 9 (text_marked T) ≡ weight_at 9 T
-weight-marked T = ap (λ n. 256 * n + 9 + 1) (left-scratched (marked_fields T.cursor.codes T.cursor.end.index T.parse_state.now T.tokenize_state) T)
+weight-marked T = ap (λ n. 256 * n + 9 + 1) (left-scratched (marked_fields T.cursor T.parse_state.now T.tokenize_state) T)
 
 at-rest-reference : (T : Tokenizer) → IsMarked T → IsAtRest T
 at-rest-reference T r = record { marker = ap (λ (s : TokenizeState). s.marker) r.spans.rest; size = ap (λ (s : TokenizeState). s.size) r.spans.rest }
@@ -500,11 +504,11 @@ before_data-law T alone r =
 
 spans-marked : (T : Tokenizer) → RawText.StartReady T → RawText.StartReady (text_marked T)
 unfolding scratched
-spans-marked T r = record { rest = ap {A = TokenizeState} (λ s. marked_fields T.cursor.codes T.cursor.end.index T.parse_state.now s) r.rest; fits = r.fits; indexed = refl }
+spans-marked T r = record { rest = ap {A = TokenizeState} (λ s. marked_fields T.cursor T.parse_state.now s) r.rest; fits = r.fits; indexed = refl }
 
 look-marked : (T : Tokenizer) → GfmTaskListItemCheck.MayLook T → GfmTaskListItemCheck.MayLook (text_marked T)
 unfolding scratched
-look-marked T r = record { resting = ap {A = TokenizeState} (λ s. marked_fields T.cursor.codes T.cursor.end.index T.parse_state.now s) r.resting; short = r.short }
+look-marked T r = record { resting = ap {A = TokenizeState} (λ s. marked_fields T.cursor T.parse_state.now s) r.resting; short = r.short }
 
 -- what is known is what was made, where that pays
 made-known : {A : Type 0} (pays : Bool) (made known : A) → (if pays then Some made else None) ≡ Some known → known ≡ made
@@ -514,17 +518,22 @@ made-known false made known e = cc
 literals-marked : (T : Tokenizer) → GfmAutolinkLiteral.StartReady T → GfmAutolinkLiteral.StartReady (text_marked T)
 unfolding scratched
 literals-marked T r =
-    let s : TokenizeState → TokenizeState = marked_fields T.cursor.codes T.cursor.end.index T.parse_state.now in
+    let s : TokenizeState → TokenizeState = marked_fields T.cursor T.parse_state.now in
     record { text = text-scratched (s T.tokenize_state) T r.text; resting = ap s r.resting; short = r.short; knows = λ places. made-known (domains_pay T.cursor.codes T.parse_state.now) (no_domains (bytes_of T) (GfmAutolinkLiteral.end_of T) T.cursor.codes) places }
+
+-- and of the names, whichever part of the document the brackets are of
+listed-made : (s : Setting) (start end : ℕ) (names : Names) → names ≡ names_in_order s.definitions s.footnotes (brackets_between s.bytes start end) → AreListed s names
+listed-made s start end names e =
+    e ∙ ap (λ (b : BracketPlaces). names_in_order s.definitions s.footnotes (brackets_between s.bytes b.start b.end)) (sym (ap (λ (x : Names). x.brackets) e))
 
 ends-marked : (T : Tokenizer) → LabelEnd.StartReady T → LabelEnd.StartReady (text_marked T)
 unfolding scratched
 ends-marked T r =
     let M : Tokenizer = text_marked T in
-    let s : TokenizeState → TokenizeState = marked_fields T.cursor.codes T.cursor.end.index T.parse_state.now in
+    let s : TokenizeState → TokenizeState = marked_fields T.cursor T.parse_state.now in
     record {
       part = record { short = r.part.short; indexed = right-made T.cursor.codes (Some (last_begins T.cursor.codes)) refl; titled = λ closers. made-known (titles_pay T.cursor.codes) (closers_of T.cursor.codes) closers; spaces = record { space = ap s r.part.spaces.space; eol = ap s r.part.spaces.eol }; rest = ap s r.part.rest };
-      listed = λ names. made-known (order_pays T.cursor.codes T.parse_state.now) (names_in_order (setting_in T).definitions (setting_in T).footnotes) names;
+      listed = λ names known. listed-made (setting_in T) (point_of (record T.cursor { at = 0 })).index T.cursor.end.index names (made-known (order_pays T.cursor.codes T.parse_state.now) (names_in T.cursor T.parse_state.now) names known);
       text = text-scratched (s T.tokenize_state) T r.text;
       within = within-grown T M [] refl (sym (append-nil T.events)) T.tokenize_state.label_starts r.within;
       resting = r.resting;
@@ -553,7 +562,7 @@ check-elements T (Some v) e = check-reads T v e
 pub start-law : Law inline start_words
 start-law T alone r =
     let M : Tokenizer = text_marked T in
-    let s : TokenizeState = marked_fields T.cursor.codes T.cursor.end.index T.parse_state.now T.tokenize_state in
+    let s : TokenizeState = marked_fields T.cursor T.parse_state.now T.tokenize_state in
     let marked : IsMarked M = marked-start T r in
     subst (λ n. GoesIn inline n (before_ends M) (start_step T)) (weight-marked T)
     (try-law 9 M GfmTaskListItemCheckStart TextBefore (GfmTaskListItemCheck.check_here M) (attempts-scratched s T ∙ alone) marked.look (omega arith) marked (λ ok U g. g)

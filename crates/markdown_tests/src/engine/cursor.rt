@@ -132,6 +132,7 @@ fn passes_stretches(rt: HostRuntime) {
     let pieces = [piece((0, 0), (10, 0))];
     assert!(rt; is_content(bytes, &pieces));
     let mut cursor = Cursor::new(bytes, &pieces);
+    assert_eq!(rt; cursor.end_index(), 10);
     for (passed, column, before, code) in [
         (7, 8, Some(b'c'), Some(b'-')),
         (9, 10, Some(b'd'), Some(b'\n')),

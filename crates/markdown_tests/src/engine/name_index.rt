@@ -1,4 +1,5 @@
 // Names in the order of their bytes.
+use markdown_engine::bracket_index::BracketIndex;
 use markdown_engine::name_index::{NameIndex, Names};
 use std::alloc::{AllocError, Global};
 use std::test::Fail;
@@ -34,9 +35,19 @@ fn finds_names_and_their_fronts(rt: HostRuntime) -> Result<(), Fail> {
 }
 
 #[test]
+fn knows_how_many_brackets_names_have(rt: HostRuntime) -> Result<(), Fail> {
+    let names = owned(rt.alloc(), &["[[[b", "a", "b]", "c[d["])?;
+    let index = NameIndex::over(rt.alloc(), names.as_slice())?;
+    for (count, has) in [(0, true), (1, false), (2, true), (3, true), (4, false)] {
+        assert_eq!(rt; index.has_brackets(count), has);
+    }
+    Ok(())
+}
+
+#[test]
 fn finds_nothing_among_no_names(rt: HostRuntime) -> Result<(), Fail> {
     let index = NameIndex::over(rt.alloc(), &[])?;
-    assert!(rt; !index.has("") && !index.begins(""));
+    assert!(rt; !index.has("") && !index.begins("") && !index.has_brackets(0));
     Ok(())
 }
 
@@ -44,7 +55,14 @@ fn finds_nothing_among_no_names(rt: HostRuntime) -> Result<(), Fail> {
 fn keeps_definitions_and_footnotes_apart(rt: HostRuntime) -> Result<(), Fail> {
     let definitions = owned(rt.alloc(), &["a"])?;
     let footnotes = owned(rt.alloc(), &["b"])?;
-    let names = Names::over(rt.alloc(), definitions.as_slice(), footnotes.as_slice())?;
+    let brackets = BracketIndex::over(rt.alloc(), b"[a", 0, 2)?;
+    let names = Names::over(
+        rt.alloc(),
+        definitions.as_slice(),
+        footnotes.as_slice(),
+        brackets,
+    )?;
+    assert_eq!(rt; names.brackets.between(0, 2), Some(1));
     assert!(rt; names.definitions.has("a") && !names.definitions.has("b"));
     assert!(rt; names.footnotes.has("b") && !names.footnotes.has("a"));
     Ok(())

@@ -11,6 +11,9 @@ identifier_of-requires c = front-cuts _ c.args.start c.boundary-middle.result c.
 pub returns-then-defines_nothing : goal.returns-then-defines_nothing
 returns-then-defines_nothing c = λ _. unknown-nothing (setting_in c.args.tokenizer.now) c.args.kind _ (c.defines_nothing.ensures.definitions c.if-defines_nothing.true) (c.defines_nothing.ensures.footnotes c.if-defines_nothing.true)
 
+pub returns-then-brackets_rule_out : goal.returns-then-brackets_rule_out
+returns-then-brackets_rule_out c = λ _. c.brackets_rule_out.ensures c.if-brackets_rule_out.true
+
 pub returns-then-not-branch : goal.returns-then-not-branch
 returns-then-not-branch c = λ _.
     unknown-from (setting_in c.args.tokenizer.now) c.args.kind (bytes_of c.args.tokenizer.now) c.as_str.result.now c.args.start c.boundary-middle.result c.args.end

@@ -11,7 +11,7 @@ pub returns-then-at-len : goal.returns-then-at-len
 returns-then-at-len c =
     let p : List ℕ → Bool = λ name. starts_with (◌==◌) name c.args.front.now in
     let same = c.as_slice.ensures.value in
-    let sorted = subst (IsSorted string_cmp) (sym same) c.self.invariant in
+    let sorted = subst (IsSorted string_cmp) (sym same) c.self.invariant.0 in
     let at = c.first_from-at.result in
     c.starts_with.ensures.value ∙ (λ i. starts_with (◌==◌) (c.as_bytes.ensures.value i) (c.as_bytes-then-at-len.ensures.value i))
     ∙ ap (λ x. p (string_bytes x)) (c.index.ensures ∙ ap (λ zs. get_or zs at c.index.result.now) (sym same))
@@ -23,7 +23,7 @@ pub returns-else-at-len : goal.returns-else-at-len
 returns-else-at-len c =
     let p : List ℕ → Bool = λ name. starts_with (◌==◌) name c.args.front.now in
     let same = c.as_slice.ensures.value in
-    let sorted = subst (IsSorted string_cmp) (sym same) c.self.invariant in
+    let sorted = subst (IsSorted string_cmp) (sym same) c.self.invariant.0 in
     let at = c.first_from-at.result in
     le-ltb at c.len.result c.if-at-len.false
     ∙ none string_bytes c.as_slice.result.now at c.args.front.now sorted c.first_from-at.ensures.before c.first_from-at.ensures.after p (begins-after c.args.front.now) (begins-between c.args.front.now) (omega (arith, c.if-at-len.false, c.len.ensures, c.as_slice.ensures.len))

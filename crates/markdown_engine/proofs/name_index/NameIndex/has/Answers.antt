@@ -12,7 +12,7 @@ pub returns-then-at-len : goal.returns-then-at-len
 returns-then-at-len c =
     let p : List ℕ → Bool = bytes_eq c.args.name.now in
     let same = c.as_slice.ensures.value in
-    let sorted = subst (IsSorted string_cmp) (sym same) c.self.invariant in
+    let sorted = subst (IsSorted string_cmp) (sym same) c.self.invariant.0 in
     let at = c.first_from-at.result in
     c.eq.ensures ∙ ap p c.as_str.ensures.value
     ∙ ap (λ x. p (string_bytes x)) (c.index.ensures ∙ ap (λ zs. get_or zs at c.index.result.now) (sym same))
@@ -24,7 +24,7 @@ pub returns-else-at-len : goal.returns-else-at-len
 returns-else-at-len c =
     let p : List ℕ → Bool = bytes_eq c.args.name.now in
     let same = c.as_slice.ensures.value in
-    let sorted = subst (IsSorted string_cmp) (sym same) c.self.invariant in
+    let sorted = subst (IsSorted string_cmp) (sym same) c.self.invariant.0 in
     let at = c.first_from-at.result in
     le-ltb at c.len.result c.if-at-len.false
     ∙ none string_bytes c.as_slice.result.now at c.args.name.now sorted c.first_from-at.ensures.before c.first_from-at.ensures.after p (same-after c.args.name.now) (same-between c.args.name.now) (omega (arith, c.if-at-len.false, c.len.ensures, c.as_slice.ensures.len))
