@@ -1,7 +1,7 @@
 -- No email literal stands in a link or an autolink: none stands in the tree before they are found, they are not sought in links, and an autolink holds no data.
 use Rattle.std.proofs.Common.{◌≡◌, ℕ, ◌-◌, ◌==◌, zero, suc, Bool, true, false, ◌&&◌, ◌||◌, not, nat_le, List, [], ◌∷◌, ◌++◌, length, take, drop, reverse, map, sum_by, refl, sym, ap, subst, ◌∙◌, Option, Some, None}
 use Rattle.std.specs.List.{list_all}
-use Rattle.std.proofs.lemmas.Bool.{and_parts, or_parts}
+use Rattle.std.proofs.lemmas.Bool.{and_parts, or_parts, or_from, and_from, not-true}
 use Rattle.markdown_engine.specs.declared.event.Name.{Name}
 use Rattle.markdown_engine.specs.declared.event.Point.{Point}
 use Rattle.markdown_engine.specs.Codes.{Code, is_blank, document_start, stop_of}
@@ -24,7 +24,6 @@ use Rattle.markdown_laws.specs.PairGroups.{is_pair}
 use Rattle.markdown_laws.proofs.EmailLeaves.{AnswerIsEmail, answer-email}
 use Rattle.markdown_laws.proofs.MadeReadings.{is_autolink, is_sealed, is_shut, is_single, reaches, made}
 use Rattle.markdown_laws.proofs.MadeLabels.{made-text-labels, made-string-labels}
-use Rattle.markdown_laws.proofs.TestParts.{neither, both-true}
 use Rattle.markdown_stretch.proofs.Words.{AllHave, WordHas, joined-has, nested-has, word-append}
 
 -- Trees without email literals, whose autolinks hold leaves alone, none of them data or a run.
@@ -44,10 +43,10 @@ emails-join : (a b : Forest) → holds_email a ≡ false → holds_email b ≡ f
 emails-join empty b h k = k
 emails-join (leaf_then name link cs rest) b h k =
     let p = or_parts (is_email name) (holds_email rest) h in
-    neither (is_email name) (holds_email (rest ⊕ b)) p.0 (emails-join rest b p.1 k)
+    or_from (is_email name) (holds_email (rest ⊕ b)) p.0 (emails-join rest b p.1 k)
 emails-join (group_then name enter exit inside rest) b h k =
     let p = or_parts (holds_email inside) (holds_email rest) h in
-    neither (holds_email inside) (holds_email (rest ⊕ b)) p.0 (emails-join rest b p.1 k)
+    or_from (holds_email inside) (holds_email (rest ⊕ b)) p.0 (emails-join rest b p.1 k)
 
 seals-join : (a b : Forest) → seals a ≡ true → seals b ≡ true → seals (a ⊕ b) ≡ true
 seals-join empty b h k = k
@@ -55,13 +54,13 @@ seals-join (leaf_then name link cs rest) b h k = seals-join rest b h k
 seals-join (group_then name enter exit inside rest) b h k =
     let p = and_parts (is_shut name inside) (seals inside && seals rest) h in
     let q = and_parts (seals inside) (seals rest) p.1 in
-    both-true (is_shut name inside) (seals inside && seals (rest ⊕ b)) p.0 (both-true (seals inside) (seals (rest ⊕ b)) q.0 (seals-join rest b q.1 k))
+    and_from (is_shut name inside) (seals inside && seals (rest ⊕ b)) p.0 (and_from (seals inside) (seals (rest ⊕ b)) q.0 (seals-join rest b q.1 k))
 
 sealed-join : (a b : Forest) → IsSealed a → IsSealed b → IsSealed (a ⊕ b)
 sealed-join empty b h k = k
 sealed-join (leaf_then name link cs rest) b h k =
     let p = and_parts (not (is_data name || is_run name)) (is_sealed rest) h in
-    both-true (not (is_data name || is_run name)) (is_sealed (rest ⊕ b)) p.0 (sealed-join rest b p.1 k)
+    and_from (not (is_data name || is_run name)) (is_sealed (rest ⊕ b)) p.0 (sealed-join rest b p.1 k)
 sealed-join (group_then name enter exit inside rest) b h k = cc
 
 plain-join : (a b : Forest) → IsPlain a → IsPlain b → IsPlain (a ⊕ b)
@@ -69,14 +68,10 @@ plain-join a b h k = (emails-join a b h.0 k.0, seals-join a b h.1 k.1)
 
 plain-leaf : (name : Name) (cs : List Code) → is_email name ≡ false → IsPlain (leaf name cs)
 plain-leaf name [] h = (refl, refl)
-plain-leaf name (c ∷ cs) h = (neither (is_email name) false h refl, refl)
+plain-leaf name (c ∷ cs) h = (or_from (is_email name) false h refl, refl)
 
 plain-group : (name : Name) (enter exit : Point) (f : Forest) → is_shut name f ≡ true → IsPlain f → IsPlain (group_then name enter exit f empty)
-plain-group name enter exit f k h = (neither (holds_email f) false h.0 refl, both-true (is_shut name f) (seals f && true) k (both-true (seals f) true h.1 refl))
-
-full : (b : Bool) → not b ≡ true → b ≡ false
-full true h = cc
-full false h = refl
+plain-group name enter exit f k h = (or_from (holds_email f) false h.0 refl, and_from (is_shut name f) (seals f && true) k (and_from (seals f) true h.1 refl))
 
 -- what labels are made of
 plain-made : (f : Forest) → made true f ≡ true → IsPlain f
@@ -85,7 +80,7 @@ plain-made (leaf_then name link cs rest) h =
     let p = and_parts (not (is_empty cs)) (not (is_email name) && made true rest) h in
     let q = and_parts (not (is_email name)) (made true rest) p.1 in
     let r = plain-made rest q.1 in
-    (neither (is_email name) (holds_email rest) (full (is_email name) q.0) r.0, r.1)
+    (or_from (is_email name) (holds_email rest) (not-true (is_email name) q.0) r.0, r.1)
 plain-made (group_then name enter exit inside rest) h =
     let p = and_parts (is_label_text name || reaches enter exit inside) (is_single name inside && (made true inside && made true rest)) h in
     let q = and_parts (is_single name inside) (made true inside && made true rest) p.1 in
@@ -204,7 +199,7 @@ module _ (s : Setting) (pairs_of : List Run → List Pair) where
   sealed-tokens (leaf_then Name.AttentionSequence link cs rest) pairs n h = cc
   sealed-tokens (leaf_then name link cs rest) pairs n h =
       let p = and_parts (not (is_data name || is_run name)) (is_sealed rest) h in
-      (both-true (not (is_data name || is_run name)) true p.0 refl, sealed-tokens rest pairs n p.1)
+      (and_from (not (is_data name || is_run name)) true p.0 refl, sealed-tokens rest pairs n p.1)
   sealed-tokens (group_then name enter exit inside rest) pairs n h = cc
 
   shut-tokens : (name : Name) (f : Forest) (pairs : List Pair) (n : ℕ) → is_shut name f ≡ true → is_shut name (assembled (tokens_of s pairs_of f pairs n)) ≡ true
@@ -221,7 +216,7 @@ module _ (s : Setting) (pairs_of : List Run → List Pair) where
       word-append IsPlain Any Any (run_tokens pairs n (run_of s cs)) (tokens_of s pairs_of rest pairs (suc n)) (plain-run pairs n (run_of s cs)) (plain-tokens rest pairs (suc n) h)
   plain-tokens (leaf_then name link cs rest) pairs n h =
       let p = or_parts (is_email name) (holds_email rest) h.0 in
-      ((neither (is_email name) false p.0 refl, refl), plain-tokens rest pairs n (p.1, h.1))
+      ((or_from (is_email name) false p.0 refl, refl), plain-tokens rest pairs n (p.1, h.1))
   plain-tokens (group_then name enter exit inside rest) pairs n h =
       let p = or_parts (holds_email inside) (holds_email rest) h.0 in
       let q = and_parts (is_shut name inside) (seals inside && seals rest) h.1 in
@@ -258,7 +253,7 @@ sealed-merged empty h = refl
 sealed-merged (leaf_then Name.Data None cs rest) h = cc
 sealed-merged (leaf_then name link cs rest) h =
     let p = and_parts (not (is_data name || is_run name)) (is_sealed rest) h in
-    both-true (not (is_data name || is_run name)) (is_sealed (merged rest)) p.0 (sealed-merged rest p.1)
+    and_from (not (is_data name || is_run name)) (is_sealed (merged rest)) p.0 (sealed-merged rest p.1)
 sealed-merged (group_then name enter exit inside rest) h = cc
 
 -- where such leaves are kept so, so is what an autolink holds
@@ -277,7 +272,7 @@ seals-merged (leaf_then name link cs rest) h = seals-merged rest h
 seals-merged (group_then name enter exit inside rest) h =
     let q = and_parts (is_shut name inside) (seals inside && seals rest) h in
     let r = and_parts (seals inside) (seals rest) q.1 in
-    both-true (is_shut name (merged inside)) (seals (merged inside) && seals (merged rest)) (still-shut name inside (merged inside) (sealed-merged inside) q.0) (both-true (seals (merged inside)) (seals (merged rest)) (seals-merged inside r.0) (seals-merged rest r.1))
+    and_from (is_shut name (merged inside)) (seals (merged inside) && seals (merged rest)) (still-shut name inside (merged inside) (sealed-merged inside) q.0) (and_from (seals (merged inside)) (seals (merged rest)) (seals-merged inside r.0) (seals-merged rest r.1))
 
 plain-merged : (f : Forest) → IsPlain f → IsPlain (merged f)
 plain-merged f h = (emails-merged f ∙ h.0, seals-merged f h.1)
@@ -307,7 +302,7 @@ sealed-trimmed hard front whole (leaf_then Name.Data None cs rest) h = cc
 sealed-trimmed hard front whole (leaf_then Name.LineEnding link cs rest) h = sealed-trimmed hard true whole rest h
 sealed-trimmed hard front whole (leaf_then name link cs rest) h =
     let p = and_parts (not (is_data name || is_run name)) (is_sealed rest) h in
-    both-true (not (is_data name || is_run name)) (is_sealed (trimmed hard false whole rest)) p.0 (sealed-trimmed hard false whole rest p.1)
+    and_from (not (is_data name || is_run name)) (is_sealed (trimmed hard false whole rest)) p.0 (sealed-trimmed hard false whole rest p.1)
 sealed-trimmed hard front whole (group_then name enter exit inside rest) h = cc
 
 plain-trimmed : (hard front whole : Bool) (f : Forest) → IsPlain f → IsPlain (trimmed hard front whole f)
@@ -320,7 +315,7 @@ plain-trimmed hard front whole (leaf_then Name.LineEnding link cs rest) h = plai
 plain-trimmed hard front whole (leaf_then name link cs rest) h =
     let p = or_parts (is_email name) (holds_email rest) h.0 in
     let r = plain-trimmed hard false whole rest (p.1, h.1) in
-    (neither (is_email name) (holds_email (trimmed hard false whole rest)) p.0 r.0, r.1)
+    (or_from (is_email name) (holds_email (trimmed hard false whole rest)) p.0 r.0, r.1)
 plain-trimmed hard front whole (group_then name enter exit inside rest) h =
     let p = or_parts (holds_email inside) (holds_email rest) h.0 in
     let q = and_parts (is_shut name inside) (seals inside && seals rest) h.1 in
@@ -360,7 +355,7 @@ sealed-mailed empty h k = refl
 sealed-mailed (leaf_then Name.Data None cs rest) h k = cc
 sealed-mailed (leaf_then name link cs rest) h k =
     let p = or_parts (is_email name) (holds_email rest) k in
-    neither (is_email name) (holds_email (mailed rest)) p.0 (sealed-mailed rest (and_parts (not (is_data name || is_run name)) (is_sealed rest) h).1 p.1)
+    or_from (is_email name) (holds_email (mailed rest)) p.0 (sealed-mailed rest (and_parts (not (is_data name || is_run name)) (is_sealed rest) h).1 p.1)
 sealed-mailed (group_then name enter exit inside rest) h k = cc
 
 group-parts : (name : Name) (enter exit : Point) (inside rest : Forest) → IsPlain (group_then name enter exit inside rest) → (is_shut name inside ≡ true) × IsPlain inside × IsPlain rest
