@@ -20,7 +20,7 @@ use Rattle.markdown_model.specs.Setting.{Setting}
 use Rattle.markdown_row.specs.Elements.{AreSingle}
 use Rattle.markdown_text.proofs.TableLemmas.{EachOf, one-of}
 use Rattle.markdown_text.specs.TextSteps.{ends_sign, has_sign, is_sign, markers_for, may_hold_literals, plain_markers, text_markers}
-use Rattle.markdown_run.specs.Laws.TextElements.{off-or-none, other-element, protocol-element, www-element}
+use Rattle.markdown_elements.proofs.TextElements.{off-or-none, other-element, protocol-element, www-element}
 
 -- Codes without a sign of literals.
 

@@ -27,8 +27,8 @@ use Rattle.markdown_row.specs.Row.{loses, past_mark}
 use Rattle.markdown_row.proofs.LabelElements.{start-advances, end-advances, lost-advances}
 use Rattle.markdown_row.proofs.LabelReads.{PastStart, link-past, footnote-past, image-past, end-made-of}
 use Rattle.markdown_text.specs.TextSteps.{text_setting, text_choice_of, StandsAlone, StopsAtElements}
-use Rattle.markdown_run.specs.Laws.TextElements.{image-element, no-image-element, bracket-element, no-bracket-element, end-element, no-end-element}
-use Rattle.markdown_run.specs.Laws.TextTries.{end_in, first-none, other-data, value-here}
+use Rattle.markdown_elements.proofs.TextElements.{image-element, no-image-element, bracket-element, no-bracket-element, end-element, no-end-element}
+use Rattle.markdown_elements.proofs.TextTries.{end_in, first-none, other-data, value-here}
 
 -- Codes that come next.
 

@@ -18,7 +18,7 @@ use Rattle.markdown_leaf.proofs.CharacterReferenceReading.{no-reference}
 use Rattle.markdown_model.proofs.ReadingSteps.{bind-none, either-second, either-some, one-other, switched-off, switched-on}
 use Rattle.markdown_text.specs.Settings.{setting_of}
 use Rattle.markdown_text.specs.StringSteps.{string_markers}
-use Rattle.markdown_run.specs.Laws.TextElements.{plain_of, plain-switched, data-alone, ending-alone}
+use Rattle.markdown_elements.proofs.TextElements.{plain_of, plain-switched, data-alone, ending-alone}
 
 first-choice : (a b : Reading Element) (cs : List Code) (r : Option (Element × List Code)) → a cs ≡ r → either a b cs ≡ elim r [ None ↦ b cs | Some x ↦ Some x ]
 unfolding either

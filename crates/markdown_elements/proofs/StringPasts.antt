@@ -16,7 +16,7 @@ use Rattle.markdown_text.specs.StringSteps.{is_on, string_markers, string_passed
 use Rattle.markdown_row.proofs.ElementLemmas.{advances-finishes, node-advances, data-advances, some-ahead}
 use Rattle.markdown_row.proofs.NodeLemmas.{escape-node, reference-node}
 use Rattle.markdown_row.proofs.RowFields.{relisted, row-fields, row-input}
-use Rattle.markdown_run.specs.Laws.StringElements.{escaped-element, referenced-element, single-element, unmarked-element}
+use Rattle.markdown_elements.proofs.StringElements.{escaped-element, referenced-element, single-element, unmarked-element}
 
 -- U stands past the first elements of the codes from T on
 abbrev pub Passes : Tokenizer → Tokenizer → Type 0

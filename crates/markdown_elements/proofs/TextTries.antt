@@ -37,7 +37,7 @@ use Rattle.markdown_attention.specs.Attention.{switches_of, run_tree}
 use Rattle.markdown_model.specs.Single.{begins_run}
 use Rattle.markdown_attention.proofs.AttentionLaws.{run-some, run-none, run-at, run-ahead}
 use Rattle.markdown_row.proofs.NodeLemmas.{run-node}
-use Rattle.markdown_run.specs.Laws.TextElements.{is_marker, run_markers, run-element, run-off, plain_of, plain-switched, off-or-none, check-element, span-element, reference-element, autolink-element, html-element, escape-element, break-element, other-element, protocol-element, www-element}
+use Rattle.markdown_elements.proofs.TextElements.{is_marker, run_markers, run-element, run-off, plain_of, plain-switched, off-or-none, check-element, span-element, reference-element, autolink-element, html-element, escape-element, break-element, other-element, protocol-element, www-element}
 use Rattle.markdown_model.proofs.ReadingSteps.{bind-none}
 
 -- what a construct reads is a tree that stands by itself

@@ -13,7 +13,7 @@ use Rattle.markdown_model.specs.Grammar.{Reading}
 use Rattle.markdown_model.specs.LabelEnd.{Element, starts}
 use Rattle.markdown_row.proofs.LabelReads.{PastStart, link-past, footnote-past, image-past}
 use Rattle.markdown_run.specs.Construct.{BeginsOrStays, start_reading}
-use Rattle.markdown_run.specs.Laws.LabelTries.{First, first-is, two-whole, on-some, on-none, footnote-some, footnote-none, link-some, link-none, image-some, image-none}
+use Rattle.markdown_elements.proofs.LabelTries.{First, first-is, two-whole, on-some, on-none, footnote-some, footnote-none, link-some, link-none, image-some, image-none}
 
 begun : (reading : Reading Element) (kind : LabelKind) (marker rest : List Code) (T U : Tokenizer) → PastStart kind marker rest T U → reading (ahead T) ≡ Some (starts kind marker, rest) → BeginsOrStays reading T true U
 begun reading kind marker rest T U p e = (kind, (marker, (e ∙ ap (λ xs. Some (starts kind marker, xs)) (sym p.after), p.left)))

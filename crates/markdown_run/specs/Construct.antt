@@ -7,6 +7,7 @@ use Rattle.markdown_engine.specs.Place.{last_of}
 use Rattle.markdown_engine.specs.Tree.{Forest}
 use Rattle.markdown_engine.specs.declared.configuration.ParseOptions.{ParseOptions}
 use Rattle.markdown_engine.specs.declared.resolve.ResolveName.{ResolveName}
+use Rattle.markdown_engine.specs.declared.resolve.ResolveName.TheVariants as R
 use Rattle.markdown_engine.specs.declared.state.StateName.{StateName}
 use Rattle.markdown_engine.specs.declared.state.StateName.TheVariants.{AttentionStart, AutolinkStart, CharacterEscapeStart, CharacterReferenceStart, DataStart, DestinationStart, LabelStart, TitleStart, GfmAutolinkLiteralProtocolStart, GfmAutolinkLiteralWwwStart, GfmLabelStartFootnoteStart, GfmTaskListItemCheckStart, HardBreakEscapeStart, HtmlTextStart, LabelEndStart, LabelStartImageStart, LabelStartLinkStart, RawTextStart, SpaceOrTabStart, SpaceOrTabEolStart}
 use Rattle.markdown_engine.specs.declared.tokenizer.LabelKind.{LabelKind}
@@ -130,7 +131,7 @@ fields_after _ s = s
 
 -- the pass that is registered after: that of runs after a run of markers
 abbrev pub pass_after : StateName → Option ResolveName
-pass_after AttentionStart = Some CharacterReference.Attention
+pass_after AttentionStart = Some R.Attention
 pass_after _ = None
 
 -- the start of a label that is read (CommonMark 6.3 and 6.4; footnotes)

@@ -1,11 +1,5 @@
 -- The laws of inline content, joined. What they need is proved in the files beside: a trait's law is a part of a contract.
-pub mod StringElements
-pub mod TextElements
-pub mod DataStops
-pub mod StringPasts
 pub mod StringLaws
-pub mod TextTries
-pub mod LabelTries
 pub mod TextLaws
 pub mod Steady
 use Rattle.std.proofs.Common.{◌≡◌, Bool, [], refl}

@@ -25,9 +25,9 @@ use Rattle.markdown_text.specs.Table.{said_at}
 use Rattle.markdown_text.proofs.TableLemmas.{by-row, none-of}
 use Rattle.markdown_row.proofs.ElementLemmas.{finishes-end}
 use Rattle.markdown_run.specs.Layer.{inline}
-use Rattle.markdown_run.specs.Laws.StringElements.{no-backslash, no-ampersand}
-use Rattle.markdown_run.specs.Laws.TextElements.{data-holds}
-use Rattle.markdown_run.specs.Laws.StringPasts.{Passes, passes-ready, passes-ends, escape-past, reference-past, data-past}
+use Rattle.markdown_elements.proofs.StringElements.{no-backslash, no-ampersand}
+use Rattle.markdown_elements.proofs.TextElements.{data-holds}
+use Rattle.markdown_elements.proofs.StringPasts.{Passes, passes-ready, passes-ends, escape-past, reference-past, data-past}
 
 -- past an element the run goes on before the next
 on-before : (n : ℕ) (T U : Tokenizer) → codes_left T * 256 < n → BeforeReady T → Passes T U → FollowsIn inline n (before_ends T) (Next StringBefore) U
