@@ -5,3 +5,5 @@ pub mod StringPasts
 pub mod TextTries
 pub mod LabelTries
 pub mod TextPasts
+pub mod StringLaws
+pub mod TextLaws

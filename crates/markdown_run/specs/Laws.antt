@@ -1,6 +1,5 @@
--- The laws of inline content, joined. What they need is proved in the files beside: a trait's law is a part of a contract.
-pub mod StringLaws
-pub mod TextLaws
+-- The laws of inline content, joined; they stand in specs, since a trait's law is a part of a contract. Each is proved over any layer in the crate of
+-- its construct, those of strings and texts in `markdown_elements`.
 pub mod Steady
 use Rattle.std.proofs.Common.{◌≡◌, Bool, [], refl}
 use Rattle.markdown_engine.specs.Runs.{Lawful}
@@ -36,8 +35,8 @@ use Rattle.markdown_partial.proofs.SpaceLaws as SpaceLaws
 use Rattle.markdown_resource.proofs.ResourceLaws as ResourceLaws
 use Rattle.markdown_resource.proofs.ResourceParts as ResourceParts
 use Rattle.markdown_resource.proofs.ResourceStartLaw as ResourceStartLaw
-use Rattle.markdown_run.specs.Laws.StringLaws as StringLaws
-use Rattle.markdown_run.specs.Laws.TextLaws as TextLaws
+use Rattle.markdown_elements.proofs.StringLaws as StringLaws
+use Rattle.markdown_elements.proofs.TextLaws as TextLaws
 use Rattle.markdown_run.specs.Layer.{ready_of, step_of, ends_of, weight_of, inline}
 use Rattle.markdown_leaf.specs.CharacterEscape.{states as escape_states}
 use Rattle.markdown_construct.specs.Within.{Within}
@@ -136,6 +135,14 @@ data-within : Within data_states inline
 data-within DataStart = refl
 data-within _ = refl
 
+string-within : Within StringLaws.states inline
+string-within StringBefore = refl
+string-within _ = refl
+
+text-within : Within TextLaws.states inline
+text-within TextBefore = refl
+text-within _ = refl
+
 pub laws_of : Lawful ready_of step_of ends_of weight_of
 laws_of CharacterEscapeStart T alone r = CharacterEscapeLaws.start-law inline escape-within T alone r
 laws_of CharacterEscapeInside T alone r = CharacterEscapeLaws.inside-law inline T alone r
@@ -170,9 +177,9 @@ laws_of SpaceOrTabEolAfterMore T alone r = EolLaws.after_more-law inline T alone
 laws_of DataStart T alone r = DataLaws.start-law inline data-within T alone r
 laws_of DataAtBreak T alone r = DataLaws.at_break-law inline data-within T alone r
 laws_of DataInside T alone r = DataLaws.inside-law inline data-within T alone r
-laws_of StringStart T alone r = StringLaws.start-law T alone r
-laws_of StringBefore T alone r = StringLaws.before-law T alone r
-laws_of StringBeforeData T alone r = StringLaws.before_data-law T alone r
+laws_of StringStart T alone r = StringLaws.start-law inline string-within T alone r
+laws_of StringBefore T alone r = StringLaws.before-law inline string-within T alone r
+laws_of StringBeforeData T alone r = StringLaws.before_data-law inline string-within T alone r
 laws_of GfmTaskListItemCheckStart T alone r = GfmTaskListItemCheckLaws.start-law inline check-within T alone r
 laws_of GfmTaskListItemCheckInside T alone r = GfmTaskListItemCheckLaws.inside-law inline check-within T alone r
 laws_of GfmTaskListItemCheckClose T alone r = GfmTaskListItemCheckLaws.close-law inline check-within T alone r
@@ -246,12 +253,12 @@ laws_of LabelEndReferenceFullMissing T alone r = ReferenceFullLaws.reference_ful
 laws_of LabelEndReferenceNotFull T alone r = LabelEndLaws.reference_not_full-law inline label_end-within T alone r
 laws_of LabelEndReferenceCollapsed T alone r = LabelEndLaws.reference_collapsed-law inline label_end-within T alone r
 laws_of LabelEndReferenceCollapsedOpen T alone r = LabelEndLaws.reference_collapsed_open-law inline label_end-within T alone r
-laws_of TextStart T alone r = TextLaws.start-law T alone r
-laws_of TextBefore T alone r = TextLaws.before-law T alone r
-laws_of TextBeforeHtml T alone r = TextLaws.before_html-law T alone r
-laws_of TextBeforeHardBreakEscape T alone r = TextLaws.before_hard_break_escape-law T alone r
-laws_of TextBeforeLabelStartLink T alone r = TextLaws.before_label_start_link-law T alone r
-laws_of TextBeforeData T alone r = TextLaws.before_data-law T alone r
+laws_of TextStart T alone r = TextLaws.start-law inline text-within T alone r
+laws_of TextBefore T alone r = TextLaws.before-law inline text-within T alone r
+laws_of TextBeforeHtml T alone r = TextLaws.before_html-law inline text-within T alone r
+laws_of TextBeforeHardBreakEscape T alone r = TextLaws.before_hard_break_escape-law inline text-within T alone r
+laws_of TextBeforeLabelStartLink T alone r = TextLaws.before_label_start_link-law inline text-within T alone r
+laws_of TextBeforeData T alone r = TextLaws.before_data-law inline text-within T alone r
 laws_of AttentionStart T alone r = AttentionLaws.start-law inline attention-within T alone r
 laws_of AttentionInside T alone r = AttentionLaws.inside-law inline attention-within T alone r
 laws_of GfmAutolinkLiteralProtocolStart T alone r = LiteralProtocolLaws.protocol_start-law inline literal-within T alone r
