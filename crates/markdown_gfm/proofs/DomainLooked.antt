@@ -1,11 +1,10 @@
 -- A look for trailing punctuation, code by code.
 use Rattle.std.proofs.Common.{◌≡◌, ℕ, ◌==◌, ◌||◌, nat_lt, Bool, true, false, Option, Some, None, List, [], ◌∷◌, refl, sym, ap, subst, ◌∙◌, arith}
 use Rattle.std.specs.Prelude.{codes}
-use Rattle.std.proofs.lemmas.Bool.{eqb-true}
 use Rattle.std.proofs.lemmas.Bool.Decides.{nat_tests}
 use Rattle.markdown_engine.specs.Codes.{Code}
 use Rattle.markdown_engine.specs.Place.{Place, ahead_at, code_at, moved, point_of}
-use Rattle.markdown_engine.proofs.PlaceRules.{IsAhead, ahead_none, ahead_some, code_at_ahead, code_at_end, point_ahead, point_end}
+use Rattle.markdown_engine.proofs.PlaceRules.{IsAhead, ahead_none, ahead_some, code_at_ahead, code_at_end, point_ahead, point_end, end_moved}
 use Rattle.markdown_model.specs.CodeTests.{is_among, is_empty, next_is, is_whitespace_code}
 use Rattle.markdown_model.specs.Literal.{is_space, trails_in}
 use Rattle.markdown_util.specs.Neighbours.{class_of, after_index}
@@ -16,25 +15,12 @@ use Rattle.markdown_gfm.specs.GfmAutolinkLiteral.{trail_value, ends_bracket}
 use Rattle.markdown_gfm.specs.DomainLooks.{IsLook, name_look}
 use Rattle.markdown_gfm.specs.declared.domain_outlook.Look.{Look}
 use Rattle.markdown_gfm.specs.declared.domain_outlook.Look.TheVariants.{GoesOn, Ends}
-use Rattle.markdown_gfm.proofs.LiteralLooks.{begins-by, trails-mark, trails-and, trails-angle, trails-bracket, trails-else, trails-end, name-letter, name-closed, name-other, name-none, name-end}
+use Rattle.markdown_gfm.proofs.LiteralLooks.{begins-by, trails-mark, trails-and, trails-angle, trails-bracket, trails-else, trails-end, name-letter, name-closed, name-other, name-none, name-end, low-by, trail-low}
 use Rattle.markdown_model.proofs.ReadingSteps.{if-true, if-false}
 
 -- these codes are ASCII
-low-by : (v n : ℕ) → (v == n) ≡ true → nat_lt n 128 ≡ true → nat_lt v 128 ≡ true
-low-by v n e h = ap (λ k. nat_lt k 128) (eqb-true v n e) ∙ h
-
-trail-low : (v : ℕ) → trail_value v ≡ true → nat_lt v 128 ≡ true
-trail-low v e = grind (arith, nat_tests)
-
 letter-low : (v : ℕ) → letter_value v ≡ true → nat_lt v 128 ≡ true
 letter-low v e = grind (arith, nat_tests)
-
--- tests by what holds
-pub alike : (v n : ℕ) → v ≡ n → (v == n) ≡ true
-alike v n e = grind (arith, e)
-
-pub unlike : (v n : ℕ) → (v ≡ n → ⊥) → (v == n) ≡ false
-unlike v n e = grind (arith, e)
 
 -- At a mark.
 
@@ -113,17 +99,13 @@ pub record Looking (bytes : List ℕ) (start : Place) (name : Option Bool) (p : 
 pub looking-start : (bytes : List ℕ) (start p : Place) → p ≡ start → IsText bytes start → at_later (code_at start) ≡ false → Looking bytes start None p
 looking-start bytes start p e text begins = subst (λ (q : Place). Looking bytes start None q) (sym e) (record { text = text; begins = begins; same = refl })
 
-same-end : (p : Place) → (moved p).end ≡ p.end
-unfolding moved
-same-end p = refl
-
 pub looking-on : (bytes : List ℕ) (start p q : Place) (name next : Option Bool) (v : ℕ) → code_at p ≡ Some v → q ≡ moved p → IsLook bytes name p v (GoesOn next) → Looking bytes start name p → Looking bytes start next q
 looking-on bytes start p q name next v here e look k =
     subst (λ (x : Place). Looking bytes start next x) (sym e)
     (record {
       text = text-moved bytes p k.text;
       begins = begins-by bytes p v k.text here look.1;
-      same = k.same ∙ look.0 ∙ ap (λ (x : _). trails_in bytes x.index next (ahead_at (moved p))) (sym (same-end p));
+      same = k.same ∙ look.0 ∙ ap (λ (x : _). trails_in bytes x.index next (ahead_at (moved p))) (sym (end_moved p));
     })
 
 pub looking-ends : (bytes : List ℕ) (start p : Place) (name : Option Bool) (v : ℕ) (answer : Bool) → IsLook bytes name p v (Ends answer) → Looking bytes start name p → answer ≡ trails_in bytes start.end.index None (ahead_at start)

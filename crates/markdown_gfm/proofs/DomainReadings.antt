@@ -3,6 +3,7 @@ use Rattle.std.proofs.Common.{◌≡◌, ℕ, suc, ◌+◌, ◌-◌, ◌<◌, �
 use Rattle.std.specs.Prelude.{codes}
 use Rattle.std.proofs.lemmas.Bool.Decides.{nat_tests}
 use Rattle.std.proofs.lemmas.Grind.{common_steps}
+use Rattle.std.proofs.lemmas.Bool.{not-true}
 use Rattle.markdown_engine.specs.Codes.{Code}
 use Rattle.markdown_engine.specs.Place.{Place, ahead_at, code_at, moved, point_of}
 use Rattle.markdown_engine.specs.declared.event.Point.{Point}
@@ -95,10 +96,6 @@ pub record Reading (bytes : List ℕ) (start p : Place) (barred dots : ℕ) (beh
 pub reading-start : (bytes : List ℕ) (start p : Place) → p ≡ start → IsText bytes start → Reading bytes start p 0 0 false
 reading-start bytes start p e text = subst (λ (q : Place). Reading bytes start q 0 0 false) (sym e) (record { text = text; long = refl; found = refl; mark = λ h. cc })
 
-opposite : (b : Bool) → not b ≡ true → b ≡ false
-opposite true e = cc
-opposite false e = refl
-
 pub reading-on : (bytes : List ℕ) (start p q : Place) (v barred dots : ℕ) (behind next : Bool) → code_at p ≡ Some v → goes_on bytes p ≡ true → q ≡ moved p → next ≡ among_values (codes "._") v → Reading bytes start p barred dots behind → Reading bytes start q (behind_code v q.at barred dots).0 (behind_code v q.at barred dots).1 next
 reading-on bytes start p q v barred dots behind next here goes e mark k =
     subst (λ (x : Place). Reading bytes start x (behind_code v x.at barred dots).0 (behind_code v x.at barred dots).1 next) (sym e)
@@ -106,7 +103,7 @@ reading-on bytes start p q v barred dots behind next here goes e mark k =
       text = text-moved bytes p k.text;
       long = omega (arith, at_moved p, ap length past, k.long);
       found = sym (sym k.found ∙ ap (barred_by p.at barred dots) past ∙ ap (λ w. more w (suc p.at)) a.value ∙ ap (more v) step);
-      mark = λ h. mark-past bytes p v here (sym mark ∙ h) (opposite _ (sym (go-mark bytes p v here (sym mark ∙ h)) ∙ goes));
+      mark = λ h. mark-past bytes p v here (sym mark ∙ h) (not-true _ (sym (go-mark bytes p v here (sym mark ∙ h)) ∙ goes));
     })
   where
     a : IsAhead p v

@@ -42,7 +42,7 @@ passed-is : (o : Option (List Code × List Code)) (os : List Op) → pass_ops o 
 passed-is None os e = cc
 passed-is (Some r) os e = record { text = r.0; rest = r.1; read = refl; is = cc }
 
-passed-none : (o : Option (List Code × List Code)) → pass_ops o ≡ None → o ≡ None
+pub passed-none : (o : Option (List Code × List Code)) → pass_ops o ≡ None → o ≡ None
 passed-none None e = refl
 passed-none (Some r) e = cc
 

@@ -1,6 +1,6 @@
 -- What is known of trails in a path is so behind each code too.
 use Rattle.std.proofs.Common.{◌≡◌, ℕ, ◌==◌, ◌&&◌, ◌||◌, Bool, true, false, if◌then◌else◌, Some, None, List, ◌∷◌, refl, sym, ap, ◌∙◌}
-use Rattle.std.proofs.lemmas.Bool.{eqb-true}
+use Rattle.std.proofs.lemmas.Bool.{eqb-true, or_parts}
 use Rattle.markdown_engine.specs.Codes.{Code}
 use Rattle.markdown_model.specs.CodeTests.{is_letter}
 use Rattle.markdown_model.specs.Literal.{trails_in}
@@ -8,10 +8,6 @@ use Rattle.markdown_model.proofs.ReadingSteps.{and-left, and-right}
 use Rattle.markdown_construct.specs.Values.{letter_value}
 use Rattle.markdown_gfm.specs.GfmAutolinkLiteral.{trail_value, is_known, known_after, Knows}
 use Rattle.markdown_gfm.proofs.LiteralLooks.{trails-mark, trails-and, trails-bracket, name-letter, name-closed}
-
-or-second : (a b : Bool) → a || b ≡ false → b ≡ false
-or-second true b e = cc
-or-second false b e = e
 
 module _ (bytes : List ℕ) (end : ℕ) where
   pub knows-nothing : (cs : List Code) → Knows bytes end 0 cs
@@ -33,7 +29,7 @@ module _ (bytes : List ℕ) (end : ℕ) where
   bracket-past : (c : Code) (cs : List Code) → trail_value c.value ≡ false → (c.value == 93) ≡ true → trails_in bytes end None (c ∷ cs) ≡ false → trails_in bytes end None cs ≡ false
   bracket-past c cs h f e =
       let is : c.value ≡ 93 = eqb-true c.value 93 f in
-      or-second _ (trails_in bytes end None cs) (sym (trails-bracket bytes end c cs h (ap (λ v. v == 38) is) (ap (λ v. v == 60) is) f) ∙ e)
+      (or_parts _ (trails_in bytes end None cs) (sym (trails-bracket bytes end c cs h (ap (λ v. v == 38) is) (ap (λ v. v == 60) is) f) ∙ e)).1
 
   -- behind a mark
   pub mark-past : (c : Code) (cs : List Code) → trail_value c.value || (c.value == 93) ≡ true → trails_in bytes end None (c ∷ cs) ≡ false → trails_in bytes end None cs ≡ false

@@ -2,6 +2,8 @@
 use Rattle.std.proofs.Common.{◌≡◌, ℕ, ◌+◌, ◌≤◌, ◌<◌, ◌==◌, nat_lt, Bool, true, false, Option, Some, None, List, [], ◌∷◌, length, slice_get, add-one, refl, sym, ap, subst, ◌∙◌, arith}
 use Rattle.std.specs.Prelude.{codes, IsSome}
 use Rattle.std.specs.Str.{IsCharBoundary}
+use Rattle.std.proofs.lemmas.Bool.{eqb-true}
+use Rattle.std.proofs.lemmas.Bool.Decides.{nat_tests}
 use Rattle.markdown_engine.specs.Codes.{Code}
 use Rattle.markdown_engine.specs.Grown.{Grown}
 use Rattle.markdown_engine.specs.Ops.{Consume, HasCode, ahead, applied, current_of, done, frame_of, scratched}
@@ -22,10 +24,18 @@ use Rattle.markdown_model.specs.Literal.{is_space, trails_in}
 use Rattle.markdown_util.specs.Neighbours.{class_of, after_index}
 use Rattle.markdown_construct.specs.Characters.{IsText, ReadsText, at_later, bytes_of}
 use Rattle.markdown_construct.proofs.TextPasses.{text-moved}
-use Rattle.markdown_gfm.specs.GfmAutolinkLiteral.{end_of, kind_here, ended, MayClass, MayCount, TrailReady, LiteralReady, LookReady, Looks, trails_on}
+use Rattle.markdown_gfm.specs.GfmAutolinkLiteral.{end_of, kind_here, ended, MayClass, MayCount, TrailReady, LiteralReady, LookReady, Looks, trails_on, trail_value}
 use Rattle.markdown_engine.specs.StateWords.{Words, GoesIn, StateWords, words_in}
 use Rattle.markdown_construct.proofs.StateLaws.{Goes-plain, Goes-end}
 use Rattle.markdown_engine.specs.declared.state.StateName.{StateName}
+
+-- These codes are ASCII.
+
+pub low-by : (v n : ℕ) → (v == n) ≡ true → nat_lt n 128 ≡ true → nat_lt v 128 ≡ true
+low-by v n e h = ap (λ k. nat_lt k 128) (eqb-true v n e) ∙ h
+
+pub trail-low : (v : ℕ) → trail_value v ≡ true → nat_lt v 128 ≡ true
+trail-low v e = grind (arith, nat_tests)
 
 -- Characters.
 

@@ -22,7 +22,7 @@ use Rattle.markdown_gfm.specs.GfmAutolinkLiteral.{end_of, before_of, is_on, may_
 use Rattle.markdown_gfm.proofs.LiteralReadings.{prefix-more, prefix-colon, prefix-none, slashes-more, slashes-last, slashes-none}
 use Rattle.markdown_construct.proofs.TextPasses.{text-consumed}
 use Rattle.markdown_gfm.proofs.LiteralWhole.{leaf_ops, protocol-is, whole-protocol}
-use Rattle.markdown_gfm.proofs.LiteralAttempts.{Begins, begins-first, literal-law}
+use Rattle.markdown_gfm.proofs.LiteralAttempts.{Begins, begins-first, literal-law, passed-none}
 use Rattle.markdown_gfm.proofs.LiteralAddressLaws.{domain-then}
 use Rattle.markdown_model.proofs.ReadingSteps.{if-true, if-false, and-left, and-right}
 use Rattle.markdown_engine.specs.StateWords.{Words, Law, GoesIn}
@@ -121,12 +121,8 @@ here-is T cs =
     protocol-is (bytes_of T) (end_of T) (is_on T) (before_of T) cs
     ∙ ap (λ b. if is_on T && not b then leaf_ops N.GfmAutolinkLiteralProtocol (prefix_reading (bytes_of T) (end_of T) 0 cs) else None) (sym (before-letter T))
 
-pub none-read : (o : Option (List Code × List Code)) → pass_ops o ≡ None → o ≡ None
-none-read None e = refl
-none-read (Some r) e = cc
-
 no-literal : (T : Tokenizer) (cs : List Code) (b : Bool) → may_begin T ≡ b → b && next_is (λ c. scheme_letter 0 c.value) cs ≡ false → plan_of (protocol_here T) cs ≡ None
-no-literal T cs true e h = here-is T cs ∙ if-true _ _ _ e ∙ ap (leaf_ops N.GfmAutolinkLiteralProtocol) (none-read _ (prefix-none (bytes_of T) (end_of T) 0 cs h refl))
+no-literal T cs true e h = here-is T cs ∙ if-true _ _ _ e ∙ ap (leaf_ops N.GfmAutolinkLiteralProtocol) (passed-none _ (prefix-none (bytes_of T) (end_of T) 0 cs h refl))
 no-literal T cs false e h = here-is T cs ∙ if-false _ _ _ e
 
 word-ready : (T : Tokenizer) → StartReady T → WordReady (entered_literal N.GfmAutolinkLiteralProtocol T)

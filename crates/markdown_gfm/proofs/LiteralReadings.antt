@@ -1,9 +1,10 @@
 -- What autolink literals read, by what stands there.
-use Rattle.std.proofs.Common.{◌≡◌, ℕ, zero, suc, ◌+◌, ◌≤◌, ◌==◌, ◌&&◌, ◌||◌, not, nat_le, Bool, true, false, if◌then◌else◌, Option, Some, None, List, [], ◌∷◌, ◌++◌, drop, reverse, append_assoc, append-nil, refl, sym, ap, subst, ◌∙◌, arith}
+use Rattle.std.proofs.Common.{◌≡◌, ℕ, zero, suc, ◌+◌, ◌≤◌, ◌==◌, ◌&&◌, ◌||◌, not, nat_le, Bool, true, false, if◌then◌else◌, Option, Some, None, List, [], ◌∷◌, ◌++◌, reverse, append_assoc, append-nil, refl, sym, ap, subst, ◌∙◌, arith}
 use Rattle.std.specs.Prelude.{codes}
 use Rattle.std.specs.List.{list_any}
 use Rattle.std.proofs.lemmas.List.{reverse-append}
 use Rattle.std.proofs.lemmas.Bool.Decides.{nat_tests}
+use Rattle.std.proofs.Math.Seq.{drop-nil}
 use Rattle.markdown_engine.specs.Codes.{Code}
 use Rattle.markdown_engine.specs.Ops.{Op, Consume}
 use Rattle.markdown_engine.specs.TreeOps.{consumes}
@@ -11,10 +12,9 @@ use Rattle.markdown_engine.specs.declared.tokenizer.TokenizeState.{TokenizeState
 use Rattle.markdown_model.specs.CodeTests.{is_value, is_among, is_letter, is_empty, next_is}
 use Rattle.markdown_model.specs.Grammar.{Reading, ◌>>=◌, ◌then_◌, either, one, gives, with_first}
 use Rattle.markdown_model.specs.Literal.{letters, last_parts_plain, is_domain, domain, domain_from, is_domain_code, path, path_from, ends_path, count_if}
-use Rattle.markdown_construct.specs.Readings.{after}
 use Rattle.markdown_construct.specs.Values.{letter_value}
 use Rattle.markdown_construct.specs.Plan.{preceded}
-use Rattle.markdown_construct.proofs.AfterLemmas.{then-after, after-more}
+use Rattle.markdown_construct.proofs.AfterLemmas.{then-after, after-more, after-none}
 use Rattle.markdown_construct.proofs.PlanLemmas.{consumes-append}
 use Rattle.markdown_gfm.specs.GfmAutolinkLiteral.{scheme_letter, www_letter, www_test, rested, saw, underscored, dotted, is_well, passed_code, fields_after, pass_ops, path_plan, domain_plan, domain_after_plan, address, schemes, slashes_plan, prefix_plan}
 use Rattle.markdown_model.proofs.ReadingSteps.{bind-some, bind-none, one-here, one-not, then-some, then-none, either-some, either-second, and-left, and-right, left-true, if-true, if-false}
@@ -174,10 +174,6 @@ then-first a b k c cs e = by_what (b cs) refl
         ∙ after-more c r.0 (k r.1)
         ∙ ap (with_first c) (sym (then-after b k cs r.0 r.1 h))
 
-after-nothing : (o : Option (List Code × List Code)) → after [] o ≡ o
-after-nothing None = refl
-after-nothing (Some r) = refl
-
 pub ops-first : (c : Code) (o : Option (List Code × List Code)) → pass_ops (with_first c o) ≡ preceded (Consume ∷ []) (pass_ops o)
 ops-first c None = refl
 ops-first c (Some r) = refl
@@ -252,10 +248,6 @@ last-none cs e = either-second (letters (115 ∷ [])) (letters []) cs (letters-n
 no-letter : (n v : ℕ) → 5 ≤ n → scheme_letter n v ≡ false
 no-letter n v h = grind (arith, nat_tests)
 
-drop-nil : (n : ℕ) → drop {A = ℕ} n [] ≡ []
-drop-nil zero = refl
-drop-nil (suc n) = refl
-
 next-same : (p q : Code → Bool) → ((c : Code) → p c ≡ q c) → (cs : List Code) → next_is p cs ≡ next_is q cs
 next-same p q h [] = refl
 next-same p q h (c ∷ cs) = h c
@@ -290,7 +282,7 @@ letters-other : (n : ℕ) (ns : List ℕ) (k : Reading (List Code)) (cs : List C
 letters-other n ns k cs e = ap pass_ops (then-none (letters (n ∷ ns)) k cs (letters-none n ns cs e))
 
 then-nothing : (a k : Reading (List Code)) (cs : List Code) → a cs ≡ Some ([], cs) → (a then_ k) cs ≡ k cs
-then-nothing a k cs e = then-after a k cs [] cs e ∙ after-nothing (k cs)
+then-nothing a k cs e = then-after a k cs [] cs e ∙ after-none (k cs)
 
 module _ (bytes : List ℕ) (end : ℕ) where
   pub prefix-more : (n : ℕ) (c : Code) (cs : List Code) → scheme_letter n c.value ≡ true → prefix_plan bytes end n (c ∷ cs) ≡ preceded (Consume ∷ []) (prefix_plan bytes end (n + 1) cs)

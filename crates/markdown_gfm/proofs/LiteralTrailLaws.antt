@@ -1,8 +1,7 @@
 -- The laws of the states in what may be trailing punctuation.
-use Rattle.std.proofs.Common.{◌≡◌, ℕ, ◌==◌, ◌||◌, nat_lt, Bool, true, false, Option, Some, None, List, [], ◌∷◌, refl, sym, ap, ◌∙◌, arith}
+use Rattle.std.proofs.Common.{◌≡◌, ◌==◌, ◌||◌, Bool, true, false, Option, Some, None, List, [], ◌∷◌, refl, sym, ap, ◌∙◌, arith}
 use Rattle.std.specs.Prelude.{codes}
-use Rattle.std.proofs.lemmas.Bool.{eqb-true, or_left}
-use Rattle.std.proofs.lemmas.Bool.Decides.{nat_tests}
+use Rattle.std.proofs.lemmas.Bool.{or_left}
 use Rattle.markdown_engine.specs.Codes.{Code}
 use Rattle.markdown_engine.specs.Lists.{rest_of, first_of}
 use Rattle.markdown_engine.specs.Ops.{Consume, ahead, applied, current_of, done}
@@ -19,7 +18,7 @@ use Rattle.markdown_construct.specs.Values.{letter_value}
 use Rattle.markdown_construct.specs.Characters.{bytes_of}
 use Rattle.markdown_construct.proofs.TextPasses.{text-passed}
 use Rattle.markdown_gfm.specs.GfmAutolinkLiteral.{end_of, kind_here, trail_value, trail_at, ends_bracket, reference_start_at, reference_at, trails_on, trail_ends, bracket_after_ends, reference_start_ends, reference_ends, states, bracket_after_words, reference_start_words, reference_words, trail_words}
-use Rattle.markdown_gfm.proofs.LiteralLooks.{look-passed, space-here, space-end, trails-mark, trails-and, trails-angle, trails-bracket, trails-else, trails-end, name-letter, name-closed, name-other, name-none, name-end, look-ended, look-next, look-retry}
+use Rattle.markdown_gfm.proofs.LiteralLooks.{look-passed, space-here, space-end, trails-mark, trails-and, trails-angle, trails-bracket, trails-else, trails-end, name-letter, name-closed, name-other, name-none, name-end, look-ended, look-next, look-retry, low-by, trail-low}
 use Rattle.markdown_engine.specs.StateWords.{Words, Law, GoesIn}
 use Rattle.markdown_construct.specs.Within.{Within}
 
@@ -31,13 +30,6 @@ trails-then mode T = ap (trails_in (bytes_of T) (end_of T) mode) (ahead-consumed
 on-then : (T : Tokenizer) → trails_on (bytes_of (done (Consume ∷ []) T)) (end_of (done (Consume ∷ []) T)) (ahead (done (Consume ∷ []) T)) ≡ trails_on (bytes_of T) (end_of T) (rest_of (ahead T))
 unfolding applied moved
 on-then T = ap (trails_on (bytes_of T) (end_of T)) (ahead-consumed T)
-
--- these codes are ASCII
-low-by : (v n : ℕ) → (v == n) ≡ true → nat_lt n 128 ≡ true → nat_lt v 128 ≡ true
-low-by v n e h = ap (λ k. nat_lt k 128) (eqb-true v n e) ∙ h
-
-trail-low : (v : ℕ) → trail_value v ≡ true → nat_lt v 128 ≡ true
-trail-low v e = grind (arith, nat_tests)
 
 pub trail-law : (W : Words) → Within states W → Law W trail_words
 trail-law W within T alone look =

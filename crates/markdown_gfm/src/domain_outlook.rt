@@ -10,7 +10,7 @@ ghost use Rattle.markdown_engine.specs.Place.{ahead_at, code_at, moved, point_of
 ghost use Rattle.markdown_engine.specs.Stretch.{past_stretch};
 ghost use Rattle.markdown_construct.specs.Values.{among_values};
 ghost use Rattle.markdown_construct.specs.Characters.{IsText, at_later, later_value};
-ghost use Rattle.markdown_model.specs.Literal.{is_other, is_space, trails_in, is_domain_code};
+ghost use Rattle.markdown_model.specs.Literal.{is_other, is_space, trails_in};
 ghost use Rattle.markdown_util.specs.Neighbours.{class_of, after_index};
 ghost use Rattle.markdown_gfm.specs.GfmAutolinkLiteral.{ends_bracket};
 ghost use Rattle.markdown_gfm.specs.DomainOutlook as DomainOutlook;

@@ -9,7 +9,6 @@
 ghost use Rattle.std.specs.Prelude.{◌≡◌, ◌<◌, false, IfOk, OnErr, IsTrue};
 ghost use Rattle.markdown_engine.specs.Ops.{HasCode, IsOpen, current_of, scratched};
 ghost use Rattle.markdown_engine.specs.declared.event.Name.TheVariants.{GfmAutolinkLiteralProtocol, GfmAutolinkLiteralWww};
-ghost use Rattle.markdown_construct.specs.Values.{letter_value};
 ghost use Rattle.markdown_construct.specs.Characters.{at_later};
 ghost use Rattle.markdown_partial.specs.SpaceSteps.{most};
 ghost use Rattle.markdown_gfm.specs.GfmAutolinkLiteral.{kind_here, scheme_letter, trail_value, mark_value, known_after, is_known, count_value, marked, domain_on, rested, refused, protocol_start_step, protocol_after_step, prefix_step, slashes_step, precedes_www, www_letter, is_ruled_out, www_start_step, www_prefix_step, www_prefix_after_step, www_after_step, domain_step, domain_punctuation_step, domain_after_step, passing, path_step, path_punctuation_step, path_after_step, trail_step, bracket_after_step, reference_start_step, reference_step, MayClass, TrailReady, MayCount};

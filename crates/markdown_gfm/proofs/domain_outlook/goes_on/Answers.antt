@@ -1,5 +1,6 @@
 -- By the code at hand.
-use Rattle.std.proofs.Common.{◌≡◌, ◌||◌, Bool, true, false, sym, ap, ◌∙◌}
+use Rattle.std.proofs.Common.{◌||◌, sym, ap, ◌∙◌}
+use Rattle.std.proofs.lemmas.Bool.{or_parts}
 use Rattle.markdown_construct.specs.Characters.{at_later}
 use Rattle.markdown_model.specs.Literal.{is_other}
 use Rattle.markdown_engine.specs.Place.{point_of}
@@ -21,9 +22,5 @@ returns-else-is_plain c =
     ∙ sym (go-plain c.args.bytes.now c.args.place.now c.args.code c.requires.code (sym c.is_domain_mark.ensures ∙ c.if-is_domain_mark.false)
     ∙ ap (λ b. b || is_other (class_of (after_index c.args.bytes.now (point_of c.args.place.now).index))) (sym c.is_plain.ensures ∙ c.if-is_plain.false))
 
-or-right : (a b : Bool) → a || b ≡ false → b ≡ false
-or-right true b e = cc
-or-right false b e = e
-
 pub is_at_other-requires-clause-begins : goal.is_at_other-requires-clause-begins
-is_at_other-requires-clause-begins c = ap at_later c.requires.code ∙ or-right _ _ (sym c.is_plain.ensures ∙ c.if-is_plain.false)
+is_at_other-requires-clause-begins c = ap at_later c.requires.code ∙ (or_parts _ _ (sym c.is_plain.ensures ∙ c.if-is_plain.false)).1
