@@ -4,15 +4,14 @@
 // The pass puts the groups around them, and makes data of the starts that no end has used.
 #![tactic(auto)]
 
-ghost use Rattle.std.specs.Prelude.{◌≡◌, ◌+◌, ◌-◌, ◌<◌, ◌≤◌, ◌++◌, ◌∷◌, [], length, IfOk, OnOk, OnErr, IsTrue, None};
+ghost use Rattle.std.specs.Prelude.{◌≡◌, ◌+◌, ◌-◌, ◌<◌, ◌++◌, ◌∷◌, [], length, IfOk, OnOk, OnErr, IsTrue, None};
 ghost use Rattle.std.specs.List.{All};
-ghost use Rattle.markdown_engine.specs.Edits.{CanEdit, edited};
 ghost use Rattle.markdown_engine.specs.Past.{appended_from};
 ghost use Rattle.markdown_engine.specs.Tree.{event};
 ghost use Rattle.markdown_engine.specs.declared.event.Kind.{Kind};
 ghost use Rattle.markdown_engine.specs.declared.tokenizer.LabelKind.{LabelKind};
 ghost use Rattle.markdown_model.specs.Passes.{label_name};
-ghost use Rattle.markdown_label_pass.specs.Brackets.{Brackets, grouped, place_at, opened, ended, closed, as_data, label_edits, labels_edits, loose_edits, loose_edit, replacing, all_edits, IsWithin, IsStartWithin};
+ghost use Rattle.markdown_label_pass.specs.Brackets.{Brackets, grouped, place_at, opened, ended, closed, label_edits, labels_edits, loose_edits, loose_edit, replacing, IsWithin, IsStartWithin};
 ghost use Rattle.markdown_label_pass.specs.Handover.{HasBrackets, MayGroup, starts_of, unlabelled};
 
 use markdown_engine::event::{Event, Kind, Name, Point};
