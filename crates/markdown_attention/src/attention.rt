@@ -12,7 +12,7 @@ mod reading;
 pub mod runs;
 
 ghost use Rattle.std.specs.Prelude.{◌≡◌, IfOk, OnErr, IsTrue};
-ghost use Rattle.markdown_attention.specs.Attention.{start_step, inside_step, leaving, with_marker};
+ghost use Rattle.markdown_attention.specs.Attention.{start_step, inside_step, leaving};
 ghost use Rattle.markdown_model.specs.Single.{begins_run};
 ghost use Rattle.markdown_engine.specs.Ops.{IsOpen, scratched};
 ghost use Rattle.markdown_engine.specs.declared.event.Name.TheVariants.{AttentionSequence};

@@ -325,16 +325,15 @@ pub fn pair_runs(
             }
             Some(opener) => {
                 let size = pair_size(opener.remaining, closer.remaining);
-                let pair = Pair {
-                    opener: opener.number,
-                    closer: closer.number,
-                    size,
-                };
                 runs.take(opener.number, size);
                 let used = opener.remaining == size;
                 cut_for_pair(&mut heads, &older, row * 3, list, opener.number, used);
                 lower_marks(&mut marks, list * 6, opener.number);
-                pairs.push(pair)?;
+                pairs.push(Pair {
+                    opener: opener.number,
+                    closer: closer.number,
+                    size,
+                })?;
             }
         }
     }

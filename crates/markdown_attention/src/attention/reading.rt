@@ -1,8 +1,7 @@
 //! Reading the runs of markers off the events.
 
-ghost use Rattle.std.specs.Prelude.{◌≡◌, ℕ, ◌+◌, ◌<◌, ◌^◌, ◌++◌, length, drop, count_by, IfOk, OnOk, IsUtf8, None, []};
-ghost use Rattle.std.specs.Str.{IsCharBoundary};
-ghost use Rattle.markdown_attention.specs.Reading.{is_run, is_text, opens_run, opens_text, is_beside_marker, is_flanking, may_act, sequence_at, where_after, outermost, first_run, runs_from, IsRunPlace, FirstHasPlaces, HaveRunPlaces};
+ghost use Rattle.std.specs.Prelude.{◌≡◌, ◌+◌, ◌<◌, ◌^◌, ◌++◌, length, drop, count_by, IfOk, OnOk, IsUtf8, None};
+ghost use Rattle.markdown_attention.specs.Reading.{opens_run, opens_text, is_beside_marker, is_flanking, may_act, sequence_at, where_after, outermost, first_run, runs_from, IsRunPlace, FirstHasPlaces, HaveRunPlaces};
 ghost use Rattle.markdown_attention.specs.Walk.{Numbered};
 ghost use Rattle.markdown_model.specs.Literal.{is_other};
 ghost use Rattle.markdown_util.specs.Neighbours.{class_of};

@@ -1,6 +1,6 @@
 //! The runs of markers of a content, and the one way to look at them.
 
-ghost use Rattle.std.specs.Prelude.{◌≡◌, ℕ, ◌+◌, ◌^◌, ◌<◌, ◌≤◌, ◌↔◌, length, count_by, IfSome, IsSome, IfOk, OnOk, OnErr, IsTrue, IsUtf8, None};
+ghost use Rattle.std.specs.Prelude.{◌≡◌, ◌+◌, ◌^◌, ◌<◌, ◌≤◌, ◌↔◌, length, count_by, IfSome, IsSome, IfOk, OnOk, OnErr, IsTrue, IsUtf8, None};
 ghost use Rattle.markdown_attention.specs.Pairs.{run_at, after_taking};
 ghost use Rattle.markdown_attention.specs.Reading.{HaveRunPlaces, opens_text};
 ghost use Rattle.markdown_attention.specs.Events.{runs_of_events};

@@ -9,7 +9,7 @@ use Rattle.markdown_attention.proofs.ListScan.{inv_start}
 use Rattle.markdown_attention.proofs.Scan.{all-within, all-once}
 use Rattle.markdown_attention.proofs.Turns.{scanned-all, paid-all, looks-all, end_turn, pair_turn, fits, key_is, small_runs, some_key, zeros, length_if, less}
 use Rattle.markdown_attention.proofs.attention.pairing.pair_runs.Goals as goal
-use Rattle.markdown_attention.proofs.attention.pairing.pair_runs.Goals.{After-walk, After-pair_size-size, After-row_known-1}
+use Rattle.markdown_attention.proofs.attention.pairing.pair_runs.Goals.{After-walk, After-row_known-1}
 
 pub loop-closer-init : goal.loop-closer-init
 loop-closer-init c =
