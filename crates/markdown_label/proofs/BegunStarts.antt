@@ -18,7 +18,7 @@ use Rattle.markdown_engine.specs.declared.tokenizer.LabelKind.{LabelKind}
 use Rattle.markdown_engine.specs.declared.tokenizer.LabelStart as Kept
 use Rattle.markdown_engine.specs.declared.tokenizer.TokenizeState.{TokenizeState}
 use Rattle.markdown_engine.specs.declared.tokenizer.Tokenizer.{Tokenizer}
-use Rattle.markdown_engine.proofs.OpRules.{ahead-moved}
+use Rattle.markdown_engine.proofs.OpRules.{Begins, ahead-moved}
 use Rattle.markdown_engine.proofs.OpsLemmas.{and-left, and-right}
 use Rattle.markdown_engine.proofs.SolidLemmas.{IsSolid-group, IsSolid-leaf, IsSolid-row}
 use Rattle.markdown_engine.proofs.TreeLemmas.{ops-past}
@@ -61,12 +61,7 @@ within-past kind size t es last T whole b k =
 
 -- The codes of a start.
 
-record First (v : ℕ) (cs : List Code) : Type 0 where
-  code : Code
-  value : code.value ≡ v
-  whole : cs ≡ code ∷ rest_of cs
-
-first-is : (v : ℕ) (cs : List Code) → next_is (is_value v) cs ≡ true → First v cs
+pub first-is : (v : ℕ) (cs : List Code) → next_is (is_value v) cs ≡ true → Begins v cs
 first-is v [] e = cc
 first-is v (c ∷ cs) e = record { code = c; value = eqb-true c.value v e; whole = refl }
 
@@ -80,7 +75,7 @@ one-within c rest T text k codes low =
 
 pub link-within : (T : Tokenizer) → ReadsText T → AreWithin T T.tokenize_state.label_starts → link_test T (ahead T) ≡ true → (let U : Tokenizer = kept_start LabelKind.Link 4 (done link_ops T) in AreWithin U U.tokenize_state.label_starts)
 link-within T text k e =
-    let f : First 91 (ahead T) = first-is 91 (ahead T) (and-right _ _ e) in
+    let f : Begins 91 (ahead T) = first-is 91 (ahead T) (and-right _ _ e) in
     one-within f.code (rest_of (ahead T)) T text k f.whole (ap (λ v. nat_lt v 128) f.value)
 
 -- two markers
@@ -96,19 +91,19 @@ pair-within kind whole a b c d rest T text k codes low =
     subst (λ (V : Tokenizer). AreWithin (kept_start kind 6 V) (kept_start kind 6 V).tokenize_state.label_starts) (sym is)
     (within-past kind 6 t (_ ∷ _ ∷ _ ∷ _ ∷ _ ∷ []) _ T refl (marker-ends (bytes_of T) (moved T.cursor) d rest (text-moved (bytes_of T) T.cursor text) (ahead-moved T.cursor ∙ ap rest_of codes) low) k)
 
-second : (v w : ℕ) (cs : List Code) (f : First v cs) (g : First w (rest_of cs)) → cs ≡ f.code ∷ g.code ∷ rest_of (rest_of cs)
-second v w cs f g = f.whole ∙ ap (λ xs. f.code ∷ xs) g.whole
+pub two-whole : (v w : ℕ) (cs : List Code) (f : Begins v cs) (g : Begins w (rest_of cs)) → cs ≡ f.code ∷ g.code ∷ rest_of (rest_of cs)
+two-whole v w cs f g = f.whole ∙ ap (λ xs. f.code ∷ xs) g.whole
 
 pub footnote-within : (T : Tokenizer) → ReadsText T → AreWithin T T.tokenize_state.label_starts → footnote_test T (ahead T) ≡ true
     → (let U : Tokenizer = kept_start LabelKind.GfmFootnote 6 (done (footnote_front ++ footnote_back) T) in AreWithin U U.tokenize_state.label_starts)
 footnote-within T text k e =
-    let f : First 91 (ahead T) = first-is 91 (ahead T) (and-right _ _ (and-left _ _ e)) in
-    let g : First 94 (rest_of (ahead T)) = first-is 94 (rest_of (ahead T)) (and-right _ _ e) in
-    pair-within LabelKind.GfmFootnote N.GfmFootnoteCallLabel N.LabelMarker N.GfmFootnoteCallMarker f.code g.code (rest_of (rest_of (ahead T))) T text k (second 91 94 (ahead T) f g) (ap (λ v. nat_lt v 128) g.value)
+    let f : Begins 91 (ahead T) = first-is 91 (ahead T) (and-right _ _ (and-left _ _ e)) in
+    let g : Begins 94 (rest_of (ahead T)) = first-is 94 (rest_of (ahead T)) (and-right _ _ e) in
+    pair-within LabelKind.GfmFootnote N.GfmFootnoteCallLabel N.LabelMarker N.GfmFootnoteCallMarker f.code g.code (rest_of (rest_of (ahead T))) T text k (two-whole 91 94 (ahead T) f g) (ap (λ v. nat_lt v 128) g.value)
 
 pub image-within : (T : Tokenizer) → ReadsText T → AreWithin T T.tokenize_state.label_starts → image_test T (ahead T) ≡ true
     → (let U : Tokenizer = kept_start LabelKind.Image 6 (done (image_front ++ image_back) T) in AreWithin U U.tokenize_state.label_starts)
 image-within T text k e =
-    let f : First 33 (ahead T) = first-is 33 (ahead T) (and-right _ _ (and-left _ _ e)) in
-    let g : First 91 (rest_of (ahead T)) = first-is 91 (rest_of (ahead T)) (and-left _ _ (and-right _ _ e)) in
-    pair-within LabelKind.Image N.LabelImage N.LabelImageMarker N.LabelMarker f.code g.code (rest_of (rest_of (ahead T))) T text k (second 33 91 (ahead T) f g) (ap (λ v. nat_lt v 128) g.value)
+    let f : Begins 33 (ahead T) = first-is 33 (ahead T) (and-right _ _ (and-left _ _ e)) in
+    let g : Begins 91 (rest_of (ahead T)) = first-is 91 (rest_of (ahead T)) (and-left _ _ (and-right _ _ e)) in
+    pair-within LabelKind.Image N.LabelImage N.LabelImageMarker N.LabelMarker f.code g.code (rest_of (rest_of (ahead T))) T text k (two-whole 33 91 (ahead T) f g) (ap (λ v. nat_lt v 128) g.value)

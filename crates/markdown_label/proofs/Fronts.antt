@@ -12,6 +12,7 @@ use Rattle.std.proofs.Math.Seq.{take-append-add}
 use Rattle.std.proofs.lemmas.List.Splits.{slice_split-cons_yes, slice_split-cons_no, length-slice_split}
 use Rattle.std.proofs.lemmas.Slice.Eq.{bytes_eq-Decides, starts_is}
 use Rattle.std.proofs.lemmas.Str.{chars-append, encodes-append, IsUtf8-between}
+use Rattle.caseless.proofs.CaselessLemmas.{default_case_fold-append}
 use Rattle.caseless.specs.Caseless.{default_case_fold}
 use Rattle.markdown_util.specs.Identifier.{separates_words, is_nonempty, joined_words, identifier_of}
 use Rattle.markdown_engine.specs.declared.tokenizer.LabelKind.{LabelKind}
@@ -118,14 +119,10 @@ joined-front xs ys =
 
 -- Case folding and UTF-8 go character by character.
 
-folded-append : (xs ys : List ℕ) → default_case_fold (xs ++ ys) ≡ default_case_fold xs ++ default_case_fold ys
-unfolding default_case_fold
-folded-append xs ys = flat_map-append _ xs ys
-
 folded-front : (front whole : List ℕ) → Begins front whole → Begins (encode_utf8_all (default_case_fold front)) (encode_utf8_all (default_case_fold whole))
 folded-front front whole b = (
   encode_utf8_all (default_case_fold b.0),
-  ap (λ cs. encode_utf8_all (default_case_fold cs)) b.1 ∙ ap encode_utf8_all (folded-append front b.0) ∙ encodes-append (default_case_fold front) (default_case_fold b.0),
+  ap (λ cs. encode_utf8_all (default_case_fold cs)) b.1 ∙ ap encode_utf8_all (default_case_fold-append front b.0) ∙ encodes-append (default_case_fold front) (default_case_fold b.0),
 )
 
 pub identifier-front : (xs ys : List ℕ) → IsUtf8 xs → Begins (identifier_of xs) (identifier_of (xs ++ ys))

@@ -30,7 +30,7 @@ use Rattle.markdown_model.specs.Setting.{Setting, is_defined}
 use Rattle.markdown_model.proofs.ReadingSteps.{either-some, either-second, if-true, if-false}
 use Rattle.markdown_resource.specs.Parts.{rested}
 use Rattle.markdown_resource.proofs.NextCodes.{at-value, at-none}
-use Rattle.markdown_label.specs.Fields.{with_kind, tried}
+use Rattle.markdown_label.specs.Fields.{with_kind, as_link}
 use Rattle.markdown_label.specs.LabelEnd.{identifier_between, by_definition, not_full, tail_at, link_tried, after_by, made_here, lost_here, label_seen, may_be_shortcut, collapsed_front, collapsed_back, collapsed_at, reference_collapsed_step, collapsed_open_at, AfterReady, FullReady, tail_ends, kind_set, made, after_reading_of, after_reading, after_ends, ok_ends, nok_ends, not_full_reading, reference_collapsed_ends, collapsed_open_plan, reference_collapsed_open_ends, starts_set, states, ok_words, nok_words, after_words, reference_collapsed_words, reference_collapsed_open_words, reference_not_full_words}
 use Rattle.markdown_model.specs.Single.{outcome}
 use Rattle.markdown_label.specs.Settings.{setting_in}
@@ -160,7 +160,7 @@ module _ (W : Words) (within : Within states W) where
   tried-ready : (T : Tokenizer) → AfterReady T → FullReady (link_tried T)
   unfolding scratched
   tried-ready T k =
-      let f : TokenizeState → TokenizeState = starts_set (tried T.tokenize_state.label_starts) in
+      let f : TokenizeState → TokenizeState = starts_set (as_link T.tokenize_state.label_starts) in
       record {
         part = record {
           short = k.part.short;
@@ -175,7 +175,7 @@ module _ (W : Words) (within : Within states W) where
       }
 
   first-kind : (l : Kept.LabelStart) (ls : List Kept.LabelStart) (T : Tokenizer) → T.tokenize_state.label_starts ≡ l ∷ ls → link_tried T ≡ kind_set (link_kind l.kind) T
-  first-kind l ls T e = ap (λ x. scratched (starts_set x T.tokenize_state) T) (ap tried e ∙ sym (ap (with_kind (link_kind l.kind)) e))
+  first-kind l ls T e = ap (λ x. scratched (starts_set x T.tokenize_state) T) (ap as_link e ∙ sym (ap (with_kind (link_kind l.kind)) e))
 
   reads-as : (l : Kept.LabelStart) (ls : List Kept.LabelStart) (T : Tokenizer) → T.tokenize_state.label_starts ≡ l ∷ ls → after_reading T (ahead T) ≡ outcome (setting_in T) l.kind (identifier_between T l.start.1 T.tokenize_state.end) (ahead T)
   reads-as l ls T e = ap (λ x. after_reading_of x T (ahead T)) e

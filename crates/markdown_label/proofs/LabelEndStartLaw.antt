@@ -35,7 +35,7 @@ use Rattle.markdown_model.specs.Grammar.{Reading, ◌>>=◌, gives, one}
 use Rattle.markdown_model.specs.LabelEnd.{bytes_between}
 use Rattle.markdown_model.proofs.ReadingSteps.{bind-some, bind-none, one-here, one-not, switched-on, switched-off, if-true, if-false}
 use Rattle.markdown_util.specs.Identifier.{identifier_of}
-use Rattle.markdown_label.specs.Fields.{bars, tried, loosened}
+use Rattle.markdown_label.specs.Fields.{bars, as_link, loosened}
 use Rattle.std.specs.Str.{IsCharBoundary}
 use Rattle.std.proofs.lemmas.Bool.{eqb-true}
 use Rattle.markdown_engine.specs.declared.event.Point.{Point}
@@ -156,9 +156,9 @@ module _ (T : Tokenizer) (x : Code) (cs : List Code) (whole : ahead T ≡ x ∷ 
       if-true _ _ _ (ap (λ b. b && next_is (is_value 93) (ahead T)) on ∙ ap (next_is (is_value 93)) whole ∙ here)
       ∙ ap (λ y. lost_by y T.tokenize_state) e
 
-  active-fields : (l : Kept.LabelStart) (ls : List Kept.LabelStart) → T.tokenize_state.label_starts ≡ l ∷ ls → bars l ≡ false → loosened (tried P.tokenize_state.label_starts) P.tokenize_state ≡ loosened (lost_starts (l ∷ ls)) T.tokenize_state
+  active-fields : (l : Kept.LabelStart) (ls : List Kept.LabelStart) → T.tokenize_state.label_starts ≡ l ∷ ls → bars l ≡ false → loosened (as_link P.tokenize_state.label_starts) P.tokenize_state ≡ loosened (lost_starts (l ∷ ls)) T.tokenize_state
   unfolding past scratched
-  active-fields l ls e active = ap (λ ys. loosened (tried ys) T.tokenize_state) e ∙ ap (λ ys. loosened ys T.tokenize_state) (sym (if-false _ _ _ active))
+  active-fields l ls e active = ap (λ ys. loosened (as_link ys) T.tokenize_state) e ∙ ap (λ ys. loosened ys T.tokenize_state) (sym (if-false _ _ _ active))
 
   barred-fields : (l : Kept.LabelStart) (ls : List Kept.LabelStart) → T.tokenize_state.label_starts ≡ l ∷ ls → bars l ≡ true → loosened (ended T).tokenize_state.label_starts (ended T).tokenize_state ≡ loosened (lost_starts (l ∷ ls)) T.tokenize_state
   unfolding scratched

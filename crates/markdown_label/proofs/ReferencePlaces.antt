@@ -2,6 +2,8 @@
 use Rattle.std.proofs.Common.{◌≡◌, ℕ, Bool, true, false, ◌&&◌, not, Option, Some, None, List, [], ◌∷◌, ◌++◌, refl, sym, ap, subst, ◌∙◌, append-nil}
 use Rattle.std.specs.List.{list_any}
 use Rattle.std.proofs.lemmas.Bool.{eqb-true}
+use Rattle.markdown_model.proofs.LinkLaws.{yields_passed_if}
+use Rattle.markdown_engine.proofs.SolidLemmas.{stop_of-append}
 use Rattle.markdown_engine.specs.Codes.{Code, is_line_ending, is_blank, stop_of, document_start}
 use Rattle.markdown_engine.specs.Tree.{Forest, empty, leaf_then, group_then, leaf, group, leaf_codes, enter_of, exit_after, ◌⊕◌}
 use Rattle.markdown_engine.specs.declared.event.Content.{Content}
@@ -15,7 +17,7 @@ use Rattle.markdown_model.specs.Lines.{lines, lines_from, lines_of, line_leaf, l
 use Rattle.markdown_model.specs.Resource.{label, reference_names, between_markers, string_group}
 use Rattle.markdown_model.proofs.LinkFree.{Passes, Yields, yields_bind, yields_gives, yields_passed, then_any}
 use Rattle.markdown_model.proofs.Readings.{codes-lines}
-use Rattle.markdown_label.proofs.ReferenceShape.{IsReference, yields_test}
+use Rattle.markdown_label.proofs.ReferenceShape.{IsReference}
 
 -- Rows of leaves.
 
@@ -24,14 +26,10 @@ AreLeaves empty = Unit {0}
 AreLeaves (leaf_then name link cs rest) = AreLeaves rest
 AreLeaves (group_then name enter exit inside rest) = ⊥
 
-stop-append : (p : Point) (xs ys : List Code) → stop_of p (xs ++ ys) ≡ stop_of (stop_of p xs) ys
-stop-append p [] ys = refl
-stop-append p (x ∷ xs) ys = stop-append x.stop xs ys
-
 leaves-exit : (p : Point) (t : Forest) → AreLeaves t → exit_after p t ≡ stop_of p (leaf_codes t)
 unfolding AreLeaves
 leaves-exit p empty k = refl
-leaves-exit p (leaf_then name link cs rest) k = leaves-exit (stop_of p cs) rest k ∙ sym (stop-append p cs (leaf_codes rest))
+leaves-exit p (leaf_then name link cs rest) k = leaves-exit (stop_of p cs) rest k ∙ sym (stop_of-append p cs (leaf_codes rest))
 leaves-exit p (group_then name enter exit inside rest) k = absurd k
 
 leaves-row : (t u : Forest) → AreLeaves t → AreLeaves u → AreLeaves (t ⊕ u)
@@ -171,7 +169,7 @@ unfolding label
 label-text =
     yields_bind (IsOne 91) _ _ _ (one-value 91) λ front f.
     then_any _ _ _ λ text.
-    yields_test _ _ _ λ t.
+    yields_passed_if _ _ _ λ t.
     yields_passed _ _ _
     (yields_bind (IsOne 93) _ _ _ (one-value 93) λ back b.
     yields_passed _ _ _

@@ -1,6 +1,7 @@
 -- The tree of a full reference, and where its text stands among the events.
 use Rattle.std.proofs.Common.{◌≡◌, ◌≢◌, ℕ, suc, ◌+◌, ◌-◌, Bool, true, false, Option, Some, None, List, [], ◌∷◌, ◌++◌, length, slice_get, refl, sym, ap, subst, ◌∙◌, arith, length-append, append_assoc}
 use Rattle.std.specs.List.{list_any}
+use Rattle.markdown_model.proofs.LinkLaws.{yields_passed_if}
 use Rattle.markdown_engine.specs.Codes.{Code, is_line_ending, stop_of, document_start}
 use Rattle.markdown_engine.specs.Past.{appended_from}
 use Rattle.markdown_engine.specs.Tree.{Forest, empty, leaf_then, group_then, leaf, group, ◌⊕◌, event, start_of}
@@ -11,7 +12,7 @@ use Rattle.markdown_engine.specs.declared.event.Name.{Name}
 use Rattle.markdown_engine.specs.declared.event.Name.TheVariants as N
 use Rattle.markdown_engine.specs.declared.event.Point.{Point}
 use Rattle.markdown_construct.proofs.StretchLemmas.{BeginsWith, stretches-begin}
-use Rattle.markdown_model.specs.Grammar.{Reading, ◌>>◌, provided, one}
+use Rattle.markdown_model.specs.Grammar.{one}
 use Rattle.markdown_model.specs.LabelEnd.{bytes_between, reference_identifier}
 use Rattle.markdown_model.specs.Lines.{lines, lines_from, lines_of, linked_leaf}
 use Rattle.markdown_model.specs.Resource.{label, reference_names, between_markers, string_group}
@@ -32,11 +33,6 @@ pub record IsReference (t : Forest) : Type 0 where
   pub is : t ≡ group_then N.Reference a b (leaf_then N.ReferenceMarker None front (group_then N.ReferenceString from to inside (leaf_then N.ReferenceMarker None back empty))) empty
 
 -- What a label gives.
-
-pub yields_test : {A : Type 0} (P : A → Type 0) (b : Bool) (a : Reading A) → (b ≡ true → Yields P a) → Yields P (provided b >> a)
-unfolding ◌>>◌ provided
-yields_test P true a h = yields_passed P true a (h refl)
-yields_test P false a h = record { at = λ cs. tt }
 
 some-one : (p : Code → Bool) → Yields (λ x. x ≢ []) (one p)
 unfolding one
@@ -87,7 +83,7 @@ unfolding label
 label-shape =
     yields_bind _ _ _ _ (some-one _) λ front f.
     then_any _ _ _ λ text.
-    yields_test _ _ _ λ t.
+    yields_passed_if _ _ _ λ t.
     yields_passed _ _ _
     (yields_bind _ _ _ _ (some-one _) λ back b.
     yields_passed _ _ _

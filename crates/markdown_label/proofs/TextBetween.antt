@@ -1,7 +1,6 @@
 -- The bytes of a text between two places at which it may be cut.
-use Rattle.std.proofs.Common.{◌≡◌, ℕ, zero, suc, ◌-◌, ◌<◌, List, [], ◌∷◌, length, get_or, take, drop, ◌||◌, refl, sym, ap, subst, ◌∙◌, arith}
-use Rattle.std.specs.Prelude.{Bool, map, max}
-use Rattle.std.specs.List.{list_any}
+use Rattle.std.proofs.Common.{◌≡◌, ℕ, zero, suc, ◌-◌, ◌<◌, List, [], ◌∷◌, length, get_or, take, drop, refl, sym, ap, subst, ◌∙◌, arith}
+use Rattle.std.specs.Prelude.{max}
 use Rattle.markdown_engine.specs.declared.event.Point.{Point}
 use Rattle.markdown_util.specs.Identifier.{identifier_of}
 use Rattle.std.specs.List.{slice_range, slice_index_or}
@@ -72,8 +71,3 @@ module _ (T : Tokenizer) (m n : ℕ) (a b : Event) (k : AreAround T m n) (front 
       ap (λ j. identifier_of (slice_range (bytes_of T) a.point.index j)) e
       ∙ ap identifier_of (bytes-from (bytes_of T) a.point.index b.point.index)
       ∙ (λ i. identifier_of (take ((last i).index - (first i).index) (drop (first i).index (bytes_of T))))
-
--- a test of what is made of the items
-pub any_map : {A B : Type 0} → (p : B → Bool) (f : A → B) (xs : List A) → list_any p (map f xs) ≡ list_any (λ x. p (f x)) xs
-any_map p f [] = refl
-any_map p f (x ∷ xs) = ap (λ b. p (f x) || b) (any_map p f xs)

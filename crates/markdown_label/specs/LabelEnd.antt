@@ -31,7 +31,7 @@ use Rattle.markdown_resource.specs.Parts.{names_rested, PartReady}
 use Rattle.markdown_resource.specs.Resource as Resource
 use Rattle.markdown_string.specs.Label as Label
 use Rattle.markdown_util.specs.Identifier.{identifier_of}
-use Rattle.markdown_label.specs.Fields.{bars, with_kind, tried, labelled, loosened}
+use Rattle.markdown_label.specs.Fields.{bars, with_kind, as_link, labelled, loosened}
 use Rattle.markdown_label.specs.Settings.{setting_in, IsListed}
 
 -- Identifiers.
@@ -113,7 +113,7 @@ abbrev pub starts_set : List Kept.LabelStart → TokenizeState → TokenizeState
 starts_set ls s = record s { label_starts = ls }
 
 abbrev pub link_tried : Tokenizer → Tokenizer
-link_tried T = scratched (starts_set (tried T.tokenize_state.label_starts) T.tokenize_state) T
+link_tried T = scratched (starts_set (as_link T.tokenize_state.label_starts) T.tokenize_state) T
 
 abbrev pub after_as : LabelKind → List ℕ → Tokenizer → Stepped
 after_as kind name T =
@@ -280,7 +280,7 @@ after_reading T = after_reading_of T.tokenize_state.label_starts T
 
 abbrev pub after_ends : Tokenizer → Bool → Tokenizer → Type 0
 after_ends T true U = Makes (after_reading T) T U
-after_ends T false U = Loses (after_reading T) (loosened (tried T.tokenize_state.label_starts) T.tokenize_state) T U
+after_ends T false U = Loses (after_reading T) (loosened (as_link T.tokenize_state.label_starts) T.tokenize_state) T U
 
 abbrev pub ok_ends : Tokenizer → Bool → Tokenizer → Type 0
 ok_ends T ok U = (ok ≡ true) × (U ≡ made_here T)
@@ -307,7 +307,7 @@ end_reading T = end_here (setting_in T) (last_start T.events T.tokenize_state.la
 -- the fields that a failed end leaves: its start is used up, tried as a link's unless it is barred
 abbrev pub lost_starts : List Kept.LabelStart → List Kept.LabelStart
 lost_starts [] = []
-lost_starts (l ∷ ls) = if bars l then l ∷ ls else tried (l ∷ ls)
+lost_starts (l ∷ ls) = if bars l then l ∷ ls else as_link (l ∷ ls)
 
 abbrev pub lost_by : List Kept.LabelStart → TokenizeState → TokenizeState
 lost_by [] s = s

@@ -12,7 +12,7 @@ ghost use Rattle.markdown_engine.specs.Ops.{IsOpen, current_of};
 ghost use Rattle.markdown_engine.specs.declared.event.Name.TheVariants.{Reference};
 ghost use Rattle.markdown_model.specs.LabelEnd.{is_image, link_kind};
 ghost use Rattle.markdown_resource.specs.Parts.{names_rested};
-ghost use Rattle.markdown_label.specs.Fields.{bars, tried, marked};
+ghost use Rattle.markdown_label.specs.Fields.{bars, as_link, marked};
 ghost use Rattle.markdown_label.specs.LabelEnd.{LabelIsAround, ReferenceIsAround, start_step, tail_at, after_step, ok_step, nok_step, names_set, reference_full_step, reference_full_after_step, reference_full_missing_step, reference_not_full_step, reference_collapsed_step, reference_collapsed_open_step};
 
 use crate::identifier::{is_call, is_defined_between, is_link, name_between};
@@ -53,7 +53,7 @@ fn bars(start: LabelStart) -> bool
 
 // The last start is tried as a link's or an image's.
 fn try_last(starts: &mut Stack<LabelStart>)
-    ensures { starts.new ≡ tried starts.old }
+    ensures { starts.new ≡ as_link starts.old }
 {
     if !starts.is_empty() {
         let start = *starts.at(0);

@@ -10,7 +10,7 @@ use Rattle.markdown_engine.specs.declared.tokenizer.LabelKind.{LabelKind}
 use Rattle.markdown_engine.specs.declared.tokenizer.LabelStart as Kept
 use Rattle.markdown_engine.specs.declared.tokenizer.TokenizeState.{TokenizeState}
 use Rattle.markdown_engine.specs.declared.tokenizer.Tokenizer.{Tokenizer}
-use Rattle.markdown_label.specs.Fields.{bars, marked, barred_by, with_kind, tried, labelled}
+use Rattle.markdown_label.specs.Fields.{bars, marked, barred_by, with_kind, as_link, labelled}
 use Rattle.markdown_label.specs.LabelEnd.{end_made, made, lost_by, lost_starts}
 use Rattle.markdown_label.proofs.LabelEndLemmas.{scratch-before}
 use Rattle.markdown_model.specs.LabelEnd.{is_image}
@@ -52,7 +52,7 @@ pub rest-lost : (ls : List Kept.LabelStart) → rest_of (lost_starts ls) ≡ res
 rest-lost [] = refl
 rest-lost (l ∷ ls) = by_test (bars l)
   where
-    by_test : (b : Bool) → rest_of (if b then l ∷ ls else tried (l ∷ ls)) ≡ ls
+    by_test : (b : Bool) → rest_of (if b then l ∷ ls else as_link (l ∷ ls)) ≡ ls
     by_test true = refl
     by_test false = refl
 

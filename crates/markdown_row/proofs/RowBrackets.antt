@@ -11,7 +11,7 @@ use Rattle.markdown_engine.specs.declared.tokenizer.LabelStart.{LabelStart}
 use Rattle.markdown_engine.specs.declared.tokenizer.TokenizeState.{TokenizeState}
 use Rattle.markdown_engine.specs.declared.tokenizer.Tokenizer.{Tokenizer}
 use Rattle.markdown_engine.proofs.TreeLemmas.{appended_from-row, length-appended_from}
-use Rattle.markdown_label.specs.Fields.{begun, bars, with_kind, tried, marked, labelled as with_label, loosened}
+use Rattle.markdown_label.specs.Fields.{begun, bars, with_kind, as_link, marked, labelled as with_label, loosened}
 use Rattle.markdown_label.specs.LabelEnd.{end_tree, ended_at, starts_set, made, end_made, lost_by}
 use Rattle.markdown_label.specs.LabelStarts.{kept_start}
 use Rattle.markdown_label.proofs.LabelEndLemmas.{events-before, scratch-before}
@@ -192,7 +192,7 @@ starts-more [] l = refl
 starts-more (k ∷ ls) l = ap (λ ns. k.start ∷ ns) (starts-more ls l)
 
 has-lost-by : (b : Bool) (x : ℕ × ℕ) (ns : List (ℕ × ℕ)) (s : TokenizeState) (l : LabelStart) (ls : List LabelStart) → l.start ∷ starts_of ls ≡ x ∷ ns
-    → HasLost x ns s (loosened (if b then l ∷ ls else tried (l ∷ ls)) s)
+    → HasLost x ns s (loosened (if b then l ∷ ls else as_link (l ∷ ls)) s)
 has-lost-by true x ns s l ls e = record {
   labels = refl;
   unused = rest-same l.start x (starts_of ls) ns e;

@@ -15,7 +15,7 @@ use Rattle.markdown_engine.specs.declared.tokenizer.TokenizeState.{TokenizeState
 use Rattle.markdown_engine.specs.declared.tokenizer.Tokenizer.{Tokenizer}
 use Rattle.markdown_engine.proofs.PlaceLemmas.{moved_by-append}
 use Rattle.markdown_attention.specs.Rows.{has_run}
-use Rattle.markdown_label.specs.Fields.{bars, with_kind, tried, marked, labelled, loosened}
+use Rattle.markdown_label.specs.Fields.{bars, with_kind, as_link, marked, labelled, loosened}
 use Rattle.markdown_label.specs.LabelEnd.{end_tree, ended_at, starts_set, made, end_made, lost_by}
 use Rattle.markdown_label.proofs.LabelEndLemmas.{scratch-before}
 use Rattle.markdown_label_pass.specs.Handover.{unlabelled}
@@ -120,7 +120,7 @@ kinds-made : (kind : LabelKind) (ls : List LabelStart) (last n : ℕ) (s : Token
 kinds-made kind [] last n s = refl
 kinds-made kind (l ∷ ls) last n s = kinds-barred (is_image kind) ls
 
-kinds-lost-by : (b : Bool) (l : LabelStart) (ls : List LabelStart) (s : TokenizeState) → kinds (loosened (if b then l ∷ ls else tried (l ∷ ls)) s).label_starts ≡ kinds ls
+kinds-lost-by : (b : Bool) (l : LabelStart) (ls : List LabelStart) (s : TokenizeState) → kinds (loosened (if b then l ∷ ls else as_link (l ∷ ls)) s).label_starts ≡ kinds ls
 kinds-lost-by true l ls s = refl
 kinds-lost-by false l ls s = refl
 
