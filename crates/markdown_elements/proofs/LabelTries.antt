@@ -1,7 +1,7 @@
 -- Which starts and ends of labels stand at the codes at hand of a text.
 use Rattle.std.proofs.Common.{◌≡◌, ℕ, ◌==◌, Bool, true, false, not, ◌&&◌, List, [], ◌∷◌, ◌++◌, Option, None, Some, refl, sym, ap, ◌∙◌, subst}
 use Rattle.std.specs.Str.{byte}
-use Rattle.std.proofs.lemmas.Bool.{eqb-true}
+use Rattle.markdown_label.proofs.BegunStarts.{first-is, two-whole}
 use Rattle.markdown_engine.specs.Codes.{Code}
 use Rattle.markdown_engine.specs.Lists.{rest_of}
 use Rattle.markdown_engine.specs.Ops.{ahead, current_of}
@@ -30,17 +30,17 @@ use Rattle.markdown_text.specs.TextSteps.{text_setting, text_choice_of, StandsAl
 use Rattle.markdown_elements.proofs.TextElements.{image-element, no-image-element, bracket-element, no-bracket-element, end-element, no-end-element}
 use Rattle.markdown_elements.proofs.TextTries.{end_in, first-none, other-data, value-here}
 
+-- Tests, where the first of them holds.
+
+pub later-tests : (a b c : Bool) → a ≡ true → (a && b) && c ≡ false → b && c ≡ false
+later-tests true b c h k = k
+later-tests false b c h k = cc
+
+pub right-test : (a b : Bool) → a ≡ true → a && b ≡ false → b ≡ false
+right-test true b h k = k
+right-test false b h k = cc
+
 -- Codes that come next.
-
--- the first of these codes has this value
-pub record First (v : ℕ) (cs : List Code) : Type 0 where
-  pub code : Code
-  pub value : code.value ≡ v
-  pub whole : cs ≡ code ∷ rest_of cs
-
-pub first-is : (v : ℕ) (cs : List Code) → next_is (is_value v) cs ≡ true → First v cs
-first-is v [] e = cc
-first-is v (c ∷ cs) e = record { code = c; value = eqb-true c.value v e; whole = refl }
 
 is-the : (v : ℕ) (c : Code) → c.value ≡ v → (c.value == v) ≡ (v == v)
 is-the v c e = ap (λ x. x == v) e
@@ -121,7 +121,7 @@ image-none footnotes cs e = bind-none (before (word "![") (λ xs. not (footnotes
     and-apart true false c h k = cc
     and-apart false b c h k = cc
 
-    there : (f : First (byte "!") cs) (g : First (byte "[") (rest_of cs)) → word "![" cs ≡ Some (f.code ∷ g.code ∷ [], rest_of (rest_of cs))
+    there : (f : Begins (byte "!") cs) (g : Begins (byte "[") (rest_of cs)) → word "![" cs ≡ Some (f.code ∷ g.code ∷ [], rest_of (rest_of cs))
     there f g =
         ap (word "![") (f.whole ∙ ap (λ xs. f.code ∷ xs) g.whole) ∙ pair-some (byte "!") (byte "[") f.code g.code (rest_of (rest_of cs)) (is-the (byte "!") f.code f.value) (is-the (byte "[") g.code g.value)
 
@@ -142,13 +142,10 @@ started : (kind : LabelKind) (marker rest : List Code) (T U : Tokenizer) → Pas
 started kind marker rest T U p finds =
     start-advances (text_choice_of T) kind marker T U p.is p.left (p.whole ∙ ap (λ xs. marker ++ xs) (sym p.after)) (λ earlier previous stands. finds earlier previous stands ∙ ap (λ xs. Some (starts kind marker, xs)) (sym p.after))
 
-pub two-whole : (v w : ℕ) (cs : List Code) (f : First v cs) (g : First w (rest_of cs)) → cs ≡ f.code ∷ g.code ∷ rest_of (rest_of cs)
-two-whole v w cs f g = f.whole ∙ ap (λ xs. f.code ∷ xs) g.whole
-
 pub image-advances : (T U : Tokenizer) → image_ends T true U → Advances (text_choice_of T) T U
 image-advances T U k =
-    let f : First (byte "!") (ahead T) = first-is (byte "!") (ahead T) (and-right _ _ (and-left _ _ k.holds)) in
-    let g : First (byte "[") (rest_of (ahead T)) = first-is (byte "[") (rest_of (ahead T)) (and-left _ _ (and-right _ _ k.holds)) in
+    let f : Begins (byte "!") (ahead T) = first-is (byte "!") (ahead T) (and-right _ _ (and-left _ _ k.holds)) in
+    let g : Begins (byte "[") (rest_of (ahead T)) = first-is (byte "[") (rest_of (ahead T)) (and-left _ _ (and-right _ _ k.holds)) in
     let rest : List Code = rest_of (rest_of (ahead T)) in
     let whole : ahead T ≡ f.code ∷ g.code ∷ rest = two-whole (byte "!") (byte "[") (ahead T) f g in
     started LabelKind.Image (f.code ∷ g.code ∷ []) rest T U (image-past f.code g.code rest T U whole f.value g.value k)
@@ -162,16 +159,12 @@ pub image-alone : (T : Tokenizer) → current_of T ≡ Some (byte "!") → image
 image-alone T e refused earlier previous c cs stands w =
     no-image-element (text_setting T) (end_in T) earlier previous c cs (value-here T (byte "!") c cs e w)
     (on-none T.parse_state.now.options.now.constructs.label_start_image _ (c ∷ cs) (λ on.
-    image-none (footnotes_on T) (c ∷ cs) (ap (λ xs. next_is (is_value (byte "!")) xs && (next_is (is_value (byte "[")) (rest_of xs) && not (footnotes_on T && next_is (is_value (byte "^")) (rest_of (rest_of xs))))) (sym w) ∙ tests T.parse_state.now.options.now.constructs.label_start_image _ _ on refused)))
-  where
-    tests : (a b c : Bool) → a ≡ true → (a && b) && c ≡ false → b && c ≡ false
-    tests true b c h k = k
-    tests false b c h k = cc
+    image-none (footnotes_on T) (c ∷ cs) (ap (λ xs. next_is (is_value (byte "!")) xs && (next_is (is_value (byte "[")) (rest_of xs) && not (footnotes_on T && next_is (is_value (byte "^")) (rest_of (rest_of xs))))) (sym w) ∙ later-tests T.parse_state.now.options.now.constructs.label_start_image _ _ on refused)))
 
 pub footnote-advances : (T U : Tokenizer) → check_here T (ahead T) ≡ None → footnote_ends T true U → Advances (text_choice_of T) T U
 footnote-advances T U none k =
-    let f : First (byte "[") (ahead T) = first-is (byte "[") (ahead T) (and-right _ _ (and-left _ _ k.holds)) in
-    let g : First (byte "^") (rest_of (ahead T)) = first-is (byte "^") (rest_of (ahead T)) (and-right _ _ k.holds) in
+    let f : Begins (byte "[") (ahead T) = first-is (byte "[") (ahead T) (and-right _ _ (and-left _ _ k.holds)) in
+    let g : Begins (byte "^") (rest_of (ahead T)) = first-is (byte "^") (rest_of (ahead T)) (and-right _ _ k.holds) in
     let rest : List Code = rest_of (rest_of (ahead T)) in
     let whole : ahead T ≡ f.code ∷ g.code ∷ rest = two-whole (byte "[") (byte "^") (ahead T) f g in
     let found : Element × List Code = (starts LabelKind.GfmFootnote (f.code ∷ g.code ∷ []), rest) in
@@ -184,15 +177,11 @@ footnote-advances T U none k =
 -- no footnote call begins here
 no-footnote : (T : Tokenizer) (cs : List Code) → ahead T ≡ cs → footnote_test T (ahead T) ≡ false → switched (footnotes_on T) footnote_start cs ≡ None
 no-footnote T cs w refused =
-    on-none (footnotes_on T) footnote_start cs (λ on. footnote-none cs (ap (λ xs. next_is (is_value (byte "[")) xs && next_is (is_value (byte "^")) (rest_of xs)) (sym w) ∙ tests (footnotes_on T) _ _ on refused))
-  where
-    tests : (a b c : Bool) → a ≡ true → (a && b) && c ≡ false → b && c ≡ false
-    tests true b c h k = k
-    tests false b c h k = cc
+    on-none (footnotes_on T) footnote_start cs (λ on. footnote-none cs (ap (λ xs. next_is (is_value (byte "[")) xs && next_is (is_value (byte "^")) (rest_of xs)) (sym w) ∙ later-tests (footnotes_on T) _ _ on refused))
 
 pub link-advances : (T U : Tokenizer) → check_here T (ahead T) ≡ None → footnote_test T (ahead T) ≡ false → link_ends T true U → Advances (text_choice_of T) T U
 link-advances T U none refused k =
-    let f : First (byte "[") (ahead T) = first-is (byte "[") (ahead T) (and-right _ _ k.holds) in
+    let f : Begins (byte "[") (ahead T) = first-is (byte "[") (ahead T) (and-right _ _ k.holds) in
     let rest : List Code = rest_of (ahead T) in
     let found : Element × List Code = (starts LabelKind.Link (f.code ∷ []), rest) in
     started LabelKind.Link (f.code ∷ []) rest T U (link-past f.code rest T U f.whole f.value k)
@@ -205,11 +194,7 @@ pub bracket-alone : (T : Tokenizer) → check_here T (ahead T) ≡ None → curr
 bracket-alone T none e no_footnote refused earlier previous c cs stands w =
     no-bracket-element (text_setting T) (end_in T) earlier previous c cs (first-none T earlier previous c cs none stands w) (value-here T (byte "[") c cs e w)
     (either-second _ _ (c ∷ cs) (no-footnote T (c ∷ cs) w no_footnote)
-    ∙ on-none T.parse_state.now.options.now.constructs.label_start_link link_start (c ∷ cs) (λ on. link-none (c ∷ cs) (ap (next_is (is_value (byte "["))) (sym w) ∙ right-of _ _ on refused)))
-  where
-    right-of : (a b : Bool) → a ≡ true → a && b ≡ false → b ≡ false
-    right-of true b h k = k
-    right-of false b h k = cc
+    ∙ on-none T.parse_state.now.options.now.constructs.label_start_link link_start (c ∷ cs) (λ on. link-none (c ∷ cs) (ap (next_is (is_value (byte "["))) (sym w) ∙ right-test _ _ on refused)))
 
 -- Ends.
 

@@ -3,7 +3,7 @@ use Rattle.std.proofs.Common.{◌≡◌, ◌≢◌, ℕ, ◌*◌, ◌<◌, ◌==
 use Rattle.std.specs.List.{list_any}
 use Rattle.std.specs.Prelude.{codes}
 use Rattle.std.specs.Str.{byte}
-use Rattle.markdown_engine.specs.Ops.{ahead, current_of, registered, scratched}
+use Rattle.markdown_engine.specs.Ops.{ahead, current_of, scratched}
 use Rattle.markdown_engine.specs.Past.{past, EndsAs, Reads, Refuses, TreeReading}
 use Rattle.markdown_engine.specs.Runs.{Stepped, stepped}
 use Rattle.markdown_engine.specs.StateWords.{StateWords, Words, words_in, GoesIn, Law}

@@ -1,5 +1,7 @@
 -- The starts of labels, as constructs by themselves.
-use Rattle.std.proofs.Common.{◌≡◌, ◌&&◌, Bool, true, false, List, [], ◌∷◌, None, Some, sym, ap, ◌∙◌}
+use Rattle.std.proofs.Common.{◌≡◌, true, false, List, [], ◌∷◌, None, Some, sym, ap, ◌∙◌}
+use Rattle.markdown_engine.proofs.OpRules.{Begins}
+use Rattle.markdown_label.proofs.BegunStarts.{first-is, two-whole}
 use Rattle.markdown_engine.specs.Codes.{Code}
 use Rattle.markdown_engine.specs.Lists.{rest_of}
 use Rattle.markdown_engine.specs.Ops.{ahead}
@@ -13,22 +15,14 @@ use Rattle.markdown_model.specs.Grammar.{Reading}
 use Rattle.markdown_model.specs.LabelEnd.{Element, starts}
 use Rattle.markdown_row.proofs.LabelReads.{PastStart, link-past, footnote-past, image-past}
 use Rattle.markdown_run.specs.Construct.{BeginsOrStays, start_reading}
-use Rattle.markdown_elements.proofs.LabelTries.{First, first-is, two-whole, on-some, on-none, footnote-some, footnote-none, link-some, link-none, image-some, image-none}
+use Rattle.markdown_elements.proofs.LabelTries.{later-tests, right-test, on-some, on-none, footnote-some, footnote-none, link-some, link-none, image-some, image-none}
 
 begun : (reading : Reading Element) (kind : LabelKind) (marker rest : List Code) (T U : Tokenizer) → PastStart kind marker rest T U → reading (ahead T) ≡ Some (starts kind marker, rest) → BeginsOrStays reading T true U
 begun reading kind marker rest T U p e = (kind, (marker, (e ∙ ap (λ xs. Some (starts kind marker, xs)) (sym p.after), p.left)))
 
-later-tests : (a b c : Bool) → a ≡ true → (a && b) && c ≡ false → b && c ≡ false
-later-tests true b c h k = k
-later-tests false b c h k = cc
-
-right-test : (a b : Bool) → a ≡ true → a && b ≡ false → b ≡ false
-right-test true b h k = k
-right-test false b h k = cc
-
 pub link-begins : (T U : Tokenizer) → link_ends T true U → BeginsOrStays (start_reading LabelStartLinkStart T) T true U
 link-begins T U k =
-    let f : First 91 (ahead T) = first-is 91 (ahead T) (and-right _ _ k.holds) in
+    let f : Begins 91 (ahead T) = first-is 91 (ahead T) (and-right _ _ k.holds) in
     let rest : List Code = rest_of (ahead T) in
     begun (start_reading LabelStartLinkStart T) LabelKind.Link (f.code ∷ []) rest T U (link-past f.code rest T U f.whole f.value k)
     (ap (start_reading LabelStartLinkStart T) f.whole ∙ on-some (links_on T) link_start (f.code ∷ rest) (starts LabelKind.Link (f.code ∷ []), rest) (and-left _ _ k.holds) (link-some f.code rest f.value))
@@ -38,8 +32,8 @@ link-not T refused = on-none (links_on T) link_start (ahead T) (λ on. link-none
 
 pub footnote-begins : (T U : Tokenizer) → footnote_ends T true U → BeginsOrStays (start_reading GfmLabelStartFootnoteStart T) T true U
 footnote-begins T U k =
-    let f : First 91 (ahead T) = first-is 91 (ahead T) (and-right _ _ (and-left _ _ k.holds)) in
-    let g : First 94 (rest_of (ahead T)) = first-is 94 (rest_of (ahead T)) (and-right _ _ k.holds) in
+    let f : Begins 91 (ahead T) = first-is 91 (ahead T) (and-right _ _ (and-left _ _ k.holds)) in
+    let g : Begins 94 (rest_of (ahead T)) = first-is 94 (rest_of (ahead T)) (and-right _ _ k.holds) in
     let rest : List Code = rest_of (rest_of (ahead T)) in
     let whole : ahead T ≡ f.code ∷ g.code ∷ rest = two-whole 91 94 (ahead T) f g in
     begun (start_reading GfmLabelStartFootnoteStart T) LabelKind.GfmFootnote (f.code ∷ g.code ∷ []) rest T U (footnote-past f.code g.code rest T U whole f.value g.value k)
@@ -51,8 +45,8 @@ footnote-not T refused = on-none (footnotes_on T) footnote_start (ahead T) (λ o
 
 pub image-begins : (T U : Tokenizer) → image_ends T true U → BeginsOrStays (start_reading LabelStartImageStart T) T true U
 image-begins T U k =
-    let f : First 33 (ahead T) = first-is 33 (ahead T) (and-right _ _ (and-left _ _ k.holds)) in
-    let g : First 91 (rest_of (ahead T)) = first-is 91 (rest_of (ahead T)) (and-left _ _ (and-right _ _ k.holds)) in
+    let f : Begins 33 (ahead T) = first-is 33 (ahead T) (and-right _ _ (and-left _ _ k.holds)) in
+    let g : Begins 91 (rest_of (ahead T)) = first-is 91 (rest_of (ahead T)) (and-left _ _ (and-right _ _ k.holds)) in
     let rest : List Code = rest_of (rest_of (ahead T)) in
     let whole : ahead T ≡ f.code ∷ g.code ∷ rest = two-whole 33 91 (ahead T) f g in
     begun (start_reading LabelStartImageStart T) LabelKind.Image (f.code ∷ g.code ∷ []) rest T U (image-past f.code g.code rest T U whole f.value g.value k)

@@ -1,10 +1,8 @@
 -- The laws of inline content, joined; they stand in specs, since a trait's law is a part of a contract. Each is proved over any layer in the crate of
 -- its construct, those of strings and texts in `markdown_elements`.
 pub mod Steady
-use Rattle.std.proofs.Common.{◌≡◌, Bool, [], refl}
+use Rattle.std.proofs.Common.{◌≡◌, refl}
 use Rattle.markdown_engine.specs.Runs.{Lawful}
-use Rattle.markdown_engine.specs.Weights.{weight_at}
-use Rattle.markdown_engine.specs.declared.tokenizer.Tokenizer.{Tokenizer}
 use Rattle.markdown_engine.specs.declared.state.StateName.TheVariants.{CharacterEscapeStart, CharacterEscapeInside, CharacterReferenceStart, CharacterReferenceOpen, CharacterReferenceNumeric, CharacterReferenceValue, HardBreakEscapeStart, HardBreakEscapeAfter, AutolinkStart, AutolinkOpen, AutolinkSchemeOrEmailAtext, AutolinkSchemeInsideOrEmailAtext, AutolinkUrlInside, AutolinkEmailAtext, AutolinkEmailAtSignOrDot, AutolinkEmailLabel, AutolinkEmailValue, RawTextStart, RawTextSequenceOpen, RawTextBetween, RawTextData, RawTextSequenceClose, SpaceOrTabStart, SpaceOrTabInside, SpaceOrTabAfter, SpaceOrTabEolStart, SpaceOrTabEolAfterFirst, SpaceOrTabEolAtEol, SpaceOrTabEolAfterEol, SpaceOrTabEolAfterMore, DataStart, DataAtBreak, DataInside, StringStart, StringBefore, StringBeforeData, DestinationStart, DestinationEnclosedBefore, DestinationEnclosed, DestinationEnclosedEscape, DestinationRaw, DestinationRawEscape, TitleStart, TitleBegin, TitleAtBreak, TitleAfterEol, TitleInside, TitleEscape, TitleNok, LabelStart, LabelAtBreak, LabelEolAfter, LabelInside, LabelEscape, LabelNok, TextStart, TextBefore, TextBeforeHtml, TextBeforeHardBreakEscape, TextBeforeLabelStartLink, TextBeforeData, AttentionStart, AttentionInside, GfmAutolinkLiteralProtocolStart, GfmAutolinkLiteralProtocolAfter, GfmAutolinkLiteralProtocolPrefixInside, GfmAutolinkLiteralProtocolSlashesInside, GfmAutolinkLiteralWwwStart, GfmAutolinkLiteralWwwPrefixInside, GfmAutolinkLiteralWwwPrefixAfter, GfmAutolinkLiteralWwwAfter, GfmAutolinkLiteralDomainInside, GfmAutolinkLiteralDomainAtPunctuation, GfmAutolinkLiteralDomainAfter, GfmAutolinkLiteralPathInside, GfmAutolinkLiteralPathAtPunctuation, GfmAutolinkLiteralPathAfter, GfmAutolinkLiteralTrail, GfmAutolinkLiteralTrailBracketAfter, GfmAutolinkLiteralTrailCharRefStart, GfmAutolinkLiteralTrailCharRefInside, GfmLabelStartFootnoteStart, GfmTaskListItemCheckStart, GfmTaskListItemCheckInside, GfmTaskListItemCheckClose, GfmTaskListItemCheckAfter, GfmTaskListItemCheckAfterSpaceOrTab, HtmlTextStart, HtmlTextOpen, HtmlTextDeclarationOpen, HtmlTextCommentOpenInside, HtmlTextComment, HtmlTextCommentClose, HtmlTextCommentEnd, HtmlTextCdata, HtmlTextCdataClose, HtmlTextCdataEnd, HtmlTextDeclaration, HtmlTextInstruction, HtmlTextInstructionClose, HtmlTextTagCloseStart, HtmlTextTagClose, HtmlTextTagCloseBetween, HtmlTextTagOpen, HtmlTextTagOpenBetween, HtmlTextTagOpenAttributeName, HtmlTextTagOpenAttributeNameAfter, HtmlTextTagOpenAttributeValueBefore, HtmlTextTagOpenAttributeValueQuotedAfter, HtmlTextTagOpenAttributeValueUnquoted, HtmlTextEnd, HtmlTextCdataOpenInside, HtmlTextTagOpenAttributeValueQuoted, HtmlTextLineEndingBefore, HtmlTextLineEndingAfter, HtmlTextLineEndingAfterPrefix, LabelEndStart, LabelStartImageStart, LabelStartLinkStart, GfmLabelStartFootnoteOpen, LabelStartImageOpen, LabelStartImageAfter, LabelEndAfter, LabelEndOk, LabelEndNok, LabelEndResourceStart, LabelEndResourceBefore, LabelEndResourceOpen, LabelEndResourceDestinationAfter, LabelEndResourceDestinationMissing, LabelEndResourceBetween, LabelEndResourceTitleAfter, LabelEndResourceEnd, LabelEndReferenceFull, LabelEndReferenceFullAfter, LabelEndReferenceFullMissing, LabelEndReferenceNotFull, LabelEndReferenceCollapsed, LabelEndReferenceCollapsedOpen}
 use Rattle.markdown_gfm.proofs.GfmTaskListItemCheckLaws as GfmTaskListItemCheckLaws
 use Rattle.markdown_gfm.proofs.LiteralAddressLaws as LiteralAddressLaws
@@ -14,8 +12,7 @@ use Rattle.markdown_gfm.proofs.LiteralWwwLaws as LiteralWwwLaws
 use Rattle.markdown_html.proofs.HtmlTextLaws as HtmlTextLaws
 use Rattle.markdown_html.proofs.LineEndingLaws as LineEndingLaws
 use Rattle.markdown_html.proofs.StartLaw as StartLaw
-use Rattle.markdown_html.specs.Rests as Rests
-use Rattle.markdown_html.specs.Rests.{Part, state_of, Open, DeclarationOpen, CommentOpenInside, Comment, CommentClose, CommentEnd, Cdata, CdataClose, CdataEnd, Declaration, Instruction, InstructionClose, TagCloseStart, TagClose, TagCloseBetween, TagOpen, TagOpenBetween, AttributeName, AttributeNameAfter, ValueBefore, ValueQuotedAfter, ValueUnquoted, End}
+use Rattle.markdown_html.specs.Rests.{Part, state_of, Open}
 use Rattle.markdown_attention.proofs.AttentionLaws as AttentionLaws
 use Rattle.markdown_label.proofs.LabelEndLaws as LabelEndLaws
 use Rattle.markdown_label.proofs.LabelEndStartLaw as LabelEndStartLaw

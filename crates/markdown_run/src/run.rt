@@ -1,5 +1,5 @@
 //! Runs over a content.
-ghost use Rattle.std.specs.Prelude.{◌≡◌, ◌-◌, true, false, [], take, drop, map, length, IfOk, IsErr, OnErr, IsTrue};
+ghost use Rattle.std.specs.Prelude.{◌≡◌, ◌-◌, false, [], take, drop, map, length, IfOk, IsErr, OnErr, IsTrue};
 ghost use Rattle.std.specs.List.{All};
 ghost use Rattle.markdown_run.specs.Construct.{IsConstruct, ConstructEnds};
 ghost use Rattle.markdown_engine.specs.Chain.{chained};
