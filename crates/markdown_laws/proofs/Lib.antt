@@ -1,5 +1,6 @@
 -- The proofs of the laws.
 pub mod SliceLaws
+pub mod NameTests
 pub mod EscapedItems
 pub mod EscapeLaws
 pub mod PairGroupLaws

@@ -1,12 +1,12 @@
 -- No email literal stands in a link or an autolink: none stands in the tree before they are found, they are not sought in links, and an autolink holds no data.
-use Rattle.std.proofs.Common.{◌≡◌, ℕ, ◌-◌, ◌==◌, zero, suc, Bool, true, false, ◌&&◌, ◌||◌, not, nat_le, List, [], ◌∷◌, ◌++◌, length, take, drop, reverse, map, sum_by, refl, sym, ap, subst, ◌∙◌, Option, Some, None}
-use Rattle.std.specs.List.{list_all}
+use Rattle.std.proofs.Common.{◌≡◌, ℕ, ◌-◌, zero, suc, Bool, true, false, ◌&&◌, ◌||◌, not, List, [], ◌∷◌, ◌++◌, length, take, drop, reverse, map, sum_by, refl, sym, ap, subst, ◌∙◌, Option, Some, None}
 use Rattle.std.proofs.lemmas.Bool.{and_parts, or_parts, or_from, and_from, not-true}
+use Rattle.markdown_laws.proofs.NameTests.{pair-named, blank-named}
 use Rattle.markdown_engine.specs.declared.event.Name.{Name}
 use Rattle.markdown_engine.specs.declared.event.Point.{Point}
 use Rattle.markdown_engine.specs.Codes.{Code, is_blank, document_start, stop_of}
 use Rattle.markdown_engine.specs.Tree.{Forest, empty, leaf_then, group_then, leaf, text_group, start_of, enter_of, exit_after, ◌⊕◌}
-use Rattle.markdown_model.specs.CodeTests.{is_empty, is_real_space}
+use Rattle.markdown_model.specs.CodeTests.{is_empty}
 use Rattle.markdown_model.specs.Element.{elements_of, string_elements_of}
 use Rattle.markdown_model.specs.Email.{email_at, email_leaves, with_emails}
 use Rattle.markdown_model.specs.Grammar.{span}
@@ -73,6 +73,14 @@ plain-leaf name (c ∷ cs) h = (or_from (is_email name) false h refl, refl)
 plain-group : (name : Name) (enter exit : Point) (f : Forest) → is_shut name f ≡ true → IsPlain f → IsPlain (group_then name enter exit f empty)
 plain-group name enter exit f k h = (or_from (holds_email f) false h.0 refl, and_from (is_shut name f) (seals f && true) k (and_from (seals f) true h.1 refl))
 
+-- the parts of a group
+group-parts : (name : Name) (enter exit : Point) (inside rest : Forest) → IsPlain (group_then name enter exit inside rest) → (is_shut name inside ≡ true) × IsPlain inside × IsPlain rest
+group-parts name enter exit inside rest h =
+    let p = or_parts (holds_email inside) (holds_email rest) h.0 in
+    let q = and_parts (is_shut name inside) (seals inside && seals rest) h.1 in
+    let r = and_parts (seals inside) (seals rest) q.1 in
+    (q.0, (p.0, r.0), (p.1, r.1))
+
 -- what labels are made of
 plain-made : (f : Forest) → made true f ≡ true → IsPlain f
 plain-made empty h = (refl, refl)
@@ -90,37 +98,13 @@ plain-made (group_then name enter exit inside rest) h =
 -- Pairs.
 
 sequence-plain : (marker size : ℕ) → is_email (pair_names marker size).1 ≡ false
-sequence-plain marker size = by_tests (marker == 126) (size == 2)
-  where
-    by_tests : (a b : Bool) → is_email (elim a as (λ _. Name × Name × Name) [
-      | true ↦ (Name.GfmStrikethrough, Name.GfmStrikethroughSequence, Name.GfmStrikethroughText)
-      | false ↦ elim b [ true ↦ (Name.Strong, Name.StrongSequence, Name.StrongText) | false ↦ (Name.Emphasis, Name.EmphasisSequence, Name.EmphasisText) ]
-    ]).1 ≡ false
-    by_tests true b = refl
-    by_tests false true = refl
-    by_tests false false = refl
+sequence-plain = pair-named (λ names. is_email names.1 ≡ false) refl refl refl
 
 pair-open : (marker size : ℕ) → is_autolink (pair_names marker size).0 ≡ false
-pair-open marker size = by_tests (marker == 126) (size == 2)
-  where
-    by_tests : (a b : Bool) → is_autolink (elim a as (λ _. Name × Name × Name) [
-      | true ↦ (Name.GfmStrikethrough, Name.GfmStrikethroughSequence, Name.GfmStrikethroughText)
-      | false ↦ elim b [ true ↦ (Name.Strong, Name.StrongSequence, Name.StrongText) | false ↦ (Name.Emphasis, Name.EmphasisSequence, Name.EmphasisText) ]
-    ]).0 ≡ false
-    by_tests true b = refl
-    by_tests false true = refl
-    by_tests false false = refl
+pair-open = pair-named (λ names. is_autolink names.0 ≡ false) refl refl refl
 
 text-open : (marker size : ℕ) → is_autolink (pair_names marker size).2 ≡ false
-text-open marker size = by_tests (marker == 126) (size == 2)
-  where
-    by_tests : (a b : Bool) → is_autolink (elim a as (λ _. Name × Name × Name) [
-      | true ↦ (Name.GfmStrikethrough, Name.GfmStrikethroughSequence, Name.GfmStrikethroughText)
-      | false ↦ elim b [ true ↦ (Name.Strong, Name.StrongSequence, Name.StrongText) | false ↦ (Name.Emphasis, Name.EmphasisSequence, Name.EmphasisText) ]
-    ]).2 ≡ false
-    by_tests true b = refl
-    by_tests false true = refl
-    by_tests false false = refl
+text-open = pair-named (λ names. is_autolink names.2 ≡ false) refl refl refl
 
 open-shut : (name : Name) (f : Forest) → is_autolink name ≡ false → is_shut name f ≡ true
 open-shut name f h = λ i. not (h i) || is_sealed f
@@ -218,12 +202,10 @@ module _ (s : Setting) (pairs_of : List Run → List Pair) where
       let p = or_parts (is_email name) (holds_email rest) h.0 in
       ((or_from (is_email name) false p.0 refl, refl), plain-tokens rest pairs n (p.1, h.1))
   plain-tokens (group_then name enter exit inside rest) pairs n h =
-      let p = or_parts (holds_email inside) (holds_email rest) h.0 in
-      let q = and_parts (is_shut name inside) (seals inside && seals rest) h.1 in
-      let r = and_parts (seals inside) (seals rest) q.1 in
+      let p = group-parts name enter exit inside rest h in
       let own : List Pair = pairs_of (runs_of s inside) in (
-        plain-group name enter exit (assembled (tokens_of s pairs_of inside own 0)) (shut-tokens name inside own 0 q.0) (plain-assembled (tokens_of s pairs_of inside own 0) (plain-tokens inside own 0 (p.0, r.0))),
-        plain-tokens rest pairs n (p.1, r.1),
+        plain-group name enter exit (assembled (tokens_of s pairs_of inside own 0)) (shut-tokens name inside own 0 p.0) (plain-assembled (tokens_of s pairs_of inside own 0) (plain-tokens inside own 0 p.1)),
+        plain-tokens rest pairs n p.2,
       )
 
   plain-paired : (f : Forest) → IsPlain f → IsPlain (paired s pairs_of f)
@@ -278,11 +260,7 @@ plain-merged : (f : Forest) → IsPlain f → IsPlain (merged f)
 plain-merged f h = (emails-merged f ∙ h.0, seals-merged f h.1)
 
 blank-plain : (hard : Bool) (cs : List Code) → is_email (blank_name hard cs) ≡ false
-blank-plain hard cs = by_test ((hard && nat_le 2 (length cs)) && list_all is_real_space cs)
-  where
-    by_test : (b : Bool) → is_email (elim b [ true ↦ Name.HardBreakTrailing | false ↦ Name.SpaceOrTab ]) ≡ false
-    by_test true = refl
-    by_test false = refl
+blank-plain = blank-named (λ name. is_email name ≡ false) refl refl
 
 plain-trimmed_data : (front back hard : Bool) (cs : List Code) → IsPlain (trimmed_data front back hard cs)
 plain-trimmed_data front back hard cs =
@@ -317,12 +295,10 @@ plain-trimmed hard front whole (leaf_then name link cs rest) h =
     let r = plain-trimmed hard false whole rest (p.1, h.1) in
     (or_from (is_email name) (holds_email (trimmed hard false whole rest)) p.0 r.0, r.1)
 plain-trimmed hard front whole (group_then name enter exit inside rest) h =
-    let p = or_parts (holds_email inside) (holds_email rest) h.0 in
-    let q = and_parts (is_shut name inside) (seals inside && seals rest) h.1 in
-    let r = and_parts (seals inside) (seals rest) q.1 in
+    let p = group-parts name enter exit inside rest h in
     plain-join (group_then name enter exit (trimmed hard false false inside) empty) (trimmed hard false whole rest)
-    (plain-group name enter exit (trimmed hard false false inside) (still-shut name inside (trimmed hard false false inside) (sealed-trimmed hard false false inside) q.0) (plain-trimmed hard false false inside (p.0, r.0)))
-    (plain-trimmed hard false whole rest (p.1, r.1))
+    (plain-group name enter exit (trimmed hard false false inside) (still-shut name inside (trimmed hard false false inside) (sealed-trimmed hard false false inside) p.0) (plain-trimmed hard false false inside p.1))
+    (plain-trimmed hard false whole rest p.2)
 
 -- Emails.
 
@@ -357,13 +333,6 @@ sealed-mailed (leaf_then name link cs rest) h k =
     let p = or_parts (is_email name) (holds_email rest) k in
     or_from (is_email name) (holds_email (mailed rest)) p.0 (sealed-mailed rest (and_parts (not (is_data name || is_run name)) (is_sealed rest) h).1 p.1)
 sealed-mailed (group_then name enter exit inside rest) h k = cc
-
-group-parts : (name : Name) (enter exit : Point) (inside rest : Forest) → IsPlain (group_then name enter exit inside rest) → (is_shut name inside ≡ true) × IsPlain inside × IsPlain rest
-group-parts name enter exit inside rest h =
-    let p = or_parts (holds_email inside) (holds_email rest) h.0 in
-    let q = and_parts (is_shut name inside) (seals inside && seals rest) h.1 in
-    let r = and_parts (seals inside) (seals rest) q.1 in
-    (q.0, (p.0, r.0), (p.1, r.1))
 
 links-mailed : (f : Forest) → IsPlain f → HasPlainLinks (mailed f)
 unfolding mailed with_emails

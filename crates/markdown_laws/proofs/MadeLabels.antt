@@ -1,8 +1,9 @@
 -- What is made of the elements of a content: each leaf has a code and is no email literal, each group but the text of a label reaches from where its first
 -- tree begins to where its last one ends, none is a pair's, and an autolink holds leaves of its own.
-use Rattle.std.proofs.Common.{◌≡◌, ℕ, Bool, true, false, ◌==◌, ◌&&◌, ◌||◌, not, List, [], ◌∷◌, ◌++◌, length, drop, map, refl, ◌∙◌, subst, Option, Some, None}
+use Rattle.std.proofs.Common.{◌≡◌, ℕ, Bool, true, false, ◌==◌, ◌&&◌, ◌||◌, not, List, [], ◌∷◌, ◌++◌, length, drop, map, refl, ◌∙◌, subst, Option, Some, None, ap}
 use Rattle.std.specs.List.{list_any}
 use Rattle.std.proofs.lemmas.Bool.{and_parts}
+use Rattle.std.proofs.Math.Bool.{or-true}
 use Rattle.markdown_engine.specs.declared.event.Name.{Name}
 use Rattle.markdown_engine.specs.declared.event.Point.{Point}
 use Rattle.markdown_engine.specs.declared.tokenizer.LabelKind.{LabelKind}
@@ -21,7 +22,7 @@ use Rattle.markdown_model.proofs.Readings.{takes_word}
 use Rattle.markdown_model.specs.CodeTests.{is_empty}
 use Rattle.markdown_laws.specs.Emails.{is_email}
 use Rattle.markdown_laws.specs.Filled.{is_label_text}
-use Rattle.markdown_laws.proofs.MadeReadings.{is_single, made, reaches, or-true, made-join, made-leaf, made-group, IsSome, IsMade, Makes, gives-some, one-gives, makes_escape, makes_hard_break_escape, makes_reference, makes_autolink, makes_html, makes_task_check, makes_span_here, makes_protocol, makes_www, makes_after_label}
+use Rattle.markdown_laws.proofs.MadeReadings.{is_single, made, reaches, made-join, made-leaf, made-group, IsSome, IsMade, Makes, gives-some, one-gives, makes_escape, makes_hard_break_escape, makes_reference, makes_autolink, makes_html, makes_task_check, makes_span_here, makes_protocol, makes_www, makes_after_label}
 
 -- Elements.
 
@@ -185,10 +186,6 @@ all_good choice yields (e ∷ es) earlier previous cs h =
 abbrev pub IsLabelled : Forest → Type 0
 IsLabelled t = made true t ≡ true
 
-one-way : (a b : Bool) → b ≡ true → (a || b) ≡ true
-one-way a true h = or-true a
-one-way a false h = cc
-
 -- what constructs make, among groups of labels
 made-labelled-tree : (t : Forest) → IsMade t → IsLabelled t
 made-labelled-tree empty h = refl
@@ -200,7 +197,7 @@ made-labelled-tree (group_then name enter exit inside rest) h =
     let p = and_parts (reaches enter exit inside) (is_single name inside && (made false inside && made false rest)) h in
     let q = and_parts (is_single name inside) (made false inside && made false rest) p.1 in
     let r = and_parts (made false inside) (made false rest) q.1 in
-    λ i. one-way (is_label_text name) (reaches enter exit inside) p.0 i && (q.0 i && (made-labelled-tree inside r.0 i && made-labelled-tree rest r.1 i))
+    λ i. (ap (λ b. is_label_text name || b) p.0 ∙ or-true (is_label_text name)) i && (q.0 i && (made-labelled-tree inside r.0 i && made-labelled-tree rest r.1 i))
 
 abbrev AllMade : List Forest → Type 0
 AllMade [] = Unit {0}

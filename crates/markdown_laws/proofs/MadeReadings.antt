@@ -1,9 +1,9 @@
 -- What constructs make: each leaf has a code and is no email literal, each group reaches from where its first tree begins to where its last one ends,
 -- none is a pair's, and an autolink holds leaves of its own.
 use Rattle.std.proofs.Common.{◌≡◌, ◌==◌, ℕ, ◌+◌, ◌≤◌, codes, Bool, true, false, ◌&&◌, ◌||◌, not, List, [], ◌∷◌, ◌++◌, length, refl, sym, ◌∙◌, ap, arith, Option, Some, None}
-use Rattle.std.proofs.lemmas.Bool.Decides.{nat_tests}
 use Rattle.markdown_model.proofs.LinkLaws.{yields_passed_if}
-use Rattle.std.proofs.lemmas.Bool.{not-true}
+use Rattle.std.proofs.lemmas.Bool.{not-true, eq-eqb}
+use Rattle.std.proofs.Math.Bool.{and_assoc, or-true}
 use Rattle.markdown_engine.specs.declared.event.Name.{Name}
 use Rattle.markdown_engine.specs.declared.event.Content.{Content}
 use Rattle.markdown_engine.specs.declared.event.Point.{Point}
@@ -66,16 +66,12 @@ made texts (group_then name enter exit inside rest) =
 
 -- Rows.
 
-and-assoc : (a b c : Bool) → ((a && b) && c) ≡ (a && (b && c))
-and-assoc true b c = refl
-and-assoc false b c = refl
-
 pub made-join : (texts : Bool) (a b : Forest) → made texts (a ⊕ b) ≡ (made texts a && made texts b)
 made-join texts empty b = refl
 made-join texts (leaf_then name link cs rest) b =
     ap (λ x. not (is_empty cs) && (not (is_email name) && x)) (made-join texts rest b)
-    ∙ ap (λ x. not (is_empty cs) && x) (sym (and-assoc (not (is_email name)) (made texts rest) (made texts b)))
-    ∙ sym (and-assoc (not (is_empty cs)) (not (is_email name) && made texts rest) (made texts b))
+    ∙ ap (λ x. not (is_empty cs) && x) (sym (and_assoc (not (is_email name)) (made texts rest) (made texts b)))
+    ∙ sym (and_assoc (not (is_empty cs)) (not (is_email name) && made texts rest) (made texts b))
 made-join texts (group_then name enter exit inside rest) b =
     ap (λ x. ((texts && is_label_text name) || reaches enter exit inside) && (is_single name inside && (made texts inside && x))) (made-join texts rest b)
     ∙ regroup ((texts && is_label_text name) || reaches enter exit inside) (is_single name inside) (made texts inside) (made texts rest) (made texts b)
@@ -85,10 +81,6 @@ made-join texts (group_then name enter exit inside rest) b =
     regroup true false c d e = refl
     regroup true true false d e = refl
     regroup true true true d e = refl
-
-pub or-true : (a : Bool) → (a || true) ≡ true
-or-true true = refl
-or-true false = refl
 
 pub made-leaf : (texts : Bool) (name : Name) (cs : List Code) → made texts (leaf name cs) ≡ (not (is_email name) || is_empty cs)
 made-leaf texts name [] = sym (or-true (not (is_email name)))
@@ -146,10 +138,7 @@ made-html_lines cs = made-lines_from Name.HtmlTextData None false (lines_of cs) 
 -- Groups.
 
 at-itself : (p : Point) → is_at p p ≡ true
-at-itself p = λ i. same p.index i && same p.vs i
-  where
-    same : (n : ℕ) → (n == n) ≡ true
-    same n = grind (arith, nat_tests)
+at-itself p = λ i. eq-eqb p.index p.index refl i && eq-eqb p.vs p.vs refl i
 
 reaches-itself : (f : Forest) → is_nothing f ≡ false → reaches (enter_of f) (exit_after (enter_of f) f) f ≡ true
 reaches-itself f h = λ i. not (h i) && (at-itself (enter_of f) i && at-itself (exit_after (enter_of f) f) i)

@@ -6,6 +6,8 @@ use Rattle.std.proofs.lemmas.Bool.Decides.{nat_tests}
 use Rattle.std.proofs.lemmas.List.{map-append, reverse-append, length-drop, take-append-drop}
 use Rattle.std.proofs.lemmas.List.Folds.{list_all-append}
 use Rattle.std.proofs.lemmas.List.Sums.{sum_by-cons}
+use Rattle.markdown_laws.proofs.NameTests.{pair-named}
+use Rattle.markdown_engine.proofs.Chain.{head_same, tail_same}
 use Rattle.markdown_engine.specs.declared.event.Name.{Name}
 use Rattle.markdown_engine.specs.Codes.{Code, is_blank}
 use Rattle.markdown_engine.specs.Tree.{Forest, empty, leaf_then, group_then, leaf, ◌⊕◌, leaf_codes}
@@ -133,15 +135,7 @@ held-loose : (cs : List Code) → held_all (loose cs) ≡ marked true cs
 held-loose cs = append-nil (held (leaf Name.Data cs)) ∙ by-leaf may_hold_marker Name.Data cs
 
 sequence-held : (marker size : ℕ) → may_hold_marker (pair_names marker size).1 ≡ true
-sequence-held marker size = by_tests (marker == 126) (size == 2)
-  where
-    by_tests : (a b : Bool) → may_hold_marker ((elim a as (λ _. Name × Name × Name) [
-      | true ↦ (Name.GfmStrikethrough, Name.GfmStrikethroughSequence, Name.GfmStrikethroughText)
-      | false ↦ elim b [ true ↦ (Name.Strong, Name.StrongSequence, Name.StrongText) | false ↦ (Name.Emphasis, Name.EmphasisSequence, Name.EmphasisText) ]
-    ]).1) ≡ true
-    by_tests true b = refl
-    by_tests false true = refl
-    by_tests false false = refl
+sequence-held = pair-named (λ names. may_hold_marker names.1 ≡ true) refl refl refl
 
 held-group : (front : List Code) (inside : List Forest) (back : List Code) → held_all (pair_group front inside back) ≡ marked true front ++ (held_all inside ++ marked true back)
 held-group front inside back =
@@ -316,13 +310,7 @@ kept-any : (xs ys : Marked) → codes_in xs ≡ codes_in ys → AreBlankOrMarked
 kept-any [] [] e h = tt
 kept-any [] (y ∷ ys) e h = cc
 kept-any (x ∷ xs) [] e h = cc
-kept-any (x ∷ xs) (y ∷ ys) e h = (head-is x.1 y.1 (codes_in xs) (codes_in ys) e, (λ f g. h.0 g), kept-any xs ys (tail-is x.1 y.1 (codes_in xs) (codes_in ys) e) h.1)
-  where
-    head-is : (a b : Code) (cs ds : List Code) → a ∷ cs ≡ b ∷ ds → a ≡ b
-    head-is a b cs ds k = cc
-
-    tail-is : (a b : Code) (cs ds : List Code) → a ∷ cs ≡ b ∷ ds → cs ≡ ds
-    tail-is a b cs ds k = cc
+kept-any (x ∷ xs) (y ∷ ys) e h = (head_same x.1 y.1 (codes_in xs) (codes_in ys) e, (λ f g. h.0 g), kept-any xs ys (tail_same x.1 y.1 (codes_in xs) (codes_in ys) e) h.1)
 
 either-append : (xs ys : Marked) → AreBlankOrMarked xs → AreBlankOrMarked ys → AreBlankOrMarked (xs ++ ys)
 either-append [] ys h k = k

@@ -3,6 +3,7 @@ use Rattle.std.proofs.Common.{◌≡◌, ℕ, zero, suc, ◌+◌, ◌-◌, ◌<�
 use Rattle.std.proofs.lemmas.List.{length-reverse}
 use Rattle.std.proofs.lemmas.List.Sums.{sum_by-append, sum_by-cons}
 use Rattle.std.proofs.lemmas.Bool.Decides.{nat_tests}
+use Rattle.markdown_laws.proofs.NameTests.{pair-named}
 use Rattle.markdown_engine.specs.declared.event.Name.{Name}
 use Rattle.markdown_engine.specs.Codes.{Code, stop_of, document_start}
 use Rattle.markdown_engine.specs.Tree.{Forest, empty, leaf_then, group_then, leaf, ◌⊕◌, start_of}
@@ -46,15 +47,7 @@ record IsNamed (names : Name × Name × Name) : Type 0 where
   text : is_pair names.2 ≡ false
 
 named : (marker size : ℕ) → IsNamed (pair_names marker size)
-named marker size = by_tests (marker == 126) (size == 2)
-  where
-    by_tests : (a b : Bool) → IsNamed (elim a as (λ _. Name × Name × Name) [
-      | true ↦ (Name.GfmStrikethrough, Name.GfmStrikethroughSequence, Name.GfmStrikethroughText)
-      | false ↦ elim b [ true ↦ (Name.Strong, Name.StrongSequence, Name.StrongText) | false ↦ (Name.Emphasis, Name.EmphasisSequence, Name.EmphasisText) ]
-    ])
-    by_tests true b = record { whole = refl; text = refl }
-    by_tests false true = record { whole = refl; text = refl }
-    by_tests false false = record { whole = refl; text = refl }
+named = pair-named IsNamed (record { whole = refl; text = refl }) (record { whole = refl; text = refl }) (record { whole = refl; text = refl })
 
 groups-pair_group : (front : List Code) (inside : List Forest) (back : List Code) → all_groups (pair_group front inside back) ≡ 1 + all_groups inside
 groups-pair_group front inside back =

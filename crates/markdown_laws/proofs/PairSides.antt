@@ -8,6 +8,7 @@ use Rattle.std.proofs.lemmas.List.{reverse-append, reverse-reverse, length-drop,
 use Rattle.std.proofs.lemmas.List.Elements.{Contains-append_left, Contains-append_right}
 use Rattle.std.proofs.lemmas.List.Folds.{list_all-append}
 use Rattle.std.proofs.lemmas.List.Sums.{sum_by-append, sum_by-cons}
+use Rattle.markdown_laws.proofs.NameTests.{pair-named}
 use Rattle.markdown_engine.specs.declared.event.Name.{Name}
 use Rattle.markdown_engine.specs.Codes.{Code}
 use Rattle.markdown_engine.specs.Tree.{Forest, empty, leaf_then, group_then, leaf, ◌⊕◌}
@@ -32,15 +33,7 @@ record IsNamed (names : Name × Name × Name) : Type 0 where
   sequence : is_sequence names.1 ≡ true
 
 named : (marker size : ℕ) → IsNamed (pair_names marker size)
-named marker size = by_tests (marker == 126) (size == 2)
-  where
-    by_tests : (a b : Bool) → IsNamed (elim a as (λ _. Name × Name × Name) [
-      | true ↦ (Name.GfmStrikethrough, Name.GfmStrikethroughSequence, Name.GfmStrikethroughText)
-      | false ↦ elim b [ true ↦ (Name.Strong, Name.StrongSequence, Name.StrongText) | false ↦ (Name.Emphasis, Name.EmphasisSequence, Name.EmphasisText) ]
-    ])
-    by_tests true b = record { text = refl; sequence = refl }
-    by_tests false true = record { text = refl; sequence = refl }
-    by_tests false false = record { text = refl; sequence = refl }
+named = pair-named IsNamed (record { text = refl; sequence = refl }) (record { text = refl; sequence = refl }) (record { text = refl; sequence = refl })
 
 module _ (P : List Code → List Code → Type 0) where
   abbrev IsRight : Forest → Type 0

@@ -1,6 +1,6 @@
 -- The places of trees: wherever the codes that a tree of labels covers stand one after another, so do the places of its groups among them.
 use Rattle.std.proofs.Common.{◌≡◌, ◌==◌, Bool, true, false, ◌&&◌, not, List, [], ◌∷◌, ◌++◌, length, drop, map, refl, sym, ap, subst, ◌∙◌, append_assoc, append-nil, Some, None}
-use Rattle.std.proofs.lemmas.Bool.{and_parts, eqb-true}
+use Rattle.std.proofs.lemmas.Bool.{and_parts, eqb-true, not-true}
 use Rattle.markdown_engine.specs.Codes.{Code, stop_of, document_start, place_of}
 use Rattle.markdown_engine.specs.Tree.{Forest, empty, leaf_then, group_then, leaf, group, text_group, ◌⊕◌, start_of, enter_of, exit_after, leaf_codes}
 use Rattle.markdown_engine.specs.declared.event.Name.{Name}
@@ -104,10 +104,6 @@ same-place p q h =
     let both = and_parts (p.index == q.index) (p.vs == q.vs) h in
     λ i. (eqb-true p.index q.index both.0 i, eqb-true p.vs q.vs both.1 i)
 
-full : (b : Bool) → not b ≡ true → b ≡ false
-full true h = cc
-full false h = refl
-
 -- what constructs make is so
 pub fit-made : (f : Forest) → IsMade f → IsFit f
 fit-made empty h = allows-itself []
@@ -122,7 +118,7 @@ fit-made (group_then name enter exit inside rest) h =
     let a = and_parts (not (is_nothing inside)) (is_at enter (enter_of inside) && is_at exit (exit_after (enter_of inside) inside)) p.0 in
     let b = and_parts (is_at enter (enter_of inside)) (is_at exit (exit_after (enter_of inside) inside)) a.1 in
     fit-join (group_then name enter exit inside empty) rest
-    (fit-group_then name enter exit inside (begins-made false inside r.0 (full (is_nothing inside) a.0)) (same-place enter (enter_of inside) b.0) (same-place exit (exit_after (enter_of inside) inside) b.1) (fit-made inside r.0))
+    (fit-group_then name enter exit inside (begins-made false inside r.0 (not-true (is_nothing inside) a.0)) (same-place enter (enter_of inside) b.0) (same-place exit (exit_after (enter_of inside) inside) b.1) (fit-made inside r.0))
     (fit-made rest r.1)
 
 -- A text between two markers: it begins where the first ends, and ends where the second begins.

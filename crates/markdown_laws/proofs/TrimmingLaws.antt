@@ -1,13 +1,13 @@
 -- No blank code stands in data beside a line ending, nor first or last in a text.
-use Rattle.std.proofs.Common.{◌≡◌, ℕ, zero, suc, Bool, true, false, ◌&&◌, ◌||◌, nat_le, List, [], ◌∷◌, ◌++◌, length, reverse, refl, sym, ap, subst, ◌∙◌, append_assoc, append-nil, Option, Some, None}
+use Rattle.std.proofs.Common.{◌≡◌, ℕ, zero, suc, Bool, true, false, ◌&&◌, ◌||◌, List, [], ◌∷◌, ◌++◌, length, reverse, refl, sym, ap, subst, ◌∙◌, append_assoc, append-nil, Option, Some, None}
 use Rattle.std.proofs.Math.Bool.{and-false}
-use Rattle.std.specs.List.{list_all}
 use Rattle.std.proofs.lemmas.Bool.{both_ways}
 use Rattle.std.proofs.lemmas.List.{reverse-append}
+use Rattle.markdown_laws.proofs.NameTests.{blank-named}
 use Rattle.markdown_engine.specs.declared.event.Name.{Name}
 use Rattle.markdown_engine.specs.Codes.{Code, is_blank}
 use Rattle.markdown_engine.specs.Tree.{Forest, empty, leaf_then, group_then, leaf, ◌⊕◌, leaf_codes}
-use Rattle.markdown_model.specs.CodeTests.{is_empty, is_real_space, next_is, is_some_code, last_code}
+use Rattle.markdown_model.specs.CodeTests.{is_empty, next_is, is_some_code, last_code}
 use Rattle.markdown_model.specs.Grammar.{span}
 use Rattle.markdown_model.specs.Element.{elements_of, string_elements_of}
 use Rattle.markdown_model.specs.Pairs.{pair_list}
@@ -56,11 +56,7 @@ not-ending Name.LineEnding cs f h = cc
 not-ending name cs f h = refl
 
 blank-other : (hard : Bool) (cs : List Code) → is_other (blank_name hard cs) ≡ true
-blank-other hard cs = by_test ((hard && nat_le 2 (length cs)) && list_all is_real_space cs)
-  where
-    by_test : (b : Bool) → is_other (elim b [ true ↦ Name.HardBreakTrailing | false ↦ Name.SpaceOrTab ]) ≡ true
-    by_test true = refl
-    by_test false = refl
+blank-other = blank-named (λ name. is_other name ≡ true) refl refl
 
 email-other : (name : Name) → is_email name ≡ true → is_other name ≡ true
 email-other Name.Data h = cc
