@@ -2,6 +2,7 @@
 #![tactic(auto)]
 
 pub mod laws;
+pub mod options;
 pub mod program;
 
 pub use markdown_gfm::gfm_task_list_item_check;

@@ -1,5 +1,5 @@
 //! The program: it reads a content, and prints the events of its inline tree.
-ghost use Rattle.std.specs.Prelude.{◌≡◌, ◌≢◌, ◌↔◌, ◌≤◌, ◌⊎◌, ◌∷◌, [], false, true, length, IfOk, IfErr, IfSome, OnOk, IsErrOf, IsUtf8, map, string_bytes, Some, None};
+ghost use Rattle.std.specs.Prelude.{◌≡◌, ◌↔◌, ◌≤◌, ◌⊎◌, ◌∷◌, [], false, true, length, IfOk, IfErr, IfSome, OnOk, IsErrOf, IsUtf8, map, string_bytes, Some, None};
 ghost use Rattle.std.specs.IoError.{error_kind};
 ghost use Rattle.std.specs.List.{list_all};
 ghost use Rattle.std.specs.Option.{option_map};
