@@ -281,9 +281,6 @@ module _ (options : ParseOptions) (runs list : List Sequence) (turn : ℕ) (pair
     found = found_open options list older (mark_of marks k class) turn (list_of runs) (is_open runs pairs) k h.lists.older_are (get_or heads k 0) o looks
         (h.lists.heads_are k (keys turn here)) walk
 
-    pub opener_before : o < turn
-    opener_before = found.before
-
     some_left : 0 < left runs (own runs pairs turn) turn
     some_left = subst (λ x. 0 < x.remaining) (h.stands.stands turn here) some
 

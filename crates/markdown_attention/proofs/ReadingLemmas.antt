@@ -37,19 +37,6 @@ module _ (bytes : List ℕ) (events : List Event) (i : ℕ) (e : Event) (l : i <
     pub exit-place : IsRunPlace bytes e.point x.point
     exit-place = subst (EndsRun bytes e) (first-event events (i + 1) x exit-within k) behind
 
-    pub run-found : (tildes : Bool) (n : ℕ) (c : Container) → first_run tildes bytes n i c (drop i events) ≡ sequence_at tildes bytes n i c e.point x.point ∷ []
-    run-found tildes n c =
-        ap (first_run tildes bytes n i c) (first-event events i e l h ∙ ap (λ es. e ∷ es) (first-event events (i + 1) x exit-within k))
-        ∙ rw opens refl
-
-none-first : (tildes : Bool) (bytes : List ℕ) (n i : ℕ) (c : Container) (e : Event) (es : List Event) → opens_run e ≡ false → first_run tildes bytes n i c (e ∷ es) ≡ []
-none-first tildes bytes n i c e [] h = refl
-none-first tildes bytes n i c e (x ∷ es) h = rw h refl
-
-pub run-none : (tildes : Bool) (bytes : List ℕ) (n i : ℕ) (c : Container) (events : List Event) (e : Event) → i < length events → e ≡ get_or events i e → opens_run e ≡ false
-    → first_run tildes bytes n i c (drop i events) ≡ []
-run-none tildes bytes n i c events e l h off = ap (first_run tildes bytes n i c) (first-event events i e l h) ∙ none-first tildes bytes n i c e (drop (i + 1) events) off
-
 -- 1 for the Enter of a text
 abbrev as_opened : Event → ℕ
 as_opened e = cond (opens_text e) 1 0

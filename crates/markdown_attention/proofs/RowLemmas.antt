@@ -252,10 +252,6 @@ module _ (s : Setting) (tildes : Bool) (bytes : List ℕ) (same : s.bytes ≡ by
       filters r front (here ++ back) ∙ ap (λ xs. xs ++ runs_in r (here ++ back)) f
       ∙ filters r here back ∙ ap (λ xs. runs_in r here ++ xs) b ∙ append-nil (runs_in r here)
 
-  lacks-more : (low high : ℕ) (xs ys : List Sequence) → Lacks low high xs → Lacks low high ys → Lacks low high (xs ++ ys)
-  unfolding Lacks
-  lacks-more low high xs ys a b r l h = filters r xs ys ∙ ap (λ zs. zs ++ runs_in r ys) (a r l h) ∙ b r l h
-
   all-one : (P : ℕ × Forest → Type 0) (x : ℕ × Forest) (b : Bool) → (b ≡ true → P x) → All P (cond b (x ∷ []) [])
   all-one P x true h = All-cons P x [] (h refl) (All-nil P)
   all-one P x false h = All-nil P

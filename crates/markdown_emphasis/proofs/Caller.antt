@@ -1,5 +1,5 @@
 -- What a caller of the pass of runs has from the tree of labels of a content.
-use Rattle.std.proofs.Common.{◌≡◌, ℕ, ◌+◌, ◌*◌, ◌^◌, ◌<◌, ◌≤◌, Bool, List, [], length, None, refl, sym, ap, subst, ◌∙◌, arith, append-nil}
+use Rattle.std.proofs.Common.{◌≡◌, ℕ, ◌+◌, ◌*◌, ◌^◌, ◌<◌, ◌≤◌, Bool, List, [], length, None, sym, ap, subst, ◌∙◌, arith, append-nil}
 use Rattle.std.specs.List.{count_by}
 use Rattle.markdown_engine.specs.Codes.{Code}
 use Rattle.markdown_engine.specs.Content.{content_of, IsContent}
@@ -11,7 +11,7 @@ use Rattle.markdown_engine.specs.declared.parser.Piece.{Piece}
 use Rattle.markdown_engine.specs.declared.tokenizer.Tokenizer.{Tokenizer}
 use Rattle.markdown_engine.proofs.Bounds.{content_fits}
 use Rattle.markdown_model.specs.Element.{elements_of, text_choice}
-use Rattle.markdown_model.specs.Inline.{label_tree, raw_tree, run_count, pair_count, opener_count, closer_count}
+use Rattle.markdown_model.specs.Inline.{label_tree, run_count, pair_count, opener_count, closer_count}
 use Rattle.markdown_model.specs.Groups.{paired}
 use Rattle.markdown_model.specs.Pairs.{pair_list}
 use Rattle.markdown_model.specs.Setting.{Setting}
@@ -29,7 +29,7 @@ use Rattle.markdown_emphasis.specs.Trees.{IsStriped}
 use Rattle.markdown_emphasis.proofs.Whole.{group-events}
 use Rattle.markdown_emphasis.proofs.Counts.{tree-few, run-count, opener-count, closer-count}
 use Rattle.markdown_emphasis.proofs.PairCounts.{pair-count}
-use Rattle.markdown_emphasis.proofs.Placed.{MeetsPass, tree-meets}
+use Rattle.markdown_emphasis.proofs.Placed.{tree-meets}
 
 -- the leaves of the tree of labels cover the content's codes
 pub codes-tree : (s : Setting) (cs : List Code) → leaf_codes (label_tree s cs) ≡ cs
@@ -85,20 +85,6 @@ module _ (s : Setting) (tildes : Bool) (bytes : List ℕ) (same : s.bytes ≡ by
         at_most = omega (arith, n, openers, closers, most);
         scan = subst (λ (x : ℕ). probes ≤ x) (λ i. (sym runs i + sym n i) * sym runs i) g.scan;
       }
-
--- The pass makes the raw tree of the tree of labels of a content.
-
-pub labels-grouped : (s : Setting) (pieces : List Piece) (es after : List Event) (probes : ℕ)
-    → IsContent s.bytes pieces → es ≡ appended_from 0 None (label_tree s (content_of s.bytes pieces))
-    → IsGrouped s.options (runs_from s.options.constructs.gfm_strikethrough s.bytes 0 0 outermost es) es after probes
-    → (after ≡ appended_from 0 None (raw_tree s (pair_list s) (elements_of s (content_of s.bytes pieces)))) × IsProbed s (label_tree s (content_of s.bytes pieces)) probes
-unfolding label_tree raw_tree
-labels-grouped s pieces es after probes h e g =
-    let m : MeetsPass s.bytes (label_tree s (content_of s.bytes pieces)) = tree-meets s.bytes s pieces h in
-    let places : HaveRunPlaces s.bytes es = subst (λ (xs : List Event). HaveRunPlaces s.bytes xs) (sym e) m.places in (
-      tree-grouped s s.options.constructs.gfm_strikethrough s.bytes refl refl s.options refl (label_tree s (content_of s.bytes pieces)) m.runs es e after probes m.striped places g,
-      tree-probed s s.options.constructs.gfm_strikethrough s.bytes refl refl s.options refl (label_tree s (content_of s.bytes pieces)) m.runs es e after probes g,
-    )
 
 -- By the tokenizer.
 

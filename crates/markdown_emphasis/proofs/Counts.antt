@@ -37,9 +37,6 @@ count-adds {A} p = record { none = sym (length-filter p []); append = both }
         sym (length-filter p (xs ++ ys)) ∙ ap length (filter-append p xs ys) ∙ length-append (filter p xs) (filter p ys)
         ∙ (λ i. length-filter p xs i + length-filter p ys i)
 
-pub sum-adds : {A : Type 0} (f : A → ℕ) → AddsUp (λ (xs : List A). sum_by f xs)
-sum-adds {A} f = record { none = refl; append = λ xs ys. sum_by-append f xs ys }
-
 pub leaf-run-yes : (tildes : Bool) (bytes : List ℕ) (n i : ℕ) (k : Container) (name : Name) (p q : Point) → is_run name ≡ true → leaf_run tildes bytes n i k name p q ≡ sequence_at tildes bytes n i k p q ∷ []
 leaf-run-yes tildes bytes n i k name p q e = rw e refl
 

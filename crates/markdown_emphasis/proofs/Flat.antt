@@ -18,15 +18,6 @@ count-row empty u = omega arith
 count-row (leaf_then name link cs rest) u = let r = count-row rest u in omega arith
 count-row (group_then name p q inside rest) u = let r = count-row rest u in omega arith
 
-pub row-assoc : (t u v : Forest) → (t ⊕ u) ⊕ v ≡ t ⊕ (u ⊕ v)
-row-assoc empty u v = refl
-row-assoc (leaf_then name link cs rest) u v = ap (leaf_then name link cs) (row-assoc rest u v)
-row-assoc (group_then name p q inside rest) u v = ap (group_then name p q inside) (row-assoc rest u v)
-
-pub joined-append : (fs gs : List Forest) → joined (fs ++ gs) ≡ joined fs ⊕ joined gs
-joined-append [] gs = refl
-joined-append (f ∷ fs) gs = ap (λ t. f ⊕ t) (joined-append fs gs) ∙ sym (row-assoc f (joined fs) (joined gs))
-
 -- Rows without links.
 
 pub unlinked-events : (t : Forest) (n : ℕ) (p : Option ℕ) → IsUnlinkedRow t → appended_from n p t ≡ appended_from n None t
@@ -242,9 +233,6 @@ items-events w n p h =
     ∙ items-joined w n p h
 
 -- Both.
-
-pub is-flat : (w : List Token) → Type 0
-is-flat w = Matches [] w ⊎ AreItems w
 
 pub flat-events : (w : List Token) (n : ℕ) (p : Option ℕ) → Matches [] w ⊎ AreItems w → appended_from n p (assembled w) ≡ word_events n p w
 flat-events w n p (inl h) = matched-events w n p h

@@ -1,5 +1,5 @@
 -- What one edit for each run leaves of the events of a tree: those of the tree with its pairs grouped.
-use Rattle.std.proofs.Common.{◌≡◌, ℕ, suc, ◌+◌, ◌-◌, ◌≤◌, ◌&&◌, Bool, true, false, List, [], ◌∷◌, ◌++◌, length, take, drop, reverse, map, sum_by, Option, Some, None, if◌then◌else◌, cond, refl, sym, ap, subst, ◌∙◌, arith, append_assoc, append-nil, inl, inr}
+use Rattle.std.proofs.Common.{◌≡◌, ℕ, suc, ◌+◌, ◌-◌, ◌≤◌, Bool, true, false, List, [], ◌∷◌, ◌++◌, length, take, drop, reverse, map, sum_by, Option, Some, None, if◌then◌else◌, cond, refl, sym, ap, subst, ◌∙◌, arith, append_assoc, append-nil, inl, inr}
 use Rattle.std.specs.Option.{option_map}
 use Rattle.std.proofs.lemmas.List.{drop_all}
 use Rattle.std.proofs.lemmas.Bool.{cases_lt}
@@ -252,9 +252,6 @@ module _ (es : List Event) (log : List Edit) (comes : ℕ → List Event) (is_lo
           placed = ap (start log) (sym same) ∙ h.placed ∙ omega arith;
           fresh = subst (λ (k : ℕ). Fresh k) same h.fresh;
         })
-
-    not-opens : (name : Name) → is_run name ≡ false → true && is_run name ≡ false
-    not-opens name e = e
 
     leaf-other : (name : Name) (cs : List Code) (rest : Forest) → is_run name ≡ false → Law rest → Law (leaf_then name None cs rest)
     leaf-other name cs rest other law n m ps i previous tail h =

@@ -2,10 +2,8 @@
 use Rattle.std.proofs.Common.{◌≡◌, ℕ, ◌==◌, Bool, true, false, not, List, [], ◌∷◌, ◌++◌, refl, sym, subst, Option, Some, None, inl, inr}
 use Rattle.std.specs.List.{list_any}
 use Rattle.markdown_engine.specs.declared.event.Name.{Name}
-use Rattle.markdown_engine.specs.declared.parser.Piece.{Piece}
 use Rattle.markdown_engine.specs.declared.tokenizer.LabelKind.{LabelKind}
 use Rattle.markdown_engine.specs.Codes.{Code}
-use Rattle.markdown_engine.specs.Content.{content_of, are_pieces}
 use Rattle.markdown_engine.specs.Tree.{Forest, leaf}
 use Rattle.markdown_model.specs.CodeTests.{is_value}
 use Rattle.markdown_model.specs.Grammar.{Reading, ◌>>=◌, ◌>>◌, gives, provided, either, some}
@@ -13,19 +11,15 @@ use Rattle.markdown_model.specs.Setting.{Setting}
 use Rattle.markdown_model.specs.LabelEnd.{Element, plain, starts, ends, Label, label_before, is_barred, footnote_call, link_or_image, outcome_of, label_end}
 use Rattle.markdown_model.specs.Element.{as_plain, switched, line_ending, data_code, attention_run, image_start, footnote_start, link_start, code_span, math_span, Tries, tries, tried, first_check, text_element, AreElementsFrom, AreElements, code_before, elements_of}
 use Rattle.markdown_model.specs.Inline.{label_tree}
-use Rattle.markdown_model.specs.Passes.{labels_of}
 use Rattle.markdown_model.proofs.ElementCodes.{covers_text_element}
 use Rattle.markdown_model.proofs.ElementLaws.{text_elements}
 use Rattle.markdown_model.proofs.LabelCodes.{element_codes, unused}
 use Rattle.markdown_model.proofs.Readings.{At}
 use Rattle.markdown_model.proofs.LinkFree.{Passes, Yields, yields_bind, yields_gives, yields_either, yields_passed, then_any}
 use Rattle.markdown_attention.specs.Open.{IsMarker}
-use Rattle.markdown_attention.specs.Rows.{HasRuns}
-use Rattle.markdown_emphasis.specs.Trees.{IsStriped}
-use Rattle.markdown_emphasis.specs.Word.{IsUnlinkedRow}
 use Rattle.markdown_emphasis.proofs.Good.{IsGood, IsSound, AllSound, quiet-good, good-run, good-leaf, good-labels}
 use Rattle.markdown_emphasis.proofs.Quiet.{IsQuiet, Free, quiet_escape, quiet_hard_break_escape, quiet_reference, quiet_autolink, quiet_task_check, quiet_code, quiet_math, quiet_html, quiet_protocol, quiet_www, quiet_after_label}
-use Rattle.markdown_emphasis.proofs.Singles.{AreSingles, IsRunLeaf, singles-back, singles-content, run-leaf}
+use Rattle.markdown_emphasis.proofs.Singles.{AreSingles, IsRunLeaf, singles-back, run-leaf}
 
 -- Readings whose values all pass, at codes of a content.
 
@@ -225,20 +219,3 @@ module _ (bytes : List ℕ) where
 pub good-tree : (bytes : List ℕ) (s : Setting) (cs : List Code) → AreSingles bytes cs → IsGood bytes (label_tree s cs)
 unfolding label_tree
 good-tree bytes s cs k = good-labels bytes (elements_of s cs) (sound-elements bytes s cs (elements_of s cs) k (text_elements s cs))
-
-pub tree-row : (bytes : List ℕ) (s : Setting) (cs : List Code) → AreSingles bytes cs → IsUnlinkedRow (label_tree s cs)
-tree-row bytes s cs k = (good-tree bytes s cs k).1.1.0
-
--- each text content's tree of labels is as the pass of runs asks
-pub label-tree : (bytes : List ℕ) (s : Setting) (pieces : List Piece) → are_pieces bytes pieces ≡ true
-    → let t : Forest = label_tree s (content_of bytes pieces) in HasRuns bytes t × IsStriped t
-label-tree bytes s pieces h =
-    let g : IsGood bytes (label_tree s (content_of bytes pieces)) = good-tree bytes s (content_of bytes pieces) (singles-content bytes pieces h) in
-    (g.0, ((λ e. g.1.1.0), g.1.0))
-
--- the same of any list of elements of the content
-pub labels-of : (bytes : List ℕ) (s : Setting) (pieces : List Piece) (es : List Element) → are_pieces bytes pieces ≡ true → AreElements s (content_of bytes pieces) es
-    → HasRuns bytes (labels_of es) × IsStriped (labels_of es)
-labels-of bytes s pieces es h k =
-    let g : IsGood bytes (labels_of es) = good-labels bytes es (sound-elements bytes s (content_of bytes pieces) es (singles-content bytes pieces h) k) in
-    (g.0, ((λ e. g.1.1.0), g.1.0))

@@ -119,14 +119,8 @@ is-space i index vs e h = grind (arith, nat_tests)
 not-space_index : (i index vs : ℕ) → (index ≡ i → ⊥) → (index == i && nat_lt 0 vs) ≡ false
 not-space_index i index vs e = grind (arith, nat_tests)
 
-not-space_first : (i index vs : ℕ) → vs ≡ 0 → (index == i && nat_lt 0 vs) ≡ false
-not-space_first i index vs e = grind (arith, nat_tests)
-
 later-index : (a b c d : ℕ) → is_before (c, d) (a, b) ≡ false → a ≤ c
 later-index a b c d h = grind (arith, nat_tests)
-
-before-index : (a b d : ℕ) → is_before (a, d) (a, b) ≡ false → b ≤ d
-before-index a b d h = grind (arith, nat_tests)
 
 -- none of an earlier tab
 none-earlier : (bytes : List ℕ) (i : ℕ) (p q : Point) (cs : List Code) → codes_to bytes p q ≡ cs → IsPoint bytes p → IsPoint bytes q → is_before (place_of q) (place_of p) ≡ false → i < p.index → virtual_spaces i cs ≡ 0

@@ -1,20 +1,17 @@
 -- How many codes there are, and how large their places.
-use Rattle.std.specs.List.{All}
-use Rattle.std.proofs.lemmas.List.Elements.{All-nil, All-cons, All-append, All-filter}
-use Rattle.std.proofs.Common.{ℕ, ◌+◌, ◌*◌, ◌<◌, ◌≤◌, ◌^◌, true, false, ◌≡◌, arith, List, [], ◌∷◌, ◌++◌, length, refl, sym, ap, subst, ◌∙◌, inl, inr, append_assoc, append-nil, length-append}
+use Rattle.std.proofs.Common.{ℕ, ◌+◌, ◌*◌, ◌<◌, ◌≤◌, ◌^◌, true, false, ◌≡◌, arith, List, [], ◌∷◌, length, refl, sym, ap, subst, ◌∙◌, inl, inr, append-nil, length-append}
 use Rattle.markdown_engine.specs.declared.event.Point.{Point}
 use Rattle.markdown_engine.specs.declared.parser.Piece.{Piece}
-use Rattle.markdown_engine.specs.Codes.{Code, codes_of, document_start, stop_of, place_of, point_at}
-use Rattle.markdown_engine.specs.Content.{IsContent, content_of, are_pieces, piece_codes, is_in_piece, document_limit}
+use Rattle.markdown_engine.specs.Codes.{Code, codes_of, document_start, place_of, point_at}
+use Rattle.markdown_engine.specs.Content.{IsContent, content_of, are_pieces, piece_codes}
 use Rattle.markdown_engine.specs.Place.{start_of_content}
 use Rattle.markdown_engine.specs.Walk.{IsPoint}
 use Rattle.markdown_engine.specs.Weights.{left_at}
 use Rattle.markdown_engine.proofs.Order.{is_before}
-use Rattle.markdown_engine.proofs.Chain.{cons≢nil, first-start, tail_same}
+use Rattle.markdown_engine.proofs.Chain.{cons≢nil, tail_same}
 use Rattle.markdown_engine.proofs.Steps.{code_here, stop_at}
 use Rattle.markdown_engine.proofs.Walks.{few-end, few-at, stands-start}
-use Rattle.markdown_engine.proofs.Points.{stands-point, stands-there, there, IsThere, point-split, chain-split, stop-more}
-use Rattle.markdown_engine.proofs.Past.{Fits_point, point_fits}
+use Rattle.markdown_engine.proofs.Points.{stands-point, stands-there, there, IsThere}
 use Rattle.markdown_engine.proofs.Standings.{piece_row, IsPieceRow, followed_by, piece-codes-is}
 use Rattle.markdown_engine.proofs.Betweens.{codes_to, to-cases}
 use Rattle.markdown_engine.proofs.Cursors.{before-keys}
@@ -26,39 +23,7 @@ document_few bytes =
     let few : length (codes_of bytes) + 4 * 0 + 0 ≤ 4 * length bytes = few-at bytes document_start (codes_of bytes) (stands-start bytes) refl in
     omega arith
 
--- a code of a document begins and ends at places of it
-pub record IsCodeOf (bytes : List ℕ) (c : Code) : Type 0 where
-  pub start : IsPoint bytes c.start
-  pub stop : IsPoint bytes c.stop
-
-pub code-split : (bytes : List ℕ) (front : List Code) (c : Code) (back : List Code) → codes_of bytes ≡ front ++ c ∷ back → IsCodeOf bytes c
-code-split bytes front c back e =
-    let start : stop_of document_start front ≡ c.start = sym (first-start document_start front c back (chain-split bytes front (c ∷ back) e)) in
-    let whole : codes_of bytes ≡ (front ++ c ∷ []) ++ back = e ∙ sym (append_assoc front (c ∷ []) back) in
-    record {
-      start = record { here = subst (λ (x : Point). point_at bytes (place_of x) ≡ x) start (point-split bytes front (c ∷ back) e) };
-      stop = record { here = subst (λ (x : Point). point_at bytes (place_of x) ≡ x) (stop-more document_start front c) (point-split bytes (front ++ c ∷ []) back whole) };
-    }
-
--- its lines, columns and indices fit a `usize`
-pub code_fits : (bytes : List ℕ) (c : Code) → IsCodeOf bytes c → length bytes ≤ document_limit → Fits_point c.start × Fits_point c.stop
-code_fits bytes c h fits = (point_fits bytes c.start h.start fits, point_fits bytes c.stop h.stop fits)
-
-codes-from : (bytes : List ℕ) (front cs : List Code) → codes_of bytes ≡ front ++ cs → All (IsCodeOf bytes) cs
-codes-from bytes front [] e = All-nil (IsCodeOf bytes)
-codes-from bytes front (c ∷ cs) e =
-    All-cons (IsCodeOf bytes) c cs (code-split bytes front c cs e) (codes-from bytes (front ++ c ∷ []) cs (e ∙ sym (append_assoc front (c ∷ []) cs)))
-
-pub document_codes : (bytes : List ℕ) → All (IsCodeOf bytes) (codes_of bytes)
-document_codes bytes = codes-from bytes [] (codes_of bytes) refl
-
 -- The codes of a content.
-
--- each is one of the document
-pub content_codes : (bytes : List ℕ) (pieces : List Piece) → All (IsCodeOf bytes) (content_of bytes pieces)
-content_codes bytes [] = All-nil (IsCodeOf bytes)
-content_codes bytes (piece ∷ more) =
-    All-append (IsCodeOf bytes) (piece_codes (codes_of bytes) piece) (content_of bytes more) (All-filter (is_in_piece piece) (IsCodeOf bytes) (codes_of bytes) (document_codes bytes)) (content_codes bytes more)
 
 few-between : (bytes : List ℕ) (p q : Point) (cs : List Code) → codes_to bytes p q ≡ cs → IsPoint bytes p → IsPoint bytes q → is_before (place_of q) (place_of p) ≡ false → length cs + (4 * p.index + p.vs) ≤ 4 * q.index + q.vs
 few-between bytes p q [] e h k l =

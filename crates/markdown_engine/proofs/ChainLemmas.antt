@@ -1,5 +1,5 @@
 -- The links of a list of events, as it grows, shrinks and gains a link.
-use Rattle.std.proofs.Common.{Bool, ◌≡◌, ◌≢◌, ℕ, zero, suc, ◌+◌, ◌<◌, ◌≤◌, ◌⊎◌, inl, inr, true, false, cond, Option, Some, None, List, [], ◌∷◌, ◌++◌, length, set, get_or, refl, sym, ap, subst, ◌∙◌, arith}
+use Rattle.std.proofs.Common.{◌≡◌, ◌≢◌, ℕ, zero, suc, ◌+◌, ◌<◌, ◌≤◌, ◌⊎◌, inl, inr, true, false, cond, Option, Some, None, List, [], ◌∷◌, ◌++◌, length, set, get_or, refl, sym, ap, subst, ◌∙◌, arith}
 use Rattle.std.proofs.lemmas.Option.{same_Some}
 use Rattle.std.proofs.lemmas.Bool.{ne_eqb, eq-eqb, false≢true}
 use Rattle.std.proofs.lemmas.Bool.Decides.{eqb_tells}
@@ -44,15 +44,7 @@ previous-next : (k : Option ℕ) (l : Option Link) → link_previous (next_link 
 previous-next k None = refl
 previous-next k (Some l) = refl
 
-has-next : (k : Option ℕ) (l : Option Link) → has_link (next_link k l) ≡ has_link l
-has-next k None = refl
-has-next k (Some l) = refl
-
 -- what the list keeps
-
-pub bares-bares : (xs : List Event) → bares (bares xs) ≡ bares xs
-bares-bares [] = refl
-bares-bares (x ∷ xs) = ap (λ e. e ∷ bares (bares xs)) (with_next-with_next None None x) ∙ ap (λ es. bare x ∷ es) (bares-bares xs)
 
 pub length-bares : (xs : List Event) → length (bares xs) ≡ length xs
 length-bares [] = refl
@@ -87,17 +79,6 @@ pub previous_at-before : (xs ys : List Event) (j : ℕ) → j < length xs → pr
 previous_at-before [] ys j h = absurd (omega arith)
 previous_at-before (x ∷ xs) ys zero h = refl
 previous_at-before (x ∷ xs) ys (suc j) h = let k : j < length xs = omega arith in previous_at-before xs ys j k
-
-pub previous_at-past : (xs : List Event) (j : ℕ) → length xs ≤ j → previous_at xs j ≡ None
-previous_at-past [] j h = refl
-previous_at-past (x ∷ xs) zero h = absurd (omega arith)
-previous_at-past (x ∷ xs) (suc j) h = let k : length xs ≤ j = omega arith in previous_at-past xs j k
-
-pub previous_at-after : (xs ys : List Event) (j : ℕ) → previous_at (xs ++ ys) (length xs + j) ≡ previous_at ys j
-previous_at-after [] ys j = ap (previous_at ys) (omega arith)
-previous_at-after (x ∷ xs) ys j =
-    let e : suc (length xs) + j ≡ suc (length xs + j) = omega arith in
-    ap (previous_at (x ∷ xs ++ ys)) e ∙ previous_at-after xs ys j
 
 pub linked_at-before : (xs ys : List Event) (j : ℕ) → j < length xs → linked_at (xs ++ ys) j ≡ linked_at xs j
 linked_at-before [] ys j h = absurd (omega arith)
@@ -265,14 +246,6 @@ chained-link n p (suc j) (suc i) m (e ∷ es) a b l h k u =
 
 -- chains stay chains
 
-pub IsLinked-nil : IsLinked []
-IsLinked-nil = record {
-  earlier = λ j p h. absurd (some-none p h);
-  linked = λ j p h. absurd (some-none p h);
-  single = λ j k p h i. absurd (some-none p h);
-  enters = tt;
-}
-
 pub OnlyEnters-prefix : (xs ys : List Event) → OnlyEnters (xs ++ ys) → OnlyEnters xs
 OnlyEnters-prefix [] ys h = tt
 OnlyEnters-prefix (x ∷ xs) ys h = (h.0, OnlyEnters-prefix xs ys h.1)
@@ -422,77 +395,9 @@ ends-last es p w size one two = λ j h.
       ]
     ]
 
-cond-none : (b : Bool) (n : ℕ) (o : Option ℕ) → cond b (Some n) o ≡ None → (b ≡ false) × (o ≡ None)
-cond-none true n o h = absurd (some-none n (sym h))
-cond-none false n o h = (refl, h)
-
--- the follower among more events: one of the first, or else among the others
-pub follower-append : (p n m : ℕ) (xs ys : List Event) → m ≡ n + length xs → follower p n xs ≡ None → follower p n (xs ++ ys) ≡ follower p m ys
-follower-append p n m [] ys h k = ap (λ i. follower p i ys) (omega arith)
-follower-append p n m (x ∷ xs) ys h k =
-    let none = cond-none (is_number p (previous_of x)) n (follower p (suc n) xs) k in
-    ap (λ b. cond b (Some n) (follower p (suc n) (xs ++ ys))) none.0 ∙ follower-append p (suc n) m xs ys (omega arith) none.1
-
--- where no later event follows, the followers are those among the first events
-pub follower-first : (p n : ℕ) (xs ys : List Event) → EndsChain p ys → follower p n (xs ++ ys) ≡ follower p n xs
-follower-first p n [] ys u = follower-none p n ys u
-follower-first p n (x ∷ xs) ys u = follower-step p n x (xs ++ ys) xs (follower-first p (suc n) xs ys u)
-
--- an event added that names an earlier one, which ended its chain
-pub IsLinked-push_named : (xs : List Event) (e : Event) (p : ℕ) → IsLinked xs → previous_of e ≡ Some p → linked_at xs p ≡ true → EndsChain p xs → MayLink e.kind e.link → IsLinked (xs ++ e ∷ [])
-IsLinked-push_named xs e p w h a u k =
-    let near : p < length xs = within-linked xs p a in
-    let which = λ (j q : ℕ) (g : previous_at (xs ++ e ∷ []) j ≡ Some q). named-by xs e p j q h g in
-    record {
-      earlier = λ j q g. elim (which j q g) [ inl s ↦ omega arith | inr d ↦ w.earlier j q d ];
-      linked = λ j q g. elim (which j q g) [
-        | inl s ↦ ap (linked_at (xs ++ e ∷ [])) (sym s.1) ∙ linked_at-before xs (e ∷ []) p near ∙ a
-        | inr d ↦ linked_at-before xs (e ∷ []) q (within-linked xs q (w.linked j q d)) ∙ w.linked j q d
-      ];
-      single = λ i j q g f. elim (which i q g) [
-        | inl s ↦ elim (which j q f) [ inl t ↦ s.0 ∙ sym t.0 | inr d ↦ absurd (u j (d ∙ ap (λ x. Some x) (sym s.1))) ]
-        | inr d ↦ elim (which j q f) [ inl t ↦ absurd (u i (d ∙ ap (λ x. Some x) (sym t.1))) | inr b ↦ w.single i j q d b ]
-      ];
-      enters = OnlyEnters-append xs (e ∷ []) w.enters (k, tt);
-    }
-  where
-    named-by : (xs : List Event) (e : Event) (p j q : ℕ) → previous_of e ≡ Some p → previous_at (xs ++ e ∷ []) j ≡ Some q → ((j ≡ length xs) × (p ≡ q)) ⊎ (previous_at xs j ≡ Some q)
-    named-by [] e p zero q h g = inl (refl, same_Some p q (sym h ∙ g))
-    named-by [] e p (suc j) q h g = absurd (some-none q g)
-    named-by (x ∷ xs) e p zero q h g = inr g
-    named-by (x ∷ xs) e p (suc j) q h g = elim (named-by xs e p j q h g) [ inl s ↦ inl (ap suc s.0, s.1) | inr d ↦ inr d ]
-
--- the Enter before a last event ends its chain, if the last event names nothing
-pub ends-before_last : (es : List Event) (p : ℕ) → IsLinked es → length es ≡ p + 2 → previous_at es (p + 1) ≡ None → EndsChain p es
-ends-before_last es p w size one = λ j h.
-    let after : p < j = w.earlier j p h in
-    let below : j < length es = within-previous es j p h in
-    let last : j ≡ p + 1 = omega arith in
-    some-none p (sym one ∙ ap (previous_at es) (sym last) ∙ h)
-
 -- the number of the event after is all that the kept events add
-
-pub chained-kind : (n i : ℕ) (es : List Event) (d : Event) → (get_or (chained_from n es) i d).kind ≡ (get_or es i d).kind
-chained-kind n i [] d = refl
-chained-kind n zero (x ∷ es) d = refl
-chained-kind n (suc i) (x ∷ es) d = chained-kind (suc n) i es d
-
-pub chained-name : (n i : ℕ) (es : List Event) (d : Event) → (get_or (chained_from n es) i d).name ≡ (get_or es i d).name
-chained-name n i [] d = refl
-chained-name n zero (x ∷ es) d = refl
-chained-name n (suc i) (x ∷ es) d = chained-name (suc n) i es d
 
 pub chained-point : (n i : ℕ) (es : List Event) (d : Event) → (get_or (chained_from n es) i d).point ≡ (get_or es i d).point
 chained-point n i [] d = refl
 chained-point n zero (x ∷ es) d = refl
 chained-point n (suc i) (x ∷ es) d = chained-point (suc n) i es d
-
-pub chained-previous : (n i : ℕ) (es : List Event) → previous_at (chained_from n es) i ≡ previous_at es i
-chained-previous n i [] = refl
-chained-previous n zero (x ∷ es) = previous-next (follower n (suc n) es) x.link
-chained-previous n (suc i) (x ∷ es) = chained-previous (suc n) i es
-
-pub chained-linked : (n i : ℕ) (es : List Event) → linked_at (chained_from n es) i ≡ linked_at es i
-chained-linked n i [] = refl
-chained-linked n zero (x ∷ es) = has-next (follower n (suc n) es) x.link
-chained-linked n (suc i) (x ∷ es) = chained-linked (suc n) i es

@@ -1,5 +1,5 @@
 -- What callers of edits reason with.
-use Rattle.std.proofs.Common.{◌≡◌, ◌≢◌, ℕ, zero, suc, ◌+◌, ◌<◌, ◌≤◌, ◌==◌, ◌||◌, ◌&&◌, not, nat_lt, nat_le, inl, inr, Bool, true, false, cond, Option, Some, None, List, [], ◌∷◌, ◌++◌, length, drop, get_or, slice_get, refl, sym, ap, ◌∙◌, arith, append_assoc}
+use Rattle.std.proofs.Common.{◌≡◌, ◌≢◌, ℕ, zero, suc, ◌+◌, ◌<◌, ◌≤◌, ◌==◌, ◌&&◌, not, nat_lt, nat_le, inl, inr, Bool, true, false, cond, Option, Some, None, List, [], ◌∷◌, ◌++◌, length, drop, get_or, refl, sym, ap, ◌∙◌, arith, append_assoc}
 use Rattle.std.specs.List.{All}
 use Rattle.std.specs.Option.{option_map}
 use Rattle.std.proofs.lemmas.List.{length-append, length-drop, append-nil}
@@ -11,7 +11,7 @@ use Rattle.markdown_engine.specs.declared.util.edit_map.Edit.{Edit}
 use Rattle.markdown_engine.specs.Chain.{previous_link, link_previous, linked_at}
 use Rattle.markdown_engine.specs.Edits.{removed_at, front_at, back_at, added_at, removed_by, is_removed, removed_before, moved_number, moved, edited_from, edited, CanEdit}
 use Rattle.markdown_engine.proofs.ChainLemmas.{linked_at-past}
-use Rattle.markdown_engine.proofs.EditLemmas.{start, moved-start, edited-at}
+use Rattle.markdown_engine.proofs.EditLemmas.{start, moved-start}
 use Rattle.markdown_engine.proofs.OpsLemmas.{and-left, and-right}
 
 -- Which events go.
@@ -102,10 +102,6 @@ placed-from log es done i l h =
     let e : i + length (drop i es) ≡ length es = omega (arith, length-drop i es) in
     omega (arith, ap length h, ap (moved_number log) e)
 
--- an event that stays has its number afterwards
-pub edited-kept : (log : List Edit) (es : List Event) (j : ℕ) → j < length es → is_removed log j ≡ false → slice_get (edited log es) (moved_number log j) ≡ option_map (moved log) (slice_get es j)
-edited-kept log es j l h = edited-at log 0 j j (moved_number log j) es (omega arith) (omega arith) h l
-
 -- Two lists of edits, one after the other.
 
 pub front-append : (i : ℕ) (a b : List Edit) → front_at i (a ++ b) ≡ front_at i b ++ front_at i a
@@ -172,22 +168,6 @@ module _ (a b : List Edit) (n : ℕ) (low : All (λ e. e.at < n) a) (high : All 
   pub removed-second : (j : ℕ) → n ≤ j → removed_at j (a ++ b) ≡ removed_at j b
   removed-second j l = omega (arith, removed-append j a b, removed-none j a (not-low j l))
 
-  by-first : (j i : ℕ) → i < n → removed_by (a ++ b) j i ≡ removed_by a j i
-  by-first j zero l = ap (nat_lt j) (removed-first 0 l)
-  by-first j (suc i) l = ap (λ m. nat_lt j (suc i + m) || removed_by (a ++ b) j i) (removed-first (suc i) l) ∙ ap (λ x. nat_lt j (suc i + removed_at (suc i) a) || x) (by-first j i (omega arith))
-
-  pub is_removed-first : (j : ℕ) → j < n → is_removed (a ++ b) j ≡ is_removed a j
-  is_removed-first j l = by-first j j l
-
-  start-first : (j : ℕ) → j ≤ n → start (a ++ b) j ≡ start a j
-  start-first zero l = refl
-  start-first (suc j) l =
-      ap (λ s. s + length (added_at j (a ++ b)) + cond (is_removed (a ++ b) j) 0 1) (start-first j (omega arith)) ∙ ap (λ xs. start a j + length xs + cond (is_removed (a ++ b) j) 0 1) (added-first j (omega arith)) ∙ ap (λ x. start a j + length (added_at j a) + cond x 0 1) (is_removed-first j (omega arith))
-
-  pub moved_number-first : (j : ℕ) → j < n → moved_number (a ++ b) j ≡ moved_number a j
-  moved_number-first j l =
-      moved-start (a ++ b) j ∙ ap (λ s. s + length (added_at j (a ++ b))) (start-first j (omega arith)) ∙ ap (λ xs. start a j + length xs) (added-first j l) ∙ sym (moved-start a j)
-
 -- The list split at a place.
 
 -- what becomes of some events from place i on, without what comes behind the last
@@ -200,17 +180,6 @@ edited-split log i n [] ys h = ap (λ k. edited_from log k ys) (omega arith)
 edited-split log i n (x ∷ xs) ys h =
     let e : n ≡ suc i + length xs = omega arith in
     ap (λ r. added_at i log ++ (cond (is_removed log i) [] (moved log x ∷ []) ++ r)) (edited-split log (suc i) n xs ys e) ∙ ap (λ r. added_at i log ++ r) (sym (append_assoc (cond (is_removed log i) [] (moved log x ∷ [])) (edited_until log (suc i) xs) (edited_from log n ys))) ∙ sym (append_assoc (added_at i log) (cond (is_removed log i) [] (moved log x ∷ []) ++ edited_until log (suc i) xs) (edited_from log n ys))
-
--- edits that agree on some events make the same of them
-pub edited_until-same : (a b : List Edit) (i : ℕ) (es : List Event) → ((j : ℕ) → i ≤ j → j < i + length es → added_at j a ≡ added_at j b) → ((j : ℕ) → i ≤ j → j < i + length es → is_removed a j ≡ is_removed b j) → ((j : ℕ) (e : Event) → slice_get es j ≡ Some e → moved a e ≡ moved b e) → edited_until a i es ≡ edited_until b i es
-edited_until-same a b i [] h g m = refl
-edited_until-same a b i (e ∷ es) h g m =
-    ap (λ x. x ++ (cond (is_removed a i) [] (moved a e ∷ []) ++ edited_until a (suc i) es)) (h i (omega arith) (omega arith)) ∙ ap (λ t. added_at i b ++ (cond t [] (moved a e ∷ []) ++ edited_until a (suc i) es)) (g i (omega arith) (omega arith)) ∙ ap (λ y. added_at i b ++ (cond (is_removed b i) [] (y ∷ []) ++ edited_until a (suc i) es)) (m 0 e refl) ∙ ap (λ r. added_at i b ++ (cond (is_removed b i) [] (moved b e ∷ []) ++ r)) (edited_until-same a b (suc i) es (λ j l k. h j (omega arith) (omega arith)) (λ j l k. g j (omega arith) (omega arith)) (λ j. m (suc j)))
-
-pub edited_from-same : (a b : List Edit) (i : ℕ) (es : List Event) → ((j : ℕ) → i ≤ j → added_at j a ≡ added_at j b) → ((j : ℕ) → i ≤ j → is_removed a j ≡ is_removed b j) → ((j : ℕ) (e : Event) → slice_get es j ≡ Some e → moved a e ≡ moved b e) → edited_from a i es ≡ edited_from b i es
-edited_from-same a b i [] h g m = h i (omega arith)
-edited_from-same a b i (e ∷ es) h g m =
-    ap (λ x. x ++ (cond (is_removed a i) [] (moved a e ∷ []) ++ edited_from a (suc i) es)) (h i (omega arith)) ∙ ap (λ t. added_at i b ++ (cond t [] (moved a e ∷ []) ++ edited_from a (suc i) es)) (g i (omega arith)) ∙ ap (λ y. added_at i b ++ (cond (is_removed b i) [] (y ∷ []) ++ edited_from a (suc i) es)) (m 0 e refl) ∙ ap (λ r. added_at i b ++ (cond (is_removed b i) [] (moved b e ∷ []) ++ r)) (edited_from-same a b (suc i) es (λ j l. h j (omega arith)) (λ j l. g j (omega arith)) (λ j. m (suc j)))
 
 -- Edits and events that are written out.
 

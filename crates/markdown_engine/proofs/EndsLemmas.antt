@@ -1,17 +1,15 @@
 -- how readings follow one another
-use Rattle.std.proofs.Common.{◌≡◌, ℕ, ◌≤◌, Bool, true, false, Option, Some, None, List, ◌++◌, length, refl, sym, ap, subst, ◌∙◌, arith, append_assoc, length-append}
-use Rattle.markdown_engine.specs.Codes.{Code}
+use Rattle.std.proofs.Common.{◌≡◌, ℕ, ◌≤◌, Bool, true, false, Option, None, List, ◌++◌, length, refl, sym, ap, subst, ◌∙◌, arith, append_assoc, length-append}
 use Rattle.markdown_engine.specs.Grown.{Grown, Fails}
 use Rattle.markdown_engine.specs.Ops.{Op, ahead, scratched, done, stays}
 use Rattle.markdown_engine.specs.Past.{past, last_link, TreeReading, EndsAs, Reads, Refuses, behind}
 use Rattle.markdown_engine.specs.Tree.{Forest, empty, leaf_then, group_then, ◌⊕◌, leaf_codes}
-use Rattle.markdown_engine.specs.TreeOps.{ops_of, IsSolid}
 use Rattle.markdown_engine.specs.Weights.{codes_left}
 use Rattle.markdown_engine.specs.declared.tokenizer.TokenizeState.{TokenizeState}
 use Rattle.markdown_engine.specs.declared.tokenizer.Tokenizer.{Tokenizer}
 use Rattle.markdown_engine.proofs.OpRules.{left-ahead}
 use Rattle.markdown_engine.proofs.OpsLemmas.{Grown-scratched, Grown-done, scratch-done}
-use Rattle.markdown_engine.proofs.TreeLemmas.{leaf_codes-row, past-past, Grown-past, ops-past, ahead-past}
+use Rattle.markdown_engine.proofs.TreeLemmas.{leaf_codes-row, past-past, Grown-past}
 
 -- the scratch fields before a reading do not matter
 pub EndsAs-scratched : (r : TreeReading) (previous : Option ℕ) (s q : TokenizeState) (T : Tokenizer) (ok : Bool) (U : Tokenizer) → EndsAs r previous s (scratched q T) ok U → EndsAs r previous s T ok U
@@ -57,18 +55,6 @@ row-empty (group_then n a b i r) = ap (group_then n a b i) (row-empty r)
 pub scratched-same : (T : Tokenizer) → scratched T.tokenize_state T ≡ T
 unfolding scratched
 scratched-same T = refl
-
-pub Reads-ops : (r : TreeReading) (t : Forest) (rest : List Code) (T U : Tokenizer) → IsSolid t → r (ahead T) ≡ Some (t, rest) → ahead T ≡ leaf_codes t ++ rest → U ≡ done (ops_of t) T → Reads r None T.tokenize_state T U
-Reads-ops r t rest T U s holds whole e =
-    let is : U ≡ past None t T = e ∙ ops-past t rest T s whole in
-    record {
-      tree = t;
-      rest = rest;
-      holds = holds;
-      left = is ∙ ap (past None t) (sym (scratched-same T));
-      whole = whole;
-      after = ap ahead is ∙ ahead-past None t T rest whole;
-    }
 
 pub Refuses-done : (r : TreeReading) (os : List Op) (T U : Tokenizer) → stays 0 os ≡ true → r (ahead T) ≡ None → U ≡ done os T → Refuses r T.tokenize_state T U
 Refuses-done r os T U s refused e =

@@ -8,11 +8,10 @@ use Rattle.markdown_engine.specs.declared.event.Event.{Event}
 use Rattle.markdown_engine.specs.declared.event.Kind.TheVariants.{Enter, Exit}
 use Rattle.markdown_engine.specs.declared.event.Name.{Name}
 use Rattle.markdown_engine.specs.contracts.event.Name.{the_type}
-use Rattle.markdown_engine.specs.Chain.{with_next, follower, chained_from, chained}
 use Rattle.std.specs.List.{list_any, Contains}
 use Rattle.std.proofs.lemmas.Bool.{false≢true, or_right}
 use denote.Enum.Bare.{sameb, same_true, true_same}
-use Rattle.markdown_engine.specs.Nesting.{own_enter, outer, opened, open_after, open_before, point_at, IsNamed, IsNamedBack}
+use Rattle.markdown_engine.specs.Nesting.{outer, opened, open_after, open_before, point_at, IsNamed, IsNamedBack}
 
 open_after-push : (n : ℕ) (o : List ℕ) (es : List Event) (e : Event) → open_after n o (es ++ e ∷ []) ≡ opened (n + length es) e.kind (open_after n o es)
 open_after-push n o [] e = ap (λ m. opened m e.kind o) (omega arith)
@@ -126,35 +125,3 @@ none-further names es i k above here j l m h =
       | inl t ↦ here (subst (λ n. IsNamed names es n) t.1 h)
       | inr f ↦ above j (omega arith) m h
     ]
-
--- the numbers that links go on to say nothing of nesting, places and names
-
-open_after-chained : (n m i : ℕ) (o : List ℕ) (es : List Event) → open_after n o (take i (chained_from m es)) ≡ open_after n o (take i es)
-open_after-chained n m zero o es = refl
-open_after-chained n m (suc i) o [] = refl
-open_after-chained n m (suc i) o (x ∷ es) = open_after-chained (suc n) (suc m) i (opened n x.kind o) es
-
-pub own_enter-chained : (es : List Event) (i : ℕ) → own_enter (chained es) i ≡ own_enter es i
-own_enter-chained es i = ap (λ o. slice_get o 0) (open_after-chained 0 0 i [] es)
-
-point_at-from : (n i : ℕ) (es : List Event) → point_at (chained_from n es) i ≡ point_at es i
-point_at-from n i [] = refl
-point_at-from n zero (x ∷ es) = refl
-point_at-from n (suc i) (x ∷ es) = point_at-from (suc n) i es
-
-pub point_at-chained : (es : List Event) (i : ℕ) → point_at (chained es) i ≡ point_at es i
-point_at-chained es i = point_at-from 0 i es
-
-pub IsNamed-chained : (names : List Name) (n i : ℕ) (es : List Event) → IsNamed names es i → IsNamed names (chained_from n es) i
-IsNamed-chained names n i es h = named-again names n i es h.0 h.1.0 h.1.1
-  where
-    named-again : (names : List Name) (n i : ℕ) (es : List Event) (e : Event) → slice_get es i ≡ Some e → Contains names e.name → IsNamed names (chained_from n es) i
-    named-again names n i [] e h k = absurd (none-event e h)
-      where
-        none-event : (e : Event) → None ≡ Some e → ⊥
-        none-event e h = cc
-    named-again names n zero (x ∷ es) e h k = (with_next (follower n (suc n) es) x, (refl, subst (λ m. Contains names m) (same-name x e h) k))
-      where
-        same-name : (x e : Event) → Some x ≡ Some e → e.name ≡ x.name
-        same-name x e h = let s : x ≡ e = cc in ap (λ (y : Event). y.name) (sym s)
-    named-again names n (suc i) (x ∷ es) e h k = named-again names (suc n) i es e h k

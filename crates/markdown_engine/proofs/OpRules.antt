@@ -3,7 +3,7 @@ use Rattle.std.proofs.Common.{ℕ, ◌+◌, ◌≤◌, ◌++◌, [], None, Some,
 use Rattle.markdown_engine.specs.Lists.{rest_of, first_of}
 use Rattle.markdown_engine.specs.Codes.{Code}
 use Rattle.markdown_engine.specs.Place.{Place, moved, code_at, ahead_at, value_of}
-use Rattle.markdown_engine.specs.Ops.{Op, Enter, Exit, EnterLink, EnterConnected, Consume, applied, consumed, extended, op_events, op_stack, op_cursor, op_moves, current_of, ahead, scratched, registered, is_registered}
+use Rattle.markdown_engine.specs.Ops.{Op, Enter, Exit, EnterLink, EnterConnected, Consume, applied, consumed, extended, op_stack, op_cursor, op_moves, current_of, ahead, scratched, registered, is_registered}
 use Rattle.markdown_engine.specs.Weights.{codes_left, left_at}
 use Rattle.markdown_engine.specs.declared.event.Event.{Event}
 use Rattle.markdown_engine.specs.declared.resolve.ResolveName.{ResolveName}
@@ -16,10 +16,6 @@ pub extended-append : (es xs : List Event) → extended es xs ≡ es ++ xs
 extended-append es [] = sym (append-nil es)
 extended-append es (x ∷ xs) = refl
 
-pub events-applied : (o : Op) (T : Tokenizer) → (applied o T).events ≡ T.events ++ op_events o T
-unfolding applied
-events-applied o T = extended-append T.events (op_events o T)
-
 pub stack-applied : (o : Op) (T : Tokenizer) → (applied o T).stack ≡ op_stack o T.stack
 unfolding applied
 stack-applied o T = refl
@@ -27,10 +23,6 @@ stack-applied o T = refl
 pub cursor-applied : (o : Op) (T : Tokenizer) → (applied o T).cursor ≡ op_cursor o T.cursor
 unfolding applied
 cursor-applied o T = refl
-
-pub map-applied : (o : Op) (T : Tokenizer) → (applied o T).map ≡ T.map
-unfolding applied
-map-applied o T = refl
 
 pub scratch-applied : (o : Op) (T : Tokenizer) → (applied o T).tokenize_state ≡ T.tokenize_state
 unfolding applied
@@ -53,10 +45,6 @@ unfolding applied
 failed-applied o T = refl
 
 -- Setting the scratch fields changes nothing else.
-
-pub events-scratched : (s : TokenizeState) (T : Tokenizer) → (scratched s T).events ≡ T.events
-unfolding scratched
-events-scratched s T = refl
 
 pub stack-scratched : (s : TokenizeState) (T : Tokenizer) → (scratched s T).stack ≡ T.stack
 unfolding scratched
@@ -172,7 +160,7 @@ pub left-scratched : (s : TokenizeState) (T : Tokenizer) → codes_left (scratch
 unfolding scratched
 left-scratched s T = refl
 
--- Registering a pass changes nothing else.
+-- Registering a pass leaves the attempts.
 
 one-of : {A : Type 0} → (P : A → Type 0) (b : Bool) (x y : A) → P x → P y → P (if b then x else y)
 one-of P true x y p q = p
@@ -181,30 +169,6 @@ one-of P false x y p q = q
 pub attempts-registered : (n : ResolveName) (T : Tokenizer) → (registered n T).attempts ≡ T.attempts
 unfolding registered
 attempts-registered n T = one-of (λ U. U.attempts ≡ T.attempts) (is_registered n T.resolvers) T _ refl refl
-
-pub events-registered : (n : ResolveName) (T : Tokenizer) → (registered n T).events ≡ T.events
-unfolding registered
-events-registered n T = one-of (λ U. U.events ≡ T.events) (is_registered n T.resolvers) T _ refl refl
-
-pub cursor-registered : (n : ResolveName) (T : Tokenizer) → (registered n T).cursor ≡ T.cursor
-unfolding registered
-cursor-registered n T = one-of (λ U. U.cursor ≡ T.cursor) (is_registered n T.resolvers) T _ refl refl
-
-pub stack-registered : (n : ResolveName) (T : Tokenizer) → (registered n T).stack ≡ T.stack
-unfolding registered
-stack-registered n T = one-of (λ U. U.stack ≡ T.stack) (is_registered n T.resolvers) T _ refl refl
-
-pub scratch-registered : (n : ResolveName) (T : Tokenizer) → (registered n T).tokenize_state ≡ T.tokenize_state
-unfolding registered
-scratch-registered n T = one-of (λ U. U.tokenize_state ≡ T.tokenize_state) (is_registered n T.resolvers) T _ refl refl
-
-pub input-registered : (n : ResolveName) (T : Tokenizer) → (registered n T).parse_state ≡ T.parse_state
-unfolding registered
-input-registered n T = one-of (λ U. U.parse_state ≡ T.parse_state) (is_registered n T.resolvers) T _ refl refl
-
-pub failed-registered : (n : ResolveName) (T : Tokenizer) → (registered n T).failed ≡ T.failed
-unfolding registered
-failed-registered n T = one-of (λ U. U.failed ≡ T.failed) (is_registered n T.resolvers) T _ refl refl
 
 -- for the steps of states
 pub ruleset op_rules = (stack-applied, cursor-applied, scratch-applied, input-applied, stack-scratched, cursor-scratched, scratch-scratched, input-scratched)

@@ -1,5 +1,5 @@
 -- what a list of operations leaves
-use Rattle.std.proofs.Common.{◌≡◌, ℕ, zero, suc, ◌+◌, ◌≤◌, ◌<◌, Bool, true, false, ◌&&◌, List, [], ◌∷◌, ◌++◌, length, take, drop, append_assoc, refl, sym, ap, ◌∙◌, arith}
+use Rattle.std.proofs.Common.{◌≡◌, ℕ, zero, suc, ◌+◌, ◌≤◌, Bool, true, false, ◌&&◌, List, [], ◌∷◌, ◌++◌, length, take, drop, append_assoc, refl, sym, ap, ◌∙◌, arith}
 use Rattle.std.proofs.lemmas.Grind.{common_steps}
 use Rattle.std.proofs.lemmas.List.{take-append-drop, drop-drop}
 use Rattle.markdown_engine.specs.Lists.{rest_of}
@@ -7,12 +7,9 @@ use Rattle.markdown_engine.specs.Ops.{Op, Enter, Exit, EnterLink, EnterConnected
 use Rattle.markdown_engine.specs.Place.{moved}
 use Rattle.markdown_engine.specs.Grown.{Grown, unwound}
 use Rattle.markdown_engine.specs.Weights.{codes_left}
-use Rattle.markdown_engine.specs.Runs.{Goes, settled, ends_state, ready_state, weight_state}
-use Rattle.markdown_engine.proofs.Laws.{Goes-plain, Grown-refl}
+use Rattle.markdown_engine.proofs.Laws.{Grown-refl}
 use Rattle.markdown_engine.proofs.OpRules.{extended-append, attempts-applied, scratch-applied, input-applied, ahead-applied, left-ahead}
 use Rattle.markdown_engine.specs.declared.event.Name.{Name}
-use Rattle.markdown_engine.specs.declared.state.StateName.{StateName}
-use Rattle.markdown_engine.specs.declared.state.State.{State}
 use Rattle.markdown_engine.specs.declared.tokenizer.TokenizeState.{TokenizeState}
 use Rattle.markdown_engine.specs.declared.tokenizer.Tokenizer.{Tokenizer}
 
@@ -94,7 +91,3 @@ grown-done d (o ∷ os) T U e g =
 
 pub Grown-done : (d : ℕ) (os : List Op) (T : Tokenizer) → stays d os ≡ true → Grown d T (done os T)
 Grown-done d os T e = grown-done d os T (done os T) e (Grown-refl 0 (done os T))
-
-pub Goes-ops : (ready : StateName → Tokenizer → Type 0) (ends : StateName → Tokenizer → Bool → Tokenizer → Type 0) (weight : StateName → Tokenizer → ℕ) (n : ℕ) (End : Bool → Tokenizer → Type 0) (st : State) (os : List Op) (T : Tokenizer) → T.attempts ≡ [] → ready_state ready st (done os T) → weight_state weight st (done os T) < n → ((ok : Bool) (U : Tokenizer) → ends_state ends st (done os T) ok U → End ok U) → Goes ready ends weight n End (done os T).attempts st (settled (done os T))
-Goes-ops ready ends weight n End st os T alone on falls closed =
-    Goes-plain ready ends weight n End st (done os T) (attempts-done os T ∙ alone) on falls closed

@@ -7,12 +7,6 @@ use Rattle.markdown_engine.specs.Codes.{is_at_or_after}
 abbrev pub is_before : ℕ × ℕ → ℕ × ℕ → Bool
 is_before x y = nat_lt x.0 y.0 || (x.0 == y.0 && nat_lt x.1 y.1)
 
-trans-numbers : (a b c d e f : ℕ) → is_before (a, b) (c, d) ≡ true → is_before (c, d) (e, f) ≡ true → is_before (a, b) (e, f) ≡ true
-trans-numbers a b c d e f h k = grind (arith, nat_tests)
-
-pub before-trans : (x y z : ℕ × ℕ) → is_before x y ≡ true → is_before y z ≡ true → is_before x z ≡ true
-before-trans x y z h k = trans-numbers x.0 x.1 y.0 y.1 z.0 z.1 h k
-
 pub before-self : (x : ℕ × ℕ) → is_before x x ≡ false
 before-self x = grind (arith, nat_tests)
 

@@ -1,10 +1,9 @@
 -- The pieces of a content, tested one after another.
-use Rattle.std.proofs.Common.{ℕ, ◌+◌, ◌<◌, Bool, true, false, not, ◌&&◌, ◌≡◌, arith, List, [], ◌∷◌, length, drop, get_or, filter, refl, sym, ap, subst, ◌∙◌, IsTrue, Option, Some, None}
+use Rattle.std.proofs.Common.{ℕ, ◌+◌, ◌<◌, Bool, true, false, not, ◌&&◌, ◌≡◌, List, [], ◌∷◌, length, drop, get_or, filter, refl, sym, ap, subst, ◌∙◌, IsTrue, Option, Some, None}
 use Rattle.std.proofs.Math.Bool.{and-true}
 use Rattle.std.specs.List.{list_any}
 use Rattle.std.proofs.lemmas.List.{drop_more}
 use Rattle.std.proofs.lemmas.Bool.{both_ways, and_parts, and_from, and_left, and_right, not_from_true, not_from_false, false_from_ne_true}
-use Rattle.std.proofs.lemmas.Bool.Decides.{nat_tests}
 use Rattle.markdown_engine.specs.declared.content.Stretch.{Stretch}
 use Rattle.markdown_engine.specs.declared.event.Point.{Point}
 use Rattle.markdown_engine.specs.declared.parser.Piece.{Piece}
@@ -12,7 +11,7 @@ use Rattle.markdown_engine.specs.Codes.{Code, codes_of, place_of, is_code_before
 use Rattle.markdown_engine.specs.Content.{is_place, is_piece, are_pieces, piece_codes, ends_line, is_one_line}
 use Rattle.markdown_engine.specs.Walk.{codes_after, IsPoint}
 use Rattle.markdown_engine.specs.Checks.{codes_up, IsStretch, IsPieceEnd, Reaches, PassesPiece, PassesNext, may_follow}
-use Rattle.markdown_engine.proofs.Order.{is_before, before-self, at_or_after-is}
+use Rattle.markdown_engine.proofs.Order.{is_before, before-self}
 use Rattle.markdown_engine.proofs.Points.{there, IsThere}
 use Rattle.markdown_engine.proofs.Strides.{not_past-back}
 use Rattle.markdown_engine.proofs.Standings.{piece-codes-is, piece_row, IsPieceRow}
@@ -28,17 +27,9 @@ end-of : (bytes : List ℕ) (piece : Piece) → is_piece bytes piece ≡ true �
 end-of bytes piece h =
     (and_parts (is_place bytes piece.start) (is_place bytes piece.end) (and_parts (is_place bytes piece.start && is_place bytes piece.end) (is_at_or_after piece.start piece.end) h).0).1
 
-pub piece-no_start : (bytes : List ℕ) (piece : Piece) → is_place bytes piece.start ≡ false → is_piece bytes piece ≡ false
-piece-no_start bytes piece h =
-    and_left (is_place bytes piece.start && is_place bytes piece.end) (is_at_or_after piece.start piece.end) (and_left (is_place bytes piece.start) (is_place bytes piece.end) h)
-
 pub piece-no_end : (bytes : List ℕ) (piece : Piece) → is_place bytes piece.end ≡ false → is_piece bytes piece ≡ false
 piece-no_end bytes piece h =
     and_left (is_place bytes piece.start && is_place bytes piece.end) (is_at_or_after piece.start piece.end) (and_right (is_place bytes piece.start) (is_place bytes piece.end) h)
-
-pub piece-no_order : (bytes : List ℕ) (piece : Piece) → is_before piece.end piece.start ≡ true → is_piece bytes piece ≡ false
-piece-no_order bytes piece h =
-    and_right (is_place bytes piece.start && is_place bytes piece.end) (is_at_or_after piece.start piece.end) (at_or_after-is piece.start piece.end ∙ not_from_true (is_before piece.end piece.start) h)
 
 -- a piece's start, reached
 pub record IsAtStart (bytes : List ℕ) (piece : Piece) (p : Point) : Type 0 where
@@ -63,12 +54,6 @@ piece-end bytes piece p s t h k e =
       ends = e.ends ∙ ap (λ (cs : List Code). ends_line cs) codes;
     }
 
-document-numbers : (a b : ℕ) → is_at_or_after (0, 0) (a, b) ≡ true
-document-numbers a b = grind (arith, nat_tests)
-
-pub document-forward : (at : ℕ × ℕ) → IsTrue (is_at_or_after (0, 0) at)
-document-forward at = document-numbers at.0 at.1
-
 pub piece-result : (bytes : List ℕ) (piece : Piece) (p : Point) (s : Stretch) (r : Option Stretch) → IsStretch bytes p piece.start s → is_before piece.end piece.start ≡ false → Reaches bytes s.point piece.end r → PassesPiece bytes piece r
 piece-result bytes piece p s None h k e = piece-no_end bytes piece e
 piece-result bytes piece p s (Some t) h k e = piece-end bytes piece p s t h k e
@@ -77,19 +62,6 @@ piece-result bytes piece p s (Some t) h k e = piece-end bytes piece p s t h k e
 
 one-line-is : (bytes : List ℕ) (p : Point) (at : ℕ × ℕ) → not (list_any is_line_ending (codes_up bytes p at)) ≡ is_one_line bytes (place_of p) at
 one-line-is bytes p at = ap (λ (cs : List Code). not (list_any is_line_ending cs)) (sym (piece-codes-is bytes (record { start = place_of p; end = at })))
-
--- what is found where a piece may not follow
-pub next-not_ended : (bytes : List ℕ) (b : Bool) (p : Point) (piece : Piece) → b ≡ false → (may_follow bytes b (place_of p) piece.start && is_piece bytes piece) ≡ false
-next-not_ended bytes b p piece h =
-    and_left (may_follow bytes b (place_of p) piece.start) (is_piece bytes piece) (and_left b (is_at_or_after (place_of p) piece.start && is_one_line bytes (place_of p) piece.start) h)
-
-pub next-no_order : (bytes : List ℕ) (b : Bool) (p : Point) (piece : Piece) → is_before piece.start (place_of p) ≡ true → (may_follow bytes b (place_of p) piece.start && is_piece bytes piece) ≡ false
-next-no_order bytes b p piece h =
-    let order : is_at_or_after (place_of p) piece.start ≡ false = at_or_after-is (place_of p) piece.start ∙ not_from_true (is_before piece.start (place_of p)) h in
-    and_left (may_follow bytes b (place_of p) piece.start) (is_piece bytes piece) (and_right b (is_at_or_after (place_of p) piece.start && is_one_line bytes (place_of p) piece.start) (and_left (is_at_or_after (place_of p) piece.start) (is_one_line bytes (place_of p) piece.start) order))
-
-pub next-no_start : (bytes : List ℕ) (b : Bool) (p : Point) (piece : Piece) → is_place bytes piece.start ≡ false → (may_follow bytes b (place_of p) piece.start && is_piece bytes piece) ≡ false
-next-no_start bytes b p piece h = and_right (may_follow bytes b (place_of p) piece.start) (is_piece bytes piece) (piece-no_start bytes piece h)
 
 pub next-lines : (bytes : List ℕ) (b : Bool) (p : Point) (piece : Piece) (s : Stretch) → IsStretch bytes p piece.start s → s.has_line_ending ≡ true → (may_follow bytes b (place_of p) piece.start && is_piece bytes piece) ≡ false
 next-lines bytes b p piece s h k =
@@ -113,14 +85,6 @@ pub record IsPassing (bytes : List ℕ) (all left : List Piece) (s : Stretch) : 
   pub last : Piece
   pub same : are_pieces bytes (last ∷ left) ≡ are_pieces bytes all
   pub end : IsPieceEnd bytes last s
-
-pub passing-first : (bytes : List ℕ) (piece : Piece) (rest : List Piece) (s : Stretch) → IsPieceEnd bytes piece s → IsPassing bytes (piece ∷ rest) rest s
-passing-first bytes piece rest s h = record { last = piece; same = refl; end = h }
-
-pub not-first : (bytes : List ℕ) (piece : Piece) (rest : List Piece) → is_piece bytes piece ≡ false → are_pieces bytes (piece ∷ rest) ≡ false
-not-first bytes piece rest h =
-    false_from_ne_true (are_pieces bytes (piece ∷ rest))
-    (λ k. both_ways (is_piece bytes piece) h (piece-of bytes piece rest k))
 
 last-place : (bytes : List ℕ) (s : Stretch) (piece : Piece) → IsPieceEnd bytes piece s → (place_of s.point ≡ piece.end) × IsPoint bytes s.point
 last-place bytes s piece h =
@@ -153,9 +117,6 @@ passing-none bytes all next more s h none =
     let both : (are_pieces bytes (next ∷ more) ≡ true) × (may_follow bytes (ends_line (piece_codes (codes_of bytes) h.last)) h.last.end next.start ≡ true) = and_parts (are_pieces bytes (next ∷ more)) (may_follow bytes (ends_line (piece_codes (codes_of bytes) h.last)) h.last.end next.start) k in
     both_ways (may_follow bytes s.ends_line (place_of s.point) next.start && is_piece bytes next) none
     (and_from (may_follow bytes s.ends_line (place_of s.point) next.start) (is_piece bytes next) (follow-is bytes h.last next s h.end ∙ both.1) (piece-of bytes next more both.0)))
-
-pub passing-all : (bytes : List ℕ) (all : List Piece) (s : Stretch) → IsPassing bytes all [] s → true ≡ are_pieces bytes all
-passing-all bytes all s h = sym (rw h.end.piece_is refl) ∙ h.same
 
 -- one step of a loop over the pieces after the first
 

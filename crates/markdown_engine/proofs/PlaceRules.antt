@@ -3,7 +3,7 @@ use Rattle.std.proofs.Common.{ℕ, suc, ◌+◌, ◌≡◌, arith, List, [], ◌
 use Rattle.std.proofs.lemmas.Option.{same_Some}
 use Rattle.markdown_engine.specs.declared.parser.Piece.{Piece}
 use Rattle.markdown_engine.specs.Codes.{Code}
-use Rattle.markdown_engine.specs.Content.{content_of, content_end}
+use Rattle.markdown_engine.specs.Content.{content_of}
 use Rattle.markdown_engine.specs.Place.{Place, start_of_content, moved, ahead_at, value_of, start_or, stop_or, code_at, code_before, point_of, exit_point}
 use Rattle.markdown_engine.proofs.Cursors.{drop-some, drop-none, drop-past}
 
@@ -28,29 +28,9 @@ code_before_moved p = rw add-one refl
 
 -- At the start.
 
-pub codes_start : (bytes : List ℕ) (pieces : List Piece) → (start_of_content bytes pieces).codes ≡ content_of bytes pieces
-unfolding start_of_content
-codes_start bytes pieces = refl
-
-pub at_start : (bytes : List ℕ) (pieces : List Piece) → (start_of_content bytes pieces).at ≡ 0
-unfolding start_of_content
-at_start bytes pieces = refl
-
-pub end_start : (bytes : List ℕ) (pieces : List Piece) → (start_of_content bytes pieces).end ≡ content_end bytes pieces
-unfolding start_of_content
-end_start bytes pieces = refl
-
 pub ahead_start : (bytes : List ℕ) (pieces : List Piece) → ahead_at (start_of_content bytes pieces) ≡ content_of bytes pieces
 unfolding start_of_content ahead_at
 ahead_start bytes pieces = refl
-
-pub code_before_start : (bytes : List ℕ) (pieces : List Piece) → code_before (start_of_content bytes pieces) ≡ None
-unfolding start_of_content code_before
-code_before_start bytes pieces = refl
-
-pub exit_start : (bytes : List ℕ) (pieces : List Piece) → exit_point (start_of_content bytes pieces) ≡ point_of (start_of_content bytes pieces)
-unfolding start_of_content exit_point point_of
-exit_start bytes pieces = refl
 
 -- By the codes ahead_at.
 
@@ -113,5 +93,3 @@ left_moved p v h =
     let a : IsAhead p v = ahead_some p v h in
     let e : length (ahead_at p) ≡ length (a.code ∷ ahead_at (moved p)) = ap length a.codes in
     omega arith
-
-pub ruleset place_rules = (codes_moved, at_moved, end_moved, code_before_moved, codes_start, at_start, end_start, ahead_start, code_before_start)

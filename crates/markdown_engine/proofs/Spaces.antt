@@ -32,9 +32,6 @@ less-sum n v w h = omega arith
 order-index : (a b c d : ℕ) → is_before (c, d) (a, b) ≡ false → (a ≡ c → ⊥) → a < c
 order-index a b c d h k = grind (arith, nat_tests)
 
-pub order-vs : (a b c d : ℕ) → is_before (c, d) (a, b) ≡ false → a ≡ c → b ≤ d
-order-vs a b c d h k = grind (arith, nat_tests)
-
 before-inside : (bytes : List ℕ) (p q : Point) → IsPoint bytes p → IsPoint bytes q → is_before (place_of q) (place_of p) ≡ false → 0 < p.vs → columns_in p q ≡ virtual_spaces p.index (codes_between bytes p q)
 before-inside bytes p q h k l in_tab =
     elim (cases_eq p.index q.index) [

@@ -1,5 +1,5 @@
 -- Past codes that mean themselves.
-use Rattle.std.proofs.Common.{ℕ, zero, suc, ◌+◌, ◌-◌, ◌<◌, ◌≤◌, true, false, ◌==◌, ◌≡◌, arith, List, [], ◌∷◌, length, get_or, refl, sym, ap, subst, ◌∙◌, Option, Some, None, IsSome, inl, inr}
+use Rattle.std.proofs.Common.{ℕ, zero, suc, ◌+◌, ◌-◌, ◌<◌, ◌≤◌, true, false, ◌==◌, ◌≡◌, arith, List, [], ◌∷◌, length, get_or, refl, sym, ap, subst, ◌∙◌, Option, Some, None, inl, inr}
 use Rattle.std.specs.List.{list_any}
 use Rattle.std.proofs.lemmas.List.{drop_all}
 use Rattle.std.proofs.lemmas.Bool.{both_ways, cases_lt, not-true, not-false, or_parts}
@@ -45,13 +45,6 @@ past-by ms p (Some v) e h =
 -- past a code that does not stop it is as far
 pub past-one : (ms : List ℕ) (p : Place) → is_free ms (code_at p) ≡ true → past_stretch ms p ≡ past_stretch ms (moved p)
 past-one ms p h = past-by ms p (code_at p) refl h
-
-some-by : (ms : List ℕ) (o : Option ℕ) → is_free ms o ≡ true → IsSome o
-some-by ms None h = absurd (both_ways false refl h)
-some-by ms (Some v) h = refl
-
-pub some-free : (ms : List ℕ) (p : Place) → is_free ms (code_at p) ≡ true → IsSome (code_at p)
-some-free ms p h = some-by ms (code_at p) h
 
 at-end : (p : Place) → length p.codes ≤ p.at → ahead_at p ≡ []
 unfolding ahead_at

@@ -98,13 +98,6 @@ applied o T = record T { events = extended T.events (op_events o T); stack = op_
 abbrev pub entered : Name → Tokenizer → Tokenizer
 entered n T = applied (Enter n) T
 
-abbrev pub entered_link : Name → Content → Tokenizer → Tokenizer
-entered_link n c T = applied (EnterLink n c) T
-
--- entered, and linked back to the content just before
-abbrev pub connected : Name → Content → Tokenizer → Tokenizer
-connected n c T = applied (EnterConnected n c) T
-
 abbrev pub exited : Name → Tokenizer → Tokenizer
 exited n T = applied (Exit n) T
 

@@ -9,7 +9,7 @@ use Rattle.markdown_engine.specs.declared.tokenizer.LabelStart as Kept
 use Rattle.markdown_engine.specs.declared.tokenizer.Tokenizer.{Tokenizer}
 use Rattle.markdown_model.specs.LabelEnd.{is_image}
 use Rattle.markdown_construct.specs.Characters.{bytes_of}
-use Rattle.markdown_label.specs.Fields.{as_link, marked, barred_by}
+use Rattle.markdown_label.specs.Fields.{marked, barred_by}
 use Rattle.markdown_label.specs.LabelEnd.{place_at, EndsBetween, AreWithin}
 use Rattle.markdown_label.proofs.StartStack.{place-front}
 
@@ -42,8 +42,3 @@ within-marked T (l ∷ ls) k =
 
 pub within-barred : (T : Tokenizer) (kind : LabelKind) (ls : List Kept.LabelStart) → AreWithin T ls → AreWithin T (barred_by kind ls)
 within-barred T kind ls k = elim (is_image kind) as (λ b. AreWithin T (if b then ls else marked ls)) [ true ↦ k | false ↦ within-marked T ls k ]
-
--- where the last one is tried as a link's
-pub within-as_link : (T : Tokenizer) (ls : List Kept.LabelStart) → AreWithin T ls → AreWithin T (as_link ls)
-within-as_link T [] k = tt
-within-as_link T (l ∷ ls) k = (record { within = k.0.within; between = k.0.between }, k.1)

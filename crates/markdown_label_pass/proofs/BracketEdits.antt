@@ -218,10 +218,6 @@ whole-three a d o e c r s m g h = rw (g, h) (simp (append_assoc, append-nil) ref
 abbrev Comes : Brackets → Type 0
 Comes b = (n i : ℕ) (more : List Part) → back_at i (edits_from n (parts_of b ++ more)) ≡ (back_at i (own_labels n b) ++ back_at i (own_loose n b)) ++ back_at i (edits_from (n + count b) more)
 
--- where one of two comes up to a place, and the other from there on, their order is no matter
-swap : (xs ys : List Event) → xs ≡ [] → xs ++ ys ≡ ys ++ xs
-swap xs ys h = ap (λ x. x ++ ys) h ∙ sym (append-nil ys) ∙ ap (λ x. ys ++ x) (sym h)
-
 label-comes : (f : Front) (inside : Brackets) (back : Code) (tail : Tail) (rest : Brackets) → Comes inside → Comes rest → Comes (label_then f inside back tail rest)
 label-comes f inside back tail rest in_law rest_law n i more =
     let k : ℕ = n + suc (last_of f) in

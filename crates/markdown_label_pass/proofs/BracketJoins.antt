@@ -1,12 +1,14 @@
 -- what each step of a run changes: a tree is passed, a start opens, an end closes the last start, or fails
-use Rattle.std.proofs.Common.{◌≡◌, ℕ, suc, ◌+◌, ◌-◌, [], ◌∷◌, ◌++◌, refl, sym, ap, ◌∙◌, arith, append_assoc, Option, Some, None}
+use Rattle.std.proofs.Common.{◌≡◌, ℕ, suc, ◌+◌, ◌-◌, List, [], ◌∷◌, ◌++◌, refl, sym, ap, ◌∙◌, arith, append_assoc}
 use Rattle.markdown_engine.proofs.EndsLemmas.{row-empty}
 use Rattle.std.proofs.lemmas.List.{append-nil}
 use Rattle.markdown_engine.specs.Codes.{Code}
-use Rattle.markdown_engine.specs.Past.{last_link}
-use Rattle.markdown_engine.specs.Tree.{Forest, empty, leaf_then, group_then, ◌⊕◌, event_count}
+use Rattle.markdown_engine.specs.Tree.{Forest, empty, leaf, leaf_then, group_then, ◌⊕◌, event_count}
+use Rattle.markdown_engine.specs.declared.event.Name.{Name}
 use Rattle.markdown_engine.specs.declared.tokenizer.Label.{Label}
-use Rattle.markdown_label_pass.specs.Brackets.{Front, Tail, tail_row, start_row, end_row, kind_of, Brackets, nothing, tree_then, label_then, unused_then, failed_then, flat, IsApart, last_of, count, numbers_of, labels_at, unused_at, failed_at}
+use Rattle.markdown_model.specs.Groups.{joined}
+use Rattle.markdown_model.specs.Passes.{label_group}
+use Rattle.markdown_label_pass.specs.Brackets.{Front, codes_of, grouped, Tail, tail_row, start_row, end_row, kind_of, Brackets, nothing, tree_then, label_then, unused_then, failed_then, flat, IsApart, last_of, count, numbers_of, labels_at, unused_at, failed_at}
 use Rattle.markdown_label_pass.specs.Joins.{behind, IsClosed}
 
 pub row-assoc : (t u v : Forest) → (t ⊕ u) ⊕ v ≡ t ⊕ (u ⊕ v)
@@ -256,19 +258,21 @@ behind-assoc (failed_then f inside rest) b c = ap (failed_then f inside) (behind
 pub waiting-behind : (a : Brackets) (f : Front) (inside c : Brackets) → behind (waiting a f inside) c ≡ waiting a f (behind inside c)
 waiting-behind a f inside c = behind-assoc a (unused_then f inside) c
 
--- a row that is linked with none behind it at one number is so at each
+-- Trees of rows that are joined.
 
-last-some : (n p : ℕ) (t : Forest) → last_link n (Some p) t ≡ None → ⊥
-last-some n p empty h = some-none p h
-  where
-    some-none : (p : ℕ) → ◌≡◌ {A = Option ℕ} (Some p) None → ⊥
-    some-none p h = cc
-last-some n p (leaf_then name None cs rest) h = last-some (n + 2) p rest h
-last-some n p (leaf_then name (Some c) cs rest) h = last-some (n + 2) n rest h
-last-some n p (group_then name a b inside rest) h = last-some (n + 2 + event_count inside) p rest h
+pub joined-append : (a b : List Forest) → joined (a ++ b) ≡ joined a ⊕ joined b
+joined-append [] b = refl
+joined-append (t ∷ a) b = ap (λ x. t ⊕ x) (joined-append a b) ∙ sym (row-assoc t (joined a) (joined b))
 
-pub unlinked-anywhere : (n k : ℕ) (t : Forest) → last_link n None t ≡ None → last_link k None t ≡ None
-unlinked-anywhere n k empty h = refl
-unlinked-anywhere n k (leaf_then name None cs rest) h = unlinked-anywhere (n + 2) (k + 2) rest h
-unlinked-anywhere n k (leaf_then name (Some c) cs rest) h = absurd (last-some (n + 2) n rest h)
-unlinked-anywhere n k (group_then name a b inside rest) h = unlinked-anywhere (n + 2 + event_count inside) (k + 2 + event_count inside) rest h
+pub grouped-behind : (b c : Brackets) → grouped (behind b c) ≡ grouped b ⊕ grouped c
+grouped-behind nothing c = refl
+grouped-behind (tree_then t rest) c = ap (λ x. t ⊕ x) (grouped-behind rest c) ∙ sym (row-assoc t (grouped rest) (grouped c))
+grouped-behind (label_then f inside back tail rest) c =
+    let g : Forest = label_group (kind_of f) (codes_of f) (grouped inside) (back ∷ []) (tail_row tail) in
+    ap (λ x. g ⊕ x) (grouped-behind rest c) ∙ sym (row-assoc g (grouped rest) (grouped c))
+grouped-behind (unused_then f rest) c =
+    ap (λ x. leaf Name.Data (codes_of f) ⊕ x) (grouped-behind rest c) ∙ sym (row-assoc (leaf Name.Data (codes_of f)) (grouped rest) (grouped c))
+grouped-behind (failed_then f inside rest) c =
+    ap (λ x. leaf Name.Data (codes_of f) ⊕ (grouped inside ⊕ x)) (grouped-behind rest c)
+    ∙ ap (λ x. leaf Name.Data (codes_of f) ⊕ x) (sym (row-assoc (grouped inside) (grouped rest) (grouped c)))
+    ∙ sym (row-assoc (leaf Name.Data (codes_of f)) (grouped inside ⊕ grouped rest) (grouped c))

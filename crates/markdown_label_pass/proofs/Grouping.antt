@@ -3,18 +3,14 @@ use Rattle.std.proofs.Common.{◌≡◌, ℕ, zero, suc, ◌+◌, ◌<◌, ◌�
 use Rattle.std.specs.List.{All}
 use Rattle.std.proofs.lemmas.List.{append-nil}
 use Rattle.std.proofs.lemmas.List.Elements.{All-nil, All-cons, All-append}
-use Rattle.markdown_engine.specs.Chain.{IsUnlinked}
 use Rattle.markdown_engine.specs.Edits.{edited, CanEdit}
 use Rattle.markdown_engine.specs.Past.{appended_from}
 use Rattle.markdown_engine.specs.Tree.{event_count}
 use Rattle.markdown_engine.specs.declared.event.Event.{Event}
-use Rattle.markdown_engine.specs.declared.event.Point.{Point}
-use Rattle.markdown_engine.specs.declared.tokenizer.LabelKind.{LabelKind}
-use Rattle.markdown_engine.specs.declared.tokenizer.LabelKind.TheVariants as K
 use Rattle.markdown_engine.specs.declared.util.edit_map.Edit.{Edit}
 use Rattle.markdown_engine.proofs.TreeLemmas.{length-appended_from}
-use Rattle.markdown_engine.specs.Script.{Part, comes, goes, stays, keeps, before_from, AreUnlinked, GoUnlinked}
-use Rattle.markdown_label_pass.specs.Brackets.{Front, link_front, image_front, call_front, caret_front, tail_row, Brackets, nothing, tree_then, label_then, unused_then, failed_then, flat, grouped, IsApart, last_of, count, numbers_of, labels_at, unused_at, failed_at, place_at, opened, loose_edits, start_events, going_of, parts_of, all_edits, IsWithin, IsStartWithin}
+use Rattle.markdown_engine.specs.Script.{Part, comes, goes, stays, keeps, before_from, GoUnlinked}
+use Rattle.markdown_label_pass.specs.Brackets.{Front, link_front, image_front, call_front, caret_front, tail_row, Brackets, nothing, tree_then, label_then, unused_then, failed_then, flat, grouped, IsApart, last_of, count, numbers_of, labels_at, unused_at, failed_at, place_at, loose_edits, start_events, going_of, parts_of, all_edits, IsWithin, IsStartWithin}
 use Rattle.markdown_engine.proofs.ScriptLaws.{parts-edited, parts-may}
 use Rattle.markdown_label_pass.proofs.BracketRows.{count-is, before-parts, after-parts}
 use Rattle.markdown_label_pass.proofs.BracketEdits.{own, own_labels, own_unused, own-does, own-places}
@@ -126,16 +122,6 @@ failed-within n hi (failed_then f inside rest) l =
     All-append (IsStartWithin hi) (failed_at k inside) (numbers_of n f ∷ failed_at e rest) (failed-within k hi inside (omega arith)) (All-cons (IsStartWithin hi) (numbers_of n f) (failed_at e rest) (omega arith, omega arith) (failed-within e hi rest (omega arith)))
 
 -- Events that come carry no link.
-
-pub opened-unlinked : (k : LabelKind) (a b c d : Point) → AreUnlinked (opened k a b c d)
-opened-unlinked K.Link a b c d = (refl, (refl, (refl, (refl, (refl, (refl, (refl, tt)))))))
-opened-unlinked K.Image a b c d = (refl, (refl, (refl, (refl, (refl, (refl, (refl, (refl, (refl, tt)))))))))
-opened-unlinked K.GfmFootnote a b c d = (refl, (refl, (refl, (refl, (refl, (refl, (refl, (refl, (refl, tt)))))))))
-opened-unlinked K.GfmUndefinedFootnote a b c d = (refl, (refl, (refl, (refl, (refl, (refl, (refl, (refl, (refl, tt)))))))))
-
-pub all-unlinked : (es : List Event) → AreUnlinked es → All IsUnlinked es
-all-unlinked [] h = All-nil IsUnlinked
-all-unlinked (e ∷ es) h = All-cons IsUnlinked e es h.0 (all-unlinked es h.1)
 
 pub place-get : (es : List Event) (i : ℕ) (e : Event) → i < length es → e ≡ get_or es i e → e.point ≡ place_at es i
 place-get [] i e l h = absurd (omega (arith, l))

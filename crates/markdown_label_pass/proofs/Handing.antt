@@ -28,9 +28,6 @@ pub labels-next : (es : List Event) (ls : List Label) (k : ℕ) (l : Label) (old
 labels-next es ls k l old here new h r g m =
     m ∙ ap (λ x. x ++ label_edits es l) g ∙ append_assoc old (labels_edits es (take k ls)) (label_edits es l) ∙ ap (λ x. old ++ x) (sym (labels-more es ls k l h r))
 
-pub label-at : (n : ℕ) (ls : List Label) (k : ℕ) (l : Label) → All (IsWithin n) ls → k < length ls → l ≡ get_or ls k l → IsWithin n l
-label-at n ls k l h g r = subst (λ (x : Label). IsWithin n x) (sym r) (h k l g)
-
 starts_of-append : (a b : List LabelStart) → starts_of (a ++ b) ≡ starts_of a ++ starts_of b
 starts_of-append [] b = refl
 starts_of-append (s ∷ a) b = ap (λ x. s.start ∷ x) (starts_of-append a b)
@@ -51,14 +48,8 @@ pub starts-top : (es : List Event) (s : LabelStart) (ss all : List LabelStart) (
 starts-top es s ss all old here new r g m =
     ap (λ x. x ++ loose_edits es (starts_of ss)) m ∙ append_assoc here (loose_edit es s.start ∷ []) (loose_edits es (starts_of ss)) ∙ ap (λ x. here ++ loose_edits es (starts_of x)) (sym r) ∙ g
 
-pub top-within : (n : ℕ) (s : LabelStart) (ss all : List LabelStart) → all ≡ s ∷ ss → All (IsStartWithin n) (starts_of all) → IsStartWithin n s.start
-top-within n s ss all r h = let there : All (IsStartWithin n) (starts_of (s ∷ ss)) = subst (λ (x : List LabelStart). All (IsStartWithin n) (starts_of x)) r h in there 0 s.start (omega arith)
-
 pub rest-within : (n : ℕ) (s : LabelStart) (ss all : List LabelStart) → all ≡ s ∷ ss → All (IsStartWithin n) (starts_of all) → All (IsStartWithin n) (starts_of ss)
 rest-within n s ss all r h = let there : All (IsStartWithin n) (starts_of (s ∷ ss)) = subst (λ (x : List LabelStart). All (IsStartWithin n) (starts_of x)) r h in λ i d l. there (suc i) d (omega (arith, l))
-
-pub starts-end : (es : List Event) (ss : List LabelStart) (here old : List Edit) → ss ≡ [] → here ++ loose_edits es (starts_of ss) ≡ old → here ≡ old
-starts-end es ss here old e g = sym (append-nil here) ∙ ap (λ x. here ++ loose_edits es (starts_of x)) (sym e) ∙ g
 
 -- The whole.
 

@@ -4,6 +4,4 @@ pub mod BracketEdits
 pub mod BracketReads
 pub mod Grouping
 pub mod Handing
-pub mod Nesting
 pub mod BracketJoins
-pub mod ModelBrackets

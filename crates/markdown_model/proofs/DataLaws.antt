@@ -1,57 +1,22 @@
--- Data read code by code and data read stretch by stretch are alike when merged; a string's tree is the
--- row of its elements.
-use Rattle.std.proofs.Common.{◌≡◌, Bool, true, false, ◌&&◌, ◌||◌, not, List, [], ◌∷◌, ◌++◌, map, refl, sym, ◌∙◌, ap, subst, Option, Some, None}
+-- A string's tree is the row of its elements.
+use Rattle.std.proofs.Common.{◌≡◌, List, [], ◌∷◌, ◌++◌, map, refl, ◌∙◌, ap, subst, Option, Some}
 use Rattle.std.proofs.lemmas.List.{append-nil}
 use Rattle.markdown_engine.specs.declared.event.Name.{Name}
-use Rattle.markdown_engine.specs.Codes.{Code, is_line_ending}
+use Rattle.markdown_engine.specs.Codes.{Code}
 use Rattle.markdown_engine.specs.Tree.{Forest, empty, leaf, ◌⊕◌}
 use Rattle.markdown_model.specs.Grammar.{Reading}
-use Rattle.markdown_model.specs.Lines.{onto_stretch, lines_of, linked_leaf, line_leaf, line_leaves, code_leaf}
+use Rattle.markdown_model.specs.Lines.{code_leaf}
 use Rattle.markdown_model.specs.Leaf.{escape, reference}
 use Rattle.markdown_model.specs.Setting.{Setting}
 use Rattle.markdown_model.specs.LabelEnd.{Element, plain, starts, ends}
 use Rattle.markdown_model.specs.Element.{as_plain, switched, line_ending, data_code, string_element, AreElementsFrom, code_before, string_choice}
 use Rattle.markdown_model.specs.Groups.{nest, after_loose, joined}
-use Rattle.markdown_model.specs.Passes.{End, as_bracket, loose_start, loose_end, labelled, labels_of, merged}
+use Rattle.markdown_model.specs.Passes.{End, as_bracket, loose_start, loose_end, labelled, labels_of}
 use Rattle.markdown_model.proofs.LinkFree.{Passes, Yields, yields_gives, yields_either, yields_passed, then_any}
-use Rattle.markdown_model.proofs.MergeLaws.{data_onto-twice, merged-alike}
 
 abbrev pub code_leaves : List Code → Forest
 code_leaves [] = empty
 code_leaves (c ∷ cs) = code_leaf c ⊕ code_leaves cs
-
--- a stretch by whether it is a line ending
-abbrev by_ending : Bool → List Code → Forest
-by_ending b s = elim b [ true ↦ linked_leaf Name.LineEnding None s | false ↦ linked_leaf Name.Data None s ]
-
-alone : (c : Code) (more : Forest) → merged (line_leaf Name.Data None (c ∷ []) ⊕ more) ≡ merged (code_leaf c ⊕ more)
-alone c more = by_test (is_line_ending c)
-  where
-    by_test : (b : Bool) → merged (by_ending b (c ∷ []) ⊕ more) ≡ merged ((elim b as (λ _. Forest) [ true ↦ leaf Name.LineEnding (c ∷ []) | false ↦ leaf Name.Data (c ∷ []) ]) ⊕ more)
-    by_test true = refl
-    by_test false = refl
-
--- one more code before the stretches
-onto_alike : (c : Code) (ss : List (List Code)) → merged (line_leaves Name.Data (onto_stretch (λ x. true) c ss)) ≡ merged (code_leaf c ⊕ line_leaves Name.Data ss)
-unfolding merged
-onto_alike c [] = alone c empty
-onto_alike c ([] ∷ more) = alone c (line_leaves Name.Data more)
-onto_alike c ((d ∷ ds) ∷ more) = by_tests (is_line_ending c) (is_line_ending d) refl refl
-  where
-    by_tests : (a b : Bool) → is_line_ending c ≡ a → is_line_ending d ≡ b
-        → merged (line_leaves Name.Data (elim (not (a || b) && ((true && true) || not (true || true))) [ true ↦ (c ∷ d ∷ ds) ∷ more | false ↦ (c ∷ []) ∷ (d ∷ ds) ∷ more ]))
-        ≡ merged (code_leaf c ⊕ line_leaves Name.Data ((d ∷ ds) ∷ more))
-    by_tests true b e f = alone c (line_leaves Name.Data ((d ∷ ds) ∷ more))
-    by_tests false true e f = alone c (line_leaves Name.Data ((d ∷ ds) ∷ more))
-    by_tests false false e f =
-        ap (λ z. merged (by_ending z (c ∷ d ∷ ds) ⊕ line_leaves Name.Data more)) e
-        ∙ sym (data_onto-twice (c ∷ []) (d ∷ ds) (merged (line_leaves Name.Data more)))
-        ∙ sym (λ i. merged ((elim (e i) as (λ _. Forest) [ true ↦ leaf Name.LineEnding (c ∷ []) | false ↦ leaf Name.Data (c ∷ []) ]) ⊕ (by_ending (f i) (d ∷ ds) ⊕ line_leaves Name.Data more)))
-
--- data read stretch by stretch is data read code by code
-pub data-alike : (cs : List Code) → merged (line_leaves Name.Data (lines_of cs)) ≡ merged (code_leaves cs)
-data-alike [] = refl
-data-alike (c ∷ cs) = onto_alike c (lines_of cs) ∙ merged-alike (code_leaf c) (code_leaf c) (line_leaves Name.Data (lines_of cs)) (code_leaves cs) refl (data-alike cs)
 
 -- The elements of a string stand by themselves.
 

@@ -141,10 +141,6 @@ abbrev total : List Pair → List Run → ℕ → ℕ
 total pairs [] k = 0
 total pairs (r ∷ rs) k = sum_by (taken_by k) pairs + total pairs rs (suc k)
 
-total_nothing : (rs : List Run) (k : ℕ) → total [] rs k ≡ 0
-total_nothing [] k = refl
-total_nothing (r ∷ rs) k = omega (arith, total_nothing rs (suc k))
-
 total_first : (p : Pair) (ps : List Pair) (rs : List Run) (k : ℕ) → total (p ∷ ps) rs k ≡ total (p ∷ []) rs k + total ps rs k
 total_first p ps [] k = omega arith
 total_first p ps (r ∷ rs) k = omega (arith, sum_by-cons (taken_by k) p ps, sum_by-cons (taken_by k) p [], total_first p ps rs (suc k))

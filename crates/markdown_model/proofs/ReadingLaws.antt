@@ -9,7 +9,6 @@ use Rattle.markdown_engine.specs.Tree.{Forest, leaf, ◌⊕◌}
 use Rattle.markdown_model.specs.CodeTests.{next_is, last_code}
 use Rattle.markdown_model.specs.Grammar.{Reading, span, repeated, repeatedly}
 use Rattle.markdown_model.specs.Lines.{joins, onto_stretch, stretches, lines_of}
-use Rattle.markdown_model.specs.Leaf.{closing_run, closing}
 use Rattle.markdown_model.specs.Email.{is_local, is_xmpp, email_protocol, email_domain, email_at, email_leaves}
 use Rattle.markdown_model.specs.Element.{code_before}
 use Rattle.markdown_model.proofs.Readings.{At, Covers}
@@ -96,11 +95,6 @@ lines_of-line c cs h = stretches-next (λ x. true) c cs ∙ (λ i. (c ∷ (alike
 
     alike : span (joins (λ x. true) c) cs ≡ span is_in_line cs
     alike = span-agrees (joins (λ x. true) c) is_in_line (λ d. joins_line (is_line_ending c) (is_line_ending d) h) cs
-
--- a span of code or math, from the stretch at hand on
-pub closing-next : (marker : Code → Bool) (n : ℕ) (c : Code) (cs : List Code)
-    → closing marker n (c ∷ cs) ≡ closing_run marker n ((c ∷ (span (joins marker c) cs).0) ∷ stretches marker (span (joins marker c) cs).1)
-closing-next marker n c cs = ap (closing_run marker n) (stretches-next marker c cs)
 
 -- Repetition: as often as there are codes is as often as it holds.
 

@@ -1,8 +1,8 @@
 -- What a reading gives covers what it reads.
-use Rattle.std.proofs.Common.{◌≡◌, ◌==◌, ℕ, zero, suc, ◌-◌, nat_le, nat_lt, Bool, true, false, ◌&&◌, ◌||◌, not, List, [], ◌∷◌, ◌++◌, length, take, drop, refl, sym, ◌∙◌, ap, subst, Option, Some, None}
+use Rattle.std.proofs.Common.{◌≡◌, ◌==◌, ℕ, zero, suc, ◌-◌, nat_lt, Bool, true, false, ◌&&◌, ◌||◌, not, List, [], ◌∷◌, ◌++◌, length, refl, sym, ◌∙◌, ap, subst, Option, Some, None}
 use Rattle.std.specs.Prelude.{codes}
 use Prim.Native.String.{String}
-use Rattle.std.proofs.lemmas.List.{append_assoc, append-nil, take-append-drop}
+use Rattle.std.proofs.lemmas.List.{append_assoc, append-nil}
 use Rattle.markdown_engine.specs.declared.event.Name.{Name}
 use Rattle.markdown_engine.specs.declared.event.Content.{Content}
 use Rattle.markdown_engine.specs.Codes.{Code, is_line_ending, is_blank}
@@ -10,8 +10,8 @@ use Rattle.markdown_engine.specs.Tree.{Forest, empty, leaf_then, group_then, lea
 use Rattle.markdown_util.specs.Reference.{Table}
 use Rattle.markdown_model.specs.CodeTests.{is_value, is_empty, is_among, next_is, is_whitespace_code, is_control}
 use Rattle.markdown_model.specs.Grammar.{word, through, Reading, ◌>>=◌, ◌>>◌, gives, either, unless, if_next, provided, span, one, any_number, some, with_first, word_of, up_to_word, before, ◌then_◌, repeated, repeatedly, optional, optional_tree, escaped_from, up_to}
-use Rattle.markdown_model.specs.Lines.{stretches, onto_stretch, joins, linked_leaf, line_leaf, line_leaves, lines_from, lines_of, lines, data_up_to}
-use Rattle.markdown_model.specs.Whitespace.{space_or_tab, spacing, spaces_across, spaces_on_line}
+use Rattle.markdown_model.specs.Lines.{stretches, onto_stretch, joins, linked_leaf, line_leaf, line_leaves, lines_from, lines}
+use Rattle.markdown_model.specs.Whitespace.{spacing, spaces_across, spaces_on_line}
 use Rattle.markdown_model.specs.Leaf.{Parts, reference, named_parts, decimal_parts, hexadecimal_parts, escape, in_angle_brackets, hard_break_escape, task_check, scheme, domain_label, uri, email_address, autolink, closing_run, closing, joined_codes, span_of, span_here, SpanNames}
 use Rattle.markdown_model.specs.Html.{html, html_text, spaces, optional_spaces, quoted_value, unquoted_value, attribute_name, attribute_value, attribute, tag_name, open_tag, closing_tag, comment, instruction, declaration, cdata}
 use Rattle.markdown_model.specs.Resource.{string_group, between_markers, StringNames, label, title_between, title, title_names, raw_from, literal_destination, raw_destination, destination, DestinationNames, resource_names, spaced_title, destination_and_title, resource}
@@ -292,16 +292,6 @@ codes-lines_from name link later (s ∷ ss) = by_test (later && not (next_is is_
 pub codes-lines : (name : Name) (link : Option Content) (cs : List Code) → leaf_codes (lines name link cs) ≡ cs
 codes-lines name link cs = codes-lines_from name link false (stretches (λ c. true) cs) ∙ joined_codes-stretches (λ c. true) cs
 
-pub covers_data : (markers : List ℕ) → Covers leaf_codes [] (data_up_to markers)
-unfolding data_up_to
-covers_data markers = record { at = at }
-  where
-    at : (cs : List Code) → At leaf_codes [] cs (data_up_to markers cs)
-    at [] = refl
-    at (c ∷ cs) =
-        ap (λ z. z ++ (span (λ d. not (is_among markers d)) cs).1) (codes-line_leaves Name.Data (lines_of (c ∷ (span (λ d. not (is_among markers d)) cs).0)) ∙ joined_codes-stretches (λ c. true) (c ∷ (span (λ d. not (is_among markers d)) cs).0))
-        ∙ ap (λ z. c ∷ z) (span-append (λ d. not (is_among markers d)) cs)
-
 -- HTML.
 
 pub takes_word : (text : String) → Takes (word text)
@@ -516,18 +506,3 @@ covers_span_of marker names allowed =
 pub covers_span_here : (marker : ℕ) (names : SpanNames) (allowed : ℕ → Bool) (escaped : Bool) (previous : Option Code) → Covers leaf_codes [] (span_here marker names allowed escaped previous)
 unfolding span_here
 covers_span_here marker names allowed escaped previous = if_passed _ _ _ _ (covers_span_of marker names allowed)
-
--- Bounded whitespace.
-
-pub covers_space_or_tab : (name : Name) (link : Option Content) (min max : ℕ) → Covers leaf_codes [] (space_or_tab name link min max)
-unfolding space_or_tab
-covers_space_or_tab name link min max = record { at = λ cs. chosen_at leaf_codes [] cs (nat_le min (length (take max (span is_blank cs).0))) (Some (linked_leaf name link (take max (span is_blank cs).0), drop (length (take max (span is_blank cs).0)) cs)) None (kept cs) tt }
-  where
-    front : (n : ℕ) (xs ys : List Code) → take n xs ++ drop (length (take n xs)) (xs ++ ys) ≡ xs ++ ys
-    front zero xs ys = refl
-    front (suc n) [] ys = refl
-    front (suc n) (x ∷ xs) ys = ap (λ z. x ∷ z) (front n xs ys)
-
-    kept : (cs : List Code) → leaf_codes (linked_leaf name link (take max (span is_blank cs).0)) ++ drop (length (take max (span is_blank cs).0)) cs ≡ cs
-    kept cs = ap (λ z. z ++ drop (length (take max (span is_blank cs).0)) cs) (codes-linked_leaf name link (take max (span is_blank cs).0))
-        ∙ subst (λ z. take max (span is_blank cs).0 ++ drop (length (take max (span is_blank cs).0)) z ≡ z) (span-append is_blank cs) (front max (span is_blank cs).0 (span is_blank cs).1)

@@ -7,7 +7,7 @@ use Rattle.markdown_engine.specs.declared.event.Name.TheVariants as N
 use Rattle.markdown_engine.specs.declared.tokenizer.LabelKind.{LabelKind}
 use Rattle.markdown_model.specs.Passes.{label_group}
 use Rattle.markdown_label_pass.specs.Brackets.{Front, kind_of, codes_of, tail_row, Brackets, nothing, tree_then, label_then, unused_then, failed_then, grouped}
-use Rattle.markdown_label_pass.proofs.ModelBrackets.{grouped-behind}
+use Rattle.markdown_label_pass.proofs.BracketJoins.{grouped-behind}
 use Rattle.markdown_row.specs.Row.{Mark, begins, makes, loses, Row, row_end, row_then, kinds_past, IsMade, IsMarkAt, IsRowAt}
 use Rattle.markdown_row.specs.Opened.{Opened, none_waits, waits, assembled, put, put_tree, made_front, tail_of, marked_with, opened_by, brackets_of}
 use Rattle.markdown_row.proofs.OpenedFronts.{no-kinds, kinds_in, kinds-put, begins-as, makes-as, kinds-marked}
@@ -123,7 +123,3 @@ filled_from_start row = filled row (outside empty)
 
 pub grouped-filled : (row : Row) → AreMarksAt [] row → grouped (brackets_of row) ≡ whole (filled_from_start row)
 grouped-filled row at = whole-tree (opened_by row (none_waits nothing)) ∙ ap whole (tree-opened row (none_waits nothing) at)
-
--- a row without marks
-pub grouped-end : (t : Forest) → grouped (brackets_of (row_end t)) ≡ t
-grouped-end t = row-empty t

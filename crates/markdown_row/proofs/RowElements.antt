@@ -7,8 +7,7 @@ use Rattle.markdown_engine.specs.declared.event.Name.TheVariants as N
 use Rattle.markdown_engine.specs.declared.tokenizer.LabelKind.{LabelKind}
 use Rattle.markdown_cut.specs.CutData.{split}
 use Rattle.markdown_label_pass.specs.Brackets.{grouped}
-use Rattle.markdown_label_pass.proofs.BracketJoins.{row-assoc}
-use Rattle.markdown_label_pass.proofs.ModelBrackets.{joined-append}
+use Rattle.markdown_label_pass.proofs.BracketJoins.{row-assoc, joined-append}
 use Rattle.markdown_model.specs.Groups.{Bracketed, item, opens, closes, onto, nest, after_loose, joined}
 use Rattle.markdown_model.specs.LabelEnd.{Element, plain, starts, ends}
 use Rattle.markdown_model.specs.Passes.{Start, End, as_bracket, labelled, loose_start, loose_end, label_group, labels_of}

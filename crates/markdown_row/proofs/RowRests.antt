@@ -193,7 +193,3 @@ pub past-rest : (row : Row) (T : Tokenizer) → IsRowAt [] row → IsFresh T →
 past-rest row T at h none =
     let start : IsPast false false [] T T = record { same = λ i. record T { resolvers = none i }; fields = refl; end = h.end; seen = h.seen } in
     row-rest row false false [] T T start (subst (λ ks. IsRowAt ks row) (sym (ap kinds h.starts)) at)
-
--- what is past a fresh run without its labels
-pub fresh-fields : (T : Tokenizer) → IsFresh T → unlabelled T.tokenize_state ≡ T.tokenize_state
-fresh-fields T h = λ i. record T.tokenize_state { labels = sym h.labels i; label_starts = sym h.starts i; label_starts_loose = sym h.loose i }

@@ -3,8 +3,7 @@ use Rattle.std.proofs.Common.{◌≡◌, false, refl, sym, ap, ◌∙◌}
 use Rattle.markdown_engine.specs.Tree.{Forest, empty, ◌⊕◌}
 use Rattle.markdown_label_pass.specs.Brackets.{Brackets, nothing, tree_then, flat, grouped}
 use Rattle.markdown_label_pass.specs.Joins.{behind}
-use Rattle.markdown_label_pass.proofs.BracketJoins.{flat-behind}
-use Rattle.markdown_label_pass.proofs.ModelBrackets.{grouped-behind}
+use Rattle.markdown_label_pass.proofs.BracketJoins.{flat-behind, grouped-behind}
 use Rattle.markdown_row.specs.Fresh.{row_registers}
 use Rattle.markdown_row.specs.Opened.{none_waits, assembled, opened_by, brackets_of}
 use Rattle.markdown_row.specs.Row.{begins, makes, loses, Row, row_end, row_then}
