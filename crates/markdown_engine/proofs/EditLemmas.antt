@@ -4,7 +4,7 @@ use Rattle.std.specs.List.{All, slice_get}
 use Rattle.std.specs.Option.{option_map}
 use Rattle.std.proofs.lemmas.List.{length-append, append-nil, drop_more, length-take, length-drop, get_or-take, get_or-drop}
 use Rattle.std.proofs.lemmas.Option.{get_or_from_slice_get, slice_get_within, slice_get-get_or, same_Some}
-use Rattle.std.proofs.lemmas.Bool.{false≢true, lt-ltb, le-ltb, eq-eqb, cases_Bool}
+use Rattle.std.proofs.lemmas.Bool.{false≢true, le-ltb, eq-eqb, cases_Bool}
 use Rattle.std.proofs.lemmas.Bool.Decides.{nat_tests, eqb_tells, leb_tells}
 use Rattle.markdown_engine.specs.declared.event.Event.{Event}
 use Rattle.markdown_engine.specs.declared.event.Link.{Link}
@@ -446,18 +446,18 @@ notes-kept log es i n e notes l r m h = λ j k g.
       | inr f ↦ note-other e i n j notes f.0 ∙ h j (omega arith) g
     ]
 
-pub notes-gone : (log : List Edit) (es : List Event) (i : ℕ) (notes : List (ℕ × ℕ)) → linked_at es i ≡ false → Notes log es i notes → Notes log es (i + 1) notes
-notes-gone log es i notes gone h = λ j k g.
-    elim (eqb_tells i j) [
-      | inl t ↦ absurd (false≢true (sym gone ∙ ap (linked_at es) t.1 ∙ g))
-      | inr f ↦ h j (omega arith) g
+pub notes-gone : (log : List Edit) (es : List Event) (n m : ℕ) (notes : List (ℕ × ℕ)) → ((j : ℕ) → n ≤ j → j < m → linked_at es j ≡ false) → Notes log es n notes → Notes log es m notes
+notes-gone log es n m notes gone h = λ j k g.
+    elim (leb_tells n j) [
+      | inl low ↦ absurd (false≢true (sym (gone j (omega arith) k) ∙ g))
+      | inr high ↦ h j (omega arith) g
     ]
 
 -- what the code knows at place i of where the ranges end, once those of the places before j are counted
 abbrev pub EndsAt : List Edit → ℕ → ℕ → ℕ → Type 0
 EndsAt log i j d = max d i ≡ max (min (range_end log j) (2 ^ 64 - 1)) i
 
-found : (es : List Event) (i : ℕ) → i < length es → (e : Event) × (e ≡ get_or es i e)
+pub found : (es : List Event) (i : ℕ) → i < length es → (e : Event) × (e ≡ get_or es i e)
 found [] i l = absurd (omega arith)
 found (x ∷ es) zero l = (x, refl)
 found (x ∷ es) (suc i) l = found es i (omega arith)
@@ -495,9 +495,6 @@ below-range log i d l h =
 
 pub stays-from : (log : List Edit) (i d : ℕ) → i < 2 ^ 64 - 1 → EndsAt log i (i + 1) d → d ≤ i → is_removed log i ≡ false
 stays-from log i d l h k = below-range log i d l h ∙ le-ltb i d k
-
-pub goes-from : (log : List Edit) (i d : ℕ) → i < 2 ^ 64 - 1 → EndsAt log i (i + 1) d → i < d → is_removed log i ≡ true
-goes-from log i d l h k = below-range log i d l h ∙ lt-ltb i d k
 
 module _ (log : List Edit) (es : List Event) (i : ℕ) (done put : List Event) (l : i < length es) (h : done ++ edited_from log i (drop i es) ≡ edited log es) (g : put ≡ done ++ added_at i log) where
   step : (e : Event) → e ≡ get_or es i e → edited log es ≡ put ++ (stay log (is_removed log i) e ++ edited_from log (i + 1) (drop (i + 1) es))

@@ -1,5 +1,5 @@
 -- Edits in the order of their places, passed place by place.
-use Rattle.std.proofs.Common.{suc, zero, Option, ◌≡◌, ◌≢◌, ℕ, ◌+◌, ◌-◌, ◌^◌, ◌<◌, ◌≤◌, ◌==◌, ◌&&◌, not, ◌⊎◌, inl, inr, Bool, true, false, cond, min, max, List, [], ◌∷◌, ◌++◌, length, take, drop, map, get_or, refl, sym, ap, subst, ◌∙◌, arith, append_assoc}
+use Rattle.std.proofs.Common.{suc, ◌≡◌, ◌≢◌, ℕ, ◌+◌, ◌-◌, ◌^◌, ◌<◌, ◌≤◌, ◌==◌, ◌&&◌, not, ◌⊎◌, inl, inr, Bool, true, false, cond, min, max, List, [], ◌∷◌, ◌++◌, length, take, drop, map, get_or, refl, sym, ap, subst, ◌∙◌, arith, append_assoc}
 use Rattle.std.specs.List.{All, filter}
 use Rattle.std.specs.List.Sorted.{IsPermutation, IsNonDecreasingBy, IsStableByKey, ties}
 use Rattle.std.specs.Ordering.{is_lt, nat_cmp}
@@ -7,17 +7,15 @@ use Rattle.std.proofs.lemmas.List.{get_or-map, get_or-drop, get_or-take, get_or_
 use Rattle.std.proofs.lemmas.List.Sorted.{All-permutation, IsPermutation-map, IsNonDecreasingBy-drop, IsNonDecreasingBy-push, IsNonDecreasingBy-short, IsNonDecreasingBy-take}
 use Rattle.std.proofs.Math.Seq.{take-append_seam, drop-append_seam}
 use Rattle.std.proofs.lemmas.List.Elements.{All-append, All-drop, All-map, All-push, All-take}
-use Rattle.std.proofs.lemmas.Bool.{ne_eqb, le-ltb, eq-eqb}
+use Rattle.std.proofs.lemmas.Bool.{ne_eqb, eq-eqb}
 use Rattle.std.proofs.lemmas.Bool.Decides.{nat_tests}
 use Rattle.markdown_engine.specs.declared.event.Event.{Event}
 use Rattle.markdown_engine.specs.declared.util.edit_map.Edit.{Edit}
 use Rattle.markdown_engine.specs.declared.util.edit_map.Entry.{Entry}
-use Rattle.markdown_engine.specs.Chain.{previous_link, previous_of, IsUnlinked}
-use Rattle.std.specs.Option.{option_map}
-use Rattle.markdown_engine.specs.declared.event.Link.{Link}
-use Rattle.markdown_engine.specs.Edits.{removed_at, front_at, back_at, added_at, is_removed, moved_number, moved, edited_from, edited, edit_of, kept, AddsUnlinked, AreBrought, AreKept, IsRest}
-use Rattle.markdown_engine.proofs.EditLemmas.{back_push, removed_push, range_end, range-more, removed-test, EndsAt}
-use Rattle.markdown_engine.proofs.EditFacts.{added-none, removed-none, added-first, added-second, removed-first, removed-second, edited_until, edited-split}
+use Rattle.markdown_engine.specs.Chain.{IsUnlinked}
+use Rattle.markdown_engine.specs.Edits.{removed_at, front_at, back_at, added_at, edit_of, kept, AddsUnlinked, AreBrought, AreKept, IsRest}
+use Rattle.markdown_engine.proofs.EditLemmas.{back_push, removed_push, range-more, EndsAt}
+use Rattle.markdown_engine.proofs.EditFacts.{added-first, added-second, removed-first, removed-second}
 
 -- What edits collect at a place is what those at the place collect.
 
@@ -236,6 +234,22 @@ none-behind r i ys b = none-part (r.at == i) r.before r.events ys b
 pub none-elsewhere : (r : Edit) (i : ℕ) (ys : List Event) → r.at ≢ i → ys ≡ ys ++ cond (r.at == i && not r.before) r.events []
 none-elsewhere r i ys other = rw (ne_eqb r.at i other) (sym (append-nil ys))
 
+-- One edit that stands at a place by itself.
+
+one-comes : (e : Edit) (i : ℕ) (b : Bool) → e.at ≡ i → e.before ≡ b → added_at i (e ∷ []) ≡ e.events
+one-comes e i true at b = rw (eq-eqb e.at i at) (rw b (append-nil e.events))
+one-comes e i false at b = rw (eq-eqb e.at i at) (rw b (append-nil e.events))
+
+pub one-added : (cs : List Event) (i : ℕ) (es : List Entry) → length es ≡ 1 → All (λ e. e.at ≡ i) es → added_at i (kept cs es) ≡ (edit_of cs (entry es 0)).events
+one-added cs i [] one here = absurd (omega arith)
+one-added cs i (x ∷ []) one here = one-comes (edit_of cs x) i x.before (here 0 x (omega arith)) refl
+one-added cs i (x ∷ y ∷ es) one here = absurd (omega arith)
+
+pub one-removed : (cs : List Event) (i : ℕ) (es : List Entry) → length es ≡ 1 → All (λ e. e.at ≡ i) es → removed_at i (kept cs es) ≡ (entry es 0).remove
+one-removed cs i [] one here = absurd (omega arith)
+one-removed cs i (x ∷ []) one here = omega (arith, at-place x.at i x.remove (here 0 x (omega arith)))
+one-removed cs i (x ∷ y ∷ es) one here = absurd (omega arith)
+
 -- edits that are kept bring no event with a link
 pub adds-unlinked : (cs : List Event) (es : List Entry) → All IsUnlinked cs → AddsUnlinked (kept cs es)
 adds-unlinked cs es u = All-map (λ (e : Edit). All IsUnlinked e.events) (edit_of cs) es (λ k d l. plain-read cs (get_or es k d) _ u refl)
@@ -433,67 +447,5 @@ next-rest cs es p t l le up = λ k d m.
 pub rest-later : (n m : ℕ) (log a : List Edit) → n ≤ m → IsRest n log a → All (λ e. m ≤ e.at) a → IsRest m log a
 rest-later n m log a l r h = record { ahead = h; rises = r.rises; plain = r.plain; added = λ i k. r.added i (omega arith); removed = λ i k. r.removed i (omega arith) }
 
-unlinked-moved : (log : List Edit) (e : Event) → IsUnlinked e → moved log e ≡ e
-unlinked-moved log e u = ap (λ (l : Option Link). record e { link = previous_link (option_map (moved_number log) (previous_of e)) l }) u ∙ ap (λ (l : Option Link). record e { link = l }) (sym u)
-
--- events that stay, where nothing comes, and that carry no link
-until-plain : (log : List Edit) (i : ℕ) (xs : List Event) → ((j : ℕ) → i ≤ j → j < i + length xs → added_at j log ≡ []) → ((j : ℕ) → i ≤ j → j < i + length xs → is_removed log j ≡ false) → All IsUnlinked xs → edited_until log i xs ≡ xs
-until-plain log i [] a r u = refl
-until-plain log i (x ∷ xs) a r u =
-    ap (λ y. y ++ (cond (is_removed log i) [] (moved log x ∷ []) ++ edited_until log (suc i) xs)) (a i (omega arith) (omega arith)) ∙ ap (λ b. cond b [] (moved log x ∷ []) ++ edited_until log (suc i) xs) (r i (omega arith) (omega arith)) ∙ ap (λ y. y ∷ edited_until log (suc i) xs) (unlinked-moved log x (u 0 x (omega arith))) ∙ ap (λ y. x ∷ y) (until-plain log (suc i) xs (λ j l h. a j (omega arith) (omega arith)) (λ j l h. r j (omega arith) (omega arith)) (λ k d l. u (suc k) d (omega arith)))
-
--- A stretch with no edit, of events that carry no link, from place n up to place m.
-
-module _ (log rest : List Edit) (es : List Event) (n m d : ℕ) (le : n ≤ m) (within : m ≤ length es) (left_over : IsRest n log rest) (ahead : All (λ e. m ≤ e.at) rest) (plain : All IsUnlinked (take (m - n) (drop n es))) where
-  nowhere : (j : ℕ) → j < m → All (λ e. e.at ≢ j) rest
-  nowhere j l = λ k x h e. let a = ahead k x h in omega arith
-
-  quiet-added : (j : ℕ) → n ≤ j → j < m → added_at j log ≡ []
-  quiet-added j l h = sym (left_over.added j l) ∙ added-none j rest (nowhere j h)
-
-  quiet-removed : (j : ℕ) → n ≤ j → j < m → removed_at j log ≡ 0
-  quiet-removed j l h = sym (left_over.removed j l) ∙ removed-none j rest (nowhere j h)
-
-  range-quiet : (k : ℕ) → n + k ≤ m → (range_end log n ≤ range_end log (n + k)) × (range_end log (n + k) ≤ max (range_end log n) (n + k - 1))
-  range-quiet zero h = let e : n + 0 ≡ n = omega arith in rw e (omega arith, omega arith)
-  range-quiet (suc k) h =
-      let e : n + suc k ≡ suc (n + k) = omega arith in
-      let before = range-quiet k (omega arith) in
-      let none = quiet-removed (n + k) (omega arith) (omega arith) in
-      let low = before.0 in
-      let high = before.1 in
-      rw e (omega arith, omega arith)
-
-  pub range-stretch : m < 2 ^ 64 → EndsAt log n n d → EndsAt log m m d
-  range-stretch g h =
-      let e : n + (m - n) ≡ m = omega arith in
-      let bounds = range-quiet (m - n) (omega arith) in
-      let low = bounds.0 in
-      let high = bounds.1 in
-      omega (arith, ap (range_end log) e)
-
-  quiet-stays : m < 2 ^ 64 → EndsAt log n n d → d ≤ n → (j : ℕ) → n ≤ j → j < m → is_removed log j ≡ false
-  quiet-stays g h f j l k =
-      let e : n + (j - n) ≡ j = omega arith in
-      let bounds = range-quiet (j - n) (omega arith) in
-      let high = bounds.1 in
-      let none = quiet-removed j l k in
-      let after : range_end log (suc j) ≤ j = omega (arith, ap (range_end log) e) in
-      removed-test log j ∙ le-ltb j (range_end log (suc j)) after
-
-  size-stretch : length (take (m - n) (drop n es)) ≡ m - n
-  size-stretch = omega (arith, length-take (m - n) (drop n es), length-drop n es)
-
-  cut-stretch : drop n es ≡ take (m - n) (drop n es) ++ drop m es
-  cut-stretch =
-      let e : n + (m - n) ≡ m = omega arith in
-      sym (take-append-drop (m - n) (drop n es)) ∙ ap (λ x. take (m - n) (drop n es) ++ x) (drop-drop (m - n) n es ∙ ap (λ k. drop k es) e)
-
-  pub events-stretch : m < 2 ^ 64 → EndsAt log n n d → (n < m → d ≤ n) → (done put : List Event) → done ++ edited_from log n (drop n es) ≡ edited log es → put ≡ done ++ take (m - n) (drop n es) → put ++ edited_from log m (drop m es) ≡ edited log es
-  events-stretch g h f done put k s =
-      let xs = take (m - n) (drop n es) in
-      let size = size-stretch in
-      let same : m ≡ n + length xs = omega arith in
-      let quiet = λ (j : ℕ) (low : n ≤ j) (high : j < n + length xs). quiet-added j low (omega arith) in
-      let still = λ (j : ℕ) (low : n ≤ j) (high : j < n + length xs). quiet-stays g h (f (omega arith)) j low (omega arith) in
-      ap (λ x. x ++ edited_from log m (drop m es)) s ∙ append_assoc done xs (edited_from log m (drop m es)) ∙ ap (λ x. done ++ (x ++ edited_from log m (drop m es))) (sym (until-plain log n xs quiet still plain)) ∙ ap (λ x. done ++ x) (sym (edited-split log n m xs (drop m es) same)) ∙ ap (λ x. done ++ edited_from log n x) (sym cut-stretch) ∙ k
+pub rest-self : (n m : ℕ) (log a : List Edit) → m ≤ n → IsRest n log a → IsRest m a a
+rest-self n m log a l r = record { ahead = λ k d h. let low = r.ahead k d h in omega arith; rises = r.rises; plain = r.plain; added = λ i h. refl; removed = λ i h. refl }

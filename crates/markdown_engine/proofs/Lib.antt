@@ -21,6 +21,7 @@ pub mod ChainLemmas
 pub mod FilledLemmas
 pub mod EditLemmas
 pub mod EditOrder
+pub mod EditStretches
 pub mod NestingLemmas
 pub mod ConnectLemmas
 pub mod RunLemmas

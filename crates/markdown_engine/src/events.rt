@@ -1,6 +1,6 @@
 // The events so far.
 ghost use Rattle.std.specs.Prelude.{◌≡◌, ◌<◌, ◌≤◌, ◌+◌, ◌-◌, ◌++◌, ◌∷◌, ◌==◌, [], length, take, drop, OnOk, OnErr, IfOk, Some, None, true, slice_index_or};
-ghost use Rattle.markdown_engine.specs.Chain.{bare, chained, changed_at, with_next, with_previous, link_previous, previous_at, linked_at, EndsChain, IsLinked, IsFresh, IsUnlinked};
+ghost use Rattle.markdown_engine.specs.Chain.{bare, chained, changed_at, next_link, with_next, with_previous, link_previous, previous_at, linked_at, EndsChain, IsLinked, IsFresh, IsUnlinked};
 ghost use Rattle.std.specs.List.{All};
 
 use crate::event::{Event, Link};
@@ -41,22 +41,29 @@ fn previous_of(event: &Event) -> Option<usize>
     }
 }
 
+// The link, with another event after.
+#[inline]
+fn link_on(link: Option<Link>, next: Option<usize>) -> Option<Link>
+    ensures { result ≡ next_link next link }
+{
+    let link = link?;
+    Some(Link {
+        previous: link.previous,
+        next,
+        content: link.content,
+    })
+}
+
 // The event, with another event after.
+#[inline]
 fn linked_on(event: Event, next: Option<usize>) -> Event
     ensures { result ≡ with_next next event }
 {
-    match event.link {
-        None => event,
-        Some(link) => Event {
-            kind: event.kind,
-            name: event.name,
-            point: event.point,
-            link: Some(Link {
-                previous: link.previous,
-                next,
-                content: link.content,
-            }),
-        },
+    Event {
+        kind: event.kind,
+        name: event.name,
+        point: event.point,
+        link: link_on(event.link, next),
     }
 }
 
@@ -150,6 +157,7 @@ impl Events {
     }
 
     /// An event, at an index below `len`, without the event after on its chain.
+    #[inline]
     pub fn bare_at(&self, index: usize) -> Event
         requires { index < length self.now }
         ensures event { result ≡ slice_index_or self.now index result }
@@ -198,6 +206,9 @@ impl Events {
         ensures ok { OnOk result (self.new ≡ self.old ++ items.now) }
         ensures err { OnErr result (self.new ≡ self.old) }
     {
+        if items.is_empty() {
+            return Ok(());
+        }
         self.items.extend_from_slice(items)?;
         Ok(())
     }

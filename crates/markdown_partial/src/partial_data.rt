@@ -20,7 +20,7 @@ use markdown_engine::state::{State, StateName};
 use markdown_engine::subtokenize::Subresult;
 use markdown_engine::tokenizer::{TokenizeState, Tokenizer};
 use markdown_engine::util::edit_map::EditMap;
-use std::alloc::{AllocError, Global};
+use std::alloc::AllocError;
 
 // Passes the code at hand, a line ending or the first code of a stretch.
 fn pass(tokenizer: &mut Tokenizer, byte: u8) -> Result<State, AllocError>
@@ -144,35 +144,35 @@ fn is_joint(events: &Events, index: usize) -> bool
 }
 
 // Where data stands behind data: marks the Exit of the one and the Enter of the other to go.
-fn mark(alloc: Global, events: &Events, map: &mut EditMap, index: usize) -> Result<(), AllocError>
+fn mark(events: &Events, map: &mut EditMap, index: usize) -> Result<(), AllocError>
     requires from_two { 2 ≤ index }
     requires within { index < length events.now }
     ensures { OnOk result (map.new ≡ map.old ++ marked (joint (drop (index - 2) events.now)) (index - 1)) }
 {
     if is_joint(events, index) {
-        map.add(index - 1, 2, Vec::new(alloc))?;
+        map.add_slice(index - 1, 2, &[])?;
     }
     Ok(())
 }
 
 // Marks what is to go where data stands behind data.
-fn mark_joints(alloc: Global, events: &Events, map: &mut EditMap) -> Result<(), AllocError>
+fn mark_joints(events: &Events, map: &mut EditMap) -> Result<(), AllocError>
     requires { map.old ≡ [] }
     ensures { OnOk result (map.new ≡ joints 0 events.now) }
 {
     for index in 2..events.len() {
-        mark(alloc, events, map, index)?;
+        mark(events, map, index)?;
     }
     Ok(())
 }
 
 // Merges neighbouring data in a list of events.
-fn merge(alloc: Global, events: &mut Events, map: &mut EditMap) -> Result<(), AllocError>
+fn merge(events: &mut Events, map: &mut EditMap) -> Result<(), AllocError>
     requires { map.old ≡ [] }
     ensures merged { (t : Forest) → HasData t → events.old ≡ appended_from 0 None t → OnOk result (events.new ≡ appended_from 0 None (merged t)) }
     ensures map { OnOk result (map.new ≡ []) }
 {
-    mark_joints(alloc, events, map)?;
+    mark_joints(events, map)?;
     map.consume(events)
 }
 
@@ -186,7 +186,7 @@ pub fn resolve(tokenizer: &mut Tokenizer) -> Result<Option<Subresult>, AllocErro
     ensures merged { (t : Forest) → HasData t → tokenizer.old.events ≡ appended_from 0 None t → OnOk result (tokenizer.new.events ≡ appended_from 0 None (merged t)) }
     ensures err { OnErr result (IsTrue tokenizer.new.failed) }
 {
-    let merged = merge(tokenizer.alloc, &mut tokenizer.events, &mut tokenizer.map);
+    let merged = merge(&mut tokenizer.events, &mut tokenizer.map);
     if merged.is_err() {
         tokenizer.fail();
     }

@@ -3,7 +3,7 @@ ghost use Rattle.std.specs.Prelude.{◌≡◌, ◌≢◌, ℕ, ◌<◌, ◌≤�
 ghost use Rattle.std.specs.List.{All};
 ghost use Rattle.std.specs.List.Sorted.{IsNonDecreasingBy};
 ghost use Rattle.markdown_engine.specs.Chain.{bare, IsLinked, IsUnlinked};
-ghost use Rattle.markdown_engine.specs.Edits.{removed_at, front_at, back_at, added_at, edit_of, kept, edits_of, number_of, renumbered, noted, edited, AddsUnlinked, AreBrought, AreKept, IsRest, CanEdit};
+ghost use Rattle.markdown_engine.specs.Edits.{removed_at, front_at, back_at, added_at, edit_of, kept, edits_of, number_of, renumbered, noted, edited, AreBrought, AreKept, IsRest, CanEdit};
 
 use crate::event::{Event, Link};
 use crate::events::Events;
@@ -167,6 +167,25 @@ fn removed_from(edits: &Kept, at: usize) -> usize
     removed
 }
 
+// Adds the events that edits come with, all of them at one place. The answer is how many events go, from the place on; a count past
+// usize::MAX stands as usize::MAX.
+#[inline]
+fn push_here(done: &mut Events, edits: &Kept, at: usize) -> Result<usize, AllocError>
+    requires here { All (λ e. e.at ≡ at) edits.now.entries.now }
+    requires brought { AreBrought edits.now.comes.now edits.now.entries.now }
+    ensures done { OnOk result (done.new ≡ done.old ++ added_at at (edits_of edits.now)) }
+    ensures removed { IfOk result (λ removed. min removed (2 ^ 64 - 1) ≡ min (removed_at at (edits_of edits.now)) (2 ^ 64 - 1)) }
+{
+    if edits.entries.len() == 1 {
+        let edit = &edits.entries[0];
+        done.extend_plain(brought(edits.comes, edit))?;
+        return Ok(edit.remove);
+    }
+    push_fronts(done, edits, at)?;
+    push_backs(done, edits, at)?;
+    Ok(removed_from(edits, at))
+}
+
 // How far a walk over the places of a list has come.
 #[derive(Clone, Copy)]
 struct Passed {
@@ -177,6 +196,7 @@ struct Passed {
 }
 
 // Adds the events that come at a place, and passes its edits. The answer is how far the walk has then come.
+#[inline]
 fn pass_place(
     done: &mut Events,
     edits: &Kept,
@@ -204,13 +224,10 @@ fn pass_place(
         entries: &rest[..count],
         comes: edits.comes,
     };
-    push_fronts(done, &here, at)?;
-    push_backs(done, &here, at)?;
+    let removed = push_here(done, &here, at)?;
     Ok(Passed {
         edits: passed.edits + count,
-        removed_to: passed
-            .removed_to
-            .max(at.saturating_add(removed_from(&here, at))),
+        removed_to: passed.removed_to.max(at.saturating_add(removed)),
     })
 }
 
@@ -283,29 +300,24 @@ fn next_place(edits: &Kept, passed: usize, count: usize) -> usize
     }
 }
 
-// Adds the events from a place on that stay as they are, up to the next edit or the next event that carries a link. The
-// answer is the place behind them.
+// Adds the events from a place on, up to the next edit or the next event that carries a link. The answer is the place behind them.
 fn pass_plain(
     done: &mut Events,
     events: &Events,
     edits: &Kept,
-    passed: Passed,
+    passed: usize,
     from: usize,
 ) -> Result<usize, AllocError>
-    requires within { passed.edits ≤ length edits.now.entries.now }
+    requires within { passed ≤ length edits.now.entries.now }
     requires from { from ≤ length events.now }
-    requires rest { let rest = drop passed.edits (edits_of edits.now) in IsRest from rest rest }
+    requires rest { let rest = drop passed (edits_of edits.now) in IsRest from rest rest }
     ensures order { IfOk result (λ end. from ≤ end) }
     ensures within { IfOk result (λ end. end ≤ length events.now) }
     ensures done { IfOk result (λ end. done.new ≡ done.old ++ take (end - from) (drop from events.now)) }
     ensures plain { IfOk result (λ end. All IsUnlinked (take (end - from) (drop from events.now))) }
-    ensures stays { IfOk result (λ end. from < end → passed.removed_to ≤ from) }
-    ensures rest { IfOk result (λ end. All (λ e. end ≤ e.at) (drop passed.edits (edits_of edits.now))) }
+    ensures rest { IfOk result (λ end. All (λ e. end ≤ e.at) (drop passed (edits_of edits.now))) }
 {
-    if passed.removed_to > from {
-        return Ok(from);
-    }
-    let to = next_place(edits, passed.edits, events.len());
+    let to = next_place(edits, passed, events.len());
     let plain = events.plain(from, to);
     done.extend_plain(plain)?;
     Ok(from + plain.len())
@@ -472,10 +484,17 @@ impl EditMap {
         let mut index = 0;
         while index < count {
             passed = pass_place(&mut done, &edits, passed, index)?;
-            if passed.removed_to <= index {
-                keep(&mut done, &mut notes, events.bare_at(index), index)?;
+            if passed.removed_to > index {
+                index = next_place(&edits, passed.edits, passed.removed_to.min(count));
+                continue;
             }
-            index = pass_plain(&mut done, events, &edits, passed, index + 1)?;
+            let plain_to = pass_plain(&mut done, events, &edits, passed.edits, index)?;
+            if plain_to > index {
+                index = plain_to;
+            } else {
+                keep(&mut done, &mut notes, events.bare_at(index), index)?;
+                index += 1;
+            }
         }
         pass_place(&mut done, &edits, passed, count)?;
         Ok(done)

@@ -1,17 +1,10 @@
-use Rattle.std.proofs.Common.{◌≡◌, List, ◌∙◌, ◌++◌, ap, sym, arith, append_assoc}
+use Rattle.std.proofs.Common.{◌∙◌, ◌++◌, ap, sym, arith}
 use Rattle.std.proofs.lemmas.List.{append-nil}
-use Rattle.markdown_engine.specs.declared.event.Event.{Event}
 use Rattle.markdown_engine.proofs.EditOrder.{brought-here, passing, nothing-added, nothing-removed, all-behind}
 use Rattle.markdown_engine.proofs.util.edit_map.pass_place.Goals as goal
 
-joined : (xs fronts backs ys zs all : List Event) → ys ≡ xs ++ fronts → zs ≡ ys ++ backs → fronts ++ backs ≡ all → zs ≡ xs ++ all
-joined xs fronts backs ys zs all h g k = g ∙ ap (λ x. x ++ backs) h ∙ append_assoc xs fronts backs ∙ ap (λ x. xs ++ x) k
-
-pub push_fronts-requires : goal.push_fronts-requires
-push_fronts-requires c = brought-here c.args.edits.now.comes.now c.args.edits.now.entries.now c.args.passed.edits c.count_at-count.result c.requires.brought
-
-pub push_backs-requires : goal.push_backs-requires
-push_backs-requires c = brought-here c.args.edits.now.comes.now c.args.edits.now.entries.now c.args.passed.edits c.count_at-count.result c.requires.brought
+pub push_here-requires-clause-brought : goal.push_here-requires-clause-brought
+push_here-requires-clause-brought c = brought-here c.args.edits.now.comes.now c.args.edits.now.entries.now c.args.passed.edits c.count_at-count.result c.requires.brought
 
 pub returns-then-count-eq0-clause-done : goal.returns-then-count-eq0-clause-done
 returns-then-count-eq0-clause-done c =
@@ -35,7 +28,7 @@ pub returns-clause-done : goal.returns-clause-done
 returns-clause-done c =
     let n = c.count_at-count.ensures in
     let p = passing c.args.edits.now.comes.now c.args.at c.count_at-count.result c.args.passed.edits c.args.edits.now.entries.now c.requires.rest n.within n.here n.next in
-    joined _ _ _ _ _ _ c.in_ok-push_fronts.ensures c.in_ok-push_backs.ensures p.added
+    c.in_ok-removed.ensures.done ∙ ap (λ x. c.args.done.now ++ x) p.added
 
 pub returns-clause-rest : goal.returns-clause-rest
 returns-clause-rest c =
@@ -46,4 +39,4 @@ pub returns-clause-removed : goal.returns-clause-removed
 returns-clause-removed c =
     let n = c.count_at-count.ensures in
     let p = passing c.args.edits.now.comes.now c.args.at c.count_at-count.result c.args.passed.edits c.args.edits.now.entries.now c.requires.rest n.within n.here n.next in
-    omega (arith, c.max-2.ensures, c.saturating_add.ensures, c.removed_from.ensures, p.removed)
+    omega (arith, c.max-2.ensures, c.saturating_add.ensures, c.in_ok-removed.ensures.removed, p.removed)
