@@ -53,3 +53,19 @@ reaches-alone ready step st T ok U e h =
 
 pub attempts_same : (T : Tokenizer) (fs : List Attempt) → T.attempts ≡ [] → fs ≡ [] → (record T { attempts = fs }) ≡ T
 attempts_same T fs e h = ap (λ (x : List Attempt). record T { attempts = x }) (h ∙ sym e)
+
+-- The innermost attempt taken, and the others given back.
+
+-- what goes on where they are taken may be run by itself
+pub taken_goes : (ready : StateName → Tokenizer → Type 0) (ends : StateName → Tokenizer → Bool → Tokenizer → Type 0) (weight : StateName → Tokenizer → ℕ) (n : ℕ) (End : Bool → Tokenizer → Type 0) (f : Attempt) (fs : List Attempt) (st : State) (T U : Tokenizer) → T.attempts ≡ f ∷ fs → U ≡ settled T → Goes ready ends weight n End T.attempts st (settled T) → MayGo ready weight n st U
+taken_goes ready ends weight n End f fs st T U e left h =
+    subst (λ (V : Tokenizer). MayGo ready weight n st V) (sym left) (subst (λ (gs : List Attempt). Goes ready ends weight n End gs st (settled T)) e h).0
+
+pub taken_alone : (T U : Tokenizer) → U ≡ settled T → U.attempts ≡ []
+taken_alone T U e = ap (λ (V : Tokenizer). V.attempts) e ∙ settled-alone T
+
+-- given back where none waits
+pub given-back : (T U : Tokenizer) (fs : List Attempt) → T.attempts ≡ [] → U ≡ record T { attempts = fs } → (U.attempts ≡ fs) × (settled U ≡ T)
+unfolding settled
+given-back T U fs e is =
+    (ap (λ (V : Tokenizer). V.attempts) is, ap (λ (V : Tokenizer). settled V) is ∙ settled-same T e)

@@ -51,15 +51,14 @@ fn step_over<L: Layer>(name: StateName, tokenizer: &mut Tokenizer) -> Result<Sta
     ensures err { OnErr result (IsTrue tokenizer.new.failed) }
 {
     let mut state = L::call(name, tokenizer)?;
-    if tokenizer.attempts.is_empty() {
-        return Ok(state);
-    }
-    let mut opened = tokenizer.take_attempts();
-    while let Some(attempt) = opened.pop() {
+    while !tokenizer.attempts.is_empty() {
+        let Some((attempt, outer)) = tokenizer.take_attempt() else {
+            break;
+        };
         let ok = run_from::<L>(state, tokenizer)?;
         state = resume(tokenizer, attempt, ok);
+        tokenizer.give_back(outer);
     }
-    tokenizer.give_back(opened);
     Ok(state)
 }
 

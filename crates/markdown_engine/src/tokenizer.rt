@@ -1,7 +1,7 @@
 // The tokenizer: what a state function is given.
 //
 // Each operation that may grow a list answers the error where the growth is refused; then `failed` is true.
-ghost use Rattle.std.specs.Prelude.{◌≡◌, ◌++◌, ◌∷◌, [], OnOk, OnErr, IsTrue, true, false, Some, None};
+ghost use Rattle.std.specs.Prelude.{◌≡◌, ◌++◌, ◌∷◌, [], OnOk, OnErr, IsTrue, MatchOption, true, false, Some, None};
 ghost use Rattle.markdown_engine.specs.Ops.{applied, Enter, Exit, EnterLink, EnterConnected, Consume, attempted, registered, registered_before, is_registered, refused, current_of, previous_of, IsOpen, HasCode, link_back, enter_event, LinkedBefore};
 ghost use Rattle.markdown_engine.specs.Content.{IsContent};
 ghost use Rattle.markdown_engine.specs.Place.{point_of};
@@ -455,23 +455,31 @@ impl<'a> Tokenizer<'a> {
         self.try_with(true, ok, nok)
     }
 
-    // Hands over the attempts that a call opened.
+    // Hands over the innermost attempt, if one waits, and the others. Where there is no other, their list stays, so that the next attempt
+    // takes no memory.
     #[tactic(auto, unfolding(crate::specs::Runs::settled))]
-    pub(crate) fn take_attempts(&mut self) -> Stack<Attempt<'a>>
+    pub(crate) fn take_attempt(&mut self) -> Option<(Attempt<'a>, Stack<Attempt<'a>>)>
         ensures left { self.new ≡ settled self.old }
-        ensures taken { result ≡ self.old.attempts }
+        ensures taken { MatchOption result (self.old.attempts ≡ []) (λ taken. self.old.attempts ≡ taken.0 ∷ taken.1) }
     {
-        mem::replace(&mut self.attempts, Stack::new(self.alloc))
+        let attempt = self.attempts.pop()?;
+        let none = Stack::new(self.alloc);
+        if self.attempts.is_empty() {
+            Some((attempt, none))
+        } else {
+            Some((attempt, mem::replace(&mut self.attempts, none)))
+        }
     }
 
-    // Takes back what handed over attempts were kept in, so that the next one takes no memory.
+    // Takes attempts back that were handed over, where none waits.
     #[tactic(auto, using(crate::proofs::RunLemmas::attempts_same))]
     pub(crate) fn give_back(&mut self, attempts: Stack<Attempt<'a>>)
         requires alone { self.old.attempts ≡ [] }
-        requires none { attempts ≡ [] }
-        ensures { self.new ≡ self.old }
+        ensures { self.new ≡ record self.old { attempts = attempts.entry } }
     {
-        let _ = mem::replace(&mut self.attempts, attempts);
+        if !attempts.is_empty() {
+            let _ = mem::replace(&mut self.attempts, attempts);
+        }
     }
 
     // Whether the pass is registered.

@@ -1,5 +1,5 @@
 use Rattle.std.proofs.Common.{◌≡◌, ◌≤◌, Bool, [], ◌+◌, ◌*◌, length}
-use Rattle.markdown_engine.specs.Runs.{ends_state, ready_state, weight_state, Goes}
+use Rattle.markdown_engine.specs.Runs.{ends_state, ready_state, settled, weight_state, Goes}
 use Rattle.markdown_engine.specs.Reach.{Reaches}
 use Rattle.markdown_engine.specs.declared.state.State.TheVariants.{Next}
 use Rattle.markdown_engine.specs.declared.tokenizer.Tokenizer.{Tokenizer}
@@ -23,12 +23,11 @@ invariant-run_from-loop-state g l = record {
 abbrev pub decreases-run_from-loop-state : goal.decreases-run_from-loop-state
 decreases-run_from-loop-state g l = weight_state g.L.Layer.weight l.state l.tokenizer
 
-abbrev pub invariant-step_over-loop-attempt : goal.invariant-step_over-loop-attempt
-invariant-step_over-loop-attempt g l = record {
-  alone : l.tokenizer.attempts ≡ [];
-  calls : (ok : Bool) (U : Tokenizer) → Reaches g.L.Layer.ready g.L.Layer.step l.opened l.state l.tokenizer ok U → Reaches g.L.Layer.ready g.L.Layer.step [] (Next l.fn.name) l.fn.tokenizer ok U;
-  goes : Goes g.L.Layer.ready g.L.Layer.ends g.L.Layer.weight (g.L.Layer.weight l.fn.name l.fn.tokenizer) (g.L.Layer.ends l.fn.name l.fn.tokenizer) l.opened l.state l.tokenizer;
+abbrev pub invariant-step_over-loop-tokenizer : goal.invariant-step_over-loop-tokenizer
+invariant-step_over-loop-tokenizer g l = record {
+  calls : (ok : Bool) (U : Tokenizer) → Reaches g.L.Layer.ready g.L.Layer.step l.tokenizer.attempts l.state (settled l.tokenizer) ok U → Reaches g.L.Layer.ready g.L.Layer.step [] (Next l.fn.name) l.fn.tokenizer ok U;
+  goes : Goes g.L.Layer.ready g.L.Layer.ends g.L.Layer.weight (g.L.Layer.weight l.fn.name l.fn.tokenizer) (g.L.Layer.ends l.fn.name l.fn.tokenizer) l.tokenizer.attempts l.state (settled l.tokenizer);
 }
 
-abbrev pub decreases-step_over-loop-attempt : goal.decreases-step_over-loop-attempt
-decreases-step_over-loop-attempt g l = length l.opened
+abbrev pub decreases-step_over-loop-tokenizer : goal.decreases-step_over-loop-tokenizer
+decreases-step_over-loop-tokenizer g l = length l.tokenizer.attempts
