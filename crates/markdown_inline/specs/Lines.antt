@@ -1,5 +1,5 @@
 -- The lines that the program prints, one for each event: whether it begins or ends, its name, its place, and its link if it has one.
-use Rattle.std.specs.Prelude.{ℕ, List, [], ◌++◌, codes, decimal, Option, Some, None}
+use Rattle.std.specs.Prelude.{◌≡◌, ℕ, ◌≤◌, List, [], ◌++◌, codes, decimal, drop, length, Option, Some, None}
 use Rattle.std.specs.List.{flat_map}
 use Rattle.markdown_engine.specs.declared.event.Content.{Content}
 use Rattle.markdown_engine.specs.declared.event.Event.{Event}
@@ -96,6 +96,12 @@ number_text (Some n) = decimal n
 -- a space and a number, for each of line, column, byte, and the codes of a tab before the place
 abbrev pub point_text : Point → List ℕ
 point_text p = codes " " ++ decimal p.line ++ codes " " ++ decimal p.column ++ codes " " ++ decimal p.index ++ codes " " ++ decimal p.vs
+
+-- the place is printed from s on to the end of the buffer, with a line ending behind it
+pub record IsPrinted (p : Point) (buffer : List ℕ) (s : ℕ) : Type 0 where
+  pub before : s ≤ 84
+  pub size : length buffer ≡ 85
+  pub text : drop s buffer ≡ point_text p ++ codes "\n"
 
 -- the content of the link, and the events before and after on its chain
 abbrev pub link_text : Option Link → List ℕ

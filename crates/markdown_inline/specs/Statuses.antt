@@ -1,7 +1,6 @@
 -- The faults that the program ends with, and their statuses.
 use Rattle.std.specs.Prelude.{ℕ}
 use Rattle.std.specs.declared.io.ErrorKind.{ErrorKind}
-use Rattle.std.specs.declared.io.ErrorKind.TheVariants as ErrorKind
 use Rattle.markdown_inline.specs.declared.program.Fault.{Fault}
 
 abbrev pub status_of : Fault → ℕ

@@ -5,6 +5,7 @@ ghost use Rattle.markdown_inline.specs.Lines.{name_text, kind_text, content_text
 use itoa::{Buffer, write_digits};
 use markdown_engine::event::{Content, Event, Kind, Link, Name, Point};
 use std::alloc::{AllocError, Global};
+use std::marker::Model;
 
 fn name_text(name: Name) -> &'static str
     ensures { result.now ≡ name_text name }
@@ -158,37 +159,88 @@ fn push_link(text: &mut Vec<u8>, link: Link) -> Result<(), AllocError>
     push_event_number(text, link.next)
 }
 
+// A place as it is printed, with a line ending behind it. Contracts see the place alone.
+#[derive(Drop)]
+struct Printed {
+    point: Point,
+    // What is printed stands at its end: four numbers of at most 20 digits, each behind a space, and the line ending.
+    buffer: [u8; 85],
+    // Where that begins.
+    start: usize,
+}
+
+impl Model for Printed {
+    ghost use Rattle.markdown_engine.specs.declared.event.Point.{Point};
+    ghost use Rattle.markdown_inline.specs.Lines.{IsPrinted};
+
+    ghost Value = { Point };
+
+    ghost view = { λ s. s.point };
+
+    ghost invariant = { λ s. IsPrinted s.point s.buffer s.start };
+}
+
+impl Printed {
+    // Prints a place.
+    fn new(point: Point) -> Printed
+        ensures { result ≡ point }
+    {
+        let mut buffer = [b'\n'; 85];
+        let start = write_point(point, &mut buffer, 84);
+        Printed {
+            point,
+            buffer,
+            start,
+        }
+    }
+
+    // Prints another place, where it is another.
+    fn turn_to(&mut self, point: Point)
+        ensures { self.new ≡ point }
+    {
+        if self.point != point {
+            *self = Printed::new(point);
+        }
+    }
+}
+
 // Adds a place, the link if there is one, and a line ending.
-fn push_rest(text: &mut Vec<u8>, point: Point, link: Option<Link>) -> Result<(), AllocError>
-    ensures { IfOk result (λ _. text.new.items ≡ text.old.items ++ (point_text point ++ link_text link ++ codes "\n")) }
+fn push_rest(text: &mut Vec<u8>, place: &Printed, link: Option<Link>) -> Result<(), AllocError>
+    ensures { IfOk result (λ _. text.new.items ≡ text.old.items ++ (point_text place.now ++ link_text link ++ codes "\n")) }
 {
-    // four numbers of at most 20 digits, each behind a space, and the line ending
-    let mut buffer = [b'\n'; 85];
-    let start = write_point(point, &mut buffer, 84);
     let Some(link) = link else {
-        return text.extend_from_slice(&buffer[start..]);
+        return text.extend_from_slice(&place.buffer[place.start..]);
     };
-    text.extend_from_slice(&buffer[start..84])?;
+    text.extend_from_slice(&place.buffer[place.start..84])?;
     push_link(text, link)?;
     text.extend_from_slice(b"\n")
 }
 
-// Adds an event, in a line of its own.
-fn push_event(text: &mut Vec<u8>, event: &Event) -> Result<(), AllocError>
+// Adds an event, in a line of its own. The place is the one that was printed last.
+fn push_event(text: &mut Vec<u8>, event: &Event, place: &mut Printed) -> Result<(), AllocError>
     ensures { IfOk result (λ _. text.new.items ≡ text.old.items ++ line_of event.now) }
 {
     text.extend_from_slice(kind_word(event.kind).as_bytes())?;
     text.extend_from_slice(name_text(event.name).as_bytes())?;
-    push_rest(text, event.point, event.link)
+    place.turn_to(event.point);
+    push_rest(text, place, event.link)
 }
 
 /// The lines of all events, in order. The only error is that memory was refused.
+///
+/// Two events out of three stand where the one before them does, so the place that was printed last is kept.
 pub(crate) fn lines_of(alloc: Global, events: &[Event]) -> Result<Vec<u8>, AllocError>
     ensures { IfOk result (λ text. text.items ≡ lines_of events.now) }
 {
     let mut text = Vec::new(alloc);
+    let mut place = Printed::new(Point {
+        line: 1,
+        column: 1,
+        index: 0,
+        vs: 0,
+    });
     for event in events {
-        push_event(&mut text, event)?;
+        push_event(&mut text, event, &mut place)?;
     }
     Ok(text)
 }

@@ -37,12 +37,14 @@ no-link p link e = sym (ap (λ bs. (p ++ bs) ++ 10 ∷ []) (ap link_text e) ∙ 
 
 pub returns-in_default : goal.returns-in_default
 returns-in_default c =
-    let start = c.write_point-start in
-    let all = all-of 84 start.result start.new.buffer (point_text c.args.point) start.ensures.length start.ensures.written in
-    added c.extend_from_slice.result _ _ _ _ _ c.extend_from_slice.ensures.items (all ∙ no-link (point_text c.args.point) c.args.link c.in_default.is)
+    let kept = c.place.invariant in
+    let text = kept.text ∙ ap (λ p. point_text p ++ 10 ∷ []) c.place.view_is in
+    let all = all-of 84 c.place.inside.start c.place.inside.buffer (point_text c.args.place.now) kept.size text in
+    added c.extend_from_slice.result _ _ _ _ _ c.extend_from_slice.ensures.items (all ∙ no-link (point_text c.args.place.now) c.args.link c.in_default.is)
 
 pub returns : goal.returns
 returns c =
-    let start = c.write_point-start in
-    let point = but-last 84 start.result start.new.buffer (point_text c.args.point) start.ensures.length start.ensures.written start.ensures.before in
+    let kept = c.place.invariant in
+    let text = kept.text ∙ ap (λ p. point_text p ++ 10 ∷ []) c.place.view_is in
+    let point = but-last 84 c.place.inside.start c.place.inside.buffer (point_text c.args.place.now) kept.size text kept.before in
     added-more c.extend_from_slice-3.result _ _ _ _ _ _ _ _ c.extend_from_slice-3.ensures.items (c.in_ok-push_link.ensures ∙ ap (λ (l : Option Link). c.extend_from_slice-2.new.self.items ++ link_text l) (sym c.in-Some.is)) c.in_ok-extend_from_slice.ensures.items point
