@@ -2,12 +2,16 @@
 use Rattle.std.proofs.Common.{◌≡◌, ℕ, Bool, true, false, ◌&&◌, ◌||◌, ◌==◌, not, if◌then◌else◌, List, [], ◌∷◌, ◌++◌, Option, None, Some, refl, sym, ap, subst, ◌∙◌, arith}
 use Rattle.std.specs.Prelude.{codes}
 use Rattle.std.specs.List.{list_any}
-use Rattle.std.proofs.lemmas.Bool.{or_parts, or_left, or_right, and_from}
+use Rattle.std.proofs.lemmas.Bool.{or_parts, and_from}
 use Rattle.std.proofs.lemmas.Bool.Decides.{nat_tests}
 use Rattle.markdown_engine.specs.Codes.{Code}
+use Rattle.markdown_engine.specs.SequenceIndex.{dots_behind_w, holds, is_w, last_where, stand_next}
 use Rattle.markdown_engine.specs.Tree.{Forest}
 use Rattle.markdown_engine.specs.declared.configuration.ParseOptions.{ParseOptions}
 use Rattle.markdown_engine.specs.declared.parser.ParseState.{ParseState}
+use Rattle.markdown_engine.specs.declared.sequence_index.Sequence.TheVariants.{ProtocolSlash, WwwDot}
+use Rattle.markdown_engine.proofs.RunIndexFacts.{later-none}
+use Rattle.markdown_engine.proofs.SequenceIndexLemmas.{not-held}
 use Rattle.markdown_gfm.proofs.LiteralReadings.{letter_test, letters-more, letters-nil, letters-none}
 use Rattle.markdown_model.specs.Lines.{code_leaf}
 use Rattle.markdown_model.proofs.ReadingSteps.{bind-some, bind-none, either-second, either-some, switched-off}
@@ -19,28 +23,25 @@ use Rattle.markdown_model.specs.Literal.{letters, begins_with_www, may_precede_w
 use Rattle.markdown_model.specs.Setting.{Setting}
 use Rattle.markdown_row.specs.Elements.{AreSingle}
 use Rattle.markdown_text.proofs.TableLemmas.{EachOf, one-of}
-use Rattle.markdown_text.specs.TextSteps.{ends_sign, has_sign, is_sign, markers_for, may_hold_literals, plain_markers, text_markers}
+use Rattle.markdown_text.specs.TextSteps.{markers_for, may_hold_literals, plain_markers, text_markers}
 use Rattle.markdown_elements.proofs.TextElements.{off-or-none, other-element, protocol-element, www-element}
 
 -- Codes without a sign of literals.
 
--- no sign ends in these codes, behind the code before
+-- no `:/` and no `w.` begins in these codes
 abbrev NoSigns : List Code → Type 0
-NoSigns cs = (previous : Option ℕ) × (has_sign previous cs ≡ false)
+NoSigns cs = (last_where (stand_next (codes ":/")) cs ≡ None) × (last_where dots_behind_w cs ≡ None)
 
-no-more : (previous : Option ℕ) (c : Code) (cs : List Code) → has_sign previous (c ∷ cs) ≡ false → (ends_sign previous c.value ≡ false) × (has_sign (Some c.value) cs ≡ false)
-unfolding has_sign
-no-more previous c cs h = or_parts (ends_sign previous c.value) (has_sign (Some c.value) cs) h
+-- none begins with the first of them, and none behind it
+no-more : (t : List Code → Bool) (c : Code) (cs : List Code) → last_where t (c ∷ cs) ≡ None → (last_where t cs ≡ None) × (t (c ∷ cs) ≡ false)
+no-more t c cs h = later-none (last_where t cs) (t (c ∷ cs)) h
 
 behind : (c : Code) (cs : List Code) → NoSigns (c ∷ cs) → NoSigns cs
-behind c cs k = (Some c.value, (no-more k.0 c cs k.1).1)
+behind c cs k = ((no-more (stand_next (codes ":/")) c cs k.0).0, (no-more dots_behind_w c cs k.1).0)
 
 behind-all : (front cs : List Code) → NoSigns (front ++ cs) → NoSigns cs
 behind-all [] cs k = k
 behind-all (c ∷ front) cs k = behind-all front cs (behind c (front ++ cs) k)
-
-pair-less : (c d : Code) (cs : List Code) → NoSigns (c ∷ d ∷ cs) → is_sign c.value d.value ≡ false
-pair-less c d cs k = (no-more (Some c.value) d cs (no-more k.0 c (d ∷ cs) k.1).1).0
 
 -- Words of letters.
 
@@ -57,11 +58,11 @@ letters-after n ns (c ∷ cs) next = by_test (letter_test n c) refl
     by_test false e = letters-none n ns (c ∷ cs) e
 
 -- two letters that are a sign
-pair-none : (n m : ℕ) (ns : List ℕ) (cs : List Code) → ((c d : Code) → letter_test n c ≡ true → letter_test m d ≡ true → is_sign c.value d.value ≡ true) → NoSigns cs → letters (n ∷ m ∷ ns) cs ≡ None
-pair-none n m ns cs sign k =
+pair-none : (n m : ℕ) (ns : List ℕ) (cs : List Code) → ((c d : Code) (ds : List Code) → letter_test n c ≡ true → letter_test m d ≡ true → NoSigns (c ∷ d ∷ ds) → ⊥) → NoSigns cs → letters (n ∷ m ∷ ns) cs ≡ None
+pair-none n m ns cs never k =
     letters-after n (m ∷ ns) cs (λ c ds e t.
     letters-after m ns ds (λ d es f u.
-    clash (is_sign c.value d.value) (sign c d t u) (pair-less c d es (subst NoSigns (e ∙ ap (λ xs. c ∷ xs) f) k))))
+    absurd (never c d es t u (subst NoSigns (e ∙ ap (λ xs. c ∷ xs) f) k))))
 
 letter-58 : (c : Code) → letter_test 58 c ≡ true → (c.value == 58) ≡ true
 letter-58 c h = grind (arith, nat_tests)
@@ -72,14 +73,20 @@ letter-47 c h = grind (arith, nat_tests)
 letter-46 : (c : Code) → letter_test 46 c ≡ true → (c.value == 46) ≡ true
 letter-46 c h = grind (arith, nat_tests)
 
-letter-119 : (c : Code) → letter_test 119 c ≡ true → (c.value == 87 || c.value == 119) ≡ true
+letter-119 : (c : Code) → letter_test 119 c ≡ true → is_w c.value ≡ true
 letter-119 c h = grind (arith, nat_tests)
 
-colon-slash : (c d : Code) → letter_test 58 c ≡ true → letter_test 47 d ≡ true → is_sign c.value d.value ≡ true
-colon-slash c d h k = or_left (c.value == 58 && d.value == 47) ((c.value == 87 || c.value == 119) && d.value == 46) (and_from (c.value == 58) (d.value == 47) (letter-58 c h) (letter-47 d k))
+colon-slash : (c d : Code) (ds : List Code) → letter_test 58 c ≡ true → letter_test 47 d ≡ true → NoSigns (c ∷ d ∷ ds) → ⊥
+colon-slash c d ds h k none =
+    clash (stand_next (codes ":/") (c ∷ d ∷ ds))
+    (and_from (c.value == 58) (d.value == 47 && true) (letter-58 c h) (and_from (d.value == 47) true (letter-47 d k) refl))
+    (no-more (stand_next (codes ":/")) c (d ∷ ds) none.0).1
 
-w-dot : (c d : Code) → letter_test 119 c ≡ true → letter_test 46 d ≡ true → is_sign c.value d.value ≡ true
-w-dot c d h k = or_right (c.value == 58 && d.value == 47) ((c.value == 87 || c.value == 119) && d.value == 46) (and_from (c.value == 87 || c.value == 119) (d.value == 46) (letter-119 c h) (letter-46 d k))
+w-dot : (c d : Code) (ds : List Code) → letter_test 119 c ≡ true → letter_test 46 d ≡ true → NoSigns (c ∷ d ∷ ds) → ⊥
+w-dot c d ds h k none =
+    clash (dots_behind_w (c ∷ d ∷ ds))
+    (and_from (is_w c.value) (d.value == 46 && true) (letter-119 c h) (and_from (d.value == 46) true (letter-46 d k) refl))
+    (no-more dots_behind_w c (d ∷ ds) none.1).1
 
 -- no more signs stand behind letters that are read
 same-read : (x y : List Code × List Code) → Some x ≡ Some y → x ≡ y
@@ -164,7 +171,8 @@ module _ (s : Setting) (end : ℕ) (whole : List Code) (p : ParseState) (same : 
       by_switch false e = switched-off a s.options.constructs.gfm_autolink_literal cs e
       by_switch true e =
           let on : p.options.now.constructs.gfm_autolink_literal ≡ true = ap (λ (o : ParseOptions). o.constructs.gfm_autolink_literal) (sym same) ∙ e in
-          off-or-none s.options.constructs.gfm_autolink_literal a cs (reads (None, sym (ap (λ b. b && has_sign None whole) on) ∙ none))
+          let signs = or_parts (holds ProtocolSlash whole) (holds WwwDot whole) (sym (ap (λ b. b && (holds ProtocolSlash whole || holds WwwDot whole)) on) ∙ none) in
+          off-or-none s.options.constructs.gfm_autolink_literal a cs (reads (not-held ProtocolSlash whole signs.0, not-held WwwDot whole signs.1))
 
   letter-h : (v : ℕ) (c : Code) (cs : List Code) → c.value ≡ v → (v == 72 || v == 104) ≡ true → may_hold_literals whole p ≡ false → (NoSigns whole → NoSigns (c ∷ cs)) → IsSingle c cs
   letter-h v c cs e h none part earlier previous =

@@ -1,15 +1,15 @@
 -- What an index of runs says of the codes that it was made of.
 use Rattle.std.proofs.Common.{◌≡◌, ℕ, zero, suc, ◌+◌, ◌==◌, ◌&&◌, not, nat_lt, Bool, true, false, cond, if◌then◌else◌, Option, Some, None, List, [], ◌∷◌, drop, refl, sym, ap, subst, ◌∙◌, arith}
-use Rattle.std.proofs.Math.Bool.{and-false}
-use Rattle.std.proofs.lemmas.Bool.{eqb-true, eq-eqb}
+use Rattle.std.proofs.lemmas.Bool.{and_right, eqb-true, eq-eqb, or_parts}
 use Rattle.std.proofs.lemmas.Bool.Decides.{nat_tests}
 use Rattle.std.proofs.lemmas.Grind.{common_steps}
 use Rattle.std.specs.BTreeMap.{insert_entry}
+use Rattle.std.specs.List.{list_any}
 use Rattle.std.specs.Cmp.{both_tied, unsigned_ties}
 use Rattle.std.specs.Ordering.{is_eq, nat_cmp, match_ordering}
 use Rattle.std.specs.declared.cmp.Ordering.TheVariants.{Less, Equal, Greater}
 use Rattle.markdown_engine.specs.Codes.{Code}
-use Rattle.markdown_engine.specs.RunIndex.{leading, later_or, last_run_from, last_run, Key, key_cmp, LastRuns, is_asked, is_same, with_run, entries_from, last_runs, no_runs, entry_at, begins_before, rules_out}
+use Rattle.markdown_engine.specs.RunIndex.{leading, later_or, last_run_from, last_run, Key, key_cmp, LastRuns, is_asked, is_same, with_run, entries_from, last_runs, no_runs, without_runs, entry_at, begins_before, rules_out}
 
 -- Entries.
 
@@ -135,13 +135,23 @@ entry-is asked cs m n h = entries-are asked None 0 cs [] m n ∙ ap (λ b. answe
     whole (Some k) = ap (λ n. Some n) (omega arith)
     whole None = refl
 
+-- of codes none of which is asked for
+pub without-known : (asked : List ℕ) (cs : List Code) → list_any (λ (c : Code). is_asked asked c.value) cs ≡ false → without_runs asked ≡ last_runs asked cs
+without-known asked cs h = ap (λ es. record { asked = asked; entries = es }) (sym (stays None 0 cs h))
+  where
+    stays : (before : Option ℕ) (at : ℕ) (cs : List Code) → list_any (λ (c : Code). is_asked asked c.value) cs ≡ false → entries_from asked before at cs [] ≡ []
+    stays before at [] h = refl
+    stays before at (c ∷ cs) h =
+        let parts = or_parts (is_asked asked c.value) (list_any (λ (d : Code). is_asked asked d.value) cs) h in
+        ap (λ b. entries_from asked (Some c.value) (suc at) cs (with_run b (c.value, leading c.value (c ∷ cs)) at [])) (and_right (not (is_same before c.value)) (is_asked asked c.value) parts.0) ∙ stays (Some c.value) (suc at) cs parts.1
+
 -- where nothing is asked for, nothing is known
 pub none-known : (cs : List Code) → no_runs ≡ last_runs [] cs
-none-known cs = ap (λ es. record { asked = []; entries = es }) (sym (stays None 0 cs))
+none-known cs = without-known [] cs (none cs)
   where
-    stays : (before : Option ℕ) (at : ℕ) (cs : List Code) → entries_from [] before at cs [] ≡ []
-    stays before at [] = refl
-    stays before at (c ∷ cs) = ap (λ b. entries_from [] (Some c.value) (suc at) cs (with_run b (c.value, leading c.value (c ∷ cs)) at [])) (and-false (not (is_same before c.value))) ∙ stays (Some c.value) (suc at) cs
+    none : (cs : List Code) → list_any (λ (c : Code). is_asked [] c.value) cs ≡ false
+    none [] = refl
+    none (c ∷ cs) = none cs
 
 -- no later answer, and none here
 pub later-none : (o : Option ℕ) (b : Bool) → later_or o b ≡ None → (o ≡ None) × (b ≡ false)

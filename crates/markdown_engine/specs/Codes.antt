@@ -1,6 +1,6 @@
 -- The codes of a document, each with its places.
 use Rattle.std.specs.Prelude.{ℕ, zero, suc, ◌+◌, ◌-◌, ◌%◌, Bool, true, false, ◌&&◌, ◌||◌, nat_lt, nat_le, ◌==◌, List, [], ◌∷◌, ◌++◌, if◌then◌else◌, filter}
-use Rattle.std.specs.List.{count_by}
+use Rattle.std.specs.List.{count_by, list_any}
 use Rattle.markdown_engine.specs.declared.event.Point.{Point}
 
 -- A code is what the rules of Markdown read one of: a byte, or the line feed that stands for a line
@@ -109,6 +109,6 @@ is_line_ending c = c.value == line_feed
 abbrev pub is_blank : Code → Bool
 is_blank c = c.value == space_value || c.value == tab_value
 
--- how many of the codes have this value
-abbrev pub count_of : ℕ → List Code → ℕ
-count_of v cs = count_by (λ c. c.value == v) cs
+-- how many of the codes are among these bytes
+abbrev pub count_among : List ℕ → List Code → ℕ
+count_among set cs = count_by (λ c. list_any (λ n. c.value == n) set) cs

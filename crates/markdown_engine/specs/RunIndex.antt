@@ -66,9 +66,13 @@ entries_from asked before at (c ∷ cs) entries =
 abbrev pub last_runs : List ℕ → List Code → LastRuns
 last_runs asked cs = record { asked = asked; entries = entries_from asked None 0 cs [] }
 
+-- no run of these values stands anywhere
+abbrev pub without_runs : List ℕ → LastRuns
+without_runs asked = record { asked = asked; entries = [] }
+
 -- nothing is known
 abbrev pub no_runs : LastRuns
-no_runs = record { asked = []; entries = [] }
+no_runs = without_runs []
 
 abbrev pub entry_at : Key → List (Key × ℕ) → Option ℕ
 entry_at key entries = lookup (is_at (key_cmp key)) entries

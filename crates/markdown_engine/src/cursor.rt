@@ -1,6 +1,6 @@
 // A place in a content, which hides the pieces, the tabs and what is left out of the lines.
 ghost use Rattle.std.specs.Prelude.{◌≡◌, ◌∷◌, [], ℕ, List, drop, length, nat_le, ◌<◌, ◌≤◌, IsSome, IsTrue};
-ghost use Rattle.markdown_engine.specs.Codes.{count_of, line_feed, place_of};
+ghost use Rattle.markdown_engine.specs.Codes.{count_among, line_feed, place_of};
 ghost use Rattle.markdown_engine.specs.Content.{IsContent};
 ghost use Rattle.markdown_engine.specs.Place.{start_of_content, code_at, code_before, point_of, exit_point, moved};
 ghost use Rattle.markdown_engine.specs.Standing.{is_open, first_point, followed};
@@ -95,17 +95,17 @@ impl<'a> Cursor<'a> {
         Cursor::new(self.bytes, self.pieces)
     }
 
-    /// Answers whether the byte stands in the whole content at least so many times.
-    pub fn holds(&self, byte: u8, times: usize) -> bool
-        ensures { result ≡ nat_le times (count_of byte self.now.codes) }
+    /// Answers whether at least so many codes of the whole content are among these bytes.
+    pub fn holds(&self, bytes: &ByteSet, times: usize) -> bool
+        ensures { result ≡ nat_le times (count_among bytes.now self.now.codes) }
     {
         let mut left = times;
         let mut place = self.restart();
         while left > 0 {
-            let Some(code) = place.current() else {
+            let Some(code) = place.seek(bytes) else {
                 return false;
             };
-            if code == byte {
+            if bytes.contains(code) {
                 left -= 1;
             }
             place.consume();

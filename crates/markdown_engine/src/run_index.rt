@@ -1,6 +1,6 @@
 // Where the last run of each length begins.
 ghost use Rattle.std.specs.Prelude.{◌≡◌, IfOk};
-ghost use Rattle.markdown_engine.specs.RunIndex.{last_runs, no_runs, rules_out, past_run};
+ghost use Rattle.markdown_engine.specs.RunIndex.{last_runs, no_runs, without_runs, rules_out, past_run};
 
 use crate::byte_set;
 use crate::bytes::ByteSet;
@@ -36,8 +36,15 @@ impl RunIndex {
     pub fn new(alloc: Global) -> RunIndex
         ensures { result ≡ no_runs }
     {
+        RunIndex::without(alloc, byte_set!())
+    }
+
+    /// The runs of these bytes in a content that has none of them. It takes no memory.
+    pub fn without(alloc: Global, asked: ByteSet) -> RunIndex
+        ensures { result ≡ without_runs asked }
+    {
         RunIndex {
-            asked: byte_set!(),
+            asked,
             last: BTreeMap::new(alloc),
         }
     }

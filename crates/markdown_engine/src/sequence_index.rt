@@ -1,15 +1,17 @@
 // Where the last of some sequences of bytes begins.
-ghost use Rattle.std.specs.Prelude.{◌≡◌, Some, None, cond};
-ghost use Rattle.markdown_engine.specs.Place.{ahead_at};
-ghost use Rattle.markdown_engine.specs.SequenceIndex.{begins_at, first_bytes, closes_past_spacing, closes_twice, is_spacing, stand_next, last_in, last_begins, rules_out};
+ghost use Rattle.std.specs.Prelude.{◌≡◌, ◌-◌, Some, None, cond};
+ghost use Rattle.markdown_engine.specs.Place.{ahead_at, code_at};
+ghost use Rattle.markdown_engine.specs.SequenceIndex.{begun_at, closes_past_spacing, closes_twice, is_behind_w, is_spacing, last_begins, last_in, rules_out, shows_at, stand_next, stop_bytes};
 ghost use Rattle.markdown_engine.specs.declared.sequence_index.Sequence.{Sequence as Kind};
+ghost use Rattle.markdown_engine.specs.declared.sequence_index.Sequence.TheVariants.{WwwDot};
+ghost use Rattle.std.specs.Str.{byte};
 
 use crate::byte_set;
 use crate::bytes::ByteSet;
 use crate::cursor::Cursor;
 use std::marker::Model;
 
-/// A sequence of bytes that ends a construct.
+/// A sequence of bytes without which some construct does not stand: one that ends it, or that it holds.
 #[derive(Clone, Copy, Debug, PartialEq, Eq)]
 pub enum Sequence {
     /// `-->`: a comment ends.
@@ -22,6 +24,12 @@ pub enum Sequence {
     DeclarationEnd,
     /// `)`, and another one behind it, past spaces, tabs and line endings: a title in parentheses ends, and its resource.
     ResourceEnd,
+    /// `:/`, as behind the protocol of a literal.
+    ProtocolSlash,
+    /// `w.` or `W.`, as in the `www.` of a literal.
+    WwwDot,
+    /// A backtick or a dollar sign, with which a span begins and ends.
+    SpanMark,
 }
 
 /// For each sequence, how many codes stand before the last place where it begins; `None` where there is no such place.
@@ -37,6 +45,12 @@ pub struct LastBegins {
     pub declaration_end: Option<usize>,
     /// Of two `)` with nothing but whitespace between them.
     pub resource_end: Option<usize>,
+    /// Of `:/`.
+    pub protocol_slash: Option<usize>,
+    /// Of `w.` and `W.`.
+    pub www_dot: Option<usize>,
+    /// Of a backtick and a dollar sign.
+    pub span_mark: Option<usize>,
 }
 
 impl LastBegins {
@@ -50,11 +64,14 @@ impl LastBegins {
             Sequence::InstructionEnd => self.instruction_end,
             Sequence::DeclarationEnd => self.declaration_end,
             Sequence::ResourceEnd => self.resource_end,
+            Sequence::ProtocolSlash => self.protocol_slash,
+            Sequence::WwwDot => self.www_dot,
+            Sequence::SpanMark => self.span_mark,
         }
     }
 }
 
-/// Where the last of each sequence begins in a content: what ends at a sequence need not be looked for where there is none.
+/// Where the last of each sequence begins in a content: what needs a sequence need not be looked for where there is none.
 ///
 /// It takes no memory. Contracts see `None` where nothing is known.
 #[derive(Drop)]
@@ -89,13 +106,14 @@ impl SequenceIndex {
             instruction_end: None,
             declaration_end: None,
             resource_end: None,
+            protocol_slash: None,
+            www_dot: None,
+            span_mark: None,
         };
-        let firsts = first_bytes();
+        let stops = stop_bytes();
         let mut place = cursor.restart();
-        while let Some(code) = place.seek(&firsts) {
-            if firsts.contains(code) {
-                last = found_at(&place, last);
-            }
+        while let Some(code) = place.seek(&stops) {
+            last = found_at(&place, code, last);
             place.consume();
         }
         SequenceIndex { last: Some(last) }
@@ -115,25 +133,73 @@ impl SequenceIndex {
     }
 }
 
-// What was found, with the sequences that begin at the place.
-fn found_at(place: &Cursor, last: LastBegins) -> LastBegins
-    ensures { (s : Kind) → last_in result s ≡ cond (begins_at s (ahead_at place.now)) (Some place.now.at) (last_in last s) }
+// What was found, with the sequence that shows at the place, by the code there.
+fn found_at(place: &Cursor, code: u8, last: LastBegins) -> LastBegins
+    requires { code_at place.now ≡ Some code }
+    ensures { (s : Kind) → last_in result s ≡ cond (shows_at s place.now) (Some (begun_at s place.now.at)) (last_in last s) }
 {
     let at = place.passed();
-    LastBegins {
-        comment_end: at_or(stand_next(place, b"-->"), at, last.comment_end),
-        section_end: at_or(stand_next(place, b"]]>"), at, last.section_end),
-        instruction_end: at_or(stand_next(place, b"?>"), at, last.instruction_end),
-        declaration_end: at_or(stand_next(place, b">"), at, last.declaration_end),
-        resource_end: at_or(closes_twice(place), at, last.resource_end),
+    match code {
+        b'-' => LastBegins {
+            comment_end: at_or(stand_next(place, b"-->"), at, last.comment_end),
+            ..last
+        },
+        b']' => LastBegins {
+            section_end: at_or(stand_next(place, b"]]>"), at, last.section_end),
+            ..last
+        },
+        b'?' => LastBegins {
+            instruction_end: at_or(stand_next(place, b"?>"), at, last.instruction_end),
+            ..last
+        },
+        b'>' => LastBegins {
+            declaration_end: Some(at),
+            ..last
+        },
+        b')' => LastBegins {
+            resource_end: at_or(closes_twice(place), at, last.resource_end),
+            ..last
+        },
+        b':' => LastBegins {
+            protocol_slash: at_or(stand_next(place, b":/"), at, last.protocol_slash),
+            ..last
+        },
+        b'.' => LastBegins {
+            www_dot: before_dot(place, last.www_dot),
+            ..last
+        },
+        b'`' | b'$' => LastBegins {
+            span_mark: Some(at),
+            ..last
+        },
+        _ => last,
     }
 }
 
-// The first bytes of the sequences.
-fn first_bytes() -> ByteSet
-    ensures { result ≡ first_bytes }
+// At a dot: the place of the `w` before it, if one is there, else the earlier place.
+fn before_dot(place: &Cursor, earlier: Option<usize>) -> Option<usize>
+    requires { code_at place.now ≡ Some (byte ".") }
+    ensures { result ≡ cond (shows_at WwwDot place.now) (Some (place.now.at - 1)) earlier }
 {
-    byte_set!(b'-', b']', b'?', b'>', b')')
+    if is_behind_w(place.previous()) {
+        Some(place.passed() - 1)
+    } else {
+        earlier
+    }
+}
+
+// Whether the code before is a `w`.
+fn is_behind_w(previous: Option<u8>) -> bool
+    ensures { result ≡ is_behind_w previous }
+{
+    matches!(previous, Some(b'w' | b'W'))
+}
+
+// The bytes at which the sequences show.
+fn stop_bytes() -> ByteSet
+    ensures { result ≡ stop_bytes }
+{
+    byte_set!(b'-', b']', b'?', b'>', b')', b':', b'.', b'`', b'$')
 }
 
 // This place where the test holds, else the earlier one.

@@ -58,6 +58,7 @@ const LITERALS: &[(&str, &str)] = &[
         "GfmAutolinkLiteralProtocol 0-12, Data 12-13",
     ),
     ("www.a.b\"", "GfmAutolinkLiteralWww 0-7, Data 7-8"),
+    ("WWW.a.b\"", "GfmAutolinkLiteralWww 0-7, Data 7-8"),
     ("\"http://a.b", "Data 0-1, GfmAutolinkLiteralProtocol 1-11"),
     ("www.)", "GfmAutolinkLiteralWww 0-3, Data 3-5"),
     ("www. x", "GfmAutolinkLiteralWww 0-3, Data 3-6"),

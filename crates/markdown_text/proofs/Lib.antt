@@ -1,3 +1,3 @@
 pub mod FinishTexts
 pub mod TableLemmas
-pub mod SignWalks
+pub mod SpanLemmas

@@ -1,21 +1,21 @@
 -- What the states of a text do, and how runs from them end.
-use Rattle.std.specs.Prelude.{◌≡◌, ◌≢◌, ℕ, Bool, true, false, nat_le, ◌==◌, ◌&&◌, ◌||◌, not, if◌then◌else◌, List, [], ◌∷◌, Option, Some, None, length, map, codes, string_bytes, String}
+use Rattle.std.specs.Prelude.{◌≡◌, ◌≢◌, ℕ, Bool, true, false, nat_le, ◌==◌, ◌&&◌, ◌||◌, not, if◌then◌else◌, List, [], ◌∷◌, Option, Some, None, length, map, filter, codes, string_bytes, String}
 use Rattle.std.specs.Str.{byte}
-use Rattle.markdown_engine.specs.Codes.{Code, count_of, stop_of, document_start}
+use Rattle.markdown_engine.specs.Codes.{Code, count_among, stop_of, document_start}
 use Rattle.markdown_engine.specs.NameIndex.{names_in_order}
 use Rattle.markdown_engine.specs.Ops.{attempted, scratched, registered, current_of, ahead}
-use Rattle.markdown_engine.specs.Place.{Place, ahead_at, code_before, point_of}
+use Rattle.markdown_engine.specs.Place.{Place, point_of}
 use Rattle.std.specs.List.{list_any}
 use Rattle.markdown_engine.specs.BracketIndex.{brackets_between}
 use Rattle.markdown_engine.specs.RunIndex.{last_runs}
 use Rattle.markdown_engine.specs.Runs.{Stepped, stepped}
 use Rattle.markdown_engine.specs.StateWords.{StateWords}
-use Rattle.markdown_engine.specs.SequenceIndex.{last_begins, rules_out}
+use Rattle.markdown_engine.specs.SequenceIndex.{last_begins, holds}
 use Rattle.markdown_engine.specs.TitleIndex.{closers_of}
 use Rattle.markdown_engine.specs.declared.name_index.Names.{Names}
 use Rattle.markdown_engine.specs.declared.parser.ParseState.{ParseState}
 use Rattle.markdown_engine.specs.declared.resolve.ResolveName.TheVariants as R
-use Rattle.markdown_engine.specs.declared.sequence_index.Sequence.TheVariants.{ResourceEnd}
+use Rattle.markdown_engine.specs.declared.sequence_index.Sequence.TheVariants.{ResourceEnd, ProtocolSlash, WwwDot}
 use Rattle.markdown_engine.specs.declared.state.State.TheVariants.{Next, Retry, Ok, Nok}
 use Rattle.markdown_engine.specs.declared.state.StateName.{StateName}
 use Rattle.markdown_engine.specs.declared.state.StateName.TheVariants.{AttentionStart, AutolinkStart, CharacterEscapeStart, CharacterReferenceStart, DataStart, GfmAutolinkLiteralProtocolStart, GfmAutolinkLiteralWwwStart, GfmLabelStartFootnoteStart, GfmTaskListItemCheckStart, HardBreakEscapeStart, HtmlTextStart, LabelEndStart, LabelStartImageStart, LabelStartLinkStart, RawTextStart, TextBefore, TextBeforeData, TextBeforeHardBreakEscape, TextBeforeHtml, TextBeforeLabelStartLink}
@@ -63,34 +63,16 @@ first_try = said_at text_tries
 
 -- Where no literal may begin, data goes on over the letters that literals begin with.
 
--- a colon before a slash, as behind a protocol, or a `w` before a dot, as in `www.`
-abbrev pub is_sign : ℕ → ℕ → Bool
-is_sign v next = (v == byte ":" && next == byte "/") || ((v == byte "W" || v == byte "w") && next == byte ".")
-
-abbrev pub ends_sign : Option ℕ → ℕ → Bool
-ends_sign None next = false
-ends_sign (Some v) next = is_sign v next
-
--- such a sign ends in these codes, behind a code of this value
-unfoldable pub has_sign : Option ℕ → List Code → Bool
-has_sign previous [] = false
-has_sign previous (c ∷ cs) = ends_sign previous c.value || has_sign (Some c.value) cs
-
--- such a sign ends at the place or behind it
-abbrev pub sign_ahead : Place → Bool
-sign_ahead p = has_sign (code_before p) (ahead_at p)
-
--- the letters that literals begin with
 abbrev pub literal_letters : List ℕ
 literal_letters = codes "HhWw"
 
 -- the codes of the other rows
 abbrev pub plain_markers : List ℕ
-plain_markers = codes "!$`&*_~<[\\]"
+plain_markers = filter (λ n. not (list_any (λ m. n == m) literal_letters)) text_markers
 
--- a literal may begin in these codes
+-- a literal may begin in these codes: literals are on, and a sign stands there that each of them holds
 abbrev pub may_hold_literals : List Code → ParseState → Bool
-may_hold_literals cs p = p.options.now.constructs.gfm_autolink_literal && has_sign None cs
+may_hold_literals cs p = p.options.now.constructs.gfm_autolink_literal && (holds ProtocolSlash cs || holds WwwDot cs)
 
 -- the codes at which data of these codes stops
 abbrev pub markers_for : List Code → ParseState → List ℕ
@@ -106,7 +88,7 @@ names_pay names = nat_le 16 (length names) || list_any (λ name. nat_le 64 (leng
 
 -- the names that are defined pay, and so many labels may end in these codes
 abbrev pub order_pays : List Code → ParseState → Bool
-order_pays cs p = (names_pay p.definitions.items || names_pay p.gfm_footnote_definitions.items) && nat_le 16 (count_of (byte "]") cs)
+order_pays cs p = (names_pay p.definitions.items || names_pay p.gfm_footnote_definitions.items) && nat_le 16 (count_among (codes "]") cs)
 
 -- the names of what is defined, in order, and the brackets of the document from where the content begins to where it ends
 abbrev pub names_in : Place → ParseState → Names
@@ -120,7 +102,7 @@ names_for c p = if order_pays c.codes p then Some (names_in c p) else None
 
 -- so many titles in parentheses may begin in these codes, behind some of which a resource may end, that to note where each may end pays
 abbrev pub titles_pay : List Code → Bool
-titles_pay cs = not (rules_out (Some (last_begins cs)) ResourceEnd 0) && nat_le 16 (count_of (byte "(") cs)
+titles_pay cs = holds ResourceEnd cs && nat_le 16 (count_among (codes "(") cs)
 
 -- where titles in parentheses may end, if that pays
 abbrev pub titles_for : List Code → Option (List Closer)
@@ -128,7 +110,7 @@ titles_for cs = if titles_pay cs then Some (closers_of cs) else None
 
 -- literals are on, and so many from `www.` on may begin behind a `_` in these codes that to note where no domain begins pays
 abbrev pub domains_pay : List Code → ParseState → Bool
-domains_pay cs p = p.options.now.constructs.gfm_autolink_literal && nat_le 16 (openings cs)
+domains_pay cs p = (p.options.now.constructs.gfm_autolink_literal && holds WwwDot cs) && nat_le 16 (openings cs)
 
 -- where no domain begins behind a `_`, if that pays, in a content that ends at this index
 abbrev pub domains_for : List Code → ℕ → ParseState → Option (List ℕ)

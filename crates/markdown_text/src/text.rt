@@ -3,15 +3,14 @@
 //! Each state answers the error where a growth is refused; then `failed` is true.
 #![tactic(auto, using(markdown_engine::proofs::OpRules::op_rules))]
 
-ghost use Rattle.std.specs.Prelude.{◌≡◌, ◌≤◌, nat_le, IfOk, OnOk, OnErr, IsTrue, None, Some, length, string_bytes, true};
+ghost use Rattle.std.specs.Prelude.{◌≡◌, nat_le, IfOk, OnOk, OnErr, IsTrue, None, Some, length, string_bytes, true};
 ghost use Rattle.std.specs.List.{list_any};
 ghost use Rattle.markdown_engine.specs.Ops.{scratched};
-ghost use Rattle.markdown_engine.specs.Place.{ahead_at};
 ghost use Rattle.markdown_engine.specs.RunIndex.{last_runs};
 ghost use Rattle.markdown_engine.specs.SequenceIndex.{last_begins};
 ghost use Rattle.markdown_construct.specs.Characters.{ReadsText};
 ghost use Rattle.markdown_text.specs.Resolve.{MayFinish, FinishesText};
-ghost use Rattle.markdown_text.specs.TextSteps.{names_for, names_in, names_pay, order_pays, titles_for, titles_pay, domains_for, domains_pay, span_markers, is_sign, ends_sign, has_sign, sign_ahead, may_hold_literals, markers_for, first_try, attempt_step, start_step, before_step, before_html_step, before_hard_break_escape_step, before_label_start_link_step, before_data_step};
+ghost use Rattle.markdown_text.specs.TextSteps.{names_for, names_in, names_pay, order_pays, titles_for, titles_pay, domains_for, domains_pay, span_markers, may_hold_literals, markers_for, first_try, attempt_step, start_step, before_step, before_html_step, before_hard_break_escape_step, before_label_start_link_step, before_data_step};
 
 use markdown_engine::bracket_index::BracketIndex;
 use markdown_engine::byte_set;
@@ -64,6 +63,21 @@ macro_rules! bytes_of {
     };
 }
 
+// The bytes of the rows but for those of literals.
+macro_rules! plain_bytes_of {
+    (@of ($($plain:literal)*)) => { byte_set!($($plain),*) };
+    (@of $plain:tt [$($of_row:literal)*] GfmAutolinkLiteralProtocolStart, $otherwise:ident; $($rest:tt)*) => {
+        plain_bytes_of!(@of $plain $($rest)*)
+    };
+    (@of $plain:tt [$($of_row:literal)*] GfmAutolinkLiteralWwwStart, $otherwise:ident; $($rest:tt)*) => {
+        plain_bytes_of!(@of $plain $($rest)*)
+    };
+    (@of ($($plain:literal)*) [$($of_row:literal)*] $construct:ident, $otherwise:ident; $($rest:tt)*) => {
+        plain_bytes_of!(@of ($($plain)* $($of_row)*) $($rest)*)
+    };
+    ($($rows:tt)*) => { plain_bytes_of!(@of () $($rows)*) };
+}
+
 // What the row of a byte says, if it has one.
 macro_rules! row_of {
     ($byte:ident $([$($of_row:literal)*] $construct:ident, $otherwise:ident;)*) => {
@@ -74,69 +88,28 @@ macro_rules! row_of {
     };
 }
 
-// Whether this is a colon before a slash, or a `w` before a dot.
-fn is_sign(code: u8, next: u8) -> bool
-    ensures { result ≡ is_sign code next }
-{
-    (code == b':' && next == b'/') || ((code == b'W' || code == b'w') && next == b'.')
-}
-
-// Whether a sign of literals ends with this code, behind that one.
-fn ends_sign(previous: Option<u8>, code: u8) -> bool
-    ensures { result ≡ ends_sign previous code }
-{
-    match previous {
-        Some(before) => is_sign(before, code),
-        None => false,
-    }
-}
-
-// Moves to the next code with which a sign may end, if there is one.
-fn seek_sign(cursor: &mut Cursor)
-    ensures sign { sign_ahead cursor.new ≡ sign_ahead cursor.old }
-    ensures left { length (ahead_at cursor.new) ≤ length (ahead_at cursor.old) }
-{
-    cursor.consume_stretch(&byte_set!(b'.', b'/'));
-}
-
-// Whether a sign of literals stands in the whole content of a cursor.
-fn has_sign(cursor: &Cursor) -> bool
-    ensures { result ≡ has_sign None cursor.now.codes }
-{
-    let mut place = cursor.restart();
-    seek_sign(&mut place);
-    while let Some(code) = place.current() {
-        if ends_sign(place.previous(), code) {
-            return true;
-        }
-        place.consume();
-        seek_sign(&mut place);
-    }
-    false
-}
-
-// Whether a literal may begin in the content.
+// Whether a literal may begin in the content. The sequences are those of the content.
 fn may_hold_literals(tokenizer: &Tokenizer) -> bool
+    requires { tokenizer.now.tokenize_state.sequences ≡ Some (last_begins tokenizer.now.cursor.codes) }
     ensures { result ≡ may_hold_literals tokenizer.now.cursor.codes tokenizer.now.parse_state.now }
 {
-    tokenizer
-        .parse_state
-        .options
-        .constructs
-        .gfm_autolink_literal
-        && has_sign(&tokenizer.cursor)
+    let constructs = &tokenizer.parse_state.options.constructs;
+    let sequences = &tokenizer.tokenize_state.sequences;
+    constructs.gfm_autolink_literal
+        && !(sequences.rules_out(Sequence::ProtocolSlash, 0)
+            && sequences.rules_out(Sequence::WwwDot, 0))
 }
 
-// The bytes at which data of a text stops: those at which something is tried, but for the letters of literals where none may begin.
+// The bytes at which data of a text stops: those at which something is tried, but for the letters of literals where none may begin. The
+// sequences are those of the content.
 fn markers(tokenizer: &Tokenizer) -> ByteSet
+    requires { tokenizer.now.tokenize_state.sequences ≡ Some (last_begins tokenizer.now.cursor.codes) }
     ensures { result ≡ markers_for tokenizer.now.cursor.codes tokenizer.now.parse_state.now }
 {
     if may_hold_literals(tokenizer) {
         tries!(bytes_of)
     } else {
-        byte_set!(
-            b'!', b'$', b'`', b'&', b'*', b'_', b'~', b'<', b'[', b'\\', b']'
-        )
+        tries!(plain_bytes_of)
     }
 }
 
@@ -160,13 +133,21 @@ fn attempt(
     Ok(State::Retry(construct))
 }
 
-// Makes known where the last runs begin at which spans may close.
+// Makes known where the last runs begin at which spans may close; without a walk, where no mark of a span stands in the content. The
+// sequences are those of the content.
 #[tactic(auto, unfolding(markdown_engine::specs::Ops::scratched))]
 fn index_runs(tokenizer: &mut Tokenizer) -> Result<(), AllocError>
+    requires { tokenizer.old.tokenize_state.sequences ≡ Some (last_begins tokenizer.old.cursor.codes) }
     ensures ok { OnOk result (tokenizer.new ≡ scratched (record tokenizer.old.tokenize_state { runs = last_runs span_markers tokenizer.old.cursor.codes }) tokenizer.old) }
     ensures err { OnErr result (IsTrue tokenizer.new.failed) }
 {
-    match RunIndex::over(tokenizer.alloc, &tokenizer.cursor, byte_set!(b'`', b'$')) {
+    let marks = byte_set!(b'`', b'$');
+    let sequences = &tokenizer.tokenize_state.sequences;
+    if sequences.rules_out(Sequence::SpanMark, 0) {
+        tokenizer.tokenize_state.runs = RunIndex::without(tokenizer.alloc, marks);
+        return Ok(());
+    }
+    match RunIndex::over(tokenizer.alloc, &tokenizer.cursor, marks) {
         Ok(runs) => {
             tokenizer.tokenize_state.runs = runs;
             Ok(())
@@ -199,7 +180,7 @@ fn order_pays(tokenizer: &Tokenizer) -> bool
     let state = tokenizer.parse_state;
     (names_pay(state.definitions.as_slice())
         || names_pay(state.gfm_footnote_definitions.as_slice()))
-        && tokenizer.cursor.holds(b']', MANY)
+        && tokenizer.cursor.holds(&byte_set!(b']'), MANY)
 }
 
 // The names of what is defined, in order, and the brackets of the document from where the content begins to where it ends.
@@ -245,7 +226,7 @@ fn titles_pay(tokenizer: &Tokenizer) -> bool
     ensures { result ≡ titles_pay tokenizer.now.cursor.codes }
 {
     let sequences = &tokenizer.tokenize_state.sequences;
-    !sequences.rules_out(Sequence::ResourceEnd, 0) && tokenizer.cursor.holds(b'(', MANY)
+    !sequences.rules_out(Sequence::ResourceEnd, 0) && tokenizer.cursor.holds(&byte_set!(b'('), MANY)
 }
 
 // Makes known where titles in parentheses may end, where that pays.
@@ -271,18 +252,24 @@ fn index_titles(tokenizer: &mut Tokenizer) -> Result<(), AllocError>
     }
 }
 
-// Whether literals are on, and so many from `www.` on may begin behind a `_` that to note where no domain begins pays.
+// Whether literals are on, and so many from `www.` on may begin behind a `_` that to note where no domain begins pays. The sequences are
+// those of the content.
 fn domains_pay(tokenizer: &Tokenizer) -> bool
+    requires { tokenizer.now.tokenize_state.sequences ≡ Some (last_begins tokenizer.now.cursor.codes) }
     ensures { result ≡ domains_pay tokenizer.now.cursor.codes tokenizer.now.parse_state.now }
 {
     let constructs = &tokenizer.parse_state.options.constructs;
-    constructs.gfm_autolink_literal && domain_outlook::opens_often(&tokenizer.cursor, MANY)
+    let sequences = &tokenizer.tokenize_state.sequences;
+    constructs.gfm_autolink_literal
+        && !sequences.rules_out(Sequence::WwwDot, 0)
+        && domain_outlook::opens_often(&tokenizer.cursor, MANY)
 }
 
 // Makes known where no domain begins behind a `_`, where that pays.
 #[tactic(auto, unfolding(markdown_engine::specs::Ops::scratched))]
 fn index_domains(tokenizer: &mut Tokenizer) -> Result<(), AllocError>
-    requires { ReadsText tokenizer.old }
+    requires text { ReadsText tokenizer.old }
+    requires sequences { tokenizer.old.tokenize_state.sequences ≡ Some (last_begins tokenizer.old.cursor.codes) }
     ensures ok { OnOk result (tokenizer.new ≡ scratched (record tokenizer.old.tokenize_state { no_domains = domains_for tokenizer.old.cursor.codes tokenizer.old.cursor.end.index tokenizer.old.parse_state.now }) tokenizer.old) }
     ensures err { OnErr result (IsTrue tokenizer.new.failed) }
 {
@@ -305,11 +292,12 @@ fn index_domains(tokenizer: &mut Tokenizer) -> Result<(), AllocError>
 
 /// At the start of a text, where the check of a task may stand.
 ///
-/// One walk over the content finds the sequences that end HTML and resources, and a second one the runs at which spans may close, so
-/// that none is looked for in vain; a third one finds whether literals may begin, so that data need not stop at each of their letters.
-/// Where many titles in parentheses may begin, and a resource may end behind one, a fourth one finds where each may end. Where many
-/// literals from `www.` on may begin behind a `_`, another one finds at which of these places no domain begins. Where many names are
-/// defined and many labels may end, the names are put in order, so that each is found by a search.
+/// One walk over the content finds the sequences that end HTML and resources, so that none is looked for in vain; and whether literals may
+/// begin, so that data need not stop at each of their letters, and spans. The others are made only where that walk has seen what they look
+/// for. Where a mark of a span stands, one finds the runs at which spans may close. Where many titles in parentheses may begin, and a
+/// resource may end behind one, one finds where each may end. Where many literals from `www.` on may begin behind a `_`, one finds at which
+/// of these places no domain begins. Where many names are defined and many labels may end, the names are put in order, so that each is
+/// found by a search.
 ///
 ///     > | [ ] do *it*
 ///         ^
@@ -319,8 +307,8 @@ pub fn start(tokenizer: &mut Tokenizer) -> Result<State, AllocError>
     ensures ok { IfOk result (λ s. start_step tokenizer.old ≡ record { state = s; left = tokenizer.new }) }
     ensures err { OnErr result (IsTrue tokenizer.new.failed) }
 {
-    tokenizer.tokenize_state.markers = markers(tokenizer);
     tokenizer.tokenize_state.sequences = SequenceIndex::over(&tokenizer.cursor);
+    tokenizer.tokenize_state.markers = markers(tokenizer);
     index_titles(tokenizer)?;
     index_runs(tokenizer)?;
     index_domains(tokenizer)?;

@@ -149,7 +149,7 @@ fn passes_stretches(rt: HostRuntime) {
 
 // The whole content counts, wherever the cursor stands; bytes behind it do not.
 #[test]
-fn counts_a_byte(rt: HostRuntime) {
+fn counts_codes_among_bytes(rt: HostRuntime) {
     let bytes = b"]a]b]]";
     let pieces = [piece((0, 0), (5, 0))];
     assert!(rt; is_content(bytes, &pieces));
@@ -157,15 +157,13 @@ fn counts_a_byte(rt: HostRuntime) {
     if cursor.current().is_some() {
         cursor.consume();
     }
-    for (byte, times, holds) in [
-        (b']', 0, true),
-        (b']', 3, true),
-        (b']', 4, false),
-        (b'a', 1, true),
-        (b'c', 0, true),
-        (b'c', 1, false),
-    ] {
-        assert_eq!(rt; cursor.holds(byte, times), holds);
+    let brackets = byte_set!(b']');
+    for (times, holds) in [(0, true), (3, true), (4, false)] {
+        assert_eq!(rt; cursor.holds(&brackets, times), holds);
+    }
+    let letters = byte_set!(b'a', b'b', b'c');
+    for (times, holds) in [(2, true), (3, false)] {
+        assert_eq!(rt; cursor.holds(&letters, times), holds);
     }
 }
 

@@ -30,6 +30,7 @@ fn knows_the_last_run_of_each_size(rt: HostRuntime) -> Result<(), Fail> {
         assert_eq!(rt; runs.rules_out(byte, size, at), ruled_out);
     }
     assert!(rt; !RunIndex::new(rt.alloc()).rules_out(b'`', 1, 12));
+    assert!(rt; RunIndex::without(rt.alloc(), byte_set!(b'`')).rules_out(b'`', 1, 0));
     Ok(())
 }
 

@@ -27,6 +27,27 @@ fn knows_where_each_sequence_last_begins(rt: HostRuntime) {
     }
 }
 
+#[test]
+fn knows_where_signs_last_begin(rt: HostRuntime) {
+    let bytes = b"://w.W.w:/`$.";
+    let pieces = [Piece {
+        start: (0, 0),
+        end: (13, 0),
+    }];
+    assert!(rt; is_content(bytes, &pieces));
+    let index = SequenceIndex::over(&Cursor::new(bytes, &pieces));
+    for (sequence, at, ruled_out) in [
+        (Sequence::ProtocolSlash, 8, false),
+        (Sequence::ProtocolSlash, 9, true),
+        (Sequence::WwwDot, 5, false),
+        (Sequence::WwwDot, 6, true),
+        (Sequence::SpanMark, 11, false),
+        (Sequence::SpanMark, 12, true),
+    ] {
+        assert_eq!(rt; index.rules_out(sequence, at), ruled_out);
+    }
+}
+
 // Whitespace alone may stand between the two parentheses.
 #[test]
 fn knows_where_a_resource_may_end(rt: HostRuntime) {
@@ -43,10 +64,10 @@ fn knows_where_a_resource_may_end(rt: HostRuntime) {
 
 #[test]
 fn rules_out_what_does_not_begin(rt: HostRuntime) {
-    let bytes = b"--]?]";
+    let bytes = b"--]?]:w";
     let pieces = [Piece {
         start: (0, 0),
-        end: (5, 0),
+        end: (7, 0),
     }];
     assert!(rt; is_content(bytes, &pieces));
     let index = SequenceIndex::over(&Cursor::new(bytes, &pieces));
@@ -57,6 +78,9 @@ fn rules_out_what_does_not_begin(rt: HostRuntime) {
         Sequence::InstructionEnd,
         Sequence::DeclarationEnd,
         Sequence::ResourceEnd,
+        Sequence::ProtocolSlash,
+        Sequence::WwwDot,
+        Sequence::SpanMark,
     ] {
         assert!(rt; index.rules_out(sequence, 0));
         assert!(rt; !unknown.rules_out(sequence, 5));

@@ -5,7 +5,7 @@ use Rattle.markdown_engine.proofs.CountLemmas.{AreLeft}
 use Rattle.markdown_engine.proofs.cursor.Cursor.holds.Given as goal
 
 abbrev pub invariant-loop-left : goal.invariant-loop-left
-invariant-loop-left l = AreLeft l.byte l.times l.self.codes l.left l.place
+invariant-loop-left l = AreLeft l.bytes l.times l.self.codes l.left l.place
 
 abbrev pub decreases-loop-left : goal.decreases-loop-left
 decreases-loop-left l = length (ahead_at l.place)
