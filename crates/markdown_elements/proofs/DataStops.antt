@@ -1,10 +1,12 @@
--- Where data of a text stops: each other code is an element by itself.
+-- Where data of a text stops: at each other place the code is an element by itself.
 use Rattle.std.proofs.Common.{◌≡◌, ℕ, Bool, true, false, ◌&&◌, ◌||◌, ◌==◌, not, if◌then◌else◌, List, [], ◌∷◌, ◌++◌, Option, None, Some, refl, sym, ap, subst, ◌∙◌, arith}
 use Rattle.std.specs.Prelude.{codes}
 use Rattle.std.specs.List.{list_any}
-use Rattle.std.proofs.lemmas.Bool.{or_parts, and_from}
+use Rattle.std.proofs.lemmas.Bool.{or_parts, and_from, not-true, not-false}
 use Rattle.std.proofs.lemmas.Bool.Decides.{nat_tests}
 use Rattle.markdown_engine.specs.Codes.{Code}
+use Rattle.markdown_engine.specs.Lists.{first_of, rest_of}
+use Rattle.markdown_engine.specs.Place.{value_of}
 use Rattle.markdown_engine.specs.SequenceIndex.{dots_behind_w, holds, is_w, last_where, stand_next}
 use Rattle.markdown_engine.specs.Tree.{Forest}
 use Rattle.markdown_engine.specs.declared.configuration.ParseOptions.{ParseOptions}
@@ -21,6 +23,7 @@ use Rattle.markdown_model.specs.Grammar.{Reading, with_first, ◌>>=◌, ◌>>�
 use Rattle.markdown_model.specs.LabelEnd.{Element, plain}
 use Rattle.markdown_model.specs.Literal.{letters, begins_with_www, may_precede_www, protocol_literal, www_from_here, www_literal}
 use Rattle.markdown_model.specs.Setting.{Setting}
+use Rattle.markdown_partial.specs.DataSteps.{begins_none, is_some_mark, marks, stops_by}
 use Rattle.markdown_row.specs.Elements.{AreSingle}
 use Rattle.markdown_text.proofs.TableLemmas.{EachOf, one-of}
 use Rattle.markdown_text.specs.TextSteps.{markers_for, may_hold_literals, plain_markers, text_markers}
@@ -56,6 +59,21 @@ letters-after n ns (c ∷ cs) next = by_test (letter_test n c) refl
     by_test : (b : Bool) → letter_test n c ≡ b → letters (n ∷ ns) (c ∷ cs) ≡ None
     by_test true e = letters-more n ns c cs e ∙ ap (with_first c) (next c cs refl e)
     by_test false e = letters-none n ns (c ∷ cs) e
+
+-- the first letter may stand, where the others do not stand behind it
+letters-behind : (n : ℕ) (ns : List ℕ) (c : Code) (cs : List Code) → letters ns cs ≡ None → letters (n ∷ ns) (c ∷ cs) ≡ None
+letters-behind n ns c cs h = letters-after n ns (c ∷ cs) (λ d ds e t. subst (λ xs. letters ns xs ≡ None) (ap rest_of e) h)
+
+-- no letter comes of these two, by the value that comes
+no-next : (low high : ℕ) (ns : List ℕ) (cs : List Code) → ((c : Code) → list_any (λ n. c.value == n) (high ∷ low ∷ []) ≡ false → letter_test low c ≡ false) → is_some_mark (high ∷ low ∷ []) (value_of (first_of cs)) ≡ false → letters (low ∷ ns) cs ≡ None
+no-next low high ns [] other h = letters-none low ns [] refl
+no-next low high ns (c ∷ cs) other h = letters-none low ns (c ∷ cs) (other c h)
+
+other-116 : (c : Code) → list_any (λ n. c.value == n) (codes "Tt") ≡ false → letter_test 116 c ≡ false
+other-116 c h = grind (arith, nat_tests)
+
+other-119 : (c : Code) → list_any (λ n. c.value == n) (codes "Ww") ≡ false → letter_test 119 c ≡ false
+other-119 c h = grind (arith, nat_tests)
 
 -- two letters that are a sign
 pair-none : (n m : ℕ) (ns : List ℕ) (cs : List Code) → ((c d : Code) (ds : List Code) → letter_test n c ≡ true → letter_test m d ≡ true → NoSigns (c ∷ d ∷ ds) → ⊥) → NoSigns cs → letters (n ∷ m ∷ ns) cs ≡ None
@@ -137,6 +155,15 @@ no-protocol bytes end previous cs k =
     (bind-nothing (either (letters (codes "https")) (letters (codes "http"))) _ cs (λ scheme rest e.
     bind-none (letters (codes "://")) _ rest (pair-none 58 47 (47 ∷ []) rest colon-slash (after-either (codes "https") (codes "http") cs scheme rest e k))))
 
+-- an `h` before no `t`
+no-scheme : (bytes : List ℕ) (end : ℕ) (previous : Option Code) (c : Code) (cs : List Code) → is_some_mark (codes "Tt") (value_of (first_of cs)) ≡ false → protocol_literal bytes end previous (c ∷ cs) ≡ None
+unfolding protocol_literal
+no-scheme bytes end previous c cs h =
+    let none : (ns : List ℕ) → letters (104 ∷ 116 ∷ ns) (c ∷ cs) ≡ None = λ ns. letters-behind 104 (116 ∷ ns) c cs (no-next 116 84 ns cs other-116 h) in
+    off-or-none (not (is_some_code is_letter previous)) _ (c ∷ cs)
+    (bind-none (either (letters (codes "https")) (letters (codes "http"))) _ (c ∷ cs)
+    (either-second (letters (codes "https")) (letters (codes "http")) (c ∷ cs) (none (116 ∷ 112 ∷ 115 ∷ [])) ∙ none (116 ∷ 112 ∷ [])))
+
 no-www-letters : (cs : List Code) → NoSigns cs → letters (codes "www.") cs ≡ None
 no-www-letters cs k =
     letters-after 119 (119 ∷ 119 ∷ 46 ∷ []) cs (λ c ds e t.
@@ -147,10 +174,10 @@ and-none : (b : Bool) → (b && false) ≡ false
 and-none true = refl
 and-none false = refl
 
-no-www : (bytes : List ℕ) (end : ℕ) (previous : Option Code) (cs : List Code) → NoSigns cs → www_literal bytes end previous cs ≡ None
+no-www : (bytes : List ℕ) (end : ℕ) (previous : Option Code) (cs : List Code) → letters (codes "www.") cs ≡ None → www_literal bytes end previous cs ≡ None
 unfolding www_literal
 no-www bytes end previous cs k =
-    let none : begins_with_www cs ≡ false = by_letters (letters (codes "www.") cs) (no-www-letters cs k) in
+    let none : begins_with_www cs ≡ false = by_letters (letters (codes "www.") cs) k in
     switched-off (www_from_here bytes end) (may_precede_www previous && begins_with_www cs) cs (ap (λ b. may_precede_www previous && b) none ∙ and-none (may_precede_www previous))
   where
     by_letters : (o : Option (List Code × List Code)) → o ≡ None → (elim o as (λ _. Bool) [ None ↦ false | Some r ↦ not (is_empty r.1) ]) ≡ false
@@ -180,7 +207,7 @@ module _ (s : Setting) (end : ℕ) (whole : List Code) (p : ParseState) (same : 
 
   letter-w : (v : ℕ) (c : Code) (cs : List Code) → c.value ≡ v → (v == 87 || v == 119) ≡ true → may_hold_literals whole p ≡ false → (NoSigns whole → NoSigns (c ∷ cs)) → IsSingle c cs
   letter-w v c cs e h none part earlier previous =
-      www-element s end earlier previous v c cs None e h (off (www_literal s.bytes end previous) (c ∷ cs) none (λ k. no-www s.bytes end previous (c ∷ cs) (part k)))
+      www-element s end earlier previous v c cs None e h (off (www_literal s.bytes end previous) (c ∷ cs) none (λ k. no-www s.bytes end previous (c ∷ cs) (no-www-letters (c ∷ cs) (part k))))
 
   -- a code at which something is tried, but a literal alone
   abbrev IsOther : Code → List Code → ℕ → Type 0
@@ -189,9 +216,38 @@ module _ (s : Setting) (end : ℕ) (whole : List Code) (p : ParseState) (same : 
   each-letter : (c : Code) (cs : List Code) → may_hold_literals whole p ≡ false → (NoSigns whole → NoSigns (c ∷ cs)) → EachOf (IsOther c cs) text_markers
   each-letter c cs none part = (λ e h. clash true refl h, (λ e h. clash true refl h, (λ e h. clash true refl h, (λ e h. clash true refl h, (λ e h. clash true refl h, (λ e h. clash true refl h, (λ e h. clash true refl h, (λ e h. clash true refl h, (λ e h. letter-h 72 c cs e refl none part, (λ e h. letter-h 104 c cs e refl none part, (λ e h. letter-w 87 c cs e refl none part, (λ e h. letter-w 119 c cs e refl none part, (λ e h. clash true refl h, (λ e h. clash true refl h, (λ e h. clash true refl h, tt)))))))))))))))
 
-  -- each code at which data does not stop
-  pub stops-where : AreSingle (text_element s end) (markers_for whole p) whole
-  stops-where front earlier previous c cs w free = by_signs (may_hold_literals whole p) refl free
+  -- a letter of literals behind which none goes on
+  passed-letter : (c : Code) (cs : List Code) → begins_none c.value (value_of (first_of cs)) ≡ true → IsSingle c cs
+  passed-letter c cs h earlier previous = by_h (marks (codes "Hh") c.value) refl h
+    where
+      next : Option ℕ
+      next = value_of (first_of cs)
+
+      on : Bool
+      on = s.options.constructs.gfm_autolink_literal
+
+      Single : Type 0
+      Single = text_element s end earlier previous (c ∷ cs) ≡ Some (plain (code_leaf c), cs)
+
+      single-h : is_some_mark (codes "Tt") next ≡ false → (v : ℕ) → (v == 72 || v == 104) ≡ true → c.value ≡ v → Single
+      single-h other v k e = protocol-element s end earlier previous v c cs None e k (off-or-none on (protocol_literal s.bytes end previous) (c ∷ cs) (no-scheme s.bytes end previous c cs other))
+
+      single-w : is_some_mark (codes "Ww") next ≡ false → (v : ℕ) → (v == 87 || v == 119) ≡ true → c.value ≡ v → Single
+      single-w other v k e =
+          www-element s end earlier previous v c cs None e k (off-or-none on (www_literal s.bytes end previous) (c ∷ cs)
+          (no-www s.bytes end previous (c ∷ cs) (letters-behind 119 (119 ∷ 119 ∷ 46 ∷ []) c cs (no-next 119 87 (119 ∷ 46 ∷ []) cs other-119 other))))
+
+      by_w : (b : Bool) → marks (codes "Ww") c.value ≡ b → (if b then not (is_some_mark (codes "Ww") next) else false) ≡ true → Single
+      by_w true e k = one-of (λ n. c.value ≡ n → Single) (codes "Ww") c.value (let other = not-true (is_some_mark (codes "Ww") next) k in (single-w other 87 refl, (single-w other 119 refl, tt))) e refl
+      by_w false e k = cc
+
+      by_h : (b : Bool) → marks (codes "Hh") c.value ≡ b → (if b then not (is_some_mark (codes "Tt") next) else if marks (codes "Ww") c.value then not (is_some_mark (codes "Ww") next) else false) ≡ true → Single
+      by_h true e k = one-of (λ n. c.value ≡ n → Single) (codes "Hh") c.value (let other = not-true (is_some_mark (codes "Tt") next) k in (single-h other 72 refl, (single-h other 104 refl, tt))) e refl
+      by_h false e k = by_w (marks (codes "Ww") c.value) refl k
+
+  -- each code where data does not stop
+  pub stops-where : AreSingle (text_element s end) (stops_by true (markers_for whole p)) whole
+  stops-where front earlier previous c cs w free = by_marker (is_among (markers_for whole p) c) refl free
     where
       by_letter : (b : Bool) → is_among text_markers c ≡ b → may_hold_literals whole p ≡ false → is_among plain_markers c ≡ false → text_element s end earlier previous (c ∷ cs) ≡ Some (plain (code_leaf c), cs)
       by_letter false e none h = other-element s end earlier previous c cs e
@@ -200,3 +256,7 @@ module _ (s : Setting) (end : ℕ) (whole : List Code) (p : ParseState) (same : 
       by_signs : (b : Bool) → may_hold_literals whole p ≡ b → is_among (if b then text_markers else plain_markers) c ≡ false → text_element s end earlier previous (c ∷ cs) ≡ Some (plain (code_leaf c), cs)
       by_signs true e h = other-element s end earlier previous c cs h
       by_signs false e h = by_letter (is_among text_markers c) refl e h
+
+      by_marker : (b : Bool) → is_among (markers_for whole p) c ≡ b → (b && not (begins_none c.value (value_of (first_of cs)))) ≡ false → text_element s end earlier previous (c ∷ cs) ≡ Some (plain (code_leaf c), cs)
+      by_marker false e h = by_signs (may_hold_literals whole p) refl e
+      by_marker true e h = passed-letter c cs (not-false (begins_none c.value (value_of (first_of cs))) h) earlier previous

@@ -22,6 +22,7 @@ use Rattle.markdown_model.specs.Element.{image_start, footnote_start, link_start
 use Rattle.markdown_model.specs.Grammar.{Reading, ◌>>=◌, gives, one, word, word_of, with_first, before}
 use Rattle.markdown_model.specs.LabelEnd.{Element, starts, ends, label_end, outcome_of, footnote_call, link_or_image, label_identifier, after_label, reference_after_label, shortcut_before_bracket, full_reference, reference_identifier}
 use Rattle.markdown_model.specs.Lines.{data_up_to}
+use Rattle.markdown_partial.specs.DataSteps.{stops_of}
 use Rattle.markdown_row.specs.Elements.{AreSingle, Advances, StandsAfter}
 use Rattle.markdown_row.specs.Row.{loses, past_mark}
 use Rattle.markdown_row.proofs.LabelElements.{start-advances, end-advances, lost-advances}
@@ -246,15 +247,15 @@ module _ (T : Tokenizer) (here : current_of T ≡ Some (byte "]")) (on : is_on T
       ∙ ap (λ ws. Some (ends ws (Some (k.kind, k.tail)), k.rest)) parts.0)
 
   -- where it makes none, its `]` is the first code of the data behind it
-  pub failed-advances : (V : Tokenizer) → StopsAtElements T → end_reading T (ahead T) ≡ None → (let F : Tokenizer = past_mark loses T in Reads (data_up_to T.tokenize_state.markers) None F.tokenize_state F V) → Advances (text_choice_of T) T V
+  pub failed-advances : (V : Tokenizer) → StopsAtElements T → end_reading T (ahead T) ≡ None → (let F : Tokenizer = past_mark loses T in Reads (data_up_to (stops_of T.tokenize_state)) None F.tokenize_state F V) → Advances (text_choice_of T) T V
   failed-advances V stops none k =
-      lost-advances (text_choice_of T) T.tokenize_state.markers T V B.code behind B.whole (ap (λ v. v == byte "\n") B.value) k
+      lost-advances (text_choice_of T) (stops_of T.tokenize_state) T V B.code behind B.whole (ap (λ v. v == byte "\n") B.value) k
       (λ earlier previous stands.
       end-element (text_setting T) (end_in T) earlier previous B.code behind (ends (B.code ∷ []) None, behind) B.value on
       (same-end T earlier (B.code ∷ behind)
       ∙ end-fails (setting_in T) earlier T.events T.tokenize_state.label_starts B.code behind stands.keeps closes
       (none-back (B.code ∷ []) _ (sym reads ∙ none))))
-      (subst (λ xs. AreSingle (text_choice_of T) T.tokenize_state.markers xs) B.whole (other-data T stops))
+      (subst (λ xs. AreSingle (text_choice_of T) (stops_of T.tokenize_state) xs) B.whole (other-data T stops))
 
 -- where ends are off
 pub end-alone : (T : Tokenizer) → current_of T ≡ Some (byte "]") → is_on T ≡ false → StandsAlone T

@@ -28,6 +28,7 @@ use Rattle.markdown_text.proofs.TableLemmas.{by-row, none-of}
 use Rattle.markdown_row.proofs.ElementLemmas.{finishes-end}
 use Rattle.markdown_elements.proofs.StringElements.{no-backslash, no-ampersand}
 use Rattle.markdown_elements.proofs.TextElements.{data-holds}
+use Rattle.markdown_partial.specs.DataSteps.{stops_of}
 use Rattle.markdown_elements.proofs.TextPasts.{some-none}
 use Rattle.markdown_elements.proofs.StringPasts.{Passes, passes-ready, passes-ends, escape-past, reference-past, data-past}
 
@@ -111,7 +112,7 @@ module _ (W : Words) (within : Within states W) where
   before_data-law T alone r =
       Goes-attempt W (weight_at 5 T) (before_ends T) (Retry DataStart) (within DataStart) (Next StringBefore) Nok T alone tt (omega arith)
       (λ U now k. on-before (weight_at 5 T) T U (omega arith) r.before (data-past T U r.before.marked r.some_code r.no_escape r.no_reference k))
-      (λ U now k. absurd (data-holds T.tokenize_state.markers (ahead T) k.refused))
+      (λ U now k. absurd (data-holds (stops_of T.tokenize_state) (ahead T) k.refused))
 
   pub start-law : Law W start_words
   start-law T alone rest =

@@ -1,6 +1,8 @@
 -- From one element of a string to the next.
-use Rattle.std.proofs.Common.{◌≡◌, ◌≢◌, Bool, true, false, None, refl, sym, ap, subst, ◌∙◌}
+use Rattle.std.proofs.Common.{◌≡◌, ◌≢◌, ℕ, Bool, true, false, not, ◌&&◌, List, ◌∷◌, Option, None, refl, sym, ap, subst, ◌∙◌}
+use Rattle.markdown_engine.specs.Lists.{first_of}
 use Rattle.markdown_engine.specs.Ops.{ahead, current_of}
+use Rattle.markdown_engine.specs.Place.{value_of}
 use Rattle.markdown_engine.specs.Past.{Reads}
 use Rattle.markdown_engine.specs.declared.tokenizer.TokenizeState.{TokenizeState}
 use Rattle.markdown_engine.specs.declared.tokenizer.Tokenizer.{Tokenizer}
@@ -8,6 +10,7 @@ use Rattle.markdown_leaf.specs.CharacterEscape.{escape_here}
 use Rattle.markdown_leaf.specs.CharacterReference.{reference_here}
 use Rattle.markdown_model.specs.Element.{string_choice}
 use Rattle.markdown_model.specs.Lines.{data_up_to}
+use Rattle.markdown_partial.specs.DataSteps.{begins_none, looks, marks, stops_at, stops_by, stops_of}
 use Rattle.markdown_util.specs.Reference.{html_5_rows}
 use Rattle.markdown_row.specs.Elements.{Advances, Finishes}
 use Rattle.markdown_row.specs.Row.{kinds_of}
@@ -16,6 +19,7 @@ use Rattle.markdown_text.specs.StringSteps.{is_on, string_markers, string_passed
 use Rattle.markdown_row.proofs.ElementLemmas.{advances-finishes, node-advances, data-advances, some-ahead}
 use Rattle.markdown_row.proofs.NodeLemmas.{escape-node, reference-node}
 use Rattle.markdown_row.proofs.RowFields.{relisted, row-fields, row-input}
+use Rattle.markdown_text.proofs.TableLemmas.{one-of}
 use Rattle.markdown_elements.proofs.StringElements.{escaped-element, referenced-element, single-element, unmarked-element}
 
 -- U stands past the first elements of the codes from T on
@@ -56,9 +60,24 @@ reference-past T U none k =
     let node = reference-node (is_on T).character_reference html_5_rows (ahead T) k.tree k.rest k.holds in
     node-advances (string_here T) (reference_here T) T U k node.0 node.1 (λ earlier previous stands. referenced-element (setting_of T.parse_state.now) (ahead T) k.tree k.rest none k.holds)
 
-pub data-past : (T U : Tokenizer) → T.tokenize_state.markers ≡ string_markers → current_of T ≢ None → escape_here T (ahead T) ≡ None → reference_here T (ahead T) ≡ None → Reads (data_up_to T.tokenize_state.markers) None T.tokenize_state T U → Passes T U
+-- no marker of strings is a letter of literals, so data stops at each of them
+marker-stops : (looks : Bool) (v : ℕ) (next : Option ℕ) → stops_at looks string_markers v next ≡ false → marks string_markers v ≡ false
+marker-stops looks v next h = by_mark (marks string_markers v) refl h
+  where
+    stops : (b : Bool) → not (b && false) ≡ false → true ≡ false
+    stops true k = k
+    stops false k = k
+
+    by_mark : (b : Bool) → marks string_markers v ≡ b → (b && not (looks && begins_none v next)) ≡ false → b ≡ false
+    by_mark false e k = refl
+    by_mark true e k =
+        let none : begins_none v next ≡ false = one-of (λ n. begins_none n next ≡ false) string_markers v (refl, (refl, tt)) e in
+        stops looks (ap (λ b. not (looks && b)) (sym none) ∙ k)
+
+pub data-past : (T U : Tokenizer) → T.tokenize_state.markers ≡ string_markers → current_of T ≢ None → escape_here T (ahead T) ≡ None → reference_here T (ahead T) ≡ None → Reads (data_up_to (stops_of T.tokenize_state)) None T.tokenize_state T U → Passes T U
 data-past T U marked some none plain_code k =
     let a = some-ahead T (ahead T) refl some in
-    data-advances (string_here T) string_markers T U a.0 a.1.0 a.1.1 (subst (λ ns. Reads (data_up_to ns) None T.tokenize_state T U) marked k)
+    data-advances (string_here T) (stops_of T.tokenize_state) T U a.0 a.1.0 a.1.1 k
     (λ earlier previous stands. single-element (setting_of T.parse_state.now) a.0 a.1.0 (ap (escape_here T) (sym a.1.1) ∙ none) (ap (reference_here T) (sym a.1.1) ∙ plain_code))
-    (λ front earlier previous c cs w free. unmarked-element T.parse_state.now c cs free)
+    (λ front earlier previous c cs w free. unmarked-element T.parse_state.now c cs
+    (marker-stops (looks T.tokenize_state) c.value (value_of (first_of cs)) (ap (λ (ms : List ℕ). stops_by (looks T.tokenize_state) ms (c ∷ cs)) (sym marked) ∙ free)))

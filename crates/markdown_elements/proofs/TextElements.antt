@@ -62,10 +62,10 @@ ending-alone c cs e =
     ∙ ap (λ t. Some (plain t, cs)) (sym (leaf-by true c e))
 
 -- data holds everywhere
-pub data-holds : (markers : List ℕ) (cs : List Code) → data_up_to markers cs ≡ None → ⊥
+pub data-holds : (stops : List Code → Bool) (cs : List Code) → data_up_to stops cs ≡ None → ⊥
 unfolding data_up_to
-data-holds markers [] e = cc
-data-holds markers (c ∷ cs) e = cc
+data-holds stops [] e = cc
+data-holds stops (c ∷ cs) e = cc
 
 -- a row and data behind it
 plain-or-data : (row : Reading Element) (c : Code) (cs : List Code) (o : Option (Forest × List Code)) → is_line_ending c ≡ false → row (c ∷ cs) ≡ plain_of o → either row data_code (c ∷ cs) ≡ element_here c cs o

@@ -3,6 +3,7 @@ use Rattle.std.proofs.Common.{◌≡◌, ◌≢◌, ℕ, ◌*◌, ◌<◌, ◌==
 use Rattle.std.specs.List.{list_any}
 use Rattle.std.specs.Prelude.{codes}
 use Rattle.std.specs.Str.{byte}
+use Rattle.markdown_engine.specs.Codes.{Code}
 use Rattle.markdown_engine.specs.Ops.{ahead, current_of, scratched}
 use Rattle.markdown_engine.specs.Past.{past, EndsAs, Reads, Refuses, TreeReading}
 use Rattle.markdown_engine.specs.Runs.{Stepped, stepped}
@@ -40,6 +41,7 @@ use Rattle.markdown_leaf.specs.HardBreakEscape.{break_here}
 use Rattle.markdown_leaf.specs.RawText as RawText
 use Rattle.markdown_model.specs.Lines.{data_up_to}
 use Rattle.markdown_partial.specs.DataSteps as DataSteps
+use Rattle.markdown_partial.specs.DataSteps.{stops_of}
 use Rattle.markdown_util.specs.Reference.{html_5_rows}
 use Rattle.markdown_row.specs.Elements.{Advances, DataFinishes, Finishes}
 use Rattle.markdown_row.specs.Row.{loses, row_end, past_mark, kinds_of}
@@ -52,7 +54,7 @@ use Rattle.markdown_elements.proofs.TextElements.{is_marker, data-holds}
 use Rattle.markdown_elements.proofs.TextTries.{ReadsNodes, ReadsElements, reference-reads, reference-alone, autolink-reads, html-reads, html-alone, escape-reads, break-reads, break-alone, span-reads, span-alone, run-reads, run-alone, run-leaf, protocol-reads, protocol-alone, www-reads, www-alone, other-alone}
 use Rattle.markdown_row.proofs.ElementLemmas.{DataRead, data-read, some-ahead, advances-finishes, node-advances, run-advances}
 use Rattle.markdown_elements.proofs.LabelTries.{image-advances, image-alone, footnote-advances, link-advances, bracket-alone, made-advances, failed-advances, end-alone}
-use Rattle.markdown_elements.proofs.TextPasts.{IsSame, same-row, choice-same, markers-same, marked-past, no-check-behind, no-check-past, advances-ends, alone-ends, tree-kept, registered-kept, made-kept, some-none, weight-marked, at-rest-reference, run-ready, passed-attempts, at-end, ends-on, lost-there, not-lost, lost-left, lost-current, same-lost, html-ready, marked-start, check-elements}
+use Rattle.markdown_elements.proofs.TextPasts.{IsSame, same-row, choice-same, stops-same, marked-past, no-check-behind, no-check-past, advances-ends, alone-ends, tree-kept, registered-kept, made-kept, some-none, weight-marked, at-rest-reference, run-ready, passed-attempts, at-end, ends-on, lost-there, not-lost, lost-left, lost-current, same-lost, html-ready, marked-start, check-elements}
 
 -- those of these states with which another goes on, and the starts of what is tried, as they are said, and any other as it is given
 abbrev pub states : (StateName → StateWords) → StateName → StateWords
@@ -189,9 +191,9 @@ module _ (W : Words) (within : Within states W) where
         lost-ends : (let F : Tokenizer = past_mark loses T in IsSame T F → (ok : Bool) (V : Tokenizer) → data_ends F ok V → before_ends T ok V)
         lost-ends e true V k =
             let F : Tokenizer = past_mark loses T in
-            let ms : List ℕ = T.tokenize_state.markers in
-            let there : DataFinishes (text_choice_of T) (data_up_to ms) text_passed F V =
-            subst (λ c. DataFinishes c (data_up_to ms) text_passed F V) (choice-same T F e) (subst (λ ns. DataFinishes (text_choice_of F) (data_up_to ns) text_passed F V) (markers-same T F e) k) in
+            let stops : List Code → Bool = stops_of T.tokenize_state in
+            let there : DataFinishes (text_choice_of T) (data_up_to stops) text_passed F V =
+            subst (λ c. DataFinishes c (data_up_to stops) text_passed F V) (choice-same T F e) (subst (λ stop. DataFinishes (text_choice_of F) (data_up_to stop) text_passed F V) (stops-same T F e) k) in
             advances-finishes (text_choice_of T) text_passed T there.behind V (failed-advances T d on there.behind ready.marked.stops none there.data_read) there.finishes
         lost-ends e false V k = k
 
@@ -271,9 +273,9 @@ module _ (W : Words) (within : Within states W) where
       let a = some-ahead T (ahead T) refl r.some_code in
       Goes-attempt W (weight_at 5 T) (data_ends T) (Retry DataStart) (within DataStart) (Next TextBefore) Nok T alone tt (omega arith)
       (λ U now k.
-      let ms : List ℕ = T.tokenize_state.markers in
-      let read : Reads (data_up_to ms) None T.tokenize_state T U = k in
-      let d : DataRead ms T U a.0 a.1.0 = data-read ms T U a.0 a.1.0 a.1.1 read in
+      let stops : List Code → Bool = stops_of T.tokenize_state in
+      let read : Reads (data_up_to stops) None T.tokenize_state T U = k in
+      let d : DataRead stops T U a.0 a.1.0 = data-read stops T U a.0 a.1.0 a.1.1 read in
       let e : IsSame T U = same-row (row_end d.tree) T U d.left d.part r.marked.ends in
       let kept : AreWithin U U.tokenize_state.label_starts = subst (λ (x : Tokenizer). AreWithin x x.tokenize_state.label_starts) (sym d.left) (tree-within d.tree T r.marked.ends.within) in
       let less : codes_left U < codes_left T = d.less in
@@ -284,9 +286,9 @@ module _ (W : Words) (within : Within states W) where
       })
       (omega (arith, less))
       (λ ok V h. data-then T U e read ok V h))
-      (λ U now k. absurd (data-holds T.tokenize_state.markers (ahead T) k.refused))
+      (λ U now k. absurd (data-holds (stops_of T.tokenize_state) (ahead T) k.refused))
     where
-      data-then : (T U : Tokenizer) → IsSame T U → Reads (data_up_to T.tokenize_state.markers) None T.tokenize_state T U → (ok : Bool) (V : Tokenizer) → before_ends U ok V → data_ends T ok V
+      data-then : (T U : Tokenizer) → IsSame T U → Reads (data_up_to (stops_of T.tokenize_state)) None T.tokenize_state T U → (ok : Bool) (V : Tokenizer) → before_ends U ok V → data_ends T ok V
       data-then T U e read true V h = record { behind = U; data_read = read; finishes = subst (λ c. Finishes c text_passed U V) (choice-same T U e) h }
       data-then T U e read false V h = h
 

@@ -1,6 +1,6 @@
 -- What is known of a text at a place is known past what is read there.
 use Rattle.markdown_model.specs.Leaf.{task_check}
-use Rattle.markdown_model.specs.CodeTests.{is_among, is_value, last_code, next_is}
+use Rattle.markdown_model.specs.CodeTests.{is_value, last_code, next_is}
 use Rattle.std.proofs.Common.{◌≡◌, ◌≢◌, ℕ, ◌+◌, ◌*◌, ◌<◌, ◌≤◌, ◌==◌, Bool, true, false, if◌then◌else◌, Option, Some, None, List, [], ◌∷◌, refl, sym, ap, subst, ◌∙◌, arith, length, length-append, is_none, ◌&&◌, ◌++◌, append-nil}
 use Rattle.std.specs.Prelude.{codes}
 use Rattle.std.specs.Str.{byte}
@@ -45,6 +45,7 @@ use Rattle.markdown_resource.proofs.ResourceLaws.{indexed-same, titled-same}
 use Rattle.markdown_leaf.specs.CharacterReference.{IsAtRest}
 use Rattle.markdown_leaf.specs.RawText as RawText
 use Rattle.markdown_model.specs.Element.{text_choice}
+use Rattle.markdown_partial.specs.DataSteps.{stops_of}
 use Rattle.markdown_row.specs.Elements.{AreSingle, Advances, Finishes}
 use Rattle.markdown_row.specs.Row.{EndsRest, Row, loses, row_end, row_then, past_mark, past_row, row_codes, kinds_of, IsRowAt}
 use Rattle.markdown_row.proofs.LabelElements.{empty-part, mark-alone}
@@ -123,13 +124,13 @@ pub last-past : (T U : Tokenizer) → IsSame T U → EndsWithCodes T.cursor → 
 last-past T U e last =
     λ some. ap (λ (p : Point). p.index) e.end ∙ last (subst (λ cs. cs ≢ []) e.codes some) ∙ ap (λ cs. (stop_of document_start cs).index) (sym e.codes)
 
--- data stops at the same codes
-pub markers-same : (T U : Tokenizer) → IsSame T U → U.tokenize_state.markers ≡ T.tokenize_state.markers
-markers-same T U e = ap (λ (s : TokenizeState). s.markers) e.fields
+-- data stops at the same places
+pub stops-same : (T U : Tokenizer) → IsSame T U → stops_of U.tokenize_state ≡ stops_of T.tokenize_state
+stops-same T U e = ap (λ (s : TokenizeState). stops_of s) e.fields
 
 pub stops-past : (T U : Tokenizer) → IsSame T U → StopsAtElements T → StopsAtElements U
 stops-past T U e stops front earlier previous c cs w free =
-    (λ i. choice-same T U e i earlier previous (c ∷ cs)) ∙ stops front earlier previous c cs (sym e.codes ∙ w) (ap (λ ms. is_among ms c) (sym (markers-same T U e)) ∙ free)
+    (λ i. choice-same T U e i earlier previous (c ∷ cs)) ∙ stops front earlier previous c cs (sym e.codes ∙ w) (ap (λ (stop : List Code → Bool). stop (c ∷ cs)) (sym (stops-same T U e)) ∙ free)
 
 pub marked-past : (T U : Tokenizer) → IsSame T U → codes_left U ≤ codes_left T → AreWithin U U.tokenize_state.label_starts → IsMarked T → IsMarked U
 marked-past T U e l within r =
@@ -176,8 +177,8 @@ pub alone-ends : (T : Tokenizer) → StopsAtElements T → current_of T ≢ None
 alone-ends T stops some alone true V k =
     let a = some-ahead T (ahead T) refl some in
     advances-finishes (text_choice_of T) text_passed T k.behind V
-    (data-advances (text_choice_of T) T.tokenize_state.markers T k.behind a.0 a.1.0 a.1.1 k.data_read (λ earlier previous stands. alone earlier previous a.0 a.1.0 stands a.1.1)
-    (subst (λ xs. AreSingle (text_choice_of T) T.tokenize_state.markers xs) a.1.1 (other-data T stops)))
+    (data-advances (text_choice_of T) (stops_of T.tokenize_state) T k.behind a.0 a.1.0 a.1.1 k.data_read (λ earlier previous stands. alone earlier previous a.0 a.1.0 stands a.1.1)
+    (subst (λ xs. AreSingle (text_choice_of T) (stops_of T.tokenize_state) xs) a.1.1 (other-data T stops)))
     k.finishes
 alone-ends T stops some alone false V k = k
 

@@ -29,6 +29,7 @@ use Rattle.markdown_model.specs.Leaf.{task_check}
 use Rattle.markdown_model.specs.Literal.{protocol_literal, www_literal}
 use Rattle.markdown_model.specs.LabelEnd.{Element, plain}
 use Rattle.markdown_model.specs.Setting.{Setting}
+use Rattle.markdown_partial.specs.DataSteps.{stops_of}
 use Rattle.markdown_row.specs.Elements.{AreSingle, StandsAfter}
 use Rattle.markdown_row.specs.Trees.{IsNode, IsRunLeaf}
 use Rattle.markdown_text.proofs.TableLemmas.{one-of}
@@ -251,7 +252,7 @@ other-alone T v e h earlier previous c cs stands w =
     other-element (text_setting T) (end_in T) earlier previous c cs (ap (λ x. list_any (λ n. x == n) text_markers) (value-here T v c cs e w) ∙ h)
 
 -- each other code of data
-pub other-data : (T : Tokenizer) → StopsAtElements T → AreSingle (text_choice_of T) T.tokenize_state.markers (ahead T)
+pub other-data : (T : Tokenizer) → StopsAtElements T → AreSingle (text_choice_of T) (stops_of T.tokenize_state) (ahead T)
 unfolding ahead_at
 other-data T stops front earlier previous c cs w free =
     stops (take T.cursor.at T.cursor.codes ++ front) earlier previous c cs

@@ -112,7 +112,7 @@ pub struct TokenizeState {
     pub seen: bool,
     /// Whether the next linked event goes on with a chain; false at rest.
     pub connect: bool,
-    /// The bytes at which data stops.
+    /// The bytes at which data stops; where `sequences` is known, at an `h` only before a `t`, and at a `w` before another, as literals begin.
     pub markers: ByteSet,
     /// A name for a partial construct; `Data` at rest, as the four below.
     pub token_1: Name,

@@ -133,7 +133,7 @@ fn left(tokenizer: &Tokenizer, held: bool) -> Left {
     (held, tokenizer.events.len(), tokenizer.point().index)
 }
 
-// Reads one construct at the place. Data stops at an asterisk.
+// Reads one construct at the place. Data stops at an asterisk and at an `h`, whatever comes behind.
 fn read_here(tokenizer: &mut Tokenizer, name: StateName) -> Result<Left, AllocError>
     requires alone { tokenizer.old.attempts ≡ [] }
     requires reference { IsConstruct CharacterReferenceStart tokenizer.old }
@@ -141,7 +141,7 @@ fn read_here(tokenizer: &mut Tokenizer, name: StateName) -> Result<Left, AllocEr
     requires span { IsConstruct RawTextStart tokenizer.old }
 {
     if name == StateName::DataStart {
-        mark(tokenizer, byte_set!(b'*'));
+        mark(tokenizer, byte_set!(b'*', b'h'));
         let held = construct(StateName::DataStart, tokenizer)?;
         return Ok(left(tokenizer, held));
     }
@@ -204,6 +204,8 @@ fn reads_single_data(rt: HostRuntime) -> Result<(), Fail> {
     let rows = [
         ("ab*c", (true, 2, 2)),
         ("*b*", (true, 2, 2)),
+        ("ah", (true, 2, 1)),
+        ("ahe", (true, 2, 1)),
         ("a\nb", (true, 6, 3)),
         ("", (true, 0, 0)),
     ];

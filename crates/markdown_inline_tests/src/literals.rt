@@ -69,6 +69,18 @@ const LITERALS: &[(&str, &str)] = &[
     ("-www.a.b", "Data 0-8"),
     ("http:/a", "Data 0-7"),
     ("hh ww h", "Data 0-7"),
+    (
+        "oh, the whole www.a",
+        "Data 0-14, GfmAutolinkLiteralWww 14-19",
+    ),
+    (
+        "light w-http://a",
+        "Data 0-8, GfmAutolinkLiteralProtocol 8-16",
+    ),
+    (
+        "a\nwho http://b",
+        "Data 0-1, LineEnding 1-2, Data 2-6, GfmAutolinkLiteralProtocol 6-14",
+    ),
     ("www.a..-b..", "GfmAutolinkLiteralWww 0-9, Data 9-11"),
     ("www.a/..b..", "GfmAutolinkLiteralWww 0-9, Data 9-11"),
     ("www.a/.&a;b.", "GfmAutolinkLiteralWww 0-11, Data 11-12"),

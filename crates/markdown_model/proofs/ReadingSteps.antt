@@ -3,7 +3,7 @@ use Rattle.std.proofs.Common.{◌≡◌, Bool, true, false, ◌&&◌, if◌then�
 use Rattle.markdown_engine.specs.Codes.{Code}
 pub use Rattle.markdown_engine.proofs.OpsLemmas.{and-left, and-right}
 use Rattle.markdown_model.specs.CodeTests.{is_empty, next_is}
-use Rattle.markdown_model.specs.Grammar.{Reading, ◌>>=◌, ◌>>◌, provided, either, before, one, some, any_number, span, ◌then_◌}
+use Rattle.markdown_model.specs.Grammar.{Reading, ◌>>=◌, ◌>>◌, provided, either, before, one, some, any_number, span, until, ◌then_◌}
 
 -- One reading and then another.
 
@@ -64,6 +64,12 @@ span-takes p c cs e = rw (e, span) refl
 pub span-none : (p : Code → Bool) (cs : List Code) → next_is p cs ≡ false → ◌≡◌ {A = List Code × List Code} (span p cs) ([], cs)
 span-none p [] e = refl
 span-none p (c ∷ cs) e = rw (e, span) refl
+
+pub until-goes : (p : List Code → Bool) (c : Code) (cs : List Code) → p (c ∷ cs) ≡ false → ◌≡◌ {A = List Code × List Code} (until p (c ∷ cs)) (c ∷ (until p cs).0, (until p cs).1)
+until-goes p c cs e = rw (e, until) refl
+
+pub until-stops : (p : List Code → Bool) (c : Code) (cs : List Code) → p (c ∷ cs) ≡ true → ◌≡◌ {A = List Code × List Code} (until p (c ∷ cs)) ([], c ∷ cs)
+until-stops p c cs e = rw (e, until) refl
 
 -- Some codes.
 

@@ -15,7 +15,7 @@ use Rattle.markdown_model.specs.Whitespace.{spacing, spaces_across, spaces_on_li
 use Rattle.markdown_model.specs.Leaf.{Parts, reference, named_parts, decimal_parts, hexadecimal_parts, escape, in_angle_brackets, hard_break_escape, task_check, scheme, domain_label, uri, email_address, autolink, closing_run, closing, joined_codes, span_of, span_here, SpanNames}
 use Rattle.markdown_model.specs.Html.{html, html_text, spaces, optional_spaces, quoted_value, unquoted_value, attribute_name, attribute_value, attribute, tag_name, open_tag, closing_tag, comment, instruction, declaration, cdata}
 use Rattle.markdown_model.specs.Resource.{string_group, between_markers, StringNames, label, title_between, title, title_names, raw_from, literal_destination, raw_destination, destination, DestinationNames, resource_names, spaced_title, destination_and_title, resource}
-use Rattle.markdown_model.proofs.Leaves.{codes-leaf, span-append}
+use Rattle.markdown_model.proofs.Leaves.{codes-leaf, span-append, until-append}
 use Rattle.markdown_engine.proofs.TreeLemmas.{leaf_codes-row}
 
 -- `codes_of` says which codes a value covers, and `read` what was read before the reading.

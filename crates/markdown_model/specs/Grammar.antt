@@ -50,6 +50,11 @@ abbrev pub span : (Code → Bool) → List Code → List Code × List Code
 span p [] = ([], [])
 span p (c ∷ cs) = elim (p c) [ true ↦ let s = span p cs in (c ∷ s.0, s.1) | false ↦ ([], c ∷ cs) ]
 
+-- the codes up to the first place at which what comes passes, and the codes from there on
+abbrev pub until : (List Code → Bool) → List Code → List Code × List Code
+until p [] = ([], [])
+until p (c ∷ cs) = elim (p (c ∷ cs)) [ true ↦ ([], c ∷ cs) | false ↦ let s = until p cs in (c ∷ s.0, s.1) ]
+
 -- one code that passes
 unfoldable pub one : (Code → Bool) → Reading (List Code)
 one p [] = None

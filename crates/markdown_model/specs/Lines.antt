@@ -1,11 +1,11 @@
 -- Text of several lines: which leaves cover it.
-use Rattle.std.specs.Prelude.{ℕ, Bool, true, false, ◌&&◌, ◌||◌, not, List, [], ◌∷◌, Option, Some, None}
+use Rattle.std.specs.Prelude.{Bool, true, false, ◌&&◌, ◌||◌, not, List, [], ◌∷◌, Option, Some, None}
 use Rattle.markdown_engine.specs.Codes.{Code, is_line_ending, is_blank}
 use Rattle.markdown_engine.specs.Tree.{Forest, empty, ◌⊕◌, leaf, leaf_then}
 use Rattle.markdown_engine.specs.declared.event.Name.{Name}
 use Rattle.markdown_engine.specs.declared.event.Content.{Content}
-use Rattle.markdown_model.specs.CodeTests.{is_among, next_is}
-use Rattle.markdown_model.specs.Grammar.{Reading, span}
+use Rattle.markdown_model.specs.CodeTests.{next_is}
+use Rattle.markdown_model.specs.Grammar.{Reading, span, until}
 
 -- a code joins the stretch after it where both pass or both fail, and neither is a line ending
 abbrev pub joins : (Code → Bool) → Code → Code → Bool
@@ -51,12 +51,12 @@ lines_from name link later (s ∷ ss) =
 abbrev pub lines : Name → Option Content → List Code → Forest
 lines name link cs = lines_from name link false (lines_of cs)
 
--- Data: the code at hand, if there is one, and all up to the next of these markers, a leaf for each line
--- and each line ending.
-unfoldable pub data_up_to : List ℕ → Reading Forest
-data_up_to markers [] = Some (empty, [])
-data_up_to markers (c ∷ cs) =
-    let s = span (λ d. not (is_among markers d)) cs in
+-- Data: the code at hand, if there is one, and all up to the next place at which data stops, by what comes
+-- there, a leaf for each line and each line ending.
+unfoldable pub data_up_to : (List Code → Bool) → Reading Forest
+data_up_to stops [] = Some (empty, [])
+data_up_to stops (c ∷ cs) =
+    let s = until stops cs in
     Some (line_leaves Name.Data (lines_of (c ∷ s.0)), s.1)
 
 -- a leaf for each code: a line ending or data

@@ -1,12 +1,14 @@
 -- What the states of data do, and how runs from them end.
-use Rattle.std.specs.Prelude.{ℕ, Bool, ◌||◌, not, ◌==◌, if◌then◌else◌, Option, Some, None, List, [], ◌∷◌}
+use Rattle.std.specs.Prelude.{ℕ, Bool, ◌||◌, ◌&&◌, false, not, ◌==◌, if◌then◌else◌, Option, Some, None, is_some, List, [], ◌∷◌, codes}
 use Rattle.std.specs.List.{list_any}
 use Rattle.markdown_engine.specs.Codes.{Code, is_line_ending}
+use Rattle.markdown_engine.specs.Lists.{first_of}
 use Rattle.markdown_engine.specs.Ops.{Op, Enter, Exit, Consume, done, current_of, ahead, exited, IsOpen}
 use Rattle.markdown_engine.specs.Past.{EndsAs, TreeReading, passed}
+use Rattle.markdown_engine.specs.Place.{code_at, moved, value_of}
 use Rattle.markdown_engine.specs.Runs.{Stepped, stepped}
-use Rattle.markdown_model.specs.CodeTests.{is_among}
-use Rattle.markdown_model.specs.Grammar.{span}
+use Rattle.markdown_model.specs.CodeTests.{next_is}
+use Rattle.markdown_model.specs.Grammar.{until}
 use Rattle.markdown_model.specs.Lines.{data_up_to, line_leaves, lines_of}
 use Rattle.markdown_engine.specs.declared.event.Name.TheVariants as N
 use Rattle.markdown_engine.specs.declared.state.State.TheVariants.{Next, Retry}
@@ -22,8 +24,41 @@ use Rattle.std.specs.Str.{byte}
 abbrev pub marks : List ℕ → ℕ → Bool
 marks markers v = list_any (λ n. v == n) markers
 
-abbrev pub markers_of : Tokenizer → List ℕ
-markers_of T = T.tokenize_state.markers
+abbrev pub is_some_mark : List ℕ → Option ℕ → Bool
+is_some_mark markers None = false
+is_some_mark markers (Some v) = marks markers v
+
+-- Where data stops.
+
+-- a letter with which a literal may begin, behind which none goes on (GFM 6.9): an `h` before no `t`, or a `w` before no other
+abbrev pub begins_none : ℕ → Option ℕ → Bool
+begins_none v next =
+    if marks (codes "Hh") v then not (is_some_mark (codes "Tt") next) else if marks (codes "Ww") v then not (is_some_mark (codes "Ww") next) else false
+
+-- data stops at its markers, by the value at hand and the one behind it; if it looks at that one, it passes the letters with which no literal begins
+abbrev pub stops_at : Bool → List ℕ → ℕ → Option ℕ → Bool
+stops_at looks markers v next = marks markers v && not (looks && begins_none v next)
+
+abbrev pub stops_by : Bool → List ℕ → List Code → Bool
+stops_by looks markers [] = false
+stops_by looks markers (c ∷ cs) = stops_at looks markers c.value (value_of (first_of cs))
+
+-- data looks at the value behind where the content's sequences are known, as those of a text are
+abbrev pub looks : TokenizeState → Bool
+looks s = is_some s.sequences
+
+-- what comes, where data stops
+abbrev pub stops_of : TokenizeState → List Code → Bool
+stops_of s = stops_by (looks s) s.markers
+
+-- the value behind the code at hand
+abbrev pub next_of : Tokenizer → Option ℕ
+next_of T = code_at (moved T.cursor)
+
+abbrev pub stops_here : Tokenizer → ℕ → Bool
+stops_here T v = stops_at (looks T.tokenize_state) T.tokenize_state.markers v (next_of T)
+
+-- What the states do.
 
 abbrev pub ending : List Op
 ending = Enter N.LineEnding ∷ Consume ∷ Exit N.LineEnding ∷ []
@@ -45,7 +80,7 @@ start_step T = start_at (current_of T) T
 
 abbrev pub at_break_at : Option ℕ → Tokenizer → Stepped
 at_break_at None T = stepped State.Ok T
-at_break_at (Some v) T = if marks (markers_of T) v then stepped State.Ok T else passing v T
+at_break_at (Some v) T = if stops_here T v then stepped State.Ok T else passing v T
 
 abbrev pub at_break_step : Tokenizer → Stepped
 at_break_step T = at_break_at (current_of T) T
@@ -56,7 +91,7 @@ leaving T = stepped (Retry DataAtBreak) (done (Exit N.Data ∷ []) T)
 abbrev pub inside_at : Option ℕ → Tokenizer → Stepped
 inside_at None T = leaving T
 inside_at (Some v) T =
-    if (v == byte "\n") || marks (markers_of T) v then leaving T else stepped (Next DataInside) (done (Consume ∷ []) T)
+    if (v == byte "\n") || stops_here T v then leaving T else stepped (Next DataInside) (done (Consume ∷ []) T)
 
 abbrev pub inside_step : Tokenizer → Stepped
 inside_step T = inside_at (current_of T) T
@@ -67,29 +102,29 @@ inside_stops s = Some s.markers
 
 -- How runs end.
 
--- all up to the next of these markers, a leaf for each line and each line ending
-abbrev pub more_data : List ℕ → TreeReading
-more_data markers cs =
-    let s = span (λ d. not (is_among markers d)) cs in
+-- all up to the next place where data stops, a leaf for each line and each line ending
+abbrev pub more_data : (List Code → Bool) → TreeReading
+more_data stops cs =
+    let s = until stops cs in
     Some (line_leaves N.Data (lines_of s.0), s.1)
 
--- neither a line ending nor one of these markers
-abbrev pub is_plain : List ℕ → Code → Bool
-is_plain markers c = not (is_line_ending c || is_among markers c)
+-- a line ending comes, or data stops
+abbrev pub ends_stretch : (List Code → Bool) → List Code → Bool
+ends_stretch stops cs = next_is is_line_ending cs || stops cs
 
 -- the rest of the stretch at hand
 abbrev pub stretch_of : Tokenizer → List Code
-stretch_of T = (span (is_plain (markers_of T)) (ahead T)).0
+stretch_of T = (until (ends_stretch (stops_of T.tokenize_state)) (ahead T)).0
 
 -- past the rest of the stretch, and out of it
 abbrev pub past_stretch : Tokenizer → Tokenizer
 past_stretch T = exited N.Data (passed (stretch_of T) T)
 
 abbrev pub start_ends : Tokenizer → Bool → Tokenizer → Type 0
-start_ends T ok U = EndsAs (data_up_to (markers_of T)) None T.tokenize_state T ok U
+start_ends T ok U = EndsAs (data_up_to (stops_of T.tokenize_state)) None T.tokenize_state T ok U
 
 abbrev pub at_break_ends : Tokenizer → Bool → Tokenizer → Type 0
-at_break_ends T ok U = EndsAs (more_data (markers_of T)) None T.tokenize_state T ok U
+at_break_ends T ok U = EndsAs (more_data (stops_of T.tokenize_state)) None T.tokenize_state T ok U
 
 abbrev pub inside_ends : Tokenizer → Bool → Tokenizer → Type 0
 inside_ends T ok U = at_break_ends (past_stretch T) ok U

@@ -4,13 +4,13 @@
 #![tactic(auto, using(markdown_engine::proofs::OpRules::op_rules))]
 
 ghost use Rattle.std.specs.Prelude.{◌≡◌, ◌-◌, ◌<◌, ◌≤◌, ◌++◌, IfOk, OnOk, OnErr, IsTrue, Some, None, [], drop, length};
-ghost use Rattle.markdown_engine.specs.Ops.{IsOpen, current_of};
+ghost use Rattle.markdown_engine.specs.Ops.{HasCode, IsOpen, current_of};
 ghost use Rattle.markdown_engine.specs.declared.event.Name.TheVariants.{Data};
 ghost use Rattle.markdown_engine.specs.Edits.{edited};
 ghost use Rattle.markdown_engine.specs.Past.{appended_from};
 ghost use Rattle.markdown_engine.specs.Tree.{Forest};
 ghost use Rattle.markdown_model.specs.Passes.{merged};
-ghost use Rattle.markdown_partial.specs.DataSteps.{passing, start_step, at_break_step, inside_step, inside_stops};
+ghost use Rattle.markdown_partial.specs.DataSteps.{begins_none, next_of, stops_here, passing, start_step, at_break_step, inside_step, inside_stops};
 ghost use Rattle.markdown_partial.specs.Merge.{opens_data, closes_data, joint, marked, joints, HasData};
 
 use markdown_engine::bytes::ByteSet;
@@ -21,6 +21,37 @@ use markdown_engine::subtokenize::Subresult;
 use markdown_engine::tokenizer::{TokenizeState, Tokenizer};
 use markdown_engine::util::edit_map::EditMap;
 use std::alloc::AllocError;
+
+// The code behind the one at hand.
+fn next(tokenizer: &Tokenizer) -> Option<u8>
+    requires { HasCode tokenizer.now }
+    ensures { result ≡ next_of tokenizer.now }
+{
+    let mut behind = tokenizer.cursor.save();
+    behind.consume();
+    behind.current()
+}
+
+// Whether the code at hand is a letter with which a literal may begin, and the one behind it not that with which it goes on.
+fn begins_none(tokenizer: &Tokenizer, byte: u8) -> bool
+    requires { current_of tokenizer.now ≡ Some byte }
+    ensures { result ≡ begins_none byte (next_of tokenizer.now) }
+{
+    match byte {
+        b'H' | b'h' => !matches!(next(tokenizer), Some(b'T' | b't')),
+        b'W' | b'w' => !matches!(next(tokenizer), Some(b'W' | b'w')),
+        _ => false,
+    }
+}
+
+// Whether data stops at the code at hand, line endings aside: at a marker, but in a text at no letter with which none of its literals begins.
+fn stops(tokenizer: &Tokenizer, byte: u8) -> bool
+    requires { current_of tokenizer.now ≡ Some byte }
+    ensures { result ≡ stops_here tokenizer.now byte }
+{
+    let fields = &tokenizer.tokenize_state;
+    fields.markers.contains(byte) && !(fields.sequences.is_known() && begins_none(tokenizer, byte))
+}
 
 // Passes the code at hand, a line ending or the first code of a stretch.
 fn pass(tokenizer: &mut Tokenizer, byte: u8) -> Result<State, AllocError>
@@ -54,7 +85,7 @@ pub fn start(tokenizer: &mut Tokenizer) -> Result<State, AllocError>
     }
 }
 
-/// Between two stretches: at a line ending, a marker or the end, or at the start of a line.
+/// Between two stretches: at a line ending, where data stops, or at the start of a line.
 ///
 ///     > | one
 ///            ^
@@ -65,12 +96,15 @@ pub fn at_break(tokenizer: &mut Tokenizer) -> Result<State, AllocError>
     ensures err { OnErr result (IsTrue tokenizer.new.failed) }
 {
     match tokenizer.current() {
-        Some(byte) if !tokenizer.tokenize_state.markers.contains(byte) => pass(tokenizer, byte),
+        Some(byte) if !stops(tokenizer, byte) => pass(tokenizer, byte),
         _ => Ok(State::Ok),
     }
 }
 
 /// In a stretch of data, which ends before a line ending, a marker or the end.
+///
+/// Where the sequences of the content are known, as those of a text are, it goes on past a letter with which a literal may begin (GFM 6.9) but
+/// none does: an `h` before no `t`, or a `w` before no other.
 ///
 ///     > | plain *
 ///          ^^^^^^
@@ -80,7 +114,7 @@ pub fn inside(tokenizer: &mut Tokenizer) -> Result<State, AllocError>
     ensures err { OnErr result (IsTrue tokenizer.new.failed) }
 {
     match tokenizer.current() {
-        Some(byte) if byte != b'\n' && !tokenizer.tokenize_state.markers.contains(byte) => {
+        Some(byte) if byte != b'\n' && !stops(tokenizer, byte) => {
             tokenizer.consume();
             Ok(State::Next(StateName::DataInside))
         }
@@ -91,7 +125,7 @@ pub fn inside(tokenizer: &mut Tokenizer) -> Result<State, AllocError>
     }
 }
 
-/// The bytes at which a stretch of data stops, line endings aside: the markers. Takes no memory.
+/// The bytes at which a stretch of data may stop, line endings aside: the markers. Takes no memory.
 pub fn inside_stops(fields: &TokenizeState) -> Option<ByteSet>
     ensures { result ≡ inside_stops fields.now }
 {

@@ -2,7 +2,6 @@
 use Rattle.std.proofs.Common.{◌≡◌, ◌≢◌, ℕ, ◌+◌, ◌<◌, ◌≤◌, Bool, true, false, not, ◌&&◌, ◌||◌, List, [], ◌∷◌, ◌++◌, length, slice_get, Option, None, Some, refl, sym, ap, subst, ◌∙◌, arith, length-append, append_assoc, add-one, append-nil}
 use Rattle.std.specs.Prelude.{map}
 use Rattle.markdown_row.proofs.RowRests.{kinds-row}
-use Rattle.std.proofs.lemmas.Bool.{not-true}
 use Rattle.std.specs.List.{list_any}
 use Rattle.markdown_engine.specs.Codes.{Code, is_line_ending, document_start, stop_of}
 use Rattle.markdown_engine.specs.Lists.{first_of, rest_of}
@@ -23,14 +22,14 @@ use Rattle.markdown_leaf.specs.RawText.{code_just_before}
 use Rattle.markdown_model.specs.Single.{ends_escape, follows_escape, is_escape}
 use Rattle.markdown_construct.proofs.StretchLemmas.{BeginsWith, stretches-begin}
 use Rattle.markdown_construct.proofs.WholeReadings.{both-parts}
-use Rattle.markdown_model.specs.CodeTests.{is_among, next_is, last_code}
+use Rattle.markdown_model.specs.CodeTests.{next_is, last_code}
 use Rattle.markdown_model.specs.Element.{Choice, AreElementsFrom, code_before, ends_escaped}
-use Rattle.markdown_model.specs.Grammar.{span}
+use Rattle.markdown_model.specs.Grammar.{until}
 use Rattle.markdown_model.specs.LabelEnd.{Element, plain, starts, ends}
 use Rattle.markdown_model.specs.Lines.{linked_leaf, data_up_to, line_leaf, line_leaves, lines_of, onto_stretch, code_leaf}
 use Rattle.markdown_model.proofs.DataLaws.{code_leaves}
 use Rattle.markdown_model.proofs.ReadingLaws.{code_before-append}
-use Rattle.markdown_model.proofs.Leaves.{span-append}
+use Rattle.markdown_model.proofs.Leaves.{until-append}
 use Rattle.markdown_row.specs.Elements.{AreSingle, StandsAfter, Elements, Advances, AllElements, Finishes}
 use Rattle.markdown_row.specs.Row.{Row, row_end, row_then, loses, tree_onto, joined_rows, past_tree, past_row, row_codes, kinds_of, split_row, row_of_elements, element_onto, HasElementCodes, HaveCodes, IsRowAt}
 use Rattle.markdown_row.specs.Trees.{makes_data, HasLines, HasOuterRuns, IsPart, IsRunless, IsRunLeaf, IsSingle, IsNode}
@@ -143,27 +142,24 @@ pub past_code : Option Code → List Code → Option Code
 past_code previous [] = previous
 past_code previous (c ∷ cs) = past_code (Some c) cs
 
-abbrev pub unmarked : List ℕ → List Code → List Code × List Code
-unmarked markers cs = span (λ d. not (is_among markers d)) cs
-
 -- one more code
 data-next : (choice : Choice) (earlier : List Element) (previous : Option Code) (c : Code) (cs : List Code) (es : List Element) → choice earlier previous (c ∷ cs) ≡ Some (plain (code_leaf c), cs) → AreElementsFrom choice (plain (code_leaf c) ∷ earlier) (Some c) cs es → AreElementsFrom choice earlier previous (c ∷ cs) (plain (code_leaf c) ∷ es)
 data-next choice earlier previous c cs es e h =
     (cs, e, subst (λ o. AreElementsFrom choice (plain (code_leaf c) ∷ earlier) o cs es) (sym (code_before-append (c ∷ []) cs)) h)
 
 -- what is said of each code, is said of those behind the first
-single-behind : (choice : Choice) (markers : List ℕ) (c : Code) (cs : List Code) → AreSingle choice markers (c ∷ cs) → AreSingle choice markers cs
-single-behind choice markers c cs others front earlier previous d ds e free = others (c ∷ front) earlier previous d ds (ap (λ xs. c ∷ xs) e) free
+single-behind : (choice : Choice) (stops : List Code → Bool) (c : Code) (cs : List Code) → AreSingle choice stops (c ∷ cs) → AreSingle choice stops cs
+single-behind choice stops c cs others front earlier previous d ds e free = others (c ∷ front) earlier previous d ds (ap (λ xs. c ∷ xs) e) free
 
-data-others : (choice : Choice) (markers : List ℕ) (earlier : List Element) (previous : Option Code) (cs : List Code) → AreSingle choice markers cs → (es : List Element) → AreElementsFrom choice (past_leaves earlier (unmarked markers cs).0) (past_code previous (unmarked markers cs).0) (unmarked markers cs).1 es → AreElementsFrom choice earlier previous cs (leaf_elements (unmarked markers cs).0 ++ es)
+data-others : (choice : Choice) (stops : List Code → Bool) (earlier : List Element) (previous : Option Code) (cs : List Code) → AreSingle choice stops cs → (es : List Element) → AreElementsFrom choice (past_leaves earlier (until stops cs).0) (past_code previous (until stops cs).0) (until stops cs).1 es → AreElementsFrom choice earlier previous cs (leaf_elements (until stops cs).0 ++ es)
 unfolding leaf_elements past_leaves past_code
-data-others choice markers earlier previous [] others es h = h
-data-others choice markers earlier previous (c ∷ cs) others es h =
-    let s : List Code × List Code = unmarked markers cs in
-    let cut : Bool → List Code × List Code = λ b. elim b [ true ↦ (c ∷ s.0, s.1) | false ↦ ([], c ∷ cs) ] in
-    elim (not (is_among markers c)) as (λ b. not (is_among markers c) ≡ b → AreElementsFrom choice (past_leaves earlier (cut b).0) (past_code previous (cut b).0) (cut b).1 es → AreElementsFrom choice earlier previous (c ∷ cs) (leaf_elements (cut b).0 ++ es)) [
-      | true ↦ λ e k. data-next choice earlier previous c cs (leaf_elements s.0 ++ es) (others [] earlier previous c cs refl (not-true (is_among markers c) e)) (data-others choice markers (plain (code_leaf c) ∷ earlier) (Some c) cs (single-behind choice markers c cs others) es k)
-      | false ↦ λ e k. k
+data-others choice stops earlier previous [] others es h = h
+data-others choice stops earlier previous (c ∷ cs) others es h =
+    let s : List Code × List Code = until stops cs in
+    let cut : Bool → List Code × List Code = λ b. elim b [ true ↦ ([], c ∷ cs) | false ↦ (c ∷ s.0, s.1) ] in
+    elim (stops (c ∷ cs)) as (λ b. stops (c ∷ cs) ≡ b → AreElementsFrom choice (past_leaves earlier (cut b).0) (past_code previous (cut b).0) (cut b).1 es → AreElementsFrom choice earlier previous (c ∷ cs) (leaf_elements (cut b).0 ++ es)) [
+      | true ↦ λ e k. k
+      | false ↦ λ e k. data-next choice earlier previous c cs (leaf_elements s.0 ++ es) (others [] earlier previous c cs refl e) (data-others choice stops (plain (code_leaf c) ∷ earlier) (Some c) cs (single-behind choice stops c cs others) es k)
     ] refl h
 
 -- no escape stands before, past a code
@@ -299,9 +295,9 @@ have-leaves [] = tt
 have-leaves (c ∷ cs) = (code-has (is_line_ending c) c, have-leaves cs)
 
 -- what data reads, and the codes after it
-data-reads : (markers : List ℕ) (cs : List Code) (c : Code) (xs : List Code) (t : Forest) (rest : List Code) → cs ≡ c ∷ xs → data_up_to markers cs ≡ Some (t, rest) → (line_leaves N.Data (lines_of (c ∷ (unmarked markers xs).0)) ≡ t) × ((unmarked markers xs).1 ≡ rest)
+data-reads : (stops : List Code → Bool) (cs : List Code) (c : Code) (xs : List Code) (t : Forest) (rest : List Code) → cs ≡ c ∷ xs → data_up_to stops cs ≡ Some (t, rest) → (line_leaves N.Data (lines_of (c ∷ (until stops xs).0)) ≡ t) × ((until stops xs).1 ≡ rest)
 unfolding data_up_to
-data-reads markers cs c xs t rest e h = both-parts (line_leaves N.Data (lines_of (c ∷ (unmarked markers xs).0))) t (unmarked markers xs).1 rest (ap (data_up_to markers) (sym e) ∙ h)
+data-reads stops cs c xs t rest e h = both-parts (line_leaves N.Data (lines_of (c ∷ (until stops xs).0))) t (until stops xs).1 rest (ap (data_up_to stops) (sym e) ∙ h)
 
 pub some-ahead : (T : Tokenizer) (cs : List Code) → ahead T ≡ cs → current_of T ≢ None → (c : Code) × ((xs : List Code) × (cs ≡ c ∷ xs))
 some-ahead T [] e h = absurd (h (current-ahead T ∙ ap (λ xs. value_of (first_of xs)) e))
@@ -335,25 +331,25 @@ leaves-starts earlier (c ∷ cs) = leaves-starts (plain (code_leaf c) ∷ earlie
 kept-leaves : (earlier : List Element) (cs : List Code) (U : Tokenizer) → KeepsStarts earlier U → KeepsStarts (past_leaves earlier cs) U
 kept-leaves earlier cs U k = subst (λ us. StandFor U.events us U.tokenize_state.label_starts) (sym (leaves-starts earlier cs)) k
 
--- Data that is read where a run stands: the code at hand, and those up to the next marker.
-pub record DataRead (markers : List ℕ) (T U : Tokenizer) (c : Code) (cs : List Code) : Type 0 where
+-- Data that is read where a run stands: the code at hand, and those up to where data stops.
+pub record DataRead (stops : List Code → Bool) (T U : Tokenizer) (c : Code) (cs : List Code) : Type 0 where
   pub tree : Forest
   pub part : IsPart tree
   pub left : U ≡ past_tree tree T
   pub whole : ahead T ≡ leaf_codes tree ++ ahead U
-  pub cut : ahead T ≡ (c ∷ (unmarked markers cs).0) ++ ahead U
+  pub cut : ahead T ≡ (c ∷ (until stops cs).0) ++ ahead U
   pub some : 1 ≤ length (leaf_codes tree)
   pub less : codes_left U < codes_left T
-  pub alike : tree ≡ line_leaves N.Data (lines_of (c ∷ (unmarked markers cs).0))
-  pub rest : (unmarked markers cs).1 ≡ ahead U
+  pub alike : tree ≡ line_leaves N.Data (lines_of (c ∷ (until stops cs).0))
+  pub rest : (until stops cs).1 ≡ ahead U
 
-pub data-read : (markers : List ℕ) (T U : Tokenizer) (c : Code) (cs : List Code) → ahead T ≡ c ∷ cs → Reads (data_up_to markers) None T.tokenize_state T U → DataRead markers T U c cs
-data-read markers T U c cs whole k =
-    let d = data-reads markers (ahead T) c cs k.tree k.rest whole k.holds in
-    let s : List Code × List Code = unmarked markers cs in
+pub data-read : (stops : List Code → Bool) (T U : Tokenizer) (c : Code) (cs : List Code) → ahead T ≡ c ∷ cs → Reads (data_up_to stops) None T.tokenize_state T U → DataRead stops T U c cs
+data-read stops T U c cs whole k =
+    let d = data-reads stops (ahead T) c cs k.tree k.rest whole k.holds in
+    let s : List Code × List Code = until stops cs in
     let lines : List (List Code) = lines_of (c ∷ s.0) in
     let runless : IsRunless k.tree = subst IsRunless d.0 (runless-lines lines) in
-    let cut : ahead T ≡ (c ∷ s.0) ++ ahead U = whole ∙ ap (λ xs. c ∷ xs) (sym (span-append (λ d. not (is_among markers d)) cs)) ∙ ap (λ xs. (c ∷ s.0) ++ xs) (d.1 ∙ sym k.after) in
+    let cut : ahead T ≡ (c ∷ s.0) ++ ahead U = whole ∙ ap (λ xs. c ∷ xs) (sym (until-append stops cs)) ∙ ap (λ xs. (c ∷ s.0) ++ xs) (d.1 ∙ sym k.after) in
     let covers : ahead T ≡ leaf_codes k.tree ++ ahead U = k.whole ∙ ap (λ xs. leaf_codes k.tree ++ xs) (sym k.after) in
     record {
       tree = k.tree;
@@ -368,10 +364,10 @@ data-read markers T U c cs whole k =
     }
 
 -- what stands before the place behind data that begins with this element
-pub stands-behind : (markers : List ℕ) (T U : Tokenizer) (c : Code) (cs : List Code) (d : DataRead markers T U c cs) (next : List Element) → ends_escaped next ≡ false → KeepsStarts next U → StandsAfter (past_leaves next (unmarked markers cs).0) (past_code (Some c) (unmarked markers cs).0) U
+pub stands-behind : (stops : List Code → Bool) (T U : Tokenizer) (c : Code) (cs : List Code) (d : DataRead stops T U c cs) (next : List Element) → ends_escaped next ≡ false → KeepsStarts next U → StandsAfter (past_leaves next (until stops cs).0) (past_code (Some c) (until stops cs).0) U
 unfolding past_leaves past_code
-stands-behind markers T U c cs d next plainly keeps =
-    let s : List Code × List Code = unmarked markers cs in
+stands-behind stops T U c cs d next plainly keeps =
+    let s : List Code × List Code = until stops cs in
     record {
       escaped =
           ap follows_escape (events-past d.tree T U d.left)
@@ -383,20 +379,20 @@ stands-behind markers T U c cs d next plainly keeps =
     }
 
 -- the elements behind the first of data, and those that follow
-pub follow-behind : (choice : Choice) (markers : List ℕ) (T U : Tokenizer) (c : Code) (cs : List Code) (d : DataRead markers T U c cs) (next : List Element) → AreSingle choice markers (c ∷ cs)
-    → (es : List Element) → AreElementsFrom choice (past_leaves next (unmarked markers cs).0) (past_code (Some c) (unmarked markers cs).0) (ahead U) es → AreElementsFrom choice next (Some c) cs (leaf_elements (unmarked markers cs).0 ++ es)
-follow-behind choice markers T U c cs d next others es h =
-    let s : List Code × List Code = unmarked markers cs in
-    data-others choice markers next (Some c) cs (single-behind choice markers c cs others) es (subst (λ xs. AreElementsFrom choice (past_leaves next s.0) (past_code (Some c) s.0) xs es) (sym d.rest) h)
+pub follow-behind : (choice : Choice) (stops : List Code → Bool) (T U : Tokenizer) (c : Code) (cs : List Code) (d : DataRead stops T U c cs) (next : List Element) → AreSingle choice stops (c ∷ cs)
+    → (es : List Element) → AreElementsFrom choice (past_leaves next (until stops cs).0) (past_code (Some c) (until stops cs).0) (ahead U) es → AreElementsFrom choice next (Some c) cs (leaf_elements (until stops cs).0 ++ es)
+follow-behind choice stops T U c cs d next others es h =
+    let s : List Code × List Code = until stops cs in
+    data-others choice stops next (Some c) cs (single-behind choice stops c cs others) es (subst (λ xs. AreElementsFrom choice (past_leaves next s.0) (past_code (Some c) s.0) xs es) (sym d.rest) h)
 
--- past data: the code at hand and those up to the next marker, each an element by itself
-pub data-advances : (choice : Choice) (markers : List ℕ) (T U : Tokenizer) (c : Code) (cs : List Code) → ahead T ≡ c ∷ cs → Reads (data_up_to markers) None T.tokenize_state T U
+-- past data: the code at hand and those up to where data stops, each an element by itself
+pub data-advances : (choice : Choice) (stops : List Code → Bool) (T U : Tokenizer) (c : Code) (cs : List Code) → ahead T ≡ c ∷ cs → Reads (data_up_to stops) None T.tokenize_state T U
     → ((earlier : List Element) (previous : Option Code) → StandsAfter earlier previous T → choice earlier previous (c ∷ cs) ≡ Some (plain (code_leaf c), cs))
-    → AreSingle choice markers (c ∷ cs) → Advances choice T U
+    → AreSingle choice stops (c ∷ cs) → Advances choice T U
 unfolding leaf_elements
-data-advances choice markers T U c cs whole k first others =
-    let d : DataRead markers T U c cs = data-read markers T U c cs whole k in
-    let s : List Code × List Code = unmarked markers cs in
+data-advances choice stops T U c cs whole k first others =
+    let d : DataRead stops T U c cs = data-read stops T U c cs whole k in
+    let s : List Code × List Code = until stops cs in
     record {
       row = row_end d.tree;
       is_row = d.part;
@@ -409,10 +405,10 @@ data-advances choice markers T U c cs whole k first others =
             elements = leaf_elements (c ∷ s.0);
             later = past_leaves next s.0;
             last = past_code (Some c) s.0;
-            stands = stands-behind markers T U c cs d next (unescaped-leaf (is_line_ending c) c earlier) (kept-tree d.tree T U d.left earlier stands.keeps);
+            stands = stands-behind stops T U c cs d next (unescaped-leaf (is_line_ending c) c earlier) (kept-tree d.tree T U d.left earlier stands.keeps);
             follow = λ es h.
                 subst (λ xs. AreElementsFrom choice earlier previous xs (leaf_elements (c ∷ s.0) ++ es)) (sym whole)
-                (data-next choice earlier previous c cs (leaf_elements s.0 ++ es) (first earlier previous stands) (follow-behind choice markers T U c cs d next others es h));
+                (data-next choice earlier previous c cs (leaf_elements s.0 ++ es) (first earlier previous stands) (follow-behind choice stops T U c cs d next others es h));
             have_codes = have-leaves (c ∷ s.0);
             alike = ap (λ x. split_row (row_end x)) d.alike ∙ data-alike (c ∷ s.0);
           };

@@ -30,6 +30,7 @@ use Rattle.markdown_model.proofs.ReadingLaws.{code_before-append}
 use Rattle.markdown_model.specs.CodeTests.{last_code}
 use Rattle.markdown_model.specs.Element.{Choice, AreElementsFrom, ends_escaped}
 use Rattle.markdown_model.specs.LabelEnd.{Element, starts, ends, is_image}
+use Rattle.markdown_model.specs.Grammar.{until}
 use Rattle.markdown_model.specs.Laws.{unused_starts}
 use Rattle.markdown_model.specs.Lines.{data_up_to, line_leaves, lines_of, code_leaf}
 use Rattle.markdown_model.specs.Passes.{start_tree}
@@ -38,7 +39,7 @@ use Rattle.markdown_resource.specs.Tails.{IsTail}
 use Rattle.markdown_row.specs.Elements.{AreSingle, StandsAfter, Advances}
 use Rattle.markdown_row.specs.Row.{Mark, begins, makes, loses, row_end, row_then, tree_onto, past_tree, past_mark, past_row, mark_codes, kinds_of, IsFront, IsStart, IsMade, IsMarkAt, split_row, row_of_elements, HasElementCodes}
 use Rattle.markdown_row.specs.Trees.{IsPart}
-use Rattle.markdown_row.proofs.ElementLemmas.{DataRead, data-read, group-escaped, last-some, fewer-left, one-element, kept-tree, unmarked, leaf_elements, have-leaves, past_leaves, past_code, stands-behind, follow-behind, data-alike, leaves-first}
+use Rattle.markdown_row.proofs.ElementLemmas.{DataRead, data-read, group-escaped, last-some, fewer-left, one-element, kept-tree, leaf_elements, have-leaves, past_leaves, past_code, stands-behind, follow-behind, data-alike, leaves-first}
 use Rattle.markdown_row.proofs.TreePasts.{past_tree-empty}
 
 pub empty-part : IsPart empty
@@ -258,13 +259,13 @@ lost-alike c cs t plainly e =
     ap (λ r. row_then empty loses r) (ap (λ x. split_row (row_end x)) e ∙ data-alike (c ∷ cs) ∙ ap split_row (leaves-first c cs) ∙ ap (λ x. split_row (tree_onto x (row_of_elements (leaf_elements cs)))) is)
 
 -- past the `]` of an end that makes none, and the data that it begins
-pub lost-advances : (choice : Choice) (markers : List ℕ) (T U : Tokenizer) (c : Code) (cs : List Code) → ahead T ≡ c ∷ cs → is_line_ending c ≡ false → (let L : Tokenizer = past_mark loses T in Reads (data_up_to markers) None L.tokenize_state L U)
+pub lost-advances : (choice : Choice) (stops : List Code → Bool) (T U : Tokenizer) (c : Code) (cs : List Code) → ahead T ≡ c ∷ cs → is_line_ending c ≡ false → (let L : Tokenizer = past_mark loses T in Reads (data_up_to stops) None L.tokenize_state L U)
     → ((earlier : List Element) (previous : Option Code) → StandsAfter earlier previous T → choice earlier previous (c ∷ cs) ≡ Some (ends (c ∷ []) None, cs))
-    → AreSingle choice markers (c ∷ cs) → Advances choice T U
-lost-advances choice markers T U c cs whole plainly k first others =
+    → AreSingle choice stops (c ∷ cs) → Advances choice T U
+lost-advances choice stops T U c cs whole plainly k first others =
     let L : Tokenizer = past_mark loses T in
-    let d : DataRead markers L U c cs = data-read markers L U c cs (lost-ahead T ∙ whole) k in
-    let s : List Code × List Code = unmarked markers cs in
+    let d : DataRead stops L U c cs = data-read stops L U c cs (lost-ahead T ∙ whole) k in
+    let s : List Code × List Code = until stops cs in
     let covers : ahead T ≡ leaf_codes d.tree ++ ahead U = sym (lost-ahead T) ∙ d.whole in
     record {
       row = row_then empty loses (row_end d.tree);
@@ -279,10 +280,10 @@ lost-advances choice markers T U c cs whole plainly k first others =
             elements = lost ∷ leaf_elements s.0;
             later = past_leaves next s.0;
             last = past_code (Some c) s.0;
-            stands = stands-behind markers L U c cs d next refl (kept-tree d.tree L U d.left next (lost-keeps (c ∷ []) T earlier stands.keeps));
+            stands = stands-behind stops L U c cs d next refl (kept-tree d.tree L U d.left next (lost-keeps (c ∷ []) T earlier stands.keeps));
             follow = λ es h.
                 subst (λ xs. AreElementsFrom choice earlier previous xs ((lost ∷ leaf_elements s.0) ++ es)) (sym whole)
-                (first-next choice earlier previous lost c cs (leaf_elements s.0 ++ es) (first earlier previous stands) (follow-behind choice markers L U c cs d next others es h));
+                (first-next choice earlier previous lost c cs (leaf_elements s.0 ++ es) (first earlier previous stands) (follow-behind choice stops L U c cs d next others es h));
             have_codes = ((λ e. cc), have-leaves s.0);
             alike = lost-alike c s.0 d.tree plainly d.alike;
           };

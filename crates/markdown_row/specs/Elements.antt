@@ -1,5 +1,5 @@
 -- How runs over the elements of a content go on, and how they end.
-use Rattle.std.specs.Prelude.{◌≡◌, ◌<◌, ℕ, false, List, ◌∷◌, ◌++◌, Option, None, Some}
+use Rattle.std.specs.Prelude.{◌≡◌, ◌<◌, Bool, false, List, ◌∷◌, ◌++◌, Option, None, Some}
 use Rattle.markdown_engine.specs.Codes.{Code}
 use Rattle.markdown_engine.specs.Ops.{ahead}
 use Rattle.markdown_engine.specs.Past.{TreeReading, Reads}
@@ -9,15 +9,14 @@ use Rattle.markdown_label.specs.Starts.{KeepsStarts}
 use Rattle.markdown_leaf.specs.RawText.{code_just_before}
 use Rattle.markdown_model.specs.Single.{follows_escape}
 use Rattle.markdown_model.specs.Lines.{code_leaf}
-use Rattle.markdown_model.specs.CodeTests.{is_among}
 use Rattle.markdown_model.specs.Element.{Choice, AreElementsFrom, ends_escaped}
 use Rattle.markdown_model.specs.LabelEnd.{Element, plain}
 use Rattle.markdown_row.specs.Row.{Row, past_row, row_codes, split_row, row_of_elements, kinds_of, IsRowAt, HaveCodes}
 
--- each of these codes that is no marker is an element by itself where it stands, whatever stands before it
-abbrev pub AreSingle : Choice → List ℕ → List Code → Type 0
-AreSingle choice markers whole =
-    (front : List Code) (earlier : List Element) (previous : Option Code) (c : Code) (cs : List Code) → whole ≡ front ++ c ∷ cs → is_among markers c ≡ false → choice earlier previous (c ∷ cs) ≡ Some (plain (code_leaf c), cs)
+-- each of these codes where data does not stop is an element by itself where it stands, whatever stands before it
+abbrev pub AreSingle : Choice → (List Code → Bool) → List Code → Type 0
+AreSingle choice stops whole =
+    (front : List Code) (earlier : List Element) (previous : Option Code) (c : Code) (cs : List Code) → whole ≡ front ++ c ∷ cs → stops (c ∷ cs) ≡ false → choice earlier previous (c ∷ cs) ≡ Some (plain (code_leaf c), cs)
 
 -- Places between elements.
 

@@ -11,6 +11,7 @@ use Rattle.markdown_engine.specs.Content.{content_of}
 use Rattle.markdown_engine.specs.Tree.{Forest, empty, leaf_then, group_then, events_of}
 use Rattle.markdown_util.specs.Reference.{html_5_rows}
 use Rattle.markdown_model.specs.Grammar.{Reading}
+use Rattle.markdown_model.specs.CodeTests.{is_among, next_is}
 use Rattle.markdown_model.specs.Lines.{data_up_to}
 use Rattle.markdown_model.specs.Whitespace.{spacing, space_or_tab}
 use Rattle.markdown_model.specs.Resource.{label, reference_names, title, title_names, destination, resource_names}
@@ -176,4 +177,4 @@ abbrev pub bounded_answer : Option Content → ℕ → ℕ → List ℕ → Opti
 bounded_answer link min max bytes = read_at_start (space_or_tab Name.SpaceOrTab link min max) bytes
 
 abbrev pub data_answer : List ℕ → List ℕ → Option (List Event)
-data_answer markers bytes = read_at_start (data_up_to markers) bytes
+data_answer markers bytes = read_at_start (data_up_to (next_is (is_among markers))) bytes

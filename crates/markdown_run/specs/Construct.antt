@@ -25,6 +25,7 @@ use Rattle.markdown_label.specs.LabelEnd.{last_start, lost_fields}
 use Rattle.markdown_text.specs.Settings.{setting_of}
 use Rattle.markdown_model.specs.LabelEnd.{Element, starts}
 use Rattle.markdown_model.specs.Lines.{data_up_to}
+use Rattle.markdown_partial.specs.DataSteps.{stops_of}
 use Rattle.markdown_model.specs.Resource.{DestinationNames, StringNames, destination, title, label}
 use Rattle.markdown_model.specs.Single.{follows_escape}
 use Rattle.markdown_model.specs.Single as Single
@@ -95,7 +96,7 @@ destination_names s = record { whole = s.token_1; literal = s.token_2; marker = 
 abbrev pub string_names : TokenizeState → StringNames
 string_names s = record { whole = s.token_1; marker = s.token_2; text = s.token_3 }
 
--- what is read: what stands in the standard under the construct's name, where it is looked for; data up to the next marker; or the
+-- what is read: what stands in the standard under the construct's name, where it is looked for; data up to where it stops; or the
 -- whitespace that is asked for
 abbrev pub construct_reading : StateName → Tokenizer → TreeReading
 construct_reading CharacterEscapeStart T = Single.escape_here (options_here T)
@@ -108,7 +109,7 @@ construct_reading LabelStart T = label (string_names T.tokenize_state)
 construct_reading HtmlTextStart T = Single.html_here (options_here T)
 construct_reading RawTextStart T = Single.code_or_math_here (options_here T) (escaped_here T) (before_here T)
 construct_reading AttentionStart T = Single.run_here (options_here T)
-construct_reading DataStart T = data_up_to T.tokenize_state.markers
+construct_reading DataStart T = data_up_to (stops_of T.tokenize_state)
 construct_reading GfmTaskListItemCheckStart T = Single.check_here (options_here T) T.tokenize_state.document_at_first_paragraph_of_list_item (is_first_here T)
 construct_reading GfmAutolinkLiteralProtocolStart T = Single.protocol_here (options_here T) (bytes_here T) (end_here T) (before_here T)
 construct_reading GfmAutolinkLiteralWwwStart T = Single.www_here (options_here T) (bytes_here T) (end_here T) (before_here T)

@@ -34,6 +34,7 @@ use Rattle.markdown_model.specs.Element.{Choice, text_choice}
 use Rattle.markdown_model.specs.LabelEnd.{Element, plain}
 use Rattle.markdown_model.specs.Lines.{data_up_to, code_leaf}
 use Rattle.markdown_model.specs.Setting.{Setting}
+use Rattle.markdown_partial.specs.DataSteps.{stops_of}
 use Rattle.markdown_row.specs.Elements.{AreSingle, DataFinishes, Finishes, StandsAfter}
 use Rattle.markdown_text.specs.Settings.{text_setting_of}
 use Rattle.markdown_text.specs.Table.{Table, codes_in, said_at}
@@ -190,9 +191,9 @@ pub record StartReady (T : Tokenizer) : Type 0 where
   pub ends : LabelEnd.StartReady T
   pub last : EndsWithCodes T.cursor
 
--- each code of the content at which data does not stop is an element by itself
+-- each code of the content where data does not stop is an element by itself
 abbrev pub StopsAtElements : Tokenizer → Type 0
-StopsAtElements T = AreSingle (text_choice_of T) T.tokenize_state.markers T.cursor.codes
+StopsAtElements T = AreSingle (text_choice_of T) (stops_of T.tokenize_state) T.cursor.codes
 
 -- besides, data stops where another element may begin
 pub record IsMarked (T : Tokenizer) : Type 0 where
@@ -247,7 +248,7 @@ before_ends T false U = ⊥
 
 -- where it is not known what element the code at hand begins: data is read, and behind it so
 abbrev pub data_ends : Tokenizer → Bool → Tokenizer → Type 0
-data_ends T true U = DataFinishes (text_choice_of T) (data_up_to T.tokenize_state.markers) text_passed T U
+data_ends T true U = DataFinishes (text_choice_of T) (data_up_to (stops_of T.tokenize_state)) text_passed T U
 data_ends T false U = ⊥
 
 abbrev pub start_ends : Tokenizer → Bool → Tokenizer → Type 0

@@ -100,7 +100,7 @@ fn may_hold_literals(tokenizer: &Tokenizer) -> bool
             && sequences.rules_out(Sequence::WwwDot, 0))
 }
 
-// The bytes at which data of a text stops: those at which something is tried, but for the letters of literals where none may begin. The
+// The bytes at which data of a text may stop: those at which something is tried, but for the letters of literals where none may begin. The
 // sequences are those of the content.
 fn markers(tokenizer: &Tokenizer) -> ByteSet
     requires { tokenizer.now.tokenize_state.sequences ≡ Some (last_begins tokenizer.now.cursor.codes) }
@@ -293,7 +293,7 @@ fn index_domains(tokenizer: &mut Tokenizer) -> Result<(), AllocError>
 /// At the start of a text, where the check of a task may stand.
 ///
 /// One walk over the content finds the sequences that end HTML and resources, so that none is looked for in vain; and whether literals may
-/// begin, so that data need not stop at each of their letters, and spans. The others are made only where that walk has seen what they look
+/// begin, so that data need not look behind each of their letters, and spans. The others are made only where that walk has seen what they look
 /// for. Where a mark of a span stands, one finds the runs at which spans may close. Where many titles in parentheses may begin, and a
 /// resource may end behind one, one finds where each may end. Where many literals from `www.` on may begin behind a `_`, one finds at which
 /// of these places no domain begins. Where many names are defined and many labels may end, the names are put in order, so that each is
