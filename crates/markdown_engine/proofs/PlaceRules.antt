@@ -4,7 +4,7 @@ use Rattle.std.proofs.lemmas.Option.{same_Some}
 use Rattle.markdown_engine.specs.declared.parser.Piece.{Piece}
 use Rattle.markdown_engine.specs.Codes.{Code}
 use Rattle.markdown_engine.specs.Content.{content_of}
-use Rattle.markdown_engine.specs.Place.{Place, start_of_content, moved, ahead_at, value_of, start_or, stop_or, code_at, code_before, point_of, exit_point}
+use Rattle.markdown_engine.specs.Place.{Place, start_of_content, moved, ahead_at, value_of, start_or, stop_or, code_at, point_of, exit_point}
 use Rattle.markdown_engine.proofs.Cursors.{drop-some, drop-none, drop-past}
 
 -- Past a code.
@@ -20,11 +20,6 @@ at_moved p = refl
 pub end_moved : (p : Place) → (moved p).end ≡ p.end
 unfolding moved
 end_moved p = refl
-
--- the code before is the one that was at the place
-pub code_before_moved : (p : Place) → code_before (moved p) ≡ code_at p
-unfolding moved code_before code_at
-code_before_moved p = rw add-one refl
 
 -- At the start.
 

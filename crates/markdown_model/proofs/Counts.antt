@@ -1,5 +1,5 @@
 -- The numbers of steps that definitions count down are enough.
-use Rattle.std.proofs.Common.{◌≡◌, ℕ, zero, suc, ◌+◌, ◌≤◌, List, [], ◌∷◌, ◌++◌, length, refl, sym, ◌∙◌, ap, subst, arith, Option, Some, None}
+use Rattle.std.proofs.Common.{◌≡◌, ℕ, zero, suc, ◌+◌, ◌≤◌, List, [], ◌++◌, length, refl, sym, ◌∙◌, ap, subst, arith, Option, Some, None}
 use Rattle.std.specs.Str.{byte}
 use Rattle.markdown_engine.specs.Codes.{Code}
 use Rattle.markdown_model.specs.CodeTests.{is_value}

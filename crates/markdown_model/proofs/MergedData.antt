@@ -1,10 +1,10 @@
 -- After merging no two data without a link are neighbours.
-use Rattle.std.proofs.Common.{◌≡◌, false, List, ◌++◌, refl, None}
+use Rattle.std.proofs.Common.{List, refl, None}
 use Rattle.markdown_engine.specs.declared.event.Name.{Name}
 use Rattle.markdown_engine.specs.Codes.{Code}
 use Rattle.markdown_engine.specs.Tree.{Forest, empty, leaf_then, group_then}
 use Rattle.markdown_model.specs.Passes.{data_onto, merged}
-use Rattle.markdown_model.specs.Laws.{begins_data, IsDataApart, MergedDataIsApart}
+use Rattle.markdown_model.specs.Laws.{IsDataApart, MergedDataIsApart}
 
 apart-data_onto : (cs : List Code) (f : Forest) → IsDataApart f → IsDataApart (data_onto cs f)
 apart-data_onto cs empty h = (refl, h)

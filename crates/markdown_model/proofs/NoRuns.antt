@@ -4,16 +4,15 @@ use Rattle.std.specs.List.{list_all}
 use Rattle.markdown_engine.specs.declared.event.Name.{Name}
 use Rattle.markdown_engine.specs.Codes.{Code, is_blank}
 use Rattle.markdown_engine.specs.Tree.{Forest, empty, leaf_then, group_then, leaf, ◌⊕◌}
-use Rattle.markdown_model.specs.CodeTests.{is_real_space, is_value, is_empty, next_is, is_alphanumeric}
+use Rattle.markdown_model.specs.CodeTests.{is_real_space, is_value, is_alphanumeric}
 use Rattle.markdown_model.specs.Grammar.{span}
 use Rattle.markdown_model.specs.Email.{email_at, email_leaves, with_emails, is_local, is_xmpp, is_word, email_protocol, email_domain}
 use Rattle.std.specs.Str.{byte}
 use Rattle.markdown_model.specs.Setting.{Setting}
-use Rattle.markdown_model.specs.LabelEnd.{Element}
 use Rattle.markdown_model.specs.Runs.{Run, run_of, runs_of, marker_of}
 use Rattle.markdown_model.specs.Pairs.{Pair, pair_list}
 use Rattle.markdown_model.specs.Element.{elements_of}
-use Rattle.markdown_model.specs.Groups.{Token, item, opens, closes, nest, nested, onto, after_loose, joined, loose, pair_names, pair_group, closing_sizes, opening_sizes, cut_front, run_tokens, assembled, tokens_of, paired}
+use Rattle.markdown_model.specs.Groups.{Token, item, opens, closes, nest, onto, after_loose, joined, loose, pair_names, pair_group, closing_sizes, opening_sizes, cut_front, run_tokens, assembled, tokens_of, paired}
 use Rattle.markdown_model.specs.Passes.{data_onto, merged, begins_line_ending, is_nothing, blank_name, trimmed_data, trimmed, mailed, labels_of}
 use Rattle.markdown_model.specs.Inline.{raw_tree, finished_text, text_tree}
 use Rattle.markdown_model.specs.Laws.{is_run, HasNoRun, NoRunIsLeft}
