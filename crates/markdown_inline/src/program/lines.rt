@@ -228,7 +228,7 @@ fn push_event(text: &mut Vec<u8>, event: &Event, place: &mut Printed) -> Result<
 
 /// The lines of all events, in order. The only error is that memory was refused.
 ///
-/// Two events out of three stand where the one before them does, so the place that was printed last is kept.
+/// Events often stand where the one before them does, so the place that was printed last is kept.
 pub(crate) fn lines_of(alloc: Global, events: &[Event]) -> Result<Vec<u8>, AllocError>
     ensures { IfOk result (λ text. text.items ≡ lines_of events.now) }
 {
