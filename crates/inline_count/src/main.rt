@@ -2,39 +2,13 @@
 //! Words are the identifiers of definitions.
 #![tactic(auto)]
 
-use markdown_engine::configuration::{Constructs, ParseOptions};
 use markdown_engine::parser::ParseState;
+use markdown_inline::options::ALL_CONSTRUCTS;
 use markdown_inline::run::{self, Piece};
 use std::alloc::{AllocError, Global};
 use std::env;
 use std::io::Read;
 use std::process::ExitCode;
-
-// All constructs.
-const OPTIONS: ParseOptions = ParseOptions {
-    constructs: Constructs {
-        attention: true,
-        autolink: true,
-        character_escape: true,
-        character_reference: true,
-        code_text: true,
-        gfm_autolink_literal: true,
-        gfm_label_start_footnote: true,
-        gfm_strikethrough: true,
-        gfm_task_list_item: true,
-        hard_break_escape: true,
-        hard_break_trailing: true,
-        html_text: true,
-        label_start_image: true,
-        label_start_link: true,
-        label_end: true,
-        math_text: true,
-    },
-    gfm_strikethrough_single_tilde: true,
-    math_text_single_dollar: true,
-    attention_first_lengths: false,
-    label_shortcut_before_bracket: false,
-};
 
 // The number of events of a whole document; none where that is no text. It is no part of its caller when it runs, so that its work can be told
 // from that of the program.
@@ -42,7 +16,7 @@ const OPTIONS: ParseOptions = ParseOptions {
 fn count(alloc: Global, bytes: &[u8], words: Vec<String>) -> Result<Option<usize>, AllocError> {
     let parse_state = ParseState {
         bytes,
-        options: &OPTIONS,
+        options: &ALL_CONSTRUCTS,
         definitions: words,
         gfm_footnote_definitions: Vec::new(alloc),
     };

@@ -1,5 +1,5 @@
 -- A tokenizer at rest that keeps one start is ready for the end of its label.
-use Rattle.std.proofs.Common.{◌≡◌, ◌≤◌, ◌<◌, ◌++◌, ◌∷◌, false, List, [], None, Result, Ok, Err, IfOk, OnOk, length, ap, sym, subst, ◌∙◌, arith}
+use Rattle.std.proofs.Common.{◌≡◌, ◌≤◌, ◌<◌, ◌++◌, ◌∷◌, false, List, [], Result, Ok, Err, IfOk, OnOk, length, ap, sym, subst, ◌∙◌, arith}
 use Rattle.std.specs.Str.{IsCharBoundary}
 use Rattle.std.proofs.lemmas.Str.{IsCharBoundary-start}
 use Rattle.markdown_construct.specs.Characters.{bytes_of, ReadsText}

@@ -1,5 +1,4 @@
 // Single passes. Each pass that the states of a content register is called by its name.
-ghost use Rattle.std.specs.Prelude.{◌≡◌, IfOk, OnErr, IsTrue};
 ghost use Rattle.markdown_engine.specs.Content.{IsContent, IsTextContent};
 ghost use Rattle.markdown_engine.specs.Resolves.{MayResolve, unregistered};
 ghost use Rattle.markdown_text.specs.Resolve.{may_resolve_of, resolves_of};

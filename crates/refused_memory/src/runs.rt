@@ -1,37 +1,11 @@
 // Whole runs, and the leaves of what they find.
 use crate::Came;
 use crate::rows::{BARRED, GROUPS, LEAVES, NAMED, QUOTED, Row, STRINGS, TITLED};
-use markdown_engine::configuration::{Constructs, ParseOptions};
 use markdown_engine::event::{Event, Kind, Name};
 use markdown_engine::parser::ParseState;
+use markdown_inline::options::ALL_CONSTRUCTS;
 use markdown_inline::run::{self, Piece};
 use std::alloc::{AllocError, Global};
-
-// All constructs.
-pub(crate) const OPTIONS: ParseOptions = ParseOptions {
-    constructs: Constructs {
-        attention: true,
-        autolink: true,
-        character_escape: true,
-        character_reference: true,
-        code_text: true,
-        gfm_autolink_literal: true,
-        gfm_label_start_footnote: true,
-        gfm_strikethrough: true,
-        gfm_task_list_item: true,
-        hard_break_escape: true,
-        hard_break_trailing: true,
-        html_text: true,
-        label_start_image: true,
-        label_start_link: true,
-        label_end: true,
-        math_text: true,
-    },
-    gfm_strikethrough_single_tilde: true,
-    math_text_single_dollar: true,
-    attention_first_lengths: false,
-    label_shortcut_before_bracket: false,
-};
 
 // How a content is read, and what is defined, as definitions and as footnotes.
 #[derive(Clone, Copy)]
@@ -82,7 +56,7 @@ pub(crate) fn state_of<'a>(
 ) -> Result<ParseState<'a>, AllocError> {
     Ok(ParseState {
         bytes: document.as_bytes(),
-        options: &OPTIONS,
+        options: &ALL_CONSTRUCTS,
         definitions: owned(alloc, defined)?,
         gfm_footnote_definitions: owned(alloc, defined)?,
     })

@@ -2,7 +2,7 @@
 ghost use Rattle.std.specs.Prelude.{◌≡◌, None};
 
 use crate::Came;
-use crate::runs::{OPTIONS, piece};
+use crate::runs::piece;
 use markdown_engine::event::{Content, Event, Kind, Name, Point};
 use markdown_engine::parser::ParseState;
 use markdown_engine::state::StateName;
@@ -10,6 +10,7 @@ use markdown_engine::tokenizer::Tokenizer;
 use markdown_engine::util::skip::to_back;
 use markdown_engine::util::slice::{Position, Slice};
 use markdown_engine::walk::walk_to;
+use markdown_inline::options::ALL_CONSTRUCTS;
 use markdown_inline::run::{Piece, is_content, is_text};
 use markdown_inline::util::char::{
     Kind as Class, after_index, before_index, classify_opt, kind_after_index,
@@ -161,7 +162,7 @@ fn is_passed(tokenizer: &mut Tokenizer) -> bool {
 fn is_begun(alloc: Global) -> bool {
     let parse_state = ParseState {
         bytes: b"a b",
-        options: &OPTIONS,
+        options: &ALL_CONSTRUCTS,
         definitions: Vec::new(alloc),
         gfm_footnote_definitions: Vec::new(alloc),
     };

@@ -1,6 +1,7 @@
 // Numbers, texts, options and documents that are drawn by a seed.
 use crate::drawn::parts::{CHECKS, ENDINGS, MORE, PAIRS, PARTS};
 use markdown_engine::configuration::{Constructs, ParseOptions};
+use markdown_inline::options::ALL_CONSTRUCTS;
 use std::alloc::{AllocError, Global};
 
 // A row of numbers that look as if they were thrown, and are the same for the same seed: each is the upper half of what a multiplication
@@ -160,30 +161,10 @@ pub(crate) fn repeated(
     Ok(growing.lines)
 }
 
-// All constructs.
-const ALL: Constructs = Constructs {
-    attention: true,
-    autolink: true,
-    character_escape: true,
-    character_reference: true,
-    code_text: true,
-    gfm_autolink_literal: true,
-    gfm_label_start_footnote: true,
-    gfm_strikethrough: true,
-    gfm_task_list_item: true,
-    hard_break_escape: true,
-    hard_break_trailing: true,
-    html_text: true,
-    label_start_image: true,
-    label_start_link: true,
-    label_end: true,
-    math_text: true,
-};
-
 // All constructs, or most of them.
 fn constructs(drawing: &mut Drawing) -> Constructs {
     if drawing.mostly() {
-        return ALL;
+        return ALL_CONSTRUCTS.constructs;
     }
     Constructs {
         attention: drawing.mostly(),
