@@ -10,7 +10,7 @@ use Rattle.markdown_leaf.specs.CharacterEscape.{escape_here}
 use Rattle.markdown_leaf.specs.CharacterReference.{reference_here}
 use Rattle.markdown_model.specs.Element.{string_choice}
 use Rattle.markdown_model.specs.Lines.{data_up_to}
-use Rattle.markdown_partial.specs.DataSteps.{begins_none, looks, marks, stops_at, stops_by, stops_of}
+use Rattle.markdown_partial.specs.DataSteps.{begins_none, marks, stops_at, stops_by, stops_of}
 use Rattle.markdown_util.specs.Reference.{html_5_rows}
 use Rattle.markdown_row.specs.Elements.{Advances, Finishes}
 use Rattle.markdown_row.specs.Row.{kinds_of}
@@ -61,18 +61,18 @@ reference-past T U none k =
     node-advances (string_here T) (reference_here T) T U k node.0 node.1 (λ earlier previous stands. referenced-element (setting_of T.parse_state.now) (ahead T) k.tree k.rest none k.holds)
 
 -- no marker of strings is a letter of literals, so data stops at each of them
-marker-stops : (looks : Bool) (v : ℕ) (next : Option ℕ) → stops_at looks string_markers v next ≡ false → marks string_markers v ≡ false
-marker-stops looks v next h = by_mark (marks string_markers v) refl h
+marker-stops : (passes : Bool) (v : ℕ) (next : Option ℕ) → stops_at passes string_markers v next ≡ false → marks string_markers v ≡ false
+marker-stops passes v next h = by_mark (marks string_markers v) refl h
   where
     stops : (b : Bool) → not (b && false) ≡ false → true ≡ false
     stops true k = k
     stops false k = k
 
-    by_mark : (b : Bool) → marks string_markers v ≡ b → (b && not (looks && begins_none v next)) ≡ false → b ≡ false
+    by_mark : (b : Bool) → marks string_markers v ≡ b → (b && not (passes && begins_none v next)) ≡ false → b ≡ false
     by_mark false e k = refl
     by_mark true e k =
         let none : begins_none v next ≡ false = one-of (λ n. begins_none n next ≡ false) string_markers v (refl, (refl, tt)) e in
-        stops looks (ap (λ b. not (looks && b)) (sym none) ∙ k)
+        stops passes (ap (λ b. not (passes && b)) (sym none) ∙ k)
 
 pub data-past : (T U : Tokenizer) → T.tokenize_state.markers ≡ string_markers → current_of T ≢ None → escape_here T (ahead T) ≡ None → reference_here T (ahead T) ≡ None → Reads (data_up_to (stops_of T.tokenize_state)) None T.tokenize_state T U → Passes T U
 data-past T U marked some none plain_code k =
@@ -80,4 +80,4 @@ data-past T U marked some none plain_code k =
     data-advances (string_here T) (stops_of T.tokenize_state) T U a.0 a.1.0 a.1.1 k
     (λ earlier previous stands. single-element (setting_of T.parse_state.now) a.0 a.1.0 (ap (escape_here T) (sym a.1.1) ∙ none) (ap (reference_here T) (sym a.1.1) ∙ plain_code))
     (λ front earlier previous c cs w free. unmarked-element T.parse_state.now c cs
-    (marker-stops (looks T.tokenize_state) c.value (value_of (first_of cs)) (ap (λ (ms : List ℕ). stops_by (looks T.tokenize_state) ms (c ∷ cs)) (sym marked) ∙ free)))
+    (marker-stops T.tokenize_state.passes_letters c.value (value_of (first_of cs)) (ap (λ (ms : List ℕ). stops_by T.tokenize_state.passes_letters ms (c ∷ cs)) (sym marked) ∙ free)))

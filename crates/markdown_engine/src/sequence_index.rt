@@ -1,5 +1,5 @@
 // Where the last of some sequences of bytes begins.
-ghost use Rattle.std.specs.Prelude.{◌≡◌, ◌-◌, Some, None, cond, is_some};
+ghost use Rattle.std.specs.Prelude.{◌≡◌, ◌-◌, Some, None, cond};
 ghost use Rattle.markdown_engine.specs.Place.{ahead_at, code_at};
 ghost use Rattle.markdown_engine.specs.SequenceIndex.{begun_at, closes_past_spacing, closes_twice, is_behind_w, is_spacing, last_begins, last_in, rules_out, shows_at, stand_next, stop_bytes};
 ghost use Rattle.markdown_engine.specs.declared.sequence_index.Sequence.{Sequence as Kind};
@@ -117,13 +117,6 @@ impl SequenceIndex {
             place.consume();
         }
         SequenceIndex { last: Some(last) }
-    }
-
-    /// Whether the sequences of a content are known.
-    pub fn is_known(&self) -> bool
-        ensures { result ≡ is_some self.now }
-    {
-        self.last.is_some()
     }
 
     /// Whether it is known that the sequence does not begin at this many codes or after.

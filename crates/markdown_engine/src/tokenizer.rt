@@ -65,7 +65,8 @@ pub struct Label {
 }
 
 /// The scratch fields of the states: what one state leaves for another. Each is at rest between two constructs, but for the lists of
-/// labels, `markers`, `probes`, `runs`, `sequences`, `titles`, `no_domains`, `names` and `document_at_first_paragraph_of_list_item`.
+/// labels, `markers`, `passes_letters`, `probes`, `runs`, `sequences`, `titles`, `no_domains`, `names` and
+/// `document_at_first_paragraph_of_list_item`.
 ///
 /// Some of them mean one thing in one construct, and another in the next:
 ///
@@ -112,8 +113,11 @@ pub struct TokenizeState {
     pub seen: bool,
     /// Whether the next linked event goes on with a chain; false at rest.
     pub connect: bool,
-    /// The bytes at which data stops; where `sequences` is known, at an `h` only before a `t`, and at a `w` before another, as literals begin.
+    /// The bytes at which data stops.
     pub markers: ByteSet,
+    /// Whether data goes on past a marker that is an `h` before no `t` or a `w` before no other, with which no literal begins (GFM 6.9); false at
+    /// rest.
+    pub passes_letters: bool,
     /// A name for a partial construct; `Data` at rest, as the four below.
     pub token_1: Name,
     /// The second name.
@@ -179,6 +183,7 @@ impl TokenizeState {
             seen: false,
             connect: false,
             markers: byte_set!(),
+            passes_letters: false,
             token_1: Name::Data,
             token_2: Name::Data,
             token_3: Name::Data,

@@ -13,6 +13,7 @@ use markdown_engine::bytes::ByteSet;
 use markdown_engine::configuration::{Constructs, ParseOptions};
 use markdown_engine::event::{Content, Link, Name};
 use markdown_engine::parser::ParseState;
+use markdown_engine::sequence_index::SequenceIndex;
 use markdown_engine::state::StateName;
 use markdown_engine::tokenizer::Tokenizer;
 use markdown_inline::run::{Piece, construct, is_content};
@@ -99,11 +100,12 @@ fn is_spacing_at_rest(tokenizer: &Tokenizer) -> bool {
         && !state.space_or_tab_eol_ok
 }
 
-// Sets the bytes at which data stops.
+// Sets the bytes at which data stops, and makes the sequences of the content known, which changes nothing for data.
 fn mark(tokenizer: &mut Tokenizer, markers: ByteSet)
     ensures { tokenizer.new.attempts ≡ tokenizer.old.attempts }
 {
     tokenizer.tokenize_state.markers = markers;
+    tokenizer.tokenize_state.sequences = SequenceIndex::over(&tokenizer.cursor);
 }
 
 // What a construct leaves of a text: whether it holds, how many events there are, and the index of the place.
@@ -133,7 +135,7 @@ fn left(tokenizer: &Tokenizer, held: bool) -> Left {
     (held, tokenizer.events.len(), tokenizer.point().index)
 }
 
-// Reads one construct at the place. Data stops at an asterisk and at an `h`, whatever comes behind.
+// Reads one construct at the place. Data stops at an asterisk and at an `h`, whatever comes behind and whatever is known of the content.
 fn read_here(tokenizer: &mut Tokenizer, name: StateName) -> Result<Left, AllocError>
     requires alone { tokenizer.old.attempts ≡ [] }
     requires reference { IsConstruct CharacterReferenceStart tokenizer.old }
@@ -162,6 +164,19 @@ fn read_text(
     assert!(rt; is_content(parse_state.bytes, &pieces));
     let mut tokenizer = at_start(alloc, &parse_state, &pieces);
     read_here(&mut tokenizer, name)
+}
+
+// Reads data at the start of a text, which stops at an asterisk and at an `h` and a `w` of either case, but goes on past letters with which no literal begins.
+fn read_past_letters(rt: &impl Abort, alloc: Global, text: &str) -> Result<Left, AllocError> {
+    let options = ParseOptions::default();
+    let parse_state = state_of(alloc, text.as_bytes(), &options);
+    let pieces = [piece((0, 0), (text.len(), 0))];
+    assert!(rt; is_content(parse_state.bytes, &pieces));
+    let mut tokenizer = at_start(alloc, &parse_state, &pieces);
+    mark(&mut tokenizer, byte_set!(b'*', b'H', b'W', b'h', b'w'));
+    tokenizer.tokenize_state.passes_letters = true;
+    let held = construct(StateName::DataStart, &mut tokenizer)?;
+    Ok(left(&tokenizer, held))
 }
 
 // Reads one construct at the start of each text, and compares what it leaves.
@@ -211,6 +226,25 @@ fn reads_single_data(rt: HostRuntime) -> Result<(), Fail> {
     ];
     let options = ParseOptions::default();
     expect(&rt, rt.alloc(), &options, StateName::DataStart, &rows)?;
+    Ok(())
+}
+
+#[test]
+fn reads_data_past_letters(rt: HostRuntime) -> Result<(), Fail> {
+    let rows = [
+        ("ah", (true, 2, 2)),
+        ("ahe*", (true, 2, 3)),
+        ("aht", (true, 2, 1)),
+        ("aHT", (true, 2, 1)),
+        ("awa", (true, 2, 3)),
+        ("awW", (true, 2, 1)),
+        ("ahww", (true, 2, 2)),
+        ("wh\nh", (true, 6, 4)),
+    ];
+    for (text, want) in rows {
+        let got = read_past_letters(&rt, rt.alloc(), text)?;
+        assert_eq!(rt; got, want, "{text}");
+    }
     Ok(())
 }
 

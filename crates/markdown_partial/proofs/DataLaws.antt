@@ -22,7 +22,7 @@ use Rattle.markdown_engine.proofs.OpRules.{Begins, ahead-consumed, ahead-none, a
 use Rattle.markdown_engine.proofs.OpsLemmas.{ahead-done, left-done, scratch-done}
 use Rattle.markdown_engine.proofs.TreeLemmas.{done-leaf, leaf-past, ahead-past}
 use Rattle.markdown_model.specs.Lines.{data_up_to}
-use Rattle.markdown_partial.specs.DataSteps.{inside_step, inside_stops, marks, begins_none, looks, stops_at, stops_of, next_of, stops_here, ending, opening, passing, start_at, at_break_at, leaving, inside_at, more_data, ends_stretch, stretch_of, past_stretch, start_ends, at_break_ends, inside_ends, states, at_break_words, inside_words, start_words}
+use Rattle.markdown_partial.specs.DataSteps.{inside_step, inside_stops, marks, begins_none, stops_at, stops_of, next_of, stops_here, ending, opening, passing, start_at, at_break_at, leaving, inside_at, more_data, ends_stretch, stretch_of, past_stretch, start_ends, at_break_ends, inside_ends, states, at_break_words, inside_words, start_words}
 use Rattle.markdown_partial.proofs.RunLemmas.{EndsAs-same, EndsAs-here}
 use Rattle.markdown_partial.proofs.LineLemmas.{up_to_break, data-then, ending-then, more-goes, more-stops, break-stops, break-goes}
 use Rattle.markdown_model.proofs.Leaves.{until-append}
@@ -38,7 +38,7 @@ next-ahead T = current-ahead (consumed T) ∙ ap (λ cs. value_of (first_of cs))
 
 -- whether data stops at the codes ahead, by the value at hand
 stops-is : (T : Tokenizer) (v : ℕ) → (e : current_of T ≡ Some v) → stops_of T.tokenize_state ((ahead-some T v e).code ∷ rest_of (ahead T)) ≡ stops_here T v
-stops-is T v e = λ i. stops_at (looks T.tokenize_state) T.tokenize_state.markers ((ahead-some T v e).value i) (sym (next-ahead T) i)
+stops-is T v e = λ i. stops_at T.tokenize_state.passes_letters T.tokenize_state.markers ((ahead-some T v e).value i) (sym (next-ahead T) i)
 
 breaks-is : (T : Tokenizer) (v : ℕ) → (e : current_of T ≡ Some v) → (let c : Code = (ahead-some T v e).code in is_line_ending c || stops_of T.tokenize_state (c ∷ rest_of (ahead T))) ≡ ((v == 10) || stops_here T v)
 breaks-is T v e = λ i. ((ahead-some T v e).value i == 10) || stops-is T v e i
@@ -198,5 +198,5 @@ pub inside-steady : (T : Tokenizer) (set : List ℕ) → inside_stops T.tokenize
 inside-steady T set known free =
     steady-at set T inside_at (stepped (Next DataInside) (consumed T)) free (λ v a b.
     let same : T.tokenize_state.markers ≡ set = cc in
-    let other : stops_here T v ≡ false = ap (λ x. x && not (looks T.tokenize_state && begins_none v (next_of T))) (ap (λ (m : List ℕ). marks m v) same ∙ b) in
+    let other : stops_here T v ≡ false = ap (λ x. x && not (T.tokenize_state.passes_letters && begins_none v (next_of T))) (ap (λ (m : List ℕ). marks m v) same ∙ b) in
     rw (a, other) refl)

@@ -1,5 +1,5 @@
 -- What the states of data do, and how runs from them end.
-use Rattle.std.specs.Prelude.{ℕ, Bool, ◌||◌, ◌&&◌, false, not, ◌==◌, if◌then◌else◌, Option, Some, None, is_some, List, [], ◌∷◌, codes}
+use Rattle.std.specs.Prelude.{ℕ, Bool, ◌||◌, ◌&&◌, false, not, ◌==◌, if◌then◌else◌, Option, Some, None, List, [], ◌∷◌, codes}
 use Rattle.std.specs.List.{list_any}
 use Rattle.markdown_engine.specs.Codes.{Code, is_line_ending}
 use Rattle.markdown_engine.specs.Lists.{first_of}
@@ -35,28 +35,24 @@ abbrev pub begins_none : ℕ → Option ℕ → Bool
 begins_none v next =
     if marks (codes "Hh") v then not (is_some_mark (codes "Tt") next) else if marks (codes "Ww") v then not (is_some_mark (codes "Ww") next) else false
 
--- data stops at its markers, by the value at hand and the one behind it; if it looks at that one, it passes the letters with which no literal begins
+-- data stops at its markers, by the value at hand and the one behind it; but it may pass the letters with which no literal begins
 abbrev pub stops_at : Bool → List ℕ → ℕ → Option ℕ → Bool
-stops_at looks markers v next = marks markers v && not (looks && begins_none v next)
+stops_at passes markers v next = marks markers v && not (passes && begins_none v next)
 
 abbrev pub stops_by : Bool → List ℕ → List Code → Bool
-stops_by looks markers [] = false
-stops_by looks markers (c ∷ cs) = stops_at looks markers c.value (value_of (first_of cs))
+stops_by passes markers [] = false
+stops_by passes markers (c ∷ cs) = stops_at passes markers c.value (value_of (first_of cs))
 
--- data looks at the value behind where the content's sequences are known, as those of a text are
-abbrev pub looks : TokenizeState → Bool
-looks s = is_some s.sequences
-
--- what comes, where data stops
+-- what comes, where data stops: at each of its markers, but where it is told to pass such letters, as in a text, not at those
 abbrev pub stops_of : TokenizeState → List Code → Bool
-stops_of s = stops_by (looks s) s.markers
+stops_of s = stops_by s.passes_letters s.markers
 
 -- the value behind the code at hand
 abbrev pub next_of : Tokenizer → Option ℕ
 next_of T = code_at (moved T.cursor)
 
 abbrev pub stops_here : Tokenizer → ℕ → Bool
-stops_here T v = stops_at (looks T.tokenize_state) T.tokenize_state.markers v (next_of T)
+stops_here T v = stops_at T.tokenize_state.passes_letters T.tokenize_state.markers v (next_of T)
 
 -- What the states do.
 

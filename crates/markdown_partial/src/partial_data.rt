@@ -44,13 +44,13 @@ fn begins_none(tokenizer: &Tokenizer, byte: u8) -> bool
     }
 }
 
-// Whether data stops at the code at hand, line endings aside: at a marker, but in a text at no letter with which none of its literals begins.
+// Whether data stops at the code at hand, line endings aside: at a marker, but where it is to pass them, at no letter with which no literal begins.
 fn stops(tokenizer: &Tokenizer, byte: u8) -> bool
     requires { current_of tokenizer.now ≡ Some byte }
     ensures { result ≡ stops_here tokenizer.now byte }
 {
     let fields = &tokenizer.tokenize_state;
-    fields.markers.contains(byte) && !(fields.sequences.is_known() && begins_none(tokenizer, byte))
+    fields.markers.contains(byte) && !(fields.passes_letters && begins_none(tokenizer, byte))
 }
 
 // Passes the code at hand, a line ending or the first code of a stretch.
@@ -103,8 +103,8 @@ pub fn at_break(tokenizer: &mut Tokenizer) -> Result<State, AllocError>
 
 /// In a stretch of data, which ends before a line ending, a marker or the end.
 ///
-/// Where the sequences of the content are known, as those of a text are, it goes on past a letter with which a literal may begin (GFM 6.9) but
-/// none does: an `h` before no `t`, or a `w` before no other.
+/// Where the scratch field `passes_letters` is set, as in a text, it goes on past a marker that is a letter with which a literal may begin
+/// (GFM 6.9) but none does: an `h` before no `t`, or a `w` before no other.
 ///
 ///     > | plain *
 ///          ^^^^^^

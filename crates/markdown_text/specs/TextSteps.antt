@@ -117,12 +117,14 @@ domains_pay cs p = (p.options.now.constructs.gfm_autolink_literal && holds WwwDo
 abbrev pub domains_for : List Code → ℕ → ParseState → Option (List ℕ)
 domains_for cs end p = if domains_pay cs p then Some (no_domains p.bytes.now end cs) else None
 
--- the scratch fields of a text of this content: where data stops, where the last runs begin at which spans may close, where the sequences
--- last begin that end HTML and resources, where titles may end, where no domain begins, and the names of what is defined
+-- the scratch fields of a text of this content: where data stops, and that it passes letters with which no literal begins; where the last runs
+-- begin at which spans may close, where the sequences last begin that end HTML and resources, where titles may end, where no domain begins, and
+-- the names of what is defined
 abbrev pub marked_fields : Place → ParseState → TokenizeState → TokenizeState
 marked_fields c p s =
     record s {
       markers = markers_for c.codes p;
+      passes_letters = true;
       runs = last_runs span_markers c.codes;
       sequences = Some (last_begins c.codes);
       titles = titles_for c.codes;

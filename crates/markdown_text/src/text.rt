@@ -309,6 +309,7 @@ pub fn start(tokenizer: &mut Tokenizer) -> Result<State, AllocError>
 {
     tokenizer.tokenize_state.sequences = SequenceIndex::over(&tokenizer.cursor);
     tokenizer.tokenize_state.markers = markers(tokenizer);
+    tokenizer.tokenize_state.passes_letters = true;
     index_titles(tokenizer)?;
     index_runs(tokenizer)?;
     index_domains(tokenizer)?;
