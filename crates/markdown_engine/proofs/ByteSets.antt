@@ -1,9 +1,9 @@
 -- What the table of a set of bytes says.
-use Rattle.std.proofs.Common.{ℕ, zero, suc, ◌+◌, ◌<◌, Bool, true, false, not, ◌==◌, ◌≡◌, arith, List, [], ◌∷◌, get_or, refl, ap, ◌∙◌}
+use Rattle.std.proofs.Common.{ℕ, zero, suc, ◌+◌, ◌<◌, Bool, true, false, not, ◌&&◌, ◌||◌, nat_lt, ◌==◌, ◌≡◌, arith, List, [], ◌∷◌, get_or, refl, ap, subst, ◌∙◌, inl, inr}
 use Rattle.std.specs.List.{list_any}
-use Rattle.std.proofs.lemmas.Bool.{both_ways, and_parts, eqb-true}
+use Rattle.std.proofs.lemmas.Bool.{both_ways, and_parts, or_parts, eqb-true, not-true, cases_Bool, cases_lt}
 use Rattle.std.proofs.lemmas.Bool.Decides.{nat_tests}
-use Rattle.markdown_engine.specs.Plain.{is_plain, same, is_plain_from, is_plain_table}
+use Rattle.markdown_engine.specs.Plain.{is_plain, same, is_plain_from, is_plain_table, is_word, spares_words, ArePlain, AreWords}
 
 same-is : (b c : Bool) → same b c ≡ true → b ≡ c
 same-is true true h = refl
@@ -34,3 +34,36 @@ contained-above set table b h lt above =
 
 pub plain-parts : (set : List ℕ) (b : ℕ) → is_plain set b ≡ true → (13 < b) × (list_any (λ n. b == n) set ≡ false)
 plain-parts set b h = grind (arith, nat_tests)
+
+-- a byte of words is none of a set that spares them
+not-held : (set : List ℕ) (b : ℕ) → is_word b ≡ true → list_any is_word set ≡ false → list_any (λ n. b == n) set ≡ false
+not-held [] b w h = refl
+not-held (n ∷ ns) b w h =
+    let parts = or_parts (is_word n) (list_any is_word ns) h in
+    elim (cases_Bool (b == n)) [
+      | inl e ↦ absurd (both_ways (is_word n) parts.0 (subst (λ (x : ℕ). is_word x ≡ true) (eqb-true b n e) w))
+      | inr e ↦ ap (λ (t : Bool). t || list_any (λ m. b == m) ns) e ∙ not-held ns b w parts.1
+    ]
+
+above-13 : (b : ℕ) → is_word b ≡ true → nat_lt 13 b ≡ true
+above-13 b w = grind (arith, nat_tests)
+
+word-plain : (set : List ℕ) (b : ℕ) → spares_words set ≡ true → is_word b ≡ true → is_plain set b ≡ true
+word-plain set b spares w =
+    ap (λ (t : Bool). t && not (list_any (λ n. b == n) set)) (above-13 b w) ∙ ap not (not-held set b w (not-true _ spares))
+
+-- ordinary bytes, and bytes of words behind them
+pub more-words : (set bytes : List ℕ) (from index to : ℕ) → spares_words set ≡ true → ArePlain set bytes from index → AreWords bytes index to → ArePlain set bytes from to
+more-words set bytes from index to spares before words i low high =
+    elim (cases_lt i index) [
+      | inl k ↦ before i low k
+      | inr k ↦ word-plain set (get_or bytes i 0) spares (words i k high)
+    ]
+
+-- ordinary bytes, and one more of them
+pub one-more : (set bytes : List ℕ) (from index : ℕ) → ArePlain set bytes from index → is_plain set (get_or bytes index 0) ≡ true → ArePlain set bytes from (index + 1)
+one-more set bytes from index before here i low high =
+    elim (cases_lt i index) [
+      | inl k ↦ before i low k
+      | inr k ↦ ap (λ (j : ℕ). is_plain set (get_or bytes j 0)) (omega (arith, k, high)) ∙ here
+    ]

@@ -45,6 +45,7 @@ pub mod SolidLemmas
 pub mod Bounds
 pub mod ByteSets
 pub mod EightPlain
+pub mod LaneLemmas
 pub mod PlainRuns
 pub mod Stretches
 pub mod SteadyLemmas

@@ -1,6 +1,8 @@
 -- Bytes over which text goes on at once.
-use Rattle.std.specs.Prelude.{◌≡◌, ℕ, suc, ◌<◌, ◌≤◌, Bool, true, not, ◌&&◌, nat_lt, nat_le, ◌==◌, if◌then◌else◌, List, [], ◌∷◌, length, take, get_or}
+use Rattle.std.specs.Prelude.{◌≡◌, ℕ, suc, ◌<◌, ◌≤◌, Bool, true, not, ◌&&◌, ◌||◌, nat_lt, nat_le, ◌==◌, if◌then◌else◌, List, [], ◌∷◌, length, take, get_or}
 use Rattle.std.specs.List.{list_all, list_any}
+use Rattle.std.specs.Str.{byte}
+use Rattle.std.specs.Int.{w64, trailing_zeros}
 
 -- neither a tab nor of a line ending, and none of these bytes
 abbrev pub is_plain : List ℕ → ℕ → Bool
@@ -25,3 +27,19 @@ is_plain_table set table = is_plain_from 0 set table
 -- all bytes of a range are such
 abbrev pub ArePlain : List ℕ → List ℕ → ℕ → ℕ → Type 0
 ArePlain set bytes from to = (i : ℕ) → from ≤ i → i < to → is_plain set (get_or bytes i 0) ≡ true
+
+-- what words are of, and what stands between most of them: a letter, the space, or a byte beyond ASCII
+abbrev pub is_word : ℕ → Bool
+is_word b = b == byte " " || (nat_le (byte "A") b && nat_le b (byte "Z")) || (nat_le (byte "a") b && nat_le b (byte "z")) || nat_le 128 b
+
+-- none of these bytes is such
+abbrev pub spares_words : List ℕ → Bool
+spares_words set = not (list_any is_word set)
+
+-- all bytes of a range are such
+abbrev pub AreWords : List ℕ → ℕ → ℕ → Type 0
+AreWords bytes from to = (i : ℕ) → from ≤ i → i < to → is_word (get_or bytes i 0) ≡ true
+
+-- the place of the lowest bit that is set among sixteen, or sixteen
+abbrev pub first_set : ℕ → ℕ
+first_set mask = if mask == 0 then 16 else trailing_zeros w64 mask

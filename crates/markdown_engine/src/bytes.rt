@@ -1,7 +1,7 @@
 // Sets of bytes, and which bytes text goes on over at once.
 ghost use Rattle.std.specs.List.{list_any};
 ghost use Rattle.std.specs.Prelude.{◌≡◌, ◌==◌, ◌∷◌, [], ℕ, IsTrue};
-ghost use Rattle.markdown_engine.specs.Plain.{is_plain, are_eight_plain, is_plain_table};
+ghost use Rattle.markdown_engine.specs.Plain.{is_plain, are_eight_plain, is_plain_table, spares_words};
 
 use std::marker::Model;
 
@@ -13,26 +13,34 @@ pub struct ByteSet {
     bytes: &'static [u8],
     // For each byte, whether it is ordinary: above 13, and not of the set.
     plain: &'static [bool; 256],
+    // Whether no byte of words is of the set.
+    words_are_plain: bool,
 }
 
 impl Model for ByteSet {
-    ghost use Rattle.std.specs.Prelude.{List, ℕ, IsTrue};
-    ghost use Rattle.markdown_engine.specs.Plain.{is_plain_table};
+    ghost use Rattle.std.specs.Prelude.{◌≡◌, List, ℕ, IsTrue};
+    ghost use Rattle.markdown_engine.specs.Plain.{is_plain_table, spares_words};
 
     ghost Value = { List ℕ };
 
     ghost view = { λ s. s.bytes.now };
 
-    ghost invariant = { λ s. IsTrue (is_plain_table s.bytes.now s.plain.now) };
+    ghost invariant = { λ s. IsTrue (is_plain_table s.bytes.now s.plain.now) × (s.words_are_plain ≡ spares_words s.bytes.now) };
 }
 
 impl ByteSet {
-    /// These bytes, with the table that says for each byte whether it is above 13 and none of them.
-    pub fn new(bytes: &'static [u8], plain: &'static [bool; 256]) -> ByteSet
-        requires { IsTrue (is_plain_table bytes.now plain.now) }
+    /// These bytes, with the table that says for each byte whether it is above 13 and none of them, and with whether none of them is a
+    /// letter, the space or a byte beyond ASCII.
+    pub fn new(bytes: &'static [u8], plain: &'static [bool; 256], words_are_plain: bool) -> ByteSet
+        requires table { IsTrue (is_plain_table bytes.now plain.now) }
+        requires words { words_are_plain ≡ spares_words bytes.now }
         ensures { result ≡ bytes.entry.now }
     {
-        ByteSet { bytes, plain }
+        ByteSet {
+            bytes,
+            plain,
+            words_are_plain,
+        }
     }
 
     /// The same bytes once more.
@@ -42,6 +50,7 @@ impl ByteSet {
         ByteSet {
             bytes: self.bytes,
             plain: self.plain,
+            words_are_plain: self.words_are_plain,
         }
     }
 
@@ -70,6 +79,13 @@ impl ByteSet {
         self.plain[byte as usize]
     }
 
+    // Whether none of these is a letter, the space or a byte beyond ASCII.
+    pub(crate) fn spares_words(&self) -> bool
+        ensures { result ≡ spares_words self.now }
+    {
+        self.words_are_plain
+    }
+
     // Whether eight bytes come first, and all of them are ordinary.
     pub(crate) fn are_eight_plain(&self, bytes: &[u8]) -> bool
         ensures { result ≡ are_eight_plain self.now bytes.now }
@@ -90,6 +106,9 @@ impl ByteSet {
 #[macro_export]
 macro_rules! byte_set {
     (@plain $byte:literal, ($($of_set:literal)*)) => { ($byte > 13) $(& ($byte != $of_set))* };
+    (@is_word $byte:literal) => {
+        (($byte == 32) | (($byte >= 65) & ($byte <= 90)) | (($byte >= 97) & ($byte <= 122)) | ($byte >= 128))
+    };
     (@table $set:tt, $($byte:literal)*) => { [$($crate::byte_set!(@plain $byte, $set)),*] };
     ($($of_set:literal),*) => {
         $crate::bytes::ByteSet::new(&[$($of_set),*], &$crate::byte_set!(@table ($($of_set)*),
@@ -103,6 +122,7 @@ macro_rules! byte_set {
             181 182 183 184 185 186 187 188 189 190 191 192 193 194 195 196 197 198 199 200 201 202
             203 204 205 206 207 208 209 210 211 212 213 214 215 216 217 218 219 220 221 222 223 224
             225 226 227 228 229 230 231 232 233 234 235 236 237 238 239 240 241 242 243 244 245 246
-            247 248 249 250 251 252 253 254 255))
+            247 248 249 250 251 252 253 254 255),
+            true $(& !$crate::byte_set!(@is_word $of_set))*)
     };
 }

@@ -4,12 +4,13 @@ ghost use Rattle.markdown_engine.specs.Codes.{count_among, line_feed, place_of};
 ghost use Rattle.markdown_engine.specs.Content.{IsContent};
 ghost use Rattle.markdown_engine.specs.Place.{start_of_content, code_at, code_before, point_of, exit_point, moved};
 ghost use Rattle.markdown_engine.specs.Standing.{is_open, first_point, followed};
-ghost use Rattle.markdown_engine.specs.Plain.{ArePlain};
+ghost use Rattle.markdown_engine.specs.Plain.{ArePlain, spares_words};
 ghost use Rattle.markdown_engine.specs.Stretch.{is_free, past_stretch};
 ghost use Rattle.markdown_engine.specs.Walk.{IsPoint};
 
 use crate::bytes::ByteSet;
 use crate::event::Point;
+use crate::lanes::{LANES, ordinary_among, words_among};
 use crate::parser::Piece;
 use crate::walk::{DOCUMENT_START, code_from, past_code, walk_to};
 use std::marker::Model;
@@ -265,8 +266,50 @@ impl<'a> Cursor<'a> {
     }
 }
 
+// Where the groups of sixteen bytes above 13 from this index on end, or the first of them that is not whole, not past `to`.
+fn ordinary_groups_end(bytes: &[u8], from: usize, to: usize) -> usize
+    requires order { from ≤ to }
+    requires within { to ≤ length bytes.now }
+    ensures from { from ≤ result }
+    ensures to { result ≤ to }
+    ensures plain { ArePlain [] bytes.now from result }
+{
+    let mut index = from;
+    while to - index >= LANES {
+        let count = ordinary_among(bytes, index);
+        index += count;
+        if count < LANES {
+            return index;
+        }
+    }
+    index
+}
+
+// Where the ordinary bytes from this index on end, where words are ordinary, or where fewer than sixteen are left, not past `to`.
+fn words_end(bytes: &[u8], from: usize, to: usize, stops: &ByteSet) -> usize
+    requires words { IsTrue (spares_words stops.now) }
+    requires order { from ≤ to }
+    requires within { to ≤ length bytes.now }
+    ensures from { from ≤ result }
+    ensures to { result ≤ to }
+    ensures plain { ArePlain stops.now bytes.now from result }
+{
+    let mut index = from;
+    while to - index >= LANES {
+        let count = words_among(bytes, index);
+        index += count;
+        if count < LANES {
+            if !stops.is_plain(bytes[index]) {
+                return index;
+            }
+            index += 1;
+        }
+    }
+    index
+}
+
 // Where the groups of eight ordinary bytes from this index on end, not past `to`.
-fn plain_groups_end(bytes: &[u8], from: usize, to: usize, stops: &ByteSet) -> usize
+fn eights_end(bytes: &[u8], from: usize, to: usize, stops: &ByteSet) -> usize
     requires order { from ≤ to }
     requires within { to ≤ length bytes.now }
     ensures from { from ≤ result }
@@ -278,6 +321,23 @@ fn plain_groups_end(bytes: &[u8], from: usize, to: usize, stops: &ByteSet) -> us
         index += 8;
     }
     index
+}
+
+// Where the ordinary bytes from this index on that are looked at together end, not past `to`.
+fn plain_groups_end(bytes: &[u8], from: usize, to: usize, stops: &ByteSet) -> usize
+    requires order { from ≤ to }
+    requires within { to ≤ length bytes.now }
+    ensures from { from ≤ result }
+    ensures to { result ≤ to }
+    ensures plain { ArePlain stops.now bytes.now from result }
+{
+    if stops.as_slice().is_empty() {
+        ordinary_groups_end(bytes, from, to)
+    } else if stops.spares_words() {
+        words_end(bytes, from, to, stops)
+    } else {
+        eights_end(bytes, from, to, stops)
+    }
 }
 
 // Where the ordinary bytes from this index on end, not past `to`.

@@ -8,6 +8,7 @@ pub mod content;
 pub mod cursor;
 pub mod event;
 pub mod events;
+mod lanes;
 pub mod layer;
 pub mod name_index;
 pub mod parser;

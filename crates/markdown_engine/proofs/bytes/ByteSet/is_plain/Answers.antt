@@ -5,5 +5,5 @@ use Rattle.markdown_engine.proofs.bytes.ByteSet.is_plain.Goals as goal
 
 pub returns : goal.returns
 returns c =
-    table-says c.self.inside.bytes.now c.self.inside.plain.now c.args.byte c.self.invariant (omega arith)
+    table-says c.self.inside.bytes.now c.self.inside.plain.now c.args.byte c.self.invariant.0 (omega arith)
     ∙ ap (λ (set : List ℕ). is_plain set c.args.byte) c.self.view_is

@@ -1,6 +1,6 @@
 use Rattle.std.proofs.Common.{◌≤◌, ◌-◌}
 use Rattle.markdown_engine.specs.Plain.{ArePlain}
-use Rattle.markdown_engine.proofs.cursor.plain_groups_end.Given as goal
+use Rattle.markdown_engine.proofs.cursor.words_end.Given as goal
 
 abbrev pub invariant-loop-index : goal.invariant-loop-index
 invariant-loop-index l = record {

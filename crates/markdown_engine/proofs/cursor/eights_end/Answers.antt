@@ -1,6 +1,6 @@
 use Rattle.std.proofs.Common.{◌∙◌, sym, arith}
 use Rattle.markdown_engine.proofs.EightPlain.{IsGroup, plain-group}
-use Rattle.markdown_engine.proofs.cursor.plain_groups_end.Goals as goal
+use Rattle.markdown_engine.proofs.cursor.eights_end.Goals as goal
 
 pub loop-index-preserved : goal.loop-index-preserved
 loop-index-preserved c =
