@@ -5,6 +5,7 @@ use Rattle.std.specs.List.Sorted.{IsPermutation, IsNonDecreasingBy, IsStableByKe
 use Rattle.std.specs.Ordering.{is_lt, nat_cmp}
 use Rattle.std.proofs.lemmas.List.{get_or-map, get_or-drop, get_or-take, get_or_default, map_more, take-append-drop, append-nil, length-append, length-map, length-take, length-drop, drop-take, take-take, map-append, take_more, take_all, drop-map, take-map, drop-drop}
 use Rattle.std.proofs.lemmas.List.Sorted.{All-permutation, IsPermutation-map, IsNonDecreasingBy-drop, IsNonDecreasingBy-push, IsNonDecreasingBy-short, IsNonDecreasingBy-take}
+use Rattle.std.proofs.Math.Nat.{eq-or-lt_of_le}
 use Rattle.std.proofs.Math.Seq.{take-append_seam, drop-append_seam}
 use Rattle.std.proofs.lemmas.List.Elements.{All-append, All-drop, All-map, All-push, All-take}
 use Rattle.std.proofs.lemmas.Bool.{ne_eqb, eq-eqb}
@@ -15,7 +16,7 @@ use Rattle.markdown_engine.specs.declared.util.edit_map.Entry.{Entry}
 use Rattle.markdown_engine.specs.Chain.{IsUnlinked}
 use Rattle.markdown_engine.specs.Edits.{removed_at, front_at, back_at, added_at, edit_of, kept, AddsUnlinked, AreBrought, AreKept, IsRest}
 use Rattle.markdown_engine.proofs.EditLemmas.{back_push, removed_push, range-more, EndsAt}
-use Rattle.markdown_engine.proofs.EditFacts.{added-first, added-second, removed-first, removed-second}
+use Rattle.markdown_engine.proofs.EditFacts.{added-none, removed-none, added-first, added-second, removed-first, removed-second}
 
 -- What edits collect at a place is what those at the place collect.
 
@@ -396,20 +397,6 @@ passing cs i k p es rest within here next =
       behind = subst C (drop-drop k p (kept cs es)) (subst B is (rest-behind i k (kept cs tail) self low there other));
     }
 
--- no edit stands at the place
-module _ (cs : List Event) (i k p : ℕ) (es : List Entry) (zeros : k ≡ 0) (passes : Passing cs i k p es) where
-  pub nothing-added : added_at i (drop p (kept cs es)) ≡ []
-  nothing-added = sym passes.added ∙ ap (λ n. front_at i (kept cs (take n (take (length es - p) (drop p es)))) ++ back_at i (kept cs (take n (take (length es - p) (drop p es))))) zeros
-
-  pub nothing-removed : removed_at i (drop p (kept cs es)) ≡ 0
-  nothing-removed = sym passes.removed ∙ ap (λ n. removed_at i (kept cs (take n (take (length es - p) (drop p es))))) zeros
-
-  pub all-behind : IsRest (i + 1) (drop p (kept cs es)) (drop p (kept cs es))
-  all-behind =
-      let R : ℕ → Type 0 = λ n. IsRest (i + 1) (drop p (kept cs es)) (drop n (kept cs es)) in
-      let same : p + k ≡ p = omega arith in
-      subst R same passes.behind
-
 -- One place passed, of what the log leaves.
 
 module _ (log : List Edit) (i p : ℕ) (es : List Edit) (left : IsRest i log (drop p es)) where
@@ -449,3 +436,23 @@ rest-later n m log a l r h = record { ahead = h; rises = r.rises; plain = r.plai
 
 pub rest-self : (n m : ℕ) (log a : List Edit) → m ≤ n → IsRest n log a → IsRest m a a
 rest-self n m log a l r = record { ahead = λ k d h. let low = r.ahead k d h in omega arith; rises = r.rises; plain = r.plain; added = λ i h. refl; removed = λ i h. refl }
+
+-- A place at which no edit of those left stands.
+
+-- the first of them stands behind it, if there is one, and so do all
+pub left-behind : (cs : List Event) (es : List Entry) (p i : ℕ) → IsRest i (drop p (kept cs es)) (drop p (kept cs es)) → (length es ≤ p) ⊎ ((p < length es) × ((entry es p).at ≢ i)) → All (λ e. i + 1 ≤ e.at) (drop p (kept cs es))
+left-behind cs es p i left (inl past) = λ k d l. let size = left-size cs es p in absurd (omega arith)
+left-behind cs es p i left (inr next) =
+    let low = next-from cs es p i next.0 left.ahead in
+    let above : i + 1 ≤ (entry es p).at = elim (eq-or-lt_of_le low) [ inl same ↦ absurd (next.1 (sym same)) | inr less ↦ omega (arith, less) ] in
+    next-rest cs es p (i + 1) next.0 above left.rises
+
+module _ (i : ℕ) (left : List Edit) (ahead : All (λ e. i + 1 ≤ e.at) left) where
+  elsewhere_all : All (λ e. e.at ≢ i) left
+  elsewhere_all = λ k d l h. let low = ahead k d l in absurd (omega (arith, h))
+
+  pub nothing-added : added_at i left ≡ []
+  nothing-added = added-none i left elsewhere_all
+
+  pub nothing-removed : removed_at i left ≡ 0
+  nothing-removed = removed-none i left elsewhere_all

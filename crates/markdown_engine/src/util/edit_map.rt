@@ -195,9 +195,10 @@ struct Passed {
     removed_to: usize,
 }
 
-// Adds the events that come at a place, and passes its edits. The answer is how far the walk has then come.
-#[inline]
-fn pass_place(
+// Adds the events that come at a place, and passes its edits: what `pass_place` does where there is one. The answer is how far
+// the walk has then come.
+#[inline(never)]
+fn pass_edits(
     done: &mut Events,
     edits: &Kept,
     passed: Passed,
@@ -214,12 +215,6 @@ fn pass_place(
 {
     let rest = &edits.entries[passed.edits..];
     let count = count_at(rest, at);
-    if count == 0 {
-        return Ok(Passed {
-            edits: passed.edits,
-            removed_to: passed.removed_to.max(at),
-        });
-    }
     let here = Kept {
         entries: &rest[..count],
         comes: edits.comes,
@@ -228,6 +223,34 @@ fn pass_place(
     Ok(Passed {
         edits: passed.edits + count,
         removed_to: passed.removed_to.max(at.saturating_add(removed)),
+    })
+}
+
+// Adds the events that come at a place, and passes its edits. The answer is how far the walk has then come.
+//
+// Most places have no edit, so only the look whether there is one stands here.
+#[inline]
+fn pass_place(
+    done: &mut Events,
+    edits: &Kept,
+    passed: Passed,
+    at: usize,
+) -> Result<Passed, AllocError>
+    requires within { passed.edits ≤ length edits.now.entries.now }
+    requires brought { AreBrought edits.now.comes.now edits.now.entries.now }
+    requires rest { let rest = drop passed.edits (edits_of edits.now) in IsRest at rest rest }
+    ensures done { OnOk result (done.new ≡ done.old ++ added_at at (drop passed.edits (edits_of edits.now))) }
+    ensures within { IfOk result (λ p. p.edits ≤ length edits.now.entries.now) }
+    ensures rest { IfOk result (λ p. IsRest (at + 1) (drop passed.edits (edits_of edits.now)) (drop p.edits (edits_of edits.now))) }
+    ensures removed { IfOk result (λ p. p.removed_to
+        ≡ max passed.removed_to (min (at + min (removed_at at (drop passed.edits (edits_of edits.now))) (2 ^ 64 - 1)) (2 ^ 64 - 1))) }
+{
+    if passed.edits < edits.entries.len() && edits.entries[passed.edits].at == at {
+        return pass_edits(done, edits, passed, at);
+    }
+    Ok(Passed {
+        edits: passed.edits,
+        removed_to: passed.removed_to.max(at),
     })
 }
 
@@ -300,7 +323,12 @@ fn next_place(edits: &Kept, passed: usize, count: usize) -> usize
     }
 }
 
-// Adds the events from a place on, up to the next edit or the next event that carries a link. The answer is the place behind them.
+// How many events `pass_plain` adds at once, at the most: the look at each event for its link and the copy of the events then
+// work on events that are in the nearest cache.
+const AT_ONCE: usize = 64;
+
+// Adds the events from a place on, up to the next edit or the next event that carries a link, or `AT_ONCE` of them. The answer
+// is the place behind them.
 fn pass_plain(
     done: &mut Events,
     events: &Events,
@@ -317,7 +345,8 @@ fn pass_plain(
     ensures plain { IfOk result (λ end. All IsUnlinked (take (end - from) (drop from events.now))) }
     ensures rest { IfOk result (λ end. All (λ e. end ≤ e.at) (drop passed (edits_of edits.now))) }
 {
-    let to = next_place(edits, passed, events.len());
+    let end = events.len().min(from.saturating_add(AT_ONCE));
+    let to = next_place(edits, passed, end);
     let plain = events.plain(from, to);
     done.extend_plain(plain)?;
     Ok(from + plain.len())

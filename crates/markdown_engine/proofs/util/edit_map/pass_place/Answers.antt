@@ -1,42 +1,28 @@
-use Rattle.std.proofs.Common.{◌∙◌, ◌++◌, ap, sym, arith}
+use Rattle.std.proofs.Common.{◌∙◌, ◌++◌, ◌+◌, ◌≤◌, inl, inr, ap, sym, arith, drop}
+use Rattle.std.specs.List.{All}
 use Rattle.std.proofs.lemmas.List.{append-nil}
-use Rattle.markdown_engine.proofs.EditOrder.{brought-here, passing, nothing-added, nothing-removed, all-behind}
+use Rattle.markdown_engine.specs.Edits.{edits_of}
+use Rattle.markdown_engine.proofs.EditOrder.{left-behind, nothing-added, nothing-removed, rest-later}
 use Rattle.markdown_engine.proofs.util.edit_map.pass_place.Goals as goal
-
-pub push_here-requires-clause-brought : goal.push_here-requires-clause-brought
-push_here-requires-clause-brought c = brought-here c.args.edits.now.comes.now c.args.edits.now.entries.now c.args.passed.edits c.count_at-count.result c.requires.brought
-
-pub returns-then-count-eq0-clause-done : goal.returns-then-count-eq0-clause-done
-returns-then-count-eq0-clause-done c =
-    let n = c.count_at-count.ensures in
-    let p = passing c.args.edits.now.comes.now c.args.at c.count_at-count.result c.args.passed.edits c.args.edits.now.entries.now c.requires.rest n.within n.here n.next in
-    sym (ap (λ x. c.args.done.now ++ x) (nothing-added c.args.edits.now.comes.now c.args.at c.count_at-count.result c.args.passed.edits c.args.edits.now.entries.now c.if-count-eq0.true p) ∙ append-nil c.args.done.now)
-
-pub returns-then-count-eq0-clause-rest : goal.returns-then-count-eq0-clause-rest
-returns-then-count-eq0-clause-rest c =
-    let n = c.count_at-count.ensures in
-    let p = passing c.args.edits.now.comes.now c.args.at c.count_at-count.result c.args.passed.edits c.args.edits.now.entries.now c.requires.rest n.within n.here n.next in
-    all-behind c.args.edits.now.comes.now c.args.at c.count_at-count.result c.args.passed.edits c.args.edits.now.entries.now c.if-count-eq0.true p
-
-pub returns-then-count-eq0-clause-removed : goal.returns-then-count-eq0-clause-removed
-returns-then-count-eq0-clause-removed c =
-    let n = c.count_at-count.ensures in
-    let p = passing c.args.edits.now.comes.now c.args.at c.count_at-count.result c.args.passed.edits c.args.edits.now.entries.now c.requires.rest n.within n.here n.next in
-    omega (arith, c.max.ensures, nothing-removed c.args.edits.now.comes.now c.args.at c.count_at-count.result c.args.passed.edits c.args.edits.now.entries.now c.if-count-eq0.true p)
-
-pub returns-clause-done : goal.returns-clause-done
-returns-clause-done c =
-    let n = c.count_at-count.ensures in
-    let p = passing c.args.edits.now.comes.now c.args.at c.count_at-count.result c.args.passed.edits c.args.edits.now.entries.now c.requires.rest n.within n.here n.next in
-    c.in_ok-removed.ensures.done ∙ ap (λ x. c.args.done.now ++ x) p.added
+use Rattle.markdown_engine.proofs.util.edit_map.pass_place.Goals.{else-passed-edits-via-then-passed-edits+else-edits-passed, else-passed-edits-via-else-passed-edits}
 
 pub returns-clause-rest : goal.returns-clause-rest
 returns-clause-rest c =
-    let n = c.count_at-count.ensures in
-    (passing c.args.edits.now.comes.now c.args.at c.count_at-count.result c.args.passed.edits c.args.edits.now.entries.now c.requires.rest n.within n.here n.next).behind
+    let at = c.args.at in
+    let cs = c.args.edits.now.comes.now in
+    let es = c.args.edits.now.entries.now in
+    let p = c.args.passed.edits in
+    let left = drop p (edits_of c.args.edits.now) in
+    let ahead : All (λ e. at + 1 ≤ e.at) left = elim c.else-passed-edits.branch [
+      | else-passed-edits-via-then-passed-edits+else-edits-passed w ↦ left-behind cs es p at c.requires.rest (inr (w.if-passed-edits.true, w.if-edits-passed.false))
+      | else-passed-edits-via-else-passed-edits w ↦ left-behind cs es p at c.requires.rest (inl w.if-passed-edits.false)
+    ] in
+    rest-later at (at + 1) left left (omega arith) c.requires.rest ahead
+
+pub returns-clause-done : goal.returns-clause-done
+returns-clause-done c =
+    sym (ap (λ x. c.args.done.now ++ x) (nothing-added c.args.at (drop c.args.passed.edits (edits_of c.args.edits.now)) (returns-clause-rest c).ahead) ∙ append-nil c.args.done.now)
 
 pub returns-clause-removed : goal.returns-clause-removed
 returns-clause-removed c =
-    let n = c.count_at-count.ensures in
-    let p = passing c.args.edits.now.comes.now c.args.at c.count_at-count.result c.args.passed.edits c.args.edits.now.entries.now c.requires.rest n.within n.here n.next in
-    omega (arith, c.max-2.ensures, c.saturating_add.ensures, c.in_ok-removed.ensures.removed, p.removed)
+    omega (arith, c.max.ensures, nothing-removed c.args.at (drop c.args.passed.edits (edits_of c.args.edits.now)) (returns-clause-rest c).ahead)
