@@ -185,7 +185,7 @@ impl<'a> Cursor<'a> {
             self.previous = Some(byte);
             self.passed += 1;
         } else {
-            self.consume_any();
+            self.consume_rare();
         }
     }
 
@@ -247,6 +247,30 @@ impl<'a> Cursor<'a> {
     {
         self.consume_stretch(stops);
         self.current()
+    }
+
+    // Moves past the code at the place: a line feed that is not the last byte of its piece at once.
+    #[inline(never)]
+    fn consume_rare(&mut self)
+        requires { IsSome (code_at self.old) }
+        ensures { self.new ≡ moved self.old }
+    {
+        let at = self.point;
+        match self.bytes[at.index] {
+            b'\n' if at.index + 1 < self.pieces[self.piece].end.0 => {
+                let point = Point {
+                    line: at.line + 1,
+                    column: 1,
+                    index: at.index + 1,
+                    vs: 0,
+                };
+                self.point = point;
+                self.exit = point;
+                self.previous = Some(b'\n');
+                self.passed += 1;
+            }
+            _ => self.consume_any(),
+        }
     }
 
     // Moves past the code at the place, whatever it is, and wherever in its piece.
