@@ -61,9 +61,9 @@ feed_next {bytes} {pieces} {k} {p} {e} {before} {n} h d lt fits feed =
     next-within h d lt here 10 (line_start (p.line + 1) (p.index + 1)) (value_ending bytes p h.standing.is_point at.in_bytes ending) stop fits
 
 -- the code at an ordinary byte is that byte
-pub plain_code : {bytes : List ℕ} {pieces : List Piece} {k : ℕ} {p e : Point} {before : Option ℕ} {n : ℕ} → IsCursor bytes pieces k p e before n → (d : Piece) → k < length pieces → p.index + 1 < (get_or pieces k d).end.0 → 13 < get_or bytes p.index 0 → code_at (content_place bytes pieces n) ≡ Some (get_or bytes p.index 0)
+pub plain_code : {bytes : List ℕ} {pieces : List Piece} {k : ℕ} {p e : Point} {before : Option ℕ} {n : ℕ} → IsCursor bytes pieces k p e before n → (d : Piece) → k < length pieces → p.index < (get_or pieces k d).end.0 → 13 < get_or bytes p.index 0 → code_at (content_place bytes pieces n) ≡ Some (get_or bytes p.index 0)
 plain_code {bytes} {pieces} {k} {p} {e} {before} {n} h d lt fits plain =
     let b : ℕ = get_or bytes p.index 0 in
-    let at : IsAtCode bytes pieces k p n = at_code h (open-before-end pieces k p d lt (omega (arith, fits))) in
+    let at : IsAtCode bytes pieces k p n = at_code h (open-before-end pieces k p d lt fits) in
     let byte : is_line_ending_byte b ≡ false = other_byte b (not-control b 10 plain (omega arith)) (not-control b 13 plain (omega arith)) in
     sym at.value ∙ value_byte bytes p h.standing.is_point at.in_bytes byte (λ x. absurd (not-control b tab_value plain (omega arith) x))

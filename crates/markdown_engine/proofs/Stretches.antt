@@ -120,7 +120,7 @@ along-more p m =
 
 one-past : {bytes : List ℕ} {pieces : List Piece} {k : ℕ} {p e : Point} {before : Option ℕ} {n : ℕ} (ms : List ℕ) → IsCursor bytes pieces k p e before n → (d : Piece) → k < length pieces → p.index + 1 < (get_or pieces k d).end.0 → is_plain ms (get_or bytes p.index 0) ≡ true → past_stretch ms (content_place bytes pieces n) ≡ past_stretch ms (content_place bytes pieces (n + 1))
 one-past {bytes} {pieces} {k} {p} {e} {before} {n} ms h d lt fits plain =
-    past-one ms (content_place bytes pieces n) (ap (is_free ms) (plain_code h d lt fits (plain-parts ms _ plain).0) ∙ free-byte ms (get_or bytes p.index 0) plain)
+    past-one ms (content_place bytes pieces n) (ap (is_free ms) (plain_code h d lt (omega (arith, fits)) (plain-parts ms _ plain).0) ∙ free-byte ms (get_or bytes p.index 0) plain)
     ∙ ap (past_stretch ms) (moved_is bytes pieces n)
 
 run-first : {bytes : List ℕ} {pieces : List Piece} {k : ℕ} {p e : Point} {before : Option ℕ} {n : ℕ} (ms : List ℕ) → IsCursor bytes pieces k p e before n → (d : Piece) → k < length pieces → p.index + 1 < (get_or pieces k d).end.0 → is_plain ms (get_or bytes p.index 0) ≡ true → IsRun bytes pieces ms k p n 1

@@ -143,6 +143,22 @@ impl<'a> Cursor<'a> {
         }
     }
 
+    /// Answers the code behind the code at the place, `None` where the content ends before it.
+    pub fn next(&self) -> Option<u8>
+        ensures { result ≡ code_at (moved self.now) }
+    {
+        let here = self.point.index;
+        if self.piece < self.pieces.len()
+            && here + 1 < self.pieces[self.piece].end.0
+            && self.bytes[here] > b'\r'
+            && self.bytes[here + 1] > b'\r'
+        {
+            Some(self.bytes[here + 1])
+        } else {
+            self.next_any()
+        }
+    }
+
     /// Answers the code before the place, `None` where the content starts.
     pub fn previous(&self) -> Option<u8>
         ensures { result ≡ code_before self.now }
@@ -187,6 +203,17 @@ impl<'a> Cursor<'a> {
         } else {
             self.consume_rare();
         }
+    }
+
+    // The code behind the code at the place, whatever both are, and wherever in their pieces.
+    #[inline(never)]
+    fn next_any(&self) -> Option<u8>
+        ensures { result ≡ code_at (moved self.now) }
+    {
+        self.current()?;
+        let mut behind = self.save();
+        behind.consume();
+        behind.current()
     }
 
     // Moves past the ordinary bytes at the place, as far as the last of the piece.
