@@ -4,7 +4,7 @@
 #![tactic(auto, using(markdown_engine::proofs::OpRules::op_rules))]
 
 ghost use Rattle.std.specs.Prelude.{◌≡◌, ◌-◌, ◌<◌, ◌≤◌, ◌++◌, IfOk, OnOk, OnErr, IsTrue, Some, None, [], drop, length};
-ghost use Rattle.markdown_engine.specs.Ops.{HasCode, IsOpen, current_of};
+ghost use Rattle.markdown_engine.specs.Ops.{IsOpen, current_of};
 ghost use Rattle.markdown_engine.specs.declared.event.Name.TheVariants.{Data};
 ghost use Rattle.markdown_engine.specs.Edits.{edited};
 ghost use Rattle.markdown_engine.specs.Past.{appended_from};
@@ -22,31 +22,19 @@ use markdown_engine::tokenizer::{TokenizeState, Tokenizer};
 use markdown_engine::util::edit_map::EditMap;
 use std::alloc::AllocError;
 
-// The code behind the one at hand.
-fn next(tokenizer: &Tokenizer) -> Option<u8>
-    requires { HasCode tokenizer.now }
-    ensures { result ≡ next_of tokenizer.now }
-{
-    let mut behind = tokenizer.cursor.save();
-    behind.consume();
-    behind.current()
-}
-
 // Whether the code at hand is a letter with which a literal may begin, and the one behind it not that with which it goes on.
 fn begins_none(tokenizer: &Tokenizer, byte: u8) -> bool
-    requires { current_of tokenizer.now ≡ Some byte }
     ensures { result ≡ begins_none byte (next_of tokenizer.now) }
 {
     match byte {
-        b'H' | b'h' => !matches!(next(tokenizer), Some(b'T' | b't')),
-        b'W' | b'w' => !matches!(next(tokenizer), Some(b'W' | b'w')),
+        b'H' | b'h' => !matches!(tokenizer.cursor.next(), Some(b'T' | b't')),
+        b'W' | b'w' => !matches!(tokenizer.cursor.next(), Some(b'W' | b'w')),
         _ => false,
     }
 }
 
 // Whether data stops at the code at hand, line endings aside: at a marker, but where it is to pass them, at no letter with which no literal begins.
 fn stops(tokenizer: &Tokenizer, byte: u8) -> bool
-    requires { current_of tokenizer.now ≡ Some byte }
     ensures { result ≡ stops_here tokenizer.now byte }
 {
     let fields = &tokenizer.tokenize_state;
