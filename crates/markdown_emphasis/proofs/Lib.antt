@@ -12,6 +12,7 @@ pub mod CanGroup
 pub mod Ends
 pub mod BracketSteps
 pub mod SizeSteps
+pub mod SizeLists
 pub mod Singles
 pub mod Quiet
 pub mod Good

@@ -1,6 +1,6 @@
--- Sizes appended pair by pair, and edits run by run.
-use Rattle.std.proofs.Common.{◌≡◌, ℕ, zero, suc, ◌+◌, ◌<◌, ◌^◌, ◌==◌, Bool, true, false, if◌then◌else◌, List, [], ◌∷◌, ◌++◌, length, take, get_or, reverse, refl, sym, ap, subst, ◌∙◌, arith, append_assoc, append-nil}
-use Rattle.std.proofs.lemmas.List.{take_more, get_or_read}
+-- What pairs take of a run, and edits run by run.
+use Rattle.std.proofs.Common.{◌≡◌, ℕ, zero, suc, ◌+◌, ◌<◌, ◌^◌, ◌==◌, Bool, true, false, if◌then◌else◌, List, [], ◌∷◌, ◌++◌, length, take, get_or, reverse, refl, sym, ap, subst, ◌∙◌, arith}
+use Rattle.std.proofs.lemmas.List.{take_more}
 use Rattle.std.proofs.lemmas.List.Elements.{All-nil, All-cons, All-append}
 use Rattle.std.specs.List.{All}
 use Rattle.markdown_engine.specs.Chain.{IsUnlinked}
@@ -15,21 +15,7 @@ use Rattle.markdown_attention.specs.declared.attention.pairing.Pair.{Pair}
 use Rattle.markdown_attention.specs.declared.attention.runs.Sequence.{Sequence}
 use Rattle.markdown_emphasis.specs.Marks.{shifted, total, closing_at, opening_at, closings_from, openings_from, data_at, marker_events}
 use Rattle.markdown_emphasis.specs.RunEdits.{edits_by, run_edits, grouped_events, point_in, closed_sizes, opened_sizes}
-use Rattle.markdown_emphasis.specs.Sides.{side_of, sizes_at, AreSizes, added_for, HasRoom, HasRoomFor}
-
-sizes-push : (b : Bool) (g : ℕ) (ps : List Pair) (p : Pair) → sizes_at b g (ps ++ p ∷ []) ≡ sizes_at b g ps ++ (if side_of b p == g then p.size ∷ [] else [])
-sizes-push b g [] p = append-nil (if side_of b p == g then p.size ∷ [] else [])
-sizes-push b g (x ∷ ps) p =
-    ap (λ xs. (if side_of b x == g then x.size ∷ [] else []) ++ xs) (sizes-push b g ps p)
-    ∙ sym (append_assoc (if side_of b x == g then x.size ∷ [] else []) (sizes_at b g ps) (if side_of b p == g then p.size ∷ [] else []))
-
-pub sizes-more : (b : Bool) (ps : List Pair) (k run : ℕ) (d : Pair) (now new : List (List ℕ)) → k < length ps → ((g : ℕ) → get_or now g [] ≡ sizes_at b g (take k ps)) → run ≡ side_of b (get_or ps k d)
-    → ((g : ℕ) → get_or new g [] ≡ get_or now g [] ++ (if run == g then (get_or ps k d).size ∷ [] else [])) → (g : ℕ) → get_or new g [] ≡ sizes_at b g (take (k + 1) ps)
-sizes-more b ps k run d now new l h e f g =
-    let p : Pair = get_or ps k d in
-    f g
-    ∙ (λ i. h g i ++ (if e i == g then p.size ∷ [] else []))
-    ∙ sym (ap (sizes_at b g) (take_more ps k d l) ∙ sizes-push b g (take k ps) p)
+use Rattle.markdown_emphasis.specs.Sides.{sizes_at, AreSizes, added_for, HasRoom, HasRoomFor}
 
 -- the same as lists of their own
 pub closed-are : (g : ℕ) (ps : List Pair) → sizes_at true g ps ≡ closed_sizes g ps
@@ -98,9 +84,6 @@ edits-more f rs k d now new es l h e n =
     n
     ∙ (λ i. h i ++ (record { at = r.event; remove = 2; events = e i; before = false }) ∷ [])
     ∙ sym (ap (edits_by f) (take_more rs k d l) ∙ edits-push f (take k rs) r)
-
-pub read-list : (xs : List (List ℕ)) (i : ℕ) (x y : List ℕ) → i < length xs → x ≡ get_or xs i x → y ≡ x → y ≡ get_or xs i []
-read-list xs i x y l h e = e ∙ get_or_read xs i x l h []
 
 -- there is room, by what was read
 pub room-read : (p q : Point) (f g b d : List ℕ) (k : ℕ) → p ≡ q → f ≡ g → b ≡ d → (q.column + (total g + k + total d) < 2 ^ 64) × (q.index + (total g + k + total d) < 2 ^ 64)

@@ -1,11 +1,13 @@
 //! The pass that makes groups of the runs of markers that pair (CommonMark 6.2, GFM 6.5).
 //!
 //! Runs stand in the events as `AttentionSequence`. `markdown_attention` finds which of them pair; here the events of each run give way
-//! to those that its pairs make of it. `brackets` writes these events, and `edits` collects and applies the edits.
+//! to those that its pairs make of it. `sizes` keeps what pairs take of each run, `brackets` writes the events, and `edits` collects and
+//! applies the edits.
 #![tactic(auto)]
 
 mod brackets;
 mod edits;
+mod sizes;
 
 ghost use Rattle.std.specs.Prelude.{◌≡◌, IfOk, OnOk, OnErr, IsTrue, None};
 ghost use Rattle.markdown_attention.specs.Events.{runs_of_events};
