@@ -51,3 +51,4 @@ pub mod Stretches
 pub mod SteadyLemmas
 pub mod ReverseSet
 pub mod ScriptLaws
+pub mod Turns

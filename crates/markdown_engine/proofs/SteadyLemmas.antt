@@ -1,5 +1,5 @@
 -- A stretch of codes over which a state goes on by itself means as many steps.
-use Rattle.std.proofs.Common.{◌≡◌, ℕ, ◌==◌, Bool, true, false, if◌then◌else◌, List, [], ◌∷◌, Option, Some, None, refl, sym, ap, subst, arith, ◌∙◌}
+use Rattle.std.proofs.Common.{◌≡◌, ℕ, ◌==◌, Bool, true, false, if◌then◌else◌, List, [], ◌∷◌, ◌++◌, ◌+◌, Option, Some, None, refl, sym, ap, subst, arith, ◌∙◌}
 use Rattle.std.specs.List.{list_any}
 use Rattle.std.proofs.lemmas.Bool.{both_ways, not-true, eqb-true, or_parts}
 use Rattle.markdown_engine.specs.Codes.{Code, line_feed}
@@ -15,8 +15,11 @@ use Rattle.markdown_engine.specs.declared.tokenizer.TokenizeState.{TokenizeState
 use Rattle.markdown_engine.specs.declared.tokenizer.Tokenizer.{Tokenizer}
 use Rattle.markdown_engine.proofs.PlaceRules.{ahead_moved, code_at_end}
 use Rattle.markdown_engine.proofs.ReachLemmas.{Reaches-call}
-use Rattle.markdown_engine.proofs.RunLemmas.{goes-alone, reaches-alone}
+use Rattle.markdown_engine.proofs.RunLemmas.{goes-alone, settled-same}
 use Rattle.markdown_engine.proofs.Stretches.{past-none, past-one}
+use Rattle.markdown_engine.proofs.Turns.{later-none, later-more, ran-call}
+use Rattle.markdown_engine.specs.Turns.{later, ran, runs_out}
+use Rattle.markdown_engine.specs.declared.tokenizer.Attempt.{Attempt}
 
 -- at this place
 unfoldable pub placed : Place → Tokenizer → Tokenizer
@@ -24,15 +27,16 @@ placed p T = record T { cursor = p }
 
 -- where it stands
 pub onward-here : (ready : StateName → Tokenizer → Type 0) (step : StateName → Tokenizer → Stepped) (ends : StateName → Tokenizer → Bool → Tokenizer → Type 0) (weight : StateName → Tokenizer → ℕ) (s : StateName) (T : Tokenizer) → T.attempts ≡ [] → ready s T → Onward ready step ends weight s T T
-onward-here ready step ends weight s T alone r = record { alone = alone; goes_on = r; below = omega arith; calls = λ ok V k. k; ends_so = λ ok V k. k }
+onward-here ready step ends weight s T alone r = record { alone = alone; goes_on = r; below = omega arith; calls = λ fs ok V k. k; ends_so = λ ok V k. k; turns = λ n lt. (0, later-none (ran step n (Next s) T)) }
 
 onward-then : {ready : StateName → Tokenizer → Type 0} {step : StateName → Tokenizer → Stepped} {ends : StateName → Tokenizer → Bool → Tokenizer → Type 0} {weight : StateName → Tokenizer → ℕ} {s : StateName} {T U V : Tokenizer} → Onward ready step ends weight s T U → Onward ready step ends weight s U V → Onward ready step ends weight s T V
 onward-then g h = record {
   alone = h.alone;
   goes_on = h.goes_on;
   below = omega (arith, g.below, h.below);
-  calls = λ ok V k. g.calls ok V (h.calls ok V k);
+  calls = λ fs ok V k. g.calls fs ok V (h.calls fs ok V k);
   ends_so = λ ok V k. g.ends_so ok V (h.ends_so ok V k);
+  turns = λ n lt. let a = g.turns n lt in let b = h.turns n (omega (arith, lt, g.below)) in (a.0 + b.0, a.1 ∙ ap (later a.0) b.1 ∙ later-more a.0 b.0 _);
 }
 
 -- past one code
@@ -44,8 +48,9 @@ onward-one ready step ends weight laws s T U alone r e none =
       alone = none;
       goes_on = goes.0.goes_on;
       below = omega (arith, goes.0.falls);
-      calls = λ ok V k. Reaches-call ready step s T ok V r (subst (λ (x : Stepped). Reaches ready step x.left.attempts x.state (settled x.left) ok V) (sym e) (reaches-alone ready step (Next s) U ok V none k));
+      calls = λ fs ok V k. Reaches-call ready step s T ok V r fs (subst (λ (x : Stepped). Reaches ready step (x.left.attempts ++ fs) x.state (settled x.left) ok V) (sym e) (subst (λ (gs : List Attempt). Reaches ready step (gs ++ fs) (Next s) (settled U) ok V) (sym none) (subst (λ (X : Tokenizer). Reaches ready step fs (Next s) X ok V) (sym (settled-same U none)) k)));
       ends_so = λ ok V k. goes.1 ok V k;
+      turns = λ n lt. (1, ran-call ready step ends weight laws n s T alone r lt ∙ ap (later 1) (ap (λ (x : Stepped). runs_out (ran step n) x.left.attempts x.state (settled x.left)) e ∙ ap (λ (gs : List Attempt). runs_out (ran step n) gs (Next s) (settled U)) none ∙ ap (λ (X : Tokenizer). ran step n (Next s) X) (settled-same U none)));
     }
 
 consumed-alone : (T : Tokenizer) → T.attempts ≡ [] → (consumed T).attempts ≡ []

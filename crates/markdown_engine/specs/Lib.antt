@@ -32,3 +32,4 @@ pub mod Steady
 pub mod Plain
 pub mod Script
 pub mod StateWords
+pub mod Turns

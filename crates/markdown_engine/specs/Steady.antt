@@ -1,9 +1,11 @@
 -- States that go on by themselves.
-use Rattle.std.specs.Prelude.{◌≡◌, ℕ, ◌≤◌, ◌==◌, Bool, true, List, [], ◌∷◌, Option, Some, None, if◌then◌else◌}
+use Rattle.std.specs.Prelude.{◌≡◌, ℕ, ◌<◌, ◌≤◌, ◌==◌, Bool, true, List, [], ◌∷◌, Option, Some, None, if◌then◌else◌}
 use Rattle.markdown_engine.specs.Ops.{current_of, consumed}
 use Rattle.markdown_engine.specs.Reach.{Reaches}
 use Rattle.markdown_engine.specs.Runs.{Stepped, stepped}
 use Rattle.markdown_engine.specs.Stretch.{is_free}
+use Rattle.markdown_engine.specs.Turns.{later, ran}
+use Rattle.markdown_engine.specs.declared.tokenizer.Attempt.{Attempt}
 use Rattle.markdown_engine.specs.declared.state.State.TheVariants.{Next}
 use Rattle.markdown_engine.specs.declared.state.StateName.{StateName}
 use Rattle.markdown_engine.specs.declared.tokenizer.TokenizeState.{TokenizeState}
@@ -20,10 +22,12 @@ abbrev pub alone_among : List ℕ → ℕ → Option (List ℕ)
 alone_among [] m = None
 alone_among (k ∷ ks) m = if m == k then Some (k ∷ []) else alone_among ks m
 
--- a state's run from one tokenizer may go on from another: what it reaches and how it ends there is so from the one
+-- a state's run from one tokenizer may go on from another: what it reaches and how it ends there is so from the one,
+-- after as many turns or more
 pub record Onward (ready : StateName → Tokenizer → Type 0) (step : StateName → Tokenizer → Stepped) (ends : StateName → Tokenizer → Bool → Tokenizer → Type 0) (weight : StateName → Tokenizer → ℕ) (s : StateName) (T U : Tokenizer) : Type 0 where
   pub alone : U.attempts ≡ []
   pub goes_on : ready s U
   pub below : weight s U ≤ weight s T
-  pub calls : (ok : Bool) (V : Tokenizer) → Reaches ready step [] (Next s) U ok V → Reaches ready step [] (Next s) T ok V
+  pub calls : (fs : List Attempt) (ok : Bool) (V : Tokenizer) → Reaches ready step fs (Next s) U ok V → Reaches ready step fs (Next s) T ok V
   pub ends_so : (ok : Bool) (V : Tokenizer) → ends s U ok V → ends s T ok V
+  pub turns : (n : ℕ) → weight s T < n → (k : ℕ) × (ran step n (Next s) T ≡ later k (ran step n (Next s) U))

@@ -1,14 +1,13 @@
 // Runs of a layer's states, and of its passes. Each answers the error where a growth is refused; then `failed` is true.
-ghost use Rattle.std.specs.Prelude.{◌≡◌, ◌<◌, Bool, [], IfOk, OnOk, OnErr, IsTrue};
-ghost use Rattle.markdown_engine.specs.Runs.{going_state, going_in, ends_state, ready_state, MayGo};
+ghost use Rattle.std.specs.Prelude.{◌≡◌, ◌++◌, [], IfOk, OnOk, OnErr, IsTrue};
+ghost use Rattle.markdown_engine.specs.Runs.{going_state, going_in, settled, ends_state, ready_state};
 ghost use Rattle.markdown_engine.specs.Reach.{Reaches};
 ghost use Rattle.markdown_engine.specs.Steady.{Onward};
 ghost use Rattle.markdown_engine.specs.Resolves.{MayResolve, Resolves, unregistered};
-ghost use Rattle.markdown_engine.specs.declared.state.State.TheVariants.{Next, Retry};
-ghost use Rattle.markdown_engine.specs.declared.tokenizer.Tokenizer.{Tokenizer};
+ghost use Rattle.markdown_engine.specs.declared.state.State.TheVariants.{Retry};
 
 use crate::layer::Layer;
-use crate::seq::Seq;
+use crate::seq::{Seq, Stack};
 use crate::state::{State, StateName};
 use crate::tokenizer::{Attempt, Tokenizer};
 use std::alloc::AllocError;
@@ -39,29 +38,6 @@ pub fn resume<'a>(tokenizer: &mut Tokenizer<'a>, attempt: Attempt<'a>, ok: bool)
     if ok { if_ok } else { if_nok }
 }
 
-// Calls a state, and runs what it attempts.
-#[cycle(run)]
-fn step_over<L: Layer>(name: StateName, tokenizer: &mut Tokenizer) -> Result<State, AllocError>
-    requires ready { L.ready name tokenizer.old }
-    requires alone { tokenizer.old.attempts ≡ [] }
-    ensures alone { IfOk result (λ _. tokenizer.new.attempts ≡ []) }
-    ensures goes { IfOk result (λ s. MayGo L.ready L.weight (L.weight name tokenizer.old) s tokenizer.new) }
-    ensures calls { IfOk result (λ s. (ok : Bool) (U : Tokenizer) → Reaches L.ready L.step [] s tokenizer.new ok U → Reaches L.ready L.step [] (Next name) tokenizer.old ok U) }
-    ensures ends { IfOk result (λ s. (ok : Bool) (U : Tokenizer) → ends_state L.ends s tokenizer.new ok U → L.ends name tokenizer.old ok U) }
-    ensures err { OnErr result (IsTrue tokenizer.new.failed) }
-{
-    let mut state = L::call(name, tokenizer)?;
-    while !tokenizer.attempts.is_empty() {
-        let Some((attempt, outer)) = tokenizer.take_attempt() else {
-            break;
-        };
-        let ok = run_from::<L>(state, tokenizer)?;
-        state = resume(tokenizer, attempt, ok);
-        tokenizer.give_back(outer);
-    }
-    Ok(state)
-}
-
 // Passes the codes at the place over which this state goes on by itself.
 fn pass_stretch<L: Layer>(name: StateName, tokenizer: &mut Tokenizer)
     requires ready { L.ready name tokenizer.old }
@@ -73,8 +49,24 @@ fn pass_stretch<L: Layer>(name: StateName, tokenizer: &mut Tokenizer)
     }
 }
 
-// Runs states from this answer until Ok or Nok with no attempt open.
-#[cycle(run)]
+// Puts the attempts that a call opened on top of those that wait.
+#[tactic(auto, unfolding(crate::specs::Runs::settled))]
+fn hand_over<'a>(
+    waiting: &mut Stack<Attempt<'a>>,
+    tokenizer: &mut Tokenizer<'a>,
+) -> Result<(), AllocError>
+    ensures waits { OnOk result (waiting.new ≡ tokenizer.old.attempts ++ waiting.old) }
+    ensures left { OnOk result (tokenizer.new ≡ settled tokenizer.old) }
+    ensures err { OnErr result (IsTrue tokenizer.new.failed) }
+{
+    let moved = waiting.append(&mut tokenizer.attempts);
+    if moved.is_err() {
+        tokenizer.fail();
+    }
+    moved
+}
+
+// Runs states from this answer until Ok or Nok with no attempt open. The attempts that are open wait in a list of their own.
 fn run_from<L: Layer>(start: State, tokenizer: &mut Tokenizer) -> Result<bool, AllocError>
     requires ready { ready_state L.ready start tokenizer.old }
     requires alone { tokenizer.old.attempts ≡ [] }
@@ -83,16 +75,23 @@ fn run_from<L: Layer>(start: State, tokenizer: &mut Tokenizer) -> Result<bool, A
     ensures ends { IfOk result (λ ok. ends_state L.ends start tokenizer.old ok tokenizer.new) }
     ensures err { OnErr result (IsTrue tokenizer.new.failed) }
 {
+    let mut waiting = Stack::new(tokenizer.alloc);
     let mut state = start;
     loop {
-        match state {
+        let ok = match state {
             State::Next(name) | State::Retry(name) => {
                 pass_stretch::<L>(name, tokenizer);
-                state = step_over::<L>(name, tokenizer)?;
+                state = L::call(name, tokenizer)?;
+                hand_over(&mut waiting, tokenizer)?;
+                continue;
             }
-            State::Ok => return Ok(true),
-            State::Nok => return Ok(false),
-        }
+            State::Ok => true,
+            State::Nok => false,
+        };
+        let Some(attempt) = waiting.pop() else {
+            return Ok(ok);
+        };
+        state = resume(tokenizer, attempt, ok);
     }
 }
 

@@ -8,7 +8,6 @@ ghost use Rattle.markdown_engine.specs.Place.{point_of};
 ghost use Rattle.markdown_engine.specs.Chain.{IsFresh};
 ghost use Rattle.markdown_engine.specs.Begun.{begun};
 ghost use Rattle.markdown_engine.specs.Rest.{at_rest};
-ghost use Rattle.markdown_engine.specs.Runs.{settled};
 
 use crate::byte_set;
 use crate::bytes::ByteSet;
@@ -458,33 +457,6 @@ impl<'a> Tokenizer<'a> {
         ensures err { OnErr result (IsTrue self.new.failed) }
     {
         self.try_with(true, ok, nok)
-    }
-
-    // Hands over the innermost attempt, if one waits, and the others. Where there is no other, their list stays, so that the next attempt
-    // takes no memory.
-    #[tactic(auto, unfolding(crate::specs::Runs::settled))]
-    pub(crate) fn take_attempt(&mut self) -> Option<(Attempt<'a>, Stack<Attempt<'a>>)>
-        ensures left { self.new ≡ settled self.old }
-        ensures taken { MatchOption result (self.old.attempts ≡ []) (λ taken. self.old.attempts ≡ taken.0 ∷ taken.1) }
-    {
-        let attempt = self.attempts.pop()?;
-        let none = Stack::new(self.alloc);
-        if self.attempts.is_empty() {
-            Some((attempt, none))
-        } else {
-            Some((attempt, mem::replace(&mut self.attempts, none)))
-        }
-    }
-
-    // Takes attempts back that were handed over, where none waits.
-    #[tactic(auto, using(crate::proofs::RunLemmas::attempts_same))]
-    pub(crate) fn give_back(&mut self, attempts: Stack<Attempt<'a>>)
-        requires alone { self.old.attempts ≡ [] }
-        ensures { self.new ≡ record self.old { attempts = attempts.entry } }
-    {
-        if !attempts.is_empty() {
-            let _ = mem::replace(&mut self.attempts, attempts);
-        }
     }
 
     // Whether the pass is registered.
