@@ -158,18 +158,14 @@ def main():
         elif name and line and not line.startswith('#'):
             groups[name].append(line)
     for name, lines in groups.items():
-        rows = ['row_%d' % (i + 1) for i in range(len(lines))]
-        spec, proof = [], []
-        for row, line in zip(rows, lines):
-            spec += ['', '-- ' + line, 'abbrev pub %s : Type 0' % row, '%s = %s' % (row, statement(line))]
-            proof += ['', 'holds_%s : %s' % (row, row), 'unfolding computed', 'holds_%s = refl' % row]
-        spec += ['', 'abbrev pub Rows : Type 0', 'Rows = ' + ' × '.join(rows)]
-        proof += ['', 'pub returns : goal.returns', 'returns c = (' + ', '.join('holds_' + row for row in rows) + ')']
+        spec = ['', 'abbrev pub Rows : Type 0', 'Rows =']
+        for number, line in enumerate(lines, 1):
+            spec += ['    -- ' + line, '    (%s)%s' % (statement(line), ' ×' if number < len(lines) else '')]
         write('specs/Rows/%s.antt' % name, imports(SPEC_USES, spec) + spec)
         write('proofs/rows/%s/Answers.antt' % name.lower(),
               ['use Rattle.std.proofs.Common.{refl}', 'use Rattle.markdown_rows.proofs.Computed.{computed}',
-               'use Rattle.markdown_rows.specs.Rows.%s.{%s}' % (name, ', '.join(rows)),
-               'use Rattle.markdown_rows.proofs.rows.%s.Goals as goal' % name.lower()] + proof)
+               'use Rattle.markdown_rows.proofs.rows.%s.Goals as goal' % name.lower(), '', '-- Both sides of each row compute to one list.',
+               'pub returns : goal.returns', 'unfolding computed', 'returns c = (%s)' % ', '.join(['refl'] * len(lines))])
     write('specs/Rows.antt', ['pub mod %s' % name for name in groups])
     write('src/rows.rt', ['ghost use Rattle.markdown_rows.specs.Rows.%s.{Rows as %sRows};' % (name, name) for name in sorted(groups)]
           + [line for name in groups for line in ['', '/// The rows of `tools/rows.txt` under `%s` hold.' % name,

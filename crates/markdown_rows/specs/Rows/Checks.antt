@@ -3,57 +3,31 @@ use Rattle.std.specs.Prelude.{◌≡◌, true, [], ◌∷◌, codes}
 use Rattle.markdown_engine.specs.declared.event.Name.{Name}
 use Rattle.markdown_rows.specs.RowWords.{default, piece, enter, exit, text_answer, text_outline}
 
--- text gfm first «- [␉] a» 2-7: GfmTaskListItemCheck 2-5 [GfmTaskListItemMarker 2-3, GfmTaskListItemValueUnchecked 3-4, GfmTaskListItemMarker 4-5], Data 5-7
-abbrev pub row_1 : Type 0
-row_1 = text_answer (record default { gfm_autolink_literal = true; gfm_label_start_footnote = true; gfm_strikethrough = true; gfm_task_list_item = true; first_of_item = true }) (45 ∷ 32 ∷ 91 ∷ 9 ∷ 93 ∷ 32 ∷ 97 ∷ []) (piece 2 0 7 0 ∷ []) ≡ (enter Name.GfmTaskListItemCheck 1 3 2 0 ∷ enter Name.GfmTaskListItemMarker 1 3 2 0 ∷ exit Name.GfmTaskListItemMarker 1 4 3 0 ∷ enter Name.GfmTaskListItemValueUnchecked 1 4 3 0 ∷ exit Name.GfmTaskListItemValueUnchecked 1 5 4 0 ∷ enter Name.GfmTaskListItemMarker 1 5 4 0 ∷ exit Name.GfmTaskListItemMarker 1 6 5 0 ∷ exit Name.GfmTaskListItemCheck 1 6 5 0 ∷ enter Name.Data 1 6 5 0 ∷ exit Name.Data 1 8 7 0 ∷ [])
-
--- text gfm first «[␉] a»: Data 0-5
-abbrev pub row_2 : Type 0
-row_2 = text_answer (record default { gfm_autolink_literal = true; gfm_label_start_footnote = true; gfm_strikethrough = true; gfm_task_list_item = true; first_of_item = true }) (91 ∷ 9 ∷ 93 ∷ 32 ∷ 97 ∷ []) (piece 0 0 5 0 ∷ []) ≡ (enter Name.Data 1 1 0 0 ∷ exit Name.Data 1 8 5 0 ∷ [])
-
--- text gfm first «[␊] a»: GfmTaskListItemCheck 0-3 [GfmTaskListItemMarker 0-1, GfmTaskListItemValueUnchecked 1-2, GfmTaskListItemMarker 2-3], Data 3-5
-abbrev pub row_3 : Type 0
-row_3 = text_answer (record default { gfm_autolink_literal = true; gfm_label_start_footnote = true; gfm_strikethrough = true; gfm_task_list_item = true; first_of_item = true }) (91 ∷ 10 ∷ 93 ∷ 32 ∷ 97 ∷ []) (piece 0 0 5 0 ∷ []) ≡ (enter Name.GfmTaskListItemCheck 1 1 0 0 ∷ enter Name.GfmTaskListItemMarker 1 1 0 0 ∷ exit Name.GfmTaskListItemMarker 1 2 1 0 ∷ enter Name.GfmTaskListItemValueUnchecked 1 2 1 0 ∷ exit Name.GfmTaskListItemValueUnchecked 2 1 2 0 ∷ enter Name.GfmTaskListItemMarker 2 1 2 0 ∷ exit Name.GfmTaskListItemMarker 2 2 3 0 ∷ exit Name.GfmTaskListItemCheck 2 2 3 0 ∷ enter Name.Data 2 2 3 0 ∷ exit Name.Data 2 4 5 0 ∷ [])
-
--- text gfm first «[X] a»: GfmTaskListItemCheck 0-3 [GfmTaskListItemMarker 0-1, GfmTaskListItemValueChecked 1-2, GfmTaskListItemMarker 2-3], Data 3-5
-abbrev pub row_4 : Type 0
-row_4 = text_answer (record default { gfm_autolink_literal = true; gfm_label_start_footnote = true; gfm_strikethrough = true; gfm_task_list_item = true; first_of_item = true }) (codes "[X] a") (piece 0 0 5 0 ∷ []) ≡ (enter Name.GfmTaskListItemCheck 1 1 0 0 ∷ enter Name.GfmTaskListItemMarker 1 1 0 0 ∷ exit Name.GfmTaskListItemMarker 1 2 1 0 ∷ enter Name.GfmTaskListItemValueChecked 1 2 1 0 ∷ exit Name.GfmTaskListItemValueChecked 1 3 2 0 ∷ enter Name.GfmTaskListItemMarker 1 3 2 0 ∷ exit Name.GfmTaskListItemMarker 1 4 3 0 ∷ exit Name.GfmTaskListItemCheck 1 4 3 0 ∷ enter Name.Data 1 4 3 0 ∷ exit Name.Data 1 6 5 0 ∷ [])
-
--- text outer gfm first «[x]␉a»: GfmTaskListItemCheck 0-3, Data 3-5
-abbrev pub row_5 : Type 0
-row_5 = text_outline (record default { gfm_autolink_literal = true; gfm_label_start_footnote = true; gfm_strikethrough = true; gfm_task_list_item = true; first_of_item = true }) (91 ∷ 120 ∷ 93 ∷ 9 ∷ 97 ∷ []) (piece 0 0 5 0 ∷ []) ≡ (enter Name.GfmTaskListItemCheck 1 1 0 0 ∷ exit Name.GfmTaskListItemCheck 1 4 3 0 ∷ enter Name.Data 1 4 3 0 ∷ exit Name.Data 1 6 5 0 ∷ [])
-
--- text gfm first «[y] a»: Data 0-5
-abbrev pub row_6 : Type 0
-row_6 = text_answer (record default { gfm_autolink_literal = true; gfm_label_start_footnote = true; gfm_strikethrough = true; gfm_task_list_item = true; first_of_item = true }) (codes "[y] a") (piece 0 0 5 0 ∷ []) ≡ (enter Name.Data 1 1 0 0 ∷ exit Name.Data 1 6 5 0 ∷ [])
-
--- text gfm first «[] a»: Data 0-4
-abbrev pub row_7 : Type 0
-row_7 = text_answer (record default { gfm_autolink_literal = true; gfm_label_start_footnote = true; gfm_strikethrough = true; gfm_task_list_item = true; first_of_item = true }) (codes "[] a") (piece 0 0 4 0 ∷ []) ≡ (enter Name.Data 1 1 0 0 ∷ exit Name.Data 1 5 4 0 ∷ [])
-
--- text gfm first «a [x] b»: Data 0-7
-abbrev pub row_8 : Type 0
-row_8 = text_answer (record default { gfm_autolink_literal = true; gfm_label_start_footnote = true; gfm_strikethrough = true; gfm_task_list_item = true; first_of_item = true }) (codes "a [x] b") (piece 0 0 7 0 ∷ []) ≡ (enter Name.Data 1 1 0 0 ∷ exit Name.Data 1 8 7 0 ∷ [])
-
--- text outer gfm first definition=x «[x] a [x]»: GfmTaskListItemCheck 0-3, Data 3-6, Link 6-9
-abbrev pub row_9 : Type 0
-row_9 = text_outline (record default { gfm_autolink_literal = true; gfm_label_start_footnote = true; gfm_strikethrough = true; gfm_task_list_item = true; first_of_item = true; definitions = (codes "x") ∷ [] }) (codes "[x] a [x]") (piece 0 0 9 0 ∷ []) ≡ (enter Name.GfmTaskListItemCheck 1 1 0 0 ∷ exit Name.GfmTaskListItemCheck 1 4 3 0 ∷ enter Name.Data 1 4 3 0 ∷ exit Name.Data 1 7 6 0 ∷ enter Name.Link 1 7 6 0 ∷ exit Name.Link 1 10 9 0 ∷ [])
-
--- text gfm first «[x]  »: Data 0-3, SpaceOrTab 3-5
-abbrev pub row_10 : Type 0
-row_10 = text_answer (record default { gfm_autolink_literal = true; gfm_label_start_footnote = true; gfm_strikethrough = true; gfm_task_list_item = true; first_of_item = true }) (codes "[x]  ") (piece 0 0 5 0 ∷ []) ≡ (enter Name.Data 1 1 0 0 ∷ exit Name.Data 1 4 3 0 ∷ enter Name.SpaceOrTab 1 4 3 0 ∷ exit Name.SpaceOrTab 1 6 5 0 ∷ [])
-
--- text outer gfm first «[x]   a»: GfmTaskListItemCheck 0-3, Data 3-7
-abbrev pub row_11 : Type 0
-row_11 = text_outline (record default { gfm_autolink_literal = true; gfm_label_start_footnote = true; gfm_strikethrough = true; gfm_task_list_item = true; first_of_item = true }) (codes "[x]   a") (piece 0 0 7 0 ∷ []) ≡ (enter Name.GfmTaskListItemCheck 1 1 0 0 ∷ exit Name.GfmTaskListItemCheck 1 4 3 0 ∷ enter Name.Data 1 4 3 0 ∷ exit Name.Data 1 8 7 0 ∷ [])
-
--- text gfm first «␠[x] a»: SpaceOrTab 0-1, Data 1-6
-abbrev pub row_12 : Type 0
-row_12 = text_answer (record default { gfm_autolink_literal = true; gfm_label_start_footnote = true; gfm_strikethrough = true; gfm_task_list_item = true; first_of_item = true }) (codes " [x] a") (piece 0 0 6 0 ∷ []) ≡ (enter Name.SpaceOrTab 1 1 0 0 ∷ exit Name.SpaceOrTab 1 2 1 0 ∷ enter Name.Data 1 2 1 0 ∷ exit Name.Data 1 7 6 0 ∷ [])
-
--- text outer gfm first «[x] ␊a»: GfmTaskListItemCheck 0-3, SpaceOrTab 3-4, LineEnding 4-5, Data 5-6
-abbrev pub row_13 : Type 0
-row_13 = text_outline (record default { gfm_autolink_literal = true; gfm_label_start_footnote = true; gfm_strikethrough = true; gfm_task_list_item = true; first_of_item = true }) (91 ∷ 120 ∷ 93 ∷ 32 ∷ 10 ∷ 97 ∷ []) (piece 0 0 6 0 ∷ []) ≡ (enter Name.GfmTaskListItemCheck 1 1 0 0 ∷ exit Name.GfmTaskListItemCheck 1 4 3 0 ∷ enter Name.SpaceOrTab 1 4 3 0 ∷ exit Name.SpaceOrTab 1 5 4 0 ∷ enter Name.LineEnding 1 5 4 0 ∷ exit Name.LineEnding 2 1 5 0 ∷ enter Name.Data 2 1 5 0 ∷ exit Name.Data 2 2 6 0 ∷ [])
-
 abbrev pub Rows : Type 0
-Rows = row_1 × row_2 × row_3 × row_4 × row_5 × row_6 × row_7 × row_8 × row_9 × row_10 × row_11 × row_12 × row_13
+Rows =
+    -- text gfm first «- [␉] a» 2-7: GfmTaskListItemCheck 2-5 [GfmTaskListItemMarker 2-3, GfmTaskListItemValueUnchecked 3-4, GfmTaskListItemMarker 4-5], Data 5-7
+    (text_answer (record default { gfm_autolink_literal = true; gfm_label_start_footnote = true; gfm_strikethrough = true; gfm_task_list_item = true; first_of_item = true }) (45 ∷ 32 ∷ 91 ∷ 9 ∷ 93 ∷ 32 ∷ 97 ∷ []) (piece 2 0 7 0 ∷ []) ≡ (enter Name.GfmTaskListItemCheck 1 3 2 0 ∷ enter Name.GfmTaskListItemMarker 1 3 2 0 ∷ exit Name.GfmTaskListItemMarker 1 4 3 0 ∷ enter Name.GfmTaskListItemValueUnchecked 1 4 3 0 ∷ exit Name.GfmTaskListItemValueUnchecked 1 5 4 0 ∷ enter Name.GfmTaskListItemMarker 1 5 4 0 ∷ exit Name.GfmTaskListItemMarker 1 6 5 0 ∷ exit Name.GfmTaskListItemCheck 1 6 5 0 ∷ enter Name.Data 1 6 5 0 ∷ exit Name.Data 1 8 7 0 ∷ [])) ×
+    -- text gfm first «[␉] a»: Data 0-5
+    (text_answer (record default { gfm_autolink_literal = true; gfm_label_start_footnote = true; gfm_strikethrough = true; gfm_task_list_item = true; first_of_item = true }) (91 ∷ 9 ∷ 93 ∷ 32 ∷ 97 ∷ []) (piece 0 0 5 0 ∷ []) ≡ (enter Name.Data 1 1 0 0 ∷ exit Name.Data 1 8 5 0 ∷ [])) ×
+    -- text gfm first «[␊] a»: GfmTaskListItemCheck 0-3 [GfmTaskListItemMarker 0-1, GfmTaskListItemValueUnchecked 1-2, GfmTaskListItemMarker 2-3], Data 3-5
+    (text_answer (record default { gfm_autolink_literal = true; gfm_label_start_footnote = true; gfm_strikethrough = true; gfm_task_list_item = true; first_of_item = true }) (91 ∷ 10 ∷ 93 ∷ 32 ∷ 97 ∷ []) (piece 0 0 5 0 ∷ []) ≡ (enter Name.GfmTaskListItemCheck 1 1 0 0 ∷ enter Name.GfmTaskListItemMarker 1 1 0 0 ∷ exit Name.GfmTaskListItemMarker 1 2 1 0 ∷ enter Name.GfmTaskListItemValueUnchecked 1 2 1 0 ∷ exit Name.GfmTaskListItemValueUnchecked 2 1 2 0 ∷ enter Name.GfmTaskListItemMarker 2 1 2 0 ∷ exit Name.GfmTaskListItemMarker 2 2 3 0 ∷ exit Name.GfmTaskListItemCheck 2 2 3 0 ∷ enter Name.Data 2 2 3 0 ∷ exit Name.Data 2 4 5 0 ∷ [])) ×
+    -- text gfm first «[X] a»: GfmTaskListItemCheck 0-3 [GfmTaskListItemMarker 0-1, GfmTaskListItemValueChecked 1-2, GfmTaskListItemMarker 2-3], Data 3-5
+    (text_answer (record default { gfm_autolink_literal = true; gfm_label_start_footnote = true; gfm_strikethrough = true; gfm_task_list_item = true; first_of_item = true }) (codes "[X] a") (piece 0 0 5 0 ∷ []) ≡ (enter Name.GfmTaskListItemCheck 1 1 0 0 ∷ enter Name.GfmTaskListItemMarker 1 1 0 0 ∷ exit Name.GfmTaskListItemMarker 1 2 1 0 ∷ enter Name.GfmTaskListItemValueChecked 1 2 1 0 ∷ exit Name.GfmTaskListItemValueChecked 1 3 2 0 ∷ enter Name.GfmTaskListItemMarker 1 3 2 0 ∷ exit Name.GfmTaskListItemMarker 1 4 3 0 ∷ exit Name.GfmTaskListItemCheck 1 4 3 0 ∷ enter Name.Data 1 4 3 0 ∷ exit Name.Data 1 6 5 0 ∷ [])) ×
+    -- text outer gfm first «[x]␉a»: GfmTaskListItemCheck 0-3, Data 3-5
+    (text_outline (record default { gfm_autolink_literal = true; gfm_label_start_footnote = true; gfm_strikethrough = true; gfm_task_list_item = true; first_of_item = true }) (91 ∷ 120 ∷ 93 ∷ 9 ∷ 97 ∷ []) (piece 0 0 5 0 ∷ []) ≡ (enter Name.GfmTaskListItemCheck 1 1 0 0 ∷ exit Name.GfmTaskListItemCheck 1 4 3 0 ∷ enter Name.Data 1 4 3 0 ∷ exit Name.Data 1 6 5 0 ∷ [])) ×
+    -- text gfm first «[y] a»: Data 0-5
+    (text_answer (record default { gfm_autolink_literal = true; gfm_label_start_footnote = true; gfm_strikethrough = true; gfm_task_list_item = true; first_of_item = true }) (codes "[y] a") (piece 0 0 5 0 ∷ []) ≡ (enter Name.Data 1 1 0 0 ∷ exit Name.Data 1 6 5 0 ∷ [])) ×
+    -- text gfm first «[] a»: Data 0-4
+    (text_answer (record default { gfm_autolink_literal = true; gfm_label_start_footnote = true; gfm_strikethrough = true; gfm_task_list_item = true; first_of_item = true }) (codes "[] a") (piece 0 0 4 0 ∷ []) ≡ (enter Name.Data 1 1 0 0 ∷ exit Name.Data 1 5 4 0 ∷ [])) ×
+    -- text gfm first «a [x] b»: Data 0-7
+    (text_answer (record default { gfm_autolink_literal = true; gfm_label_start_footnote = true; gfm_strikethrough = true; gfm_task_list_item = true; first_of_item = true }) (codes "a [x] b") (piece 0 0 7 0 ∷ []) ≡ (enter Name.Data 1 1 0 0 ∷ exit Name.Data 1 8 7 0 ∷ [])) ×
+    -- text outer gfm first definition=x «[x] a [x]»: GfmTaskListItemCheck 0-3, Data 3-6, Link 6-9
+    (text_outline (record default { gfm_autolink_literal = true; gfm_label_start_footnote = true; gfm_strikethrough = true; gfm_task_list_item = true; first_of_item = true; definitions = (codes "x") ∷ [] }) (codes "[x] a [x]") (piece 0 0 9 0 ∷ []) ≡ (enter Name.GfmTaskListItemCheck 1 1 0 0 ∷ exit Name.GfmTaskListItemCheck 1 4 3 0 ∷ enter Name.Data 1 4 3 0 ∷ exit Name.Data 1 7 6 0 ∷ enter Name.Link 1 7 6 0 ∷ exit Name.Link 1 10 9 0 ∷ [])) ×
+    -- text gfm first «[x]  »: Data 0-3, SpaceOrTab 3-5
+    (text_answer (record default { gfm_autolink_literal = true; gfm_label_start_footnote = true; gfm_strikethrough = true; gfm_task_list_item = true; first_of_item = true }) (codes "[x]  ") (piece 0 0 5 0 ∷ []) ≡ (enter Name.Data 1 1 0 0 ∷ exit Name.Data 1 4 3 0 ∷ enter Name.SpaceOrTab 1 4 3 0 ∷ exit Name.SpaceOrTab 1 6 5 0 ∷ [])) ×
+    -- text outer gfm first «[x]   a»: GfmTaskListItemCheck 0-3, Data 3-7
+    (text_outline (record default { gfm_autolink_literal = true; gfm_label_start_footnote = true; gfm_strikethrough = true; gfm_task_list_item = true; first_of_item = true }) (codes "[x]   a") (piece 0 0 7 0 ∷ []) ≡ (enter Name.GfmTaskListItemCheck 1 1 0 0 ∷ exit Name.GfmTaskListItemCheck 1 4 3 0 ∷ enter Name.Data 1 4 3 0 ∷ exit Name.Data 1 8 7 0 ∷ [])) ×
+    -- text gfm first «␠[x] a»: SpaceOrTab 0-1, Data 1-6
+    (text_answer (record default { gfm_autolink_literal = true; gfm_label_start_footnote = true; gfm_strikethrough = true; gfm_task_list_item = true; first_of_item = true }) (codes " [x] a") (piece 0 0 6 0 ∷ []) ≡ (enter Name.SpaceOrTab 1 1 0 0 ∷ exit Name.SpaceOrTab 1 2 1 0 ∷ enter Name.Data 1 2 1 0 ∷ exit Name.Data 1 7 6 0 ∷ [])) ×
+    -- text outer gfm first «[x] ␊a»: GfmTaskListItemCheck 0-3, SpaceOrTab 3-4, LineEnding 4-5, Data 5-6
+    (text_outline (record default { gfm_autolink_literal = true; gfm_label_start_footnote = true; gfm_strikethrough = true; gfm_task_list_item = true; first_of_item = true }) (91 ∷ 120 ∷ 93 ∷ 32 ∷ 10 ∷ 97 ∷ []) (piece 0 0 6 0 ∷ []) ≡ (enter Name.GfmTaskListItemCheck 1 1 0 0 ∷ exit Name.GfmTaskListItemCheck 1 4 3 0 ∷ enter Name.SpaceOrTab 1 4 3 0 ∷ exit Name.SpaceOrTab 1 5 4 0 ∷ enter Name.LineEnding 1 5 4 0 ∷ exit Name.LineEnding 2 1 5 0 ∷ enter Name.Data 2 1 5 0 ∷ exit Name.Data 2 2 6 0 ∷ []))

@@ -3,73 +3,39 @@ use Rattle.std.specs.Prelude.{◌≡◌, [], ◌∷◌, codes}
 use Rattle.markdown_engine.specs.declared.event.Name.{Name}
 use Rattle.markdown_rows.specs.RowWords.{default, piece, enter, exit, text_answer, text_outline, string_answer, string_outline}
 
--- string outer «&#1;»: CharacterReference 0-4
-abbrev pub row_1 : Type 0
-row_1 = string_outline (default) (codes "&#1;") (piece 0 0 4 0 ∷ []) ≡ (enter Name.CharacterReference 1 1 0 0 ∷ exit Name.CharacterReference 1 5 4 0 ∷ [])
-
--- string outer «&#0123456;»: CharacterReference 0-10
-abbrev pub row_2 : Type 0
-row_2 = string_outline (default) (codes "&#0123456;") (piece 0 0 10 0 ∷ []) ≡ (enter Name.CharacterReference 1 1 0 0 ∷ exit Name.CharacterReference 1 11 10 0 ∷ [])
-
--- string outer «&#789;»: CharacterReference 0-6
-abbrev pub row_3 : Type 0
-row_3 = string_outline (default) (codes "&#789;") (piece 0 0 6 0 ∷ []) ≡ (enter Name.CharacterReference 1 1 0 0 ∷ exit Name.CharacterReference 1 7 6 0 ∷ [])
-
--- text «&#0000065;»: CharacterReference 0-10 [CharacterReferenceMarker 0-1, CharacterReferenceMarkerNumeric 1-2, CharacterReferenceValue 2-9, CharacterReferenceMarkerSemi 9-10]
-abbrev pub row_4 : Type 0
-row_4 = text_answer (default) (codes "&#0000065;") (piece 0 0 10 0 ∷ []) ≡ (enter Name.CharacterReference 1 1 0 0 ∷ enter Name.CharacterReferenceMarker 1 1 0 0 ∷ exit Name.CharacterReferenceMarker 1 2 1 0 ∷ enter Name.CharacterReferenceMarkerNumeric 1 2 1 0 ∷ exit Name.CharacterReferenceMarkerNumeric 1 3 2 0 ∷ enter Name.CharacterReferenceValue 1 3 2 0 ∷ exit Name.CharacterReferenceValue 1 10 9 0 ∷ enter Name.CharacterReferenceMarkerSemi 1 10 9 0 ∷ exit Name.CharacterReferenceMarkerSemi 1 11 10 0 ∷ exit Name.CharacterReference 1 11 10 0 ∷ [])
-
--- text «&#x000041;»: CharacterReference 0-10 [CharacterReferenceMarker 0-1, CharacterReferenceMarkerNumeric 1-2, CharacterReferenceMarkerHexadecimal 2-3, CharacterReferenceValue 3-9, CharacterReferenceMarkerSemi 9-10]
-abbrev pub row_5 : Type 0
-row_5 = text_answer (default) (codes "&#x000041;") (piece 0 0 10 0 ∷ []) ≡ (enter Name.CharacterReference 1 1 0 0 ∷ enter Name.CharacterReferenceMarker 1 1 0 0 ∷ exit Name.CharacterReferenceMarker 1 2 1 0 ∷ enter Name.CharacterReferenceMarkerNumeric 1 2 1 0 ∷ exit Name.CharacterReferenceMarkerNumeric 1 3 2 0 ∷ enter Name.CharacterReferenceMarkerHexadecimal 1 3 2 0 ∷ exit Name.CharacterReferenceMarkerHexadecimal 1 4 3 0 ∷ enter Name.CharacterReferenceValue 1 4 3 0 ∷ exit Name.CharacterReferenceValue 1 10 9 0 ∷ enter Name.CharacterReferenceMarkerSemi 1 10 9 0 ∷ exit Name.CharacterReferenceMarkerSemi 1 11 10 0 ∷ exit Name.CharacterReference 1 11 10 0 ∷ [])
-
--- text «&#x0000041;»: Data 0-11
-abbrev pub row_6 : Type 0
-row_6 = text_answer (default) (codes "&#x0000041;") (piece 0 0 11 0 ∷ []) ≡ (enter Name.Data 1 1 0 0 ∷ exit Name.Data 1 12 11 0 ∷ [])
-
--- text «&#X41;»: CharacterReference 0-6 [CharacterReferenceMarker 0-1, CharacterReferenceMarkerNumeric 1-2, CharacterReferenceMarkerHexadecimal 2-3, CharacterReferenceValue 3-5, CharacterReferenceMarkerSemi 5-6]
-abbrev pub row_7 : Type 0
-row_7 = text_answer (default) (codes "&#X41;") (piece 0 0 6 0 ∷ []) ≡ (enter Name.CharacterReference 1 1 0 0 ∷ enter Name.CharacterReferenceMarker 1 1 0 0 ∷ exit Name.CharacterReferenceMarker 1 2 1 0 ∷ enter Name.CharacterReferenceMarkerNumeric 1 2 1 0 ∷ exit Name.CharacterReferenceMarkerNumeric 1 3 2 0 ∷ enter Name.CharacterReferenceMarkerHexadecimal 1 3 2 0 ∷ exit Name.CharacterReferenceMarkerHexadecimal 1 4 3 0 ∷ enter Name.CharacterReferenceValue 1 4 3 0 ∷ exit Name.CharacterReferenceValue 1 6 5 0 ∷ enter Name.CharacterReferenceMarkerSemi 1 6 5 0 ∷ exit Name.CharacterReferenceMarkerSemi 1 7 6 0 ∷ exit Name.CharacterReference 1 7 6 0 ∷ [])
-
--- string outer «&#xABCDEF;&#xabcdef;»: CharacterReference 0-10, CharacterReference 10-20
-abbrev pub row_8 : Type 0
-row_8 = string_outline (default) (codes "&#xABCDEF;&#xabcdef;") (piece 0 0 20 0 ∷ []) ≡ (enter Name.CharacterReference 1 1 0 0 ∷ exit Name.CharacterReference 1 11 10 0 ∷ enter Name.CharacterReference 1 11 10 0 ∷ exit Name.CharacterReference 1 21 20 0 ∷ [])
-
--- string «&#;&#x;&;»: Data 0-9
-abbrev pub row_9 : Type 0
-row_9 = string_answer (default) (codes "&#;&#x;&;") (piece 0 0 9 0 ∷ []) ≡ (enter Name.Data 1 1 0 0 ∷ exit Name.Data 1 10 9 0 ∷ [])
-
--- string «&#a;&#F;»: Data 0-8
-abbrev pub row_10 : Type 0
-row_10 = string_answer (default) (codes "&#a;&#F;") (piece 0 0 8 0 ∷ []) ≡ (enter Name.Data 1 1 0 0 ∷ exit Name.Data 1 9 8 0 ∷ [])
-
--- string «&#/;&#:;»: Data 0-8
-abbrev pub row_11 : Type 0
-row_11 = string_answer (default) (codes "&#/;&#:;") (piece 0 0 8 0 ∷ []) ≡ (enter Name.Data 1 1 0 0 ∷ exit Name.Data 1 9 8 0 ∷ [])
-
--- string «&#xG;&#xg;&#x@;&#x`;»: Data 0-20
-abbrev pub row_12 : Type 0
-row_12 = string_answer (default) (codes "&#xG;&#xg;&#x@;&#x`;") (piece 0 0 20 0 ∷ []) ≡ (enter Name.Data 1 1 0 0 ∷ exit Name.Data 1 21 20 0 ∷ [])
-
--- string «&amp &#65 &#x41»: Data 0-15
-abbrev pub row_13 : Type 0
-row_13 = string_answer (default) (codes "&amp &#65 &#x41") (piece 0 0 15 0 ∷ []) ≡ (enter Name.Data 1 1 0 0 ∷ exit Name.Data 1 16 15 0 ∷ [])
-
--- string outer «&frac12;»: CharacterReference 0-8
-abbrev pub row_14 : Type 0
-row_14 = string_outline (default) (codes "&frac12;") (piece 0 0 8 0 ∷ []) ≡ (enter Name.CharacterReference 1 1 0 0 ∷ exit Name.CharacterReference 1 9 8 0 ∷ [])
-
--- string outer «&AElig;»: CharacterReference 0-7
-abbrev pub row_15 : Type 0
-row_15 = string_outline (default) (codes "&AElig;") (piece 0 0 7 0 ∷ []) ≡ (enter Name.CharacterReference 1 1 0 0 ∷ exit Name.CharacterReference 1 8 7 0 ∷ [])
-
--- string «&Amp;»: Data 0-5
-abbrev pub row_16 : Type 0
-row_16 = string_answer (default) (codes "&Amp;") (piece 0 0 5 0 ∷ []) ≡ (enter Name.Data 1 1 0 0 ∷ exit Name.Data 1 6 5 0 ∷ [])
-
--- text outer «&#123456;7»: CharacterReference 0-9, Data 9-10
-abbrev pub row_17 : Type 0
-row_17 = text_outline (default) (codes "&#123456;7") (piece 0 0 10 0 ∷ []) ≡ (enter Name.CharacterReference 1 1 0 0 ∷ exit Name.CharacterReference 1 10 9 0 ∷ enter Name.Data 1 10 9 0 ∷ exit Name.Data 1 11 10 0 ∷ [])
-
 abbrev pub Rows : Type 0
-Rows = row_1 × row_2 × row_3 × row_4 × row_5 × row_6 × row_7 × row_8 × row_9 × row_10 × row_11 × row_12 × row_13 × row_14 × row_15 × row_16 × row_17
+Rows =
+    -- string outer «&#1;»: CharacterReference 0-4
+    (string_outline (default) (codes "&#1;") (piece 0 0 4 0 ∷ []) ≡ (enter Name.CharacterReference 1 1 0 0 ∷ exit Name.CharacterReference 1 5 4 0 ∷ [])) ×
+    -- string outer «&#0123456;»: CharacterReference 0-10
+    (string_outline (default) (codes "&#0123456;") (piece 0 0 10 0 ∷ []) ≡ (enter Name.CharacterReference 1 1 0 0 ∷ exit Name.CharacterReference 1 11 10 0 ∷ [])) ×
+    -- string outer «&#789;»: CharacterReference 0-6
+    (string_outline (default) (codes "&#789;") (piece 0 0 6 0 ∷ []) ≡ (enter Name.CharacterReference 1 1 0 0 ∷ exit Name.CharacterReference 1 7 6 0 ∷ [])) ×
+    -- text «&#0000065;»: CharacterReference 0-10 [CharacterReferenceMarker 0-1, CharacterReferenceMarkerNumeric 1-2, CharacterReferenceValue 2-9, CharacterReferenceMarkerSemi 9-10]
+    (text_answer (default) (codes "&#0000065;") (piece 0 0 10 0 ∷ []) ≡ (enter Name.CharacterReference 1 1 0 0 ∷ enter Name.CharacterReferenceMarker 1 1 0 0 ∷ exit Name.CharacterReferenceMarker 1 2 1 0 ∷ enter Name.CharacterReferenceMarkerNumeric 1 2 1 0 ∷ exit Name.CharacterReferenceMarkerNumeric 1 3 2 0 ∷ enter Name.CharacterReferenceValue 1 3 2 0 ∷ exit Name.CharacterReferenceValue 1 10 9 0 ∷ enter Name.CharacterReferenceMarkerSemi 1 10 9 0 ∷ exit Name.CharacterReferenceMarkerSemi 1 11 10 0 ∷ exit Name.CharacterReference 1 11 10 0 ∷ [])) ×
+    -- text «&#x000041;»: CharacterReference 0-10 [CharacterReferenceMarker 0-1, CharacterReferenceMarkerNumeric 1-2, CharacterReferenceMarkerHexadecimal 2-3, CharacterReferenceValue 3-9, CharacterReferenceMarkerSemi 9-10]
+    (text_answer (default) (codes "&#x000041;") (piece 0 0 10 0 ∷ []) ≡ (enter Name.CharacterReference 1 1 0 0 ∷ enter Name.CharacterReferenceMarker 1 1 0 0 ∷ exit Name.CharacterReferenceMarker 1 2 1 0 ∷ enter Name.CharacterReferenceMarkerNumeric 1 2 1 0 ∷ exit Name.CharacterReferenceMarkerNumeric 1 3 2 0 ∷ enter Name.CharacterReferenceMarkerHexadecimal 1 3 2 0 ∷ exit Name.CharacterReferenceMarkerHexadecimal 1 4 3 0 ∷ enter Name.CharacterReferenceValue 1 4 3 0 ∷ exit Name.CharacterReferenceValue 1 10 9 0 ∷ enter Name.CharacterReferenceMarkerSemi 1 10 9 0 ∷ exit Name.CharacterReferenceMarkerSemi 1 11 10 0 ∷ exit Name.CharacterReference 1 11 10 0 ∷ [])) ×
+    -- text «&#x0000041;»: Data 0-11
+    (text_answer (default) (codes "&#x0000041;") (piece 0 0 11 0 ∷ []) ≡ (enter Name.Data 1 1 0 0 ∷ exit Name.Data 1 12 11 0 ∷ [])) ×
+    -- text «&#X41;»: CharacterReference 0-6 [CharacterReferenceMarker 0-1, CharacterReferenceMarkerNumeric 1-2, CharacterReferenceMarkerHexadecimal 2-3, CharacterReferenceValue 3-5, CharacterReferenceMarkerSemi 5-6]
+    (text_answer (default) (codes "&#X41;") (piece 0 0 6 0 ∷ []) ≡ (enter Name.CharacterReference 1 1 0 0 ∷ enter Name.CharacterReferenceMarker 1 1 0 0 ∷ exit Name.CharacterReferenceMarker 1 2 1 0 ∷ enter Name.CharacterReferenceMarkerNumeric 1 2 1 0 ∷ exit Name.CharacterReferenceMarkerNumeric 1 3 2 0 ∷ enter Name.CharacterReferenceMarkerHexadecimal 1 3 2 0 ∷ exit Name.CharacterReferenceMarkerHexadecimal 1 4 3 0 ∷ enter Name.CharacterReferenceValue 1 4 3 0 ∷ exit Name.CharacterReferenceValue 1 6 5 0 ∷ enter Name.CharacterReferenceMarkerSemi 1 6 5 0 ∷ exit Name.CharacterReferenceMarkerSemi 1 7 6 0 ∷ exit Name.CharacterReference 1 7 6 0 ∷ [])) ×
+    -- string outer «&#xABCDEF;&#xabcdef;»: CharacterReference 0-10, CharacterReference 10-20
+    (string_outline (default) (codes "&#xABCDEF;&#xabcdef;") (piece 0 0 20 0 ∷ []) ≡ (enter Name.CharacterReference 1 1 0 0 ∷ exit Name.CharacterReference 1 11 10 0 ∷ enter Name.CharacterReference 1 11 10 0 ∷ exit Name.CharacterReference 1 21 20 0 ∷ [])) ×
+    -- string «&#;&#x;&;»: Data 0-9
+    (string_answer (default) (codes "&#;&#x;&;") (piece 0 0 9 0 ∷ []) ≡ (enter Name.Data 1 1 0 0 ∷ exit Name.Data 1 10 9 0 ∷ [])) ×
+    -- string «&#a;&#F;»: Data 0-8
+    (string_answer (default) (codes "&#a;&#F;") (piece 0 0 8 0 ∷ []) ≡ (enter Name.Data 1 1 0 0 ∷ exit Name.Data 1 9 8 0 ∷ [])) ×
+    -- string «&#/;&#:;»: Data 0-8
+    (string_answer (default) (codes "&#/;&#:;") (piece 0 0 8 0 ∷ []) ≡ (enter Name.Data 1 1 0 0 ∷ exit Name.Data 1 9 8 0 ∷ [])) ×
+    -- string «&#xG;&#xg;&#x@;&#x`;»: Data 0-20
+    (string_answer (default) (codes "&#xG;&#xg;&#x@;&#x`;") (piece 0 0 20 0 ∷ []) ≡ (enter Name.Data 1 1 0 0 ∷ exit Name.Data 1 21 20 0 ∷ [])) ×
+    -- string «&amp &#65 &#x41»: Data 0-15
+    (string_answer (default) (codes "&amp &#65 &#x41") (piece 0 0 15 0 ∷ []) ≡ (enter Name.Data 1 1 0 0 ∷ exit Name.Data 1 16 15 0 ∷ [])) ×
+    -- string outer «&frac12;»: CharacterReference 0-8
+    (string_outline (default) (codes "&frac12;") (piece 0 0 8 0 ∷ []) ≡ (enter Name.CharacterReference 1 1 0 0 ∷ exit Name.CharacterReference 1 9 8 0 ∷ [])) ×
+    -- string outer «&AElig;»: CharacterReference 0-7
+    (string_outline (default) (codes "&AElig;") (piece 0 0 7 0 ∷ []) ≡ (enter Name.CharacterReference 1 1 0 0 ∷ exit Name.CharacterReference 1 8 7 0 ∷ [])) ×
+    -- string «&Amp;»: Data 0-5
+    (string_answer (default) (codes "&Amp;") (piece 0 0 5 0 ∷ []) ≡ (enter Name.Data 1 1 0 0 ∷ exit Name.Data 1 6 5 0 ∷ [])) ×
+    -- text outer «&#123456;7»: CharacterReference 0-9, Data 9-10
+    (text_outline (default) (codes "&#123456;7") (piece 0 0 10 0 ∷ []) ≡ (enter Name.CharacterReference 1 1 0 0 ∷ exit Name.CharacterReference 1 10 9 0 ∷ enter Name.Data 1 10 9 0 ∷ exit Name.Data 1 11 10 0 ∷ []))

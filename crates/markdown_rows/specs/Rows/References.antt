@@ -3,89 +3,47 @@ use Rattle.std.specs.Prelude.{◌≡◌, true, [], ◌∷◌, codes, None}
 use Rattle.markdown_engine.specs.declared.event.Name.{Name}
 use Rattle.markdown_rows.specs.RowWords.{default, piece, enter, exit, chained, text_answer, text_outline}
 
--- text definition=a «[a][b»: Data 0-5
-abbrev pub row_1 : Type 0
-row_1 = text_answer (record default { definitions = (codes "a") ∷ [] }) (codes "[a][b") (piece 0 0 5 0 ∷ []) ≡ (enter Name.Data 1 1 0 0 ∷ exit Name.Data 1 6 5 0 ∷ [])
-
--- text outer shortcut definition=a «[a][b»: Link 0-3, Data 3-5
-abbrev pub row_2 : Type 0
-row_2 = text_outline (record default { shortcut = true; definitions = (codes "a") ∷ [] }) (codes "[a][b") (piece 0 0 5 0 ∷ []) ≡ (enter Name.Link 1 1 0 0 ∷ exit Name.Link 1 4 3 0 ∷ enter Name.Data 1 4 3 0 ∷ exit Name.Data 1 6 5 0 ∷ [])
-
--- text outer definition=a&b «[x][a&amp;b], [a\&b][]»: Data 0-5, CharacterReference 5-10, Data 10-16, CharacterEscape 16-18, Data 18-22
-abbrev pub row_3 : Type 0
-row_3 = text_outline (record default { definitions = (codes "a&b") ∷ [] }) (codes "[x][a&amp;b], [a\\&b][]") (piece 0 0 22 0 ∷ []) ≡ (enter Name.Data 1 1 0 0 ∷ exit Name.Data 1 6 5 0 ∷ enter Name.CharacterReference 1 6 5 0 ∷ exit Name.CharacterReference 1 11 10 0 ∷ enter Name.Data 1 11 10 0 ∷ exit Name.Data 1 17 16 0 ∷ enter Name.CharacterEscape 1 17 16 0 ∷ exit Name.CharacterEscape 1 19 18 0 ∷ enter Name.Data 1 19 18 0 ∷ exit Name.Data 1 23 22 0 ∷ [])
-
--- text outer definition=a «[a](b c)»: Link 0-3, Data 3-8
-abbrev pub row_4 : Type 0
-row_4 = text_outline (record default { definitions = (codes "a") ∷ [] }) (codes "[a](b c)") (piece 0 0 8 0 ∷ []) ≡ (enter Name.Link 1 1 0 0 ∷ exit Name.Link 1 4 3 0 ∷ enter Name.Data 1 4 3 0 ∷ exit Name.Data 1 9 8 0 ∷ [])
-
--- text definition=a «[a][]»: Link 0-5 [Label 0-3 [LabelLink 0-1, LabelText 1-2 [Data 1-2], LabelEnd 2-3], Reference 3-5 [ReferenceMarker 3-4, ReferenceMarker 4-5]]
-abbrev pub row_5 : Type 0
-row_5 = text_answer (record default { definitions = (codes "a") ∷ [] }) (codes "[a][]") (piece 0 0 5 0 ∷ []) ≡ (enter Name.Link 1 1 0 0 ∷ enter Name.Label 1 1 0 0 ∷ enter Name.LabelLink 1 1 0 0 ∷ enter Name.LabelMarker 1 1 0 0 ∷ exit Name.LabelMarker 1 2 1 0 ∷ exit Name.LabelLink 1 2 1 0 ∷ enter Name.LabelText 1 2 1 0 ∷ enter Name.Data 1 2 1 0 ∷ exit Name.Data 1 3 2 0 ∷ exit Name.LabelText 1 3 2 0 ∷ enter Name.LabelEnd 1 3 2 0 ∷ enter Name.LabelMarker 1 3 2 0 ∷ exit Name.LabelMarker 1 4 3 0 ∷ exit Name.LabelEnd 1 4 3 0 ∷ exit Name.Label 1 4 3 0 ∷ enter Name.Reference 1 4 3 0 ∷ enter Name.ReferenceMarker 1 4 3 0 ∷ exit Name.ReferenceMarker 1 5 4 0 ∷ enter Name.ReferenceMarker 1 5 4 0 ∷ exit Name.ReferenceMarker 1 6 5 0 ∷ exit Name.Reference 1 6 5 0 ∷ exit Name.Link 1 6 5 0 ∷ [])
-
--- text definition=a «[x][a]»: Link 0-6 [Label 0-3 [LabelLink 0-1, LabelText 1-2 [Data 1-2], LabelEnd 2-3], Reference 3-6 [ReferenceMarker 3-4, ReferenceString 4-5 [Data 4-5], ReferenceMarker 5-6]]
-abbrev pub row_6 : Type 0
-row_6 = text_answer (record default { definitions = (codes "a") ∷ [] }) (codes "[x][a]") (piece 0 0 6 0 ∷ []) ≡ (enter Name.Link 1 1 0 0 ∷ enter Name.Label 1 1 0 0 ∷ enter Name.LabelLink 1 1 0 0 ∷ enter Name.LabelMarker 1 1 0 0 ∷ exit Name.LabelMarker 1 2 1 0 ∷ exit Name.LabelLink 1 2 1 0 ∷ enter Name.LabelText 1 2 1 0 ∷ enter Name.Data 1 2 1 0 ∷ exit Name.Data 1 3 2 0 ∷ exit Name.LabelText 1 3 2 0 ∷ enter Name.LabelEnd 1 3 2 0 ∷ enter Name.LabelMarker 1 3 2 0 ∷ exit Name.LabelMarker 1 4 3 0 ∷ exit Name.LabelEnd 1 4 3 0 ∷ exit Name.Label 1 4 3 0 ∷ enter Name.Reference 1 4 3 0 ∷ enter Name.ReferenceMarker 1 4 3 0 ∷ exit Name.ReferenceMarker 1 5 4 0 ∷ enter Name.ReferenceString 1 5 4 0 ∷ chained Name.Data 1 5 4 0 None None ∷ exit Name.Data 1 6 5 0 ∷ exit Name.ReferenceString 1 6 5 0 ∷ enter Name.ReferenceMarker 1 6 5 0 ∷ exit Name.ReferenceMarker 1 7 6 0 ∷ exit Name.Reference 1 7 6 0 ∷ exit Name.Link 1 7 6 0 ∷ [])
-
--- text outer shortcut definition=a «![a][b»: Image 0-4, Data 4-6
-abbrev pub row_7 : Type 0
-row_7 = text_outline (record default { shortcut = true; definitions = (codes "a") ∷ [] }) (codes "![a][b") (piece 0 0 6 0 ∷ []) ≡ (enter Name.Image 1 1 0 0 ∷ exit Name.Image 1 5 4 0 ∷ enter Name.Data 1 5 4 0 ∷ exit Name.Data 1 7 6 0 ∷ [])
-
--- text definition=a «![a][b»: Data 0-6
-abbrev pub row_8 : Type 0
-row_8 = text_answer (record default { definitions = (codes "a") ∷ [] }) (codes "![a][b") (piece 0 0 6 0 ∷ []) ≡ (enter Name.Data 1 1 0 0 ∷ exit Name.Data 1 7 6 0 ∷ [])
-
--- text outer shortcut definition=a «[a][ ]»: Link 0-3, Data 3-6
-abbrev pub row_9 : Type 0
-row_9 = text_outline (record default { shortcut = true; definitions = (codes "a") ∷ [] }) (codes "[a][ ]") (piece 0 0 6 0 ∷ []) ≡ (enter Name.Link 1 1 0 0 ∷ exit Name.Link 1 4 3 0 ∷ enter Name.Data 1 4 3 0 ∷ exit Name.Data 1 7 6 0 ∷ [])
-
--- text definition=a «[a][ ]»: Data 0-6
-abbrev pub row_10 : Type 0
-row_10 = text_answer (record default { definitions = (codes "a") ∷ [] }) (codes "[a][ ]") (piece 0 0 6 0 ∷ []) ≡ (enter Name.Data 1 1 0 0 ∷ exit Name.Data 1 7 6 0 ∷ [])
-
--- text outer shortcut definition=a «[a][[b]»: Link 0-3, Data 3-7
-abbrev pub row_11 : Type 0
-row_11 = text_outline (record default { shortcut = true; definitions = (codes "a") ∷ [] }) (codes "[a][[b]") (piece 0 0 7 0 ∷ []) ≡ (enter Name.Link 1 1 0 0 ∷ exit Name.Link 1 4 3 0 ∷ enter Name.Data 1 4 3 0 ∷ exit Name.Data 1 8 7 0 ∷ [])
-
--- text definition=a «[a][[b]»: Data 0-7
-abbrev pub row_12 : Type 0
-row_12 = text_answer (record default { definitions = (codes "a") ∷ [] }) (codes "[a][[b]") (piece 0 0 7 0 ∷ []) ≡ (enter Name.Data 1 1 0 0 ∷ exit Name.Data 1 8 7 0 ∷ [])
-
--- text shortcut definition=a «[a][b]»: Data 0-6
-abbrev pub row_13 : Type 0
-row_13 = text_answer (record default { shortcut = true; definitions = (codes "a") ∷ [] }) (codes "[a][b]") (piece 0 0 6 0 ∷ []) ≡ (enter Name.Data 1 1 0 0 ∷ exit Name.Data 1 7 6 0 ∷ [])
-
--- text definition=a «[a][b]»: Data 0-6
-abbrev pub row_14 : Type 0
-row_14 = text_answer (record default { definitions = (codes "a") ∷ [] }) (codes "[a][b]") (piece 0 0 6 0 ∷ []) ≡ (enter Name.Data 1 1 0 0 ∷ exit Name.Data 1 7 6 0 ∷ [])
-
--- text outer shortcut definition=a «[a][b](c)»: Data 0-3, Link 3-9
-abbrev pub row_15 : Type 0
-row_15 = text_outline (record default { shortcut = true; definitions = (codes "a") ∷ [] }) (codes "[a][b](c)") (piece 0 0 9 0 ∷ []) ≡ (enter Name.Data 1 1 0 0 ∷ exit Name.Data 1 4 3 0 ∷ enter Name.Link 1 4 3 0 ∷ exit Name.Link 1 10 9 0 ∷ [])
-
--- text outer definition=a «[a][b](c)»: Data 0-3, Link 3-9
-abbrev pub row_16 : Type 0
-row_16 = text_outline (record default { definitions = (codes "a") ∷ [] }) (codes "[a][b](c)") (piece 0 0 9 0 ∷ []) ≡ (enter Name.Data 1 1 0 0 ∷ exit Name.Data 1 4 3 0 ∷ enter Name.Link 1 4 3 0 ∷ exit Name.Link 1 10 9 0 ∷ [])
-
--- text outer shortcut definition=a «[a][]»: Link 0-5
-abbrev pub row_17 : Type 0
-row_17 = text_outline (record default { shortcut = true; definitions = (codes "a") ∷ [] }) (codes "[a][]") (piece 0 0 5 0 ∷ []) ≡ (enter Name.Link 1 1 0 0 ∷ exit Name.Link 1 6 5 0 ∷ [])
-
--- text outer definition=⟦x×999⟧ «[a][⟦x×999⟧]»: Link 0-1004
-abbrev pub row_18 : Type 0
-row_18 = text_outline (record default { definitions = (codes "xxxxxxxxxxxxxxxxxxxxxxxxxxxxxxxxxxxxxxxxxxxxxxxxxxxxxxxxxxxxxxxxxxxxxxxxxxxxxxxxxxxxxxxxxxxxxxxxxxxxxxxxxxxxxxxxxxxxxxxxxxxxxxxxxxxxxxxxxxxxxxxxxxxxxxxxxxxxxxxxxxxxxxxxxxxxxxxxxxxxxxxxxxxxxxxxxxxxxxxxxxxxxxxxxxxxxxxxxxxxxxxxxxxxxxxxxxxxxxxxxxxxxxxxxxxxxxxxxxxxxxxxxxxxxxxxxxxxxxxxxxxxxxxxxxxxxxxxxxxxxxxxxxxxxxxxxxxxxxxxxxxxxxxxxxxxxxxxxxxxxxxxxxxxxxxxxxxxxxxxxxxxxxxxxxxxxxxxxxxxxxxxxxxxxxxxxxxxxxxxxxxxxxxxxxxxxxxxxxxxxxxxxxxxxxxxxxxxxxxxxxxxxxxxxxxxxxxxxxxxxxxxxxxxxxxxxxxxxxxxxxxxxxxxxxxxxxxxxxxxxxxxxxxxxxxxxxxxxxxxxxxxxxxxxxxxxxxxxxxxxxxxxxxxxxxxxxxxxxxxxxxxxxxxxxxxxxxxxxxxxxxxxxxxxxxxxxxxxxxxxxxxxxxxxxxxxxxxxxxxxxxxxxxxxxxxxxxxxxxxxxxxxxxxxxxxxxxxxxxxxxxxxxxxxxxxxxxxxxxxxxxxxxxxxxxxxxxxxxxxxxxxxxxxxxxxxxxxxxxxxxxxxxxxxxxxxxxxxxxxxxxxxxxxxxxxxxxxxxxxxxxxxxxxxxxxxxxxxxxxxxxxxxxxxxxxxxxxxxxxxxxxxxxxxxxxxxxxxxxxxxxxxxxxxxxxxxxxxxxxxxxxxxxxxxxxxxxxxxxxxxxxxxxxxxxxxxxxxxxxxxxxxxxxxxxxxxxxxxxxxxxxxxxxxxxxxxxxxxxxxxxxxxxxxxxxxxxxxxxxxxxxxxxxxxxxxxxxxxxxxxxxxxxxxxxxxxxxxxxxxxxxxxxxxxxxxxxxxxx") ∷ [] }) (codes "[a][xxxxxxxxxxxxxxxxxxxxxxxxxxxxxxxxxxxxxxxxxxxxxxxxxxxxxxxxxxxxxxxxxxxxxxxxxxxxxxxxxxxxxxxxxxxxxxxxxxxxxxxxxxxxxxxxxxxxxxxxxxxxxxxxxxxxxxxxxxxxxxxxxxxxxxxxxxxxxxxxxxxxxxxxxxxxxxxxxxxxxxxxxxxxxxxxxxxxxxxxxxxxxxxxxxxxxxxxxxxxxxxxxxxxxxxxxxxxxxxxxxxxxxxxxxxxxxxxxxxxxxxxxxxxxxxxxxxxxxxxxxxxxxxxxxxxxxxxxxxxxxxxxxxxxxxxxxxxxxxxxxxxxxxxxxxxxxxxxxxxxxxxxxxxxxxxxxxxxxxxxxxxxxxxxxxxxxxxxxxxxxxxxxxxxxxxxxxxxxxxxxxxxxxxxxxxxxxxxxxxxxxxxxxxxxxxxxxxxxxxxxxxxxxxxxxxxxxxxxxxxxxxxxxxxxxxxxxxxxxxxxxxxxxxxxxxxxxxxxxxxxxxxxxxxxxxxxxxxxxxxxxxxxxxxxxxxxxxxxxxxxxxxxxxxxxxxxxxxxxxxxxxxxxxxxxxxxxxxxxxxxxxxxxxxxxxxxxxxxxxxxxxxxxxxxxxxxxxxxxxxxxxxxxxxxxxxxxxxxxxxxxxxxxxxxxxxxxxxxxxxxxxxxxxxxxxxxxxxxxxxxxxxxxxxxxxxxxxxxxxxxxxxxxxxxxxxxxxxxxxxxxxxxxxxxxxxxxxxxxxxxxxxxxxxxxxxxxxxxxxxxxxxxxxxxxxxxxxxxxxxxxxxxxxxxxxxxxxxxxxxxxxxxxxxxxxxxxxxxxxxxxxxxxxxxxxxxxxxxxxxxxxxxxxxxxxxxxxxxxxxxxxxxxxxxxxxxxxxxxxxxxxxxxxxxxxxxxxxxxxxxxxxxxxxxxxxxxxxxxxxxxxxxxxxxxxxxxxxxxxxxxxxxxxxxxxxxxxxxxxxxxxxxxxxxxxxxxxxxxxxxxxxxxxxxxxxxxxxxx]") (piece 0 0 1004 0 ∷ []) ≡ (enter Name.Link 1 1 0 0 ∷ exit Name.Link 1 1005 1004 0 ∷ [])
-
--- text definition=⟦x×999⟧ «[a][⟦x×1000⟧]»: Data 0-1005
-abbrev pub row_19 : Type 0
-row_19 = text_answer (record default { definitions = (codes "xxxxxxxxxxxxxxxxxxxxxxxxxxxxxxxxxxxxxxxxxxxxxxxxxxxxxxxxxxxxxxxxxxxxxxxxxxxxxxxxxxxxxxxxxxxxxxxxxxxxxxxxxxxxxxxxxxxxxxxxxxxxxxxxxxxxxxxxxxxxxxxxxxxxxxxxxxxxxxxxxxxxxxxxxxxxxxxxxxxxxxxxxxxxxxxxxxxxxxxxxxxxxxxxxxxxxxxxxxxxxxxxxxxxxxxxxxxxxxxxxxxxxxxxxxxxxxxxxxxxxxxxxxxxxxxxxxxxxxxxxxxxxxxxxxxxxxxxxxxxxxxxxxxxxxxxxxxxxxxxxxxxxxxxxxxxxxxxxxxxxxxxxxxxxxxxxxxxxxxxxxxxxxxxxxxxxxxxxxxxxxxxxxxxxxxxxxxxxxxxxxxxxxxxxxxxxxxxxxxxxxxxxxxxxxxxxxxxxxxxxxxxxxxxxxxxxxxxxxxxxxxxxxxxxxxxxxxxxxxxxxxxxxxxxxxxxxxxxxxxxxxxxxxxxxxxxxxxxxxxxxxxxxxxxxxxxxxxxxxxxxxxxxxxxxxxxxxxxxxxxxxxxxxxxxxxxxxxxxxxxxxxxxxxxxxxxxxxxxxxxxxxxxxxxxxxxxxxxxxxxxxxxxxxxxxxxxxxxxxxxxxxxxxxxxxxxxxxxxxxxxxxxxxxxxxxxxxxxxxxxxxxxxxxxxxxxxxxxxxxxxxxxxxxxxxxxxxxxxxxxxxxxxxxxxxxxxxxxxxxxxxxxxxxxxxxxxxxxxxxxxxxxxxxxxxxxxxxxxxxxxxxxxxxxxxxxxxxxxxxxxxxxxxxxxxxxxxxxxxxxxxxxxxxxxxxxxxxxxxxxxxxxxxxxxxxxxxxxxxxxxxxxxxxxxxxxxxxxxxxxxxxxxxxxxxxxxxxxxxxxxxxxxxxxxxxxxxxxxxxxxxxxxxxxxxxxxxxxxxxxxxxxxxxxxxxxxxxxxxxxxxxxxxxxxxxxxxxxxxxxxxxxxxxxxxxxxxxxxx") ∷ [] }) (codes "[a][xxxxxxxxxxxxxxxxxxxxxxxxxxxxxxxxxxxxxxxxxxxxxxxxxxxxxxxxxxxxxxxxxxxxxxxxxxxxxxxxxxxxxxxxxxxxxxxxxxxxxxxxxxxxxxxxxxxxxxxxxxxxxxxxxxxxxxxxxxxxxxxxxxxxxxxxxxxxxxxxxxxxxxxxxxxxxxxxxxxxxxxxxxxxxxxxxxxxxxxxxxxxxxxxxxxxxxxxxxxxxxxxxxxxxxxxxxxxxxxxxxxxxxxxxxxxxxxxxxxxxxxxxxxxxxxxxxxxxxxxxxxxxxxxxxxxxxxxxxxxxxxxxxxxxxxxxxxxxxxxxxxxxxxxxxxxxxxxxxxxxxxxxxxxxxxxxxxxxxxxxxxxxxxxxxxxxxxxxxxxxxxxxxxxxxxxxxxxxxxxxxxxxxxxxxxxxxxxxxxxxxxxxxxxxxxxxxxxxxxxxxxxxxxxxxxxxxxxxxxxxxxxxxxxxxxxxxxxxxxxxxxxxxxxxxxxxxxxxxxxxxxxxxxxxxxxxxxxxxxxxxxxxxxxxxxxxxxxxxxxxxxxxxxxxxxxxxxxxxxxxxxxxxxxxxxxxxxxxxxxxxxxxxxxxxxxxxxxxxxxxxxxxxxxxxxxxxxxxxxxxxxxxxxxxxxxxxxxxxxxxxxxxxxxxxxxxxxxxxxxxxxxxxxxxxxxxxxxxxxxxxxxxxxxxxxxxxxxxxxxxxxxxxxxxxxxxxxxxxxxxxxxxxxxxxxxxxxxxxxxxxxxxxxxxxxxxxxxxxxxxxxxxxxxxxxxxxxxxxxxxxxxxxxxxxxxxxxxxxxxxxxxxxxxxxxxxxxxxxxxxxxxxxxxxxxxxxxxxxxxxxxxxxxxxxxxxxxxxxxxxxxxxxxxxxxxxxxxxxxxxxxxxxxxxxxxxxxxxxxxxxxxxxxxxxxxxxxxxxxxxxxxxxxxxxxxxxxxxxxxxxxxxxxxxxxxxxxxxxxxxxxxxxxxxxxxxxxxxxxxxxxxxxxxxxxxxxxxxxxx]") (piece 0 0 1005 0 ∷ []) ≡ (enter Name.Data 1 1 0 0 ∷ exit Name.Data 1 1006 1005 0 ∷ [])
-
--- text definition=a «[a][⟦x×1000⟧]»: Data 0-1005
-abbrev pub row_20 : Type 0
-row_20 = text_answer (record default { definitions = (codes "a") ∷ [] }) (codes "[a][xxxxxxxxxxxxxxxxxxxxxxxxxxxxxxxxxxxxxxxxxxxxxxxxxxxxxxxxxxxxxxxxxxxxxxxxxxxxxxxxxxxxxxxxxxxxxxxxxxxxxxxxxxxxxxxxxxxxxxxxxxxxxxxxxxxxxxxxxxxxxxxxxxxxxxxxxxxxxxxxxxxxxxxxxxxxxxxxxxxxxxxxxxxxxxxxxxxxxxxxxxxxxxxxxxxxxxxxxxxxxxxxxxxxxxxxxxxxxxxxxxxxxxxxxxxxxxxxxxxxxxxxxxxxxxxxxxxxxxxxxxxxxxxxxxxxxxxxxxxxxxxxxxxxxxxxxxxxxxxxxxxxxxxxxxxxxxxxxxxxxxxxxxxxxxxxxxxxxxxxxxxxxxxxxxxxxxxxxxxxxxxxxxxxxxxxxxxxxxxxxxxxxxxxxxxxxxxxxxxxxxxxxxxxxxxxxxxxxxxxxxxxxxxxxxxxxxxxxxxxxxxxxxxxxxxxxxxxxxxxxxxxxxxxxxxxxxxxxxxxxxxxxxxxxxxxxxxxxxxxxxxxxxxxxxxxxxxxxxxxxxxxxxxxxxxxxxxxxxxxxxxxxxxxxxxxxxxxxxxxxxxxxxxxxxxxxxxxxxxxxxxxxxxxxxxxxxxxxxxxxxxxxxxxxxxxxxxxxxxxxxxxxxxxxxxxxxxxxxxxxxxxxxxxxxxxxxxxxxxxxxxxxxxxxxxxxxxxxxxxxxxxxxxxxxxxxxxxxxxxxxxxxxxxxxxxxxxxxxxxxxxxxxxxxxxxxxxxxxxxxxxxxxxxxxxxxxxxxxxxxxxxxxxxxxxxxxxxxxxxxxxxxxxxxxxxxxxxxxxxxxxxxxxxxxxxxxxxxxxxxxxxxxxxxxxxxxxxxxxxxxxxxxxxxxxxxxxxxxxxxxxxxxxxxxxxxxxxxxxxxxxxxxxxxxxxxxxxxxxxxxxxxxxxxxxxxxxxxxxxxxxxxxxxxxxxxxxxxxxxxxxxxxxxxxxxxxxxxxxxxxxxxxxxxxxxxxxxxxxx]") (piece 0 0 1005 0 ∷ []) ≡ (enter Name.Data 1 1 0 0 ∷ exit Name.Data 1 1006 1005 0 ∷ [])
-
--- text outer shortcut definition=a «[a][⟦x×1000⟧]»: Link 0-3, Data 3-1005
-abbrev pub row_21 : Type 0
-row_21 = text_outline (record default { shortcut = true; definitions = (codes "a") ∷ [] }) (codes "[a][xxxxxxxxxxxxxxxxxxxxxxxxxxxxxxxxxxxxxxxxxxxxxxxxxxxxxxxxxxxxxxxxxxxxxxxxxxxxxxxxxxxxxxxxxxxxxxxxxxxxxxxxxxxxxxxxxxxxxxxxxxxxxxxxxxxxxxxxxxxxxxxxxxxxxxxxxxxxxxxxxxxxxxxxxxxxxxxxxxxxxxxxxxxxxxxxxxxxxxxxxxxxxxxxxxxxxxxxxxxxxxxxxxxxxxxxxxxxxxxxxxxxxxxxxxxxxxxxxxxxxxxxxxxxxxxxxxxxxxxxxxxxxxxxxxxxxxxxxxxxxxxxxxxxxxxxxxxxxxxxxxxxxxxxxxxxxxxxxxxxxxxxxxxxxxxxxxxxxxxxxxxxxxxxxxxxxxxxxxxxxxxxxxxxxxxxxxxxxxxxxxxxxxxxxxxxxxxxxxxxxxxxxxxxxxxxxxxxxxxxxxxxxxxxxxxxxxxxxxxxxxxxxxxxxxxxxxxxxxxxxxxxxxxxxxxxxxxxxxxxxxxxxxxxxxxxxxxxxxxxxxxxxxxxxxxxxxxxxxxxxxxxxxxxxxxxxxxxxxxxxxxxxxxxxxxxxxxxxxxxxxxxxxxxxxxxxxxxxxxxxxxxxxxxxxxxxxxxxxxxxxxxxxxxxxxxxxxxxxxxxxxxxxxxxxxxxxxxxxxxxxxxxxxxxxxxxxxxxxxxxxxxxxxxxxxxxxxxxxxxxxxxxxxxxxxxxxxxxxxxxxxxxxxxxxxxxxxxxxxxxxxxxxxxxxxxxxxxxxxxxxxxxxxxxxxxxxxxxxxxxxxxxxxxxxxxxxxxxxxxxxxxxxxxxxxxxxxxxxxxxxxxxxxxxxxxxxxxxxxxxxxxxxxxxxxxxxxxxxxxxxxxxxxxxxxxxxxxxxxxxxxxxxxxxxxxxxxxxxxxxxxxxxxxxxxxxxxxxxxxxxxxxxxxxxxxxxxxxxxxxxxxxxxxxxxxxxxxxxxxxxxxxxxxxxxxxxxxxxxxxxxxxxxxxxxxxxxxxxxx]") (piece 0 0 1005 0 ∷ []) ≡ (enter Name.Link 1 1 0 0 ∷ exit Name.Link 1 4 3 0 ∷ enter Name.Data 1 4 3 0 ∷ exit Name.Data 1 1006 1005 0 ∷ [])
-
 abbrev pub Rows : Type 0
-Rows = row_1 × row_2 × row_3 × row_4 × row_5 × row_6 × row_7 × row_8 × row_9 × row_10 × row_11 × row_12 × row_13 × row_14 × row_15 × row_16 × row_17 × row_18 × row_19 × row_20 × row_21
+Rows =
+    -- text definition=a «[a][b»: Data 0-5
+    (text_answer (record default { definitions = (codes "a") ∷ [] }) (codes "[a][b") (piece 0 0 5 0 ∷ []) ≡ (enter Name.Data 1 1 0 0 ∷ exit Name.Data 1 6 5 0 ∷ [])) ×
+    -- text outer shortcut definition=a «[a][b»: Link 0-3, Data 3-5
+    (text_outline (record default { shortcut = true; definitions = (codes "a") ∷ [] }) (codes "[a][b") (piece 0 0 5 0 ∷ []) ≡ (enter Name.Link 1 1 0 0 ∷ exit Name.Link 1 4 3 0 ∷ enter Name.Data 1 4 3 0 ∷ exit Name.Data 1 6 5 0 ∷ [])) ×
+    -- text outer definition=a&b «[x][a&amp;b], [a\&b][]»: Data 0-5, CharacterReference 5-10, Data 10-16, CharacterEscape 16-18, Data 18-22
+    (text_outline (record default { definitions = (codes "a&b") ∷ [] }) (codes "[x][a&amp;b], [a\\&b][]") (piece 0 0 22 0 ∷ []) ≡ (enter Name.Data 1 1 0 0 ∷ exit Name.Data 1 6 5 0 ∷ enter Name.CharacterReference 1 6 5 0 ∷ exit Name.CharacterReference 1 11 10 0 ∷ enter Name.Data 1 11 10 0 ∷ exit Name.Data 1 17 16 0 ∷ enter Name.CharacterEscape 1 17 16 0 ∷ exit Name.CharacterEscape 1 19 18 0 ∷ enter Name.Data 1 19 18 0 ∷ exit Name.Data 1 23 22 0 ∷ [])) ×
+    -- text outer definition=a «[a](b c)»: Link 0-3, Data 3-8
+    (text_outline (record default { definitions = (codes "a") ∷ [] }) (codes "[a](b c)") (piece 0 0 8 0 ∷ []) ≡ (enter Name.Link 1 1 0 0 ∷ exit Name.Link 1 4 3 0 ∷ enter Name.Data 1 4 3 0 ∷ exit Name.Data 1 9 8 0 ∷ [])) ×
+    -- text definition=a «[a][]»: Link 0-5 [Label 0-3 [LabelLink 0-1, LabelText 1-2 [Data 1-2], LabelEnd 2-3], Reference 3-5 [ReferenceMarker 3-4, ReferenceMarker 4-5]]
+    (text_answer (record default { definitions = (codes "a") ∷ [] }) (codes "[a][]") (piece 0 0 5 0 ∷ []) ≡ (enter Name.Link 1 1 0 0 ∷ enter Name.Label 1 1 0 0 ∷ enter Name.LabelLink 1 1 0 0 ∷ enter Name.LabelMarker 1 1 0 0 ∷ exit Name.LabelMarker 1 2 1 0 ∷ exit Name.LabelLink 1 2 1 0 ∷ enter Name.LabelText 1 2 1 0 ∷ enter Name.Data 1 2 1 0 ∷ exit Name.Data 1 3 2 0 ∷ exit Name.LabelText 1 3 2 0 ∷ enter Name.LabelEnd 1 3 2 0 ∷ enter Name.LabelMarker 1 3 2 0 ∷ exit Name.LabelMarker 1 4 3 0 ∷ exit Name.LabelEnd 1 4 3 0 ∷ exit Name.Label 1 4 3 0 ∷ enter Name.Reference 1 4 3 0 ∷ enter Name.ReferenceMarker 1 4 3 0 ∷ exit Name.ReferenceMarker 1 5 4 0 ∷ enter Name.ReferenceMarker 1 5 4 0 ∷ exit Name.ReferenceMarker 1 6 5 0 ∷ exit Name.Reference 1 6 5 0 ∷ exit Name.Link 1 6 5 0 ∷ [])) ×
+    -- text definition=a «[x][a]»: Link 0-6 [Label 0-3 [LabelLink 0-1, LabelText 1-2 [Data 1-2], LabelEnd 2-3], Reference 3-6 [ReferenceMarker 3-4, ReferenceString 4-5 [Data 4-5], ReferenceMarker 5-6]]
+    (text_answer (record default { definitions = (codes "a") ∷ [] }) (codes "[x][a]") (piece 0 0 6 0 ∷ []) ≡ (enter Name.Link 1 1 0 0 ∷ enter Name.Label 1 1 0 0 ∷ enter Name.LabelLink 1 1 0 0 ∷ enter Name.LabelMarker 1 1 0 0 ∷ exit Name.LabelMarker 1 2 1 0 ∷ exit Name.LabelLink 1 2 1 0 ∷ enter Name.LabelText 1 2 1 0 ∷ enter Name.Data 1 2 1 0 ∷ exit Name.Data 1 3 2 0 ∷ exit Name.LabelText 1 3 2 0 ∷ enter Name.LabelEnd 1 3 2 0 ∷ enter Name.LabelMarker 1 3 2 0 ∷ exit Name.LabelMarker 1 4 3 0 ∷ exit Name.LabelEnd 1 4 3 0 ∷ exit Name.Label 1 4 3 0 ∷ enter Name.Reference 1 4 3 0 ∷ enter Name.ReferenceMarker 1 4 3 0 ∷ exit Name.ReferenceMarker 1 5 4 0 ∷ enter Name.ReferenceString 1 5 4 0 ∷ chained Name.Data 1 5 4 0 None None ∷ exit Name.Data 1 6 5 0 ∷ exit Name.ReferenceString 1 6 5 0 ∷ enter Name.ReferenceMarker 1 6 5 0 ∷ exit Name.ReferenceMarker 1 7 6 0 ∷ exit Name.Reference 1 7 6 0 ∷ exit Name.Link 1 7 6 0 ∷ [])) ×
+    -- text outer shortcut definition=a «![a][b»: Image 0-4, Data 4-6
+    (text_outline (record default { shortcut = true; definitions = (codes "a") ∷ [] }) (codes "![a][b") (piece 0 0 6 0 ∷ []) ≡ (enter Name.Image 1 1 0 0 ∷ exit Name.Image 1 5 4 0 ∷ enter Name.Data 1 5 4 0 ∷ exit Name.Data 1 7 6 0 ∷ [])) ×
+    -- text definition=a «![a][b»: Data 0-6
+    (text_answer (record default { definitions = (codes "a") ∷ [] }) (codes "![a][b") (piece 0 0 6 0 ∷ []) ≡ (enter Name.Data 1 1 0 0 ∷ exit Name.Data 1 7 6 0 ∷ [])) ×
+    -- text outer shortcut definition=a «[a][ ]»: Link 0-3, Data 3-6
+    (text_outline (record default { shortcut = true; definitions = (codes "a") ∷ [] }) (codes "[a][ ]") (piece 0 0 6 0 ∷ []) ≡ (enter Name.Link 1 1 0 0 ∷ exit Name.Link 1 4 3 0 ∷ enter Name.Data 1 4 3 0 ∷ exit Name.Data 1 7 6 0 ∷ [])) ×
+    -- text definition=a «[a][ ]»: Data 0-6
+    (text_answer (record default { definitions = (codes "a") ∷ [] }) (codes "[a][ ]") (piece 0 0 6 0 ∷ []) ≡ (enter Name.Data 1 1 0 0 ∷ exit Name.Data 1 7 6 0 ∷ [])) ×
+    -- text outer shortcut definition=a «[a][[b]»: Link 0-3, Data 3-7
+    (text_outline (record default { shortcut = true; definitions = (codes "a") ∷ [] }) (codes "[a][[b]") (piece 0 0 7 0 ∷ []) ≡ (enter Name.Link 1 1 0 0 ∷ exit Name.Link 1 4 3 0 ∷ enter Name.Data 1 4 3 0 ∷ exit Name.Data 1 8 7 0 ∷ [])) ×
+    -- text definition=a «[a][[b]»: Data 0-7
+    (text_answer (record default { definitions = (codes "a") ∷ [] }) (codes "[a][[b]") (piece 0 0 7 0 ∷ []) ≡ (enter Name.Data 1 1 0 0 ∷ exit Name.Data 1 8 7 0 ∷ [])) ×
+    -- text shortcut definition=a «[a][b]»: Data 0-6
+    (text_answer (record default { shortcut = true; definitions = (codes "a") ∷ [] }) (codes "[a][b]") (piece 0 0 6 0 ∷ []) ≡ (enter Name.Data 1 1 0 0 ∷ exit Name.Data 1 7 6 0 ∷ [])) ×
+    -- text definition=a «[a][b]»: Data 0-6
+    (text_answer (record default { definitions = (codes "a") ∷ [] }) (codes "[a][b]") (piece 0 0 6 0 ∷ []) ≡ (enter Name.Data 1 1 0 0 ∷ exit Name.Data 1 7 6 0 ∷ [])) ×
+    -- text outer shortcut definition=a «[a][b](c)»: Data 0-3, Link 3-9
+    (text_outline (record default { shortcut = true; definitions = (codes "a") ∷ [] }) (codes "[a][b](c)") (piece 0 0 9 0 ∷ []) ≡ (enter Name.Data 1 1 0 0 ∷ exit Name.Data 1 4 3 0 ∷ enter Name.Link 1 4 3 0 ∷ exit Name.Link 1 10 9 0 ∷ [])) ×
+    -- text outer definition=a «[a][b](c)»: Data 0-3, Link 3-9
+    (text_outline (record default { definitions = (codes "a") ∷ [] }) (codes "[a][b](c)") (piece 0 0 9 0 ∷ []) ≡ (enter Name.Data 1 1 0 0 ∷ exit Name.Data 1 4 3 0 ∷ enter Name.Link 1 4 3 0 ∷ exit Name.Link 1 10 9 0 ∷ [])) ×
+    -- text outer shortcut definition=a «[a][]»: Link 0-5
+    (text_outline (record default { shortcut = true; definitions = (codes "a") ∷ [] }) (codes "[a][]") (piece 0 0 5 0 ∷ []) ≡ (enter Name.Link 1 1 0 0 ∷ exit Name.Link 1 6 5 0 ∷ [])) ×
+    -- text outer definition=⟦x×999⟧ «[a][⟦x×999⟧]»: Link 0-1004
+    (text_outline (record default { definitions = (codes "xxxxxxxxxxxxxxxxxxxxxxxxxxxxxxxxxxxxxxxxxxxxxxxxxxxxxxxxxxxxxxxxxxxxxxxxxxxxxxxxxxxxxxxxxxxxxxxxxxxxxxxxxxxxxxxxxxxxxxxxxxxxxxxxxxxxxxxxxxxxxxxxxxxxxxxxxxxxxxxxxxxxxxxxxxxxxxxxxxxxxxxxxxxxxxxxxxxxxxxxxxxxxxxxxxxxxxxxxxxxxxxxxxxxxxxxxxxxxxxxxxxxxxxxxxxxxxxxxxxxxxxxxxxxxxxxxxxxxxxxxxxxxxxxxxxxxxxxxxxxxxxxxxxxxxxxxxxxxxxxxxxxxxxxxxxxxxxxxxxxxxxxxxxxxxxxxxxxxxxxxxxxxxxxxxxxxxxxxxxxxxxxxxxxxxxxxxxxxxxxxxxxxxxxxxxxxxxxxxxxxxxxxxxxxxxxxxxxxxxxxxxxxxxxxxxxxxxxxxxxxxxxxxxxxxxxxxxxxxxxxxxxxxxxxxxxxxxxxxxxxxxxxxxxxxxxxxxxxxxxxxxxxxxxxxxxxxxxxxxxxxxxxxxxxxxxxxxxxxxxxxxxxxxxxxxxxxxxxxxxxxxxxxxxxxxxxxxxxxxxxxxxxxxxxxxxxxxxxxxxxxxxxxxxxxxxxxxxxxxxxxxxxxxxxxxxxxxxxxxxxxxxxxxxxxxxxxxxxxxxxxxxxxxxxxxxxxxxxxxxxxxxxxxxxxxxxxxxxxxxxxxxxxxxxxxxxxxxxxxxxxxxxxxxxxxxxxxxxxxxxxxxxxxxxxxxxxxxxxxxxxxxxxxxxxxxxxxxxxxxxxxxxxxxxxxxxxxxxxxxxxxxxxxxxxxxxxxxxxxxxxxxxxxxxxxxxxxxxxxxxxxxxxxxxxxxxxxxxxxxxxxxxxxxxxxxxxxxxxxxxxxxxxxxxxxxxxxxxxxxxxxxxxxxxxxxxxxxxxxxxxxxxxxxxxxxxxxxxxxxxxxxxxxxxxxxxxxxxxxxxxxxxxxxxxxxxxxxxxx") ∷ [] }) (codes "[a][xxxxxxxxxxxxxxxxxxxxxxxxxxxxxxxxxxxxxxxxxxxxxxxxxxxxxxxxxxxxxxxxxxxxxxxxxxxxxxxxxxxxxxxxxxxxxxxxxxxxxxxxxxxxxxxxxxxxxxxxxxxxxxxxxxxxxxxxxxxxxxxxxxxxxxxxxxxxxxxxxxxxxxxxxxxxxxxxxxxxxxxxxxxxxxxxxxxxxxxxxxxxxxxxxxxxxxxxxxxxxxxxxxxxxxxxxxxxxxxxxxxxxxxxxxxxxxxxxxxxxxxxxxxxxxxxxxxxxxxxxxxxxxxxxxxxxxxxxxxxxxxxxxxxxxxxxxxxxxxxxxxxxxxxxxxxxxxxxxxxxxxxxxxxxxxxxxxxxxxxxxxxxxxxxxxxxxxxxxxxxxxxxxxxxxxxxxxxxxxxxxxxxxxxxxxxxxxxxxxxxxxxxxxxxxxxxxxxxxxxxxxxxxxxxxxxxxxxxxxxxxxxxxxxxxxxxxxxxxxxxxxxxxxxxxxxxxxxxxxxxxxxxxxxxxxxxxxxxxxxxxxxxxxxxxxxxxxxxxxxxxxxxxxxxxxxxxxxxxxxxxxxxxxxxxxxxxxxxxxxxxxxxxxxxxxxxxxxxxxxxxxxxxxxxxxxxxxxxxxxxxxxxxxxxxxxxxxxxxxxxxxxxxxxxxxxxxxxxxxxxxxxxxxxxxxxxxxxxxxxxxxxxxxxxxxxxxxxxxxxxxxxxxxxxxxxxxxxxxxxxxxxxxxxxxxxxxxxxxxxxxxxxxxxxxxxxxxxxxxxxxxxxxxxxxxxxxxxxxxxxxxxxxxxxxxxxxxxxxxxxxxxxxxxxxxxxxxxxxxxxxxxxxxxxxxxxxxxxxxxxxxxxxxxxxxxxxxxxxxxxxxxxxxxxxxxxxxxxxxxxxxxxxxxxxxxxxxxxxxxxxxxxxxxxxxxxxxxxxxxxxxxxxxxxxxxxxxxxxxxxxxxxxxxxxxxxxxxxxxxxxxxxxxxxxxxxxxxxxxxxxxxxxxxxxxxxxxxxxx]") (piece 0 0 1004 0 ∷ []) ≡ (enter Name.Link 1 1 0 0 ∷ exit Name.Link 1 1005 1004 0 ∷ [])) ×
+    -- text definition=⟦x×999⟧ «[a][⟦x×1000⟧]»: Data 0-1005
+    (text_answer (record default { definitions = (codes "xxxxxxxxxxxxxxxxxxxxxxxxxxxxxxxxxxxxxxxxxxxxxxxxxxxxxxxxxxxxxxxxxxxxxxxxxxxxxxxxxxxxxxxxxxxxxxxxxxxxxxxxxxxxxxxxxxxxxxxxxxxxxxxxxxxxxxxxxxxxxxxxxxxxxxxxxxxxxxxxxxxxxxxxxxxxxxxxxxxxxxxxxxxxxxxxxxxxxxxxxxxxxxxxxxxxxxxxxxxxxxxxxxxxxxxxxxxxxxxxxxxxxxxxxxxxxxxxxxxxxxxxxxxxxxxxxxxxxxxxxxxxxxxxxxxxxxxxxxxxxxxxxxxxxxxxxxxxxxxxxxxxxxxxxxxxxxxxxxxxxxxxxxxxxxxxxxxxxxxxxxxxxxxxxxxxxxxxxxxxxxxxxxxxxxxxxxxxxxxxxxxxxxxxxxxxxxxxxxxxxxxxxxxxxxxxxxxxxxxxxxxxxxxxxxxxxxxxxxxxxxxxxxxxxxxxxxxxxxxxxxxxxxxxxxxxxxxxxxxxxxxxxxxxxxxxxxxxxxxxxxxxxxxxxxxxxxxxxxxxxxxxxxxxxxxxxxxxxxxxxxxxxxxxxxxxxxxxxxxxxxxxxxxxxxxxxxxxxxxxxxxxxxxxxxxxxxxxxxxxxxxxxxxxxxxxxxxxxxxxxxxxxxxxxxxxxxxxxxxxxxxxxxxxxxxxxxxxxxxxxxxxxxxxxxxxxxxxxxxxxxxxxxxxxxxxxxxxxxxxxxxxxxxxxxxxxxxxxxxxxxxxxxxxxxxxxxxxxxxxxxxxxxxxxxxxxxxxxxxxxxxxxxxxxxxxxxxxxxxxxxxxxxxxxxxxxxxxxxxxxxxxxxxxxxxxxxxxxxxxxxxxxxxxxxxxxxxxxxxxxxxxxxxxxxxxxxxxxxxxxxxxxxxxxxxxxxxxxxxxxxxxxxxxxxxxxxxxxxxxxxxxxxxxxxxxxxxxxxxxxxxxxxxxxxxxxxxxxxxxxxxxxxxxxxxxxxxxxxxxxxxxxxxxxxxxxxxxxxx") ∷ [] }) (codes "[a][xxxxxxxxxxxxxxxxxxxxxxxxxxxxxxxxxxxxxxxxxxxxxxxxxxxxxxxxxxxxxxxxxxxxxxxxxxxxxxxxxxxxxxxxxxxxxxxxxxxxxxxxxxxxxxxxxxxxxxxxxxxxxxxxxxxxxxxxxxxxxxxxxxxxxxxxxxxxxxxxxxxxxxxxxxxxxxxxxxxxxxxxxxxxxxxxxxxxxxxxxxxxxxxxxxxxxxxxxxxxxxxxxxxxxxxxxxxxxxxxxxxxxxxxxxxxxxxxxxxxxxxxxxxxxxxxxxxxxxxxxxxxxxxxxxxxxxxxxxxxxxxxxxxxxxxxxxxxxxxxxxxxxxxxxxxxxxxxxxxxxxxxxxxxxxxxxxxxxxxxxxxxxxxxxxxxxxxxxxxxxxxxxxxxxxxxxxxxxxxxxxxxxxxxxxxxxxxxxxxxxxxxxxxxxxxxxxxxxxxxxxxxxxxxxxxxxxxxxxxxxxxxxxxxxxxxxxxxxxxxxxxxxxxxxxxxxxxxxxxxxxxxxxxxxxxxxxxxxxxxxxxxxxxxxxxxxxxxxxxxxxxxxxxxxxxxxxxxxxxxxxxxxxxxxxxxxxxxxxxxxxxxxxxxxxxxxxxxxxxxxxxxxxxxxxxxxxxxxxxxxxxxxxxxxxxxxxxxxxxxxxxxxxxxxxxxxxxxxxxxxxxxxxxxxxxxxxxxxxxxxxxxxxxxxxxxxxxxxxxxxxxxxxxxxxxxxxxxxxxxxxxxxxxxxxxxxxxxxxxxxxxxxxxxxxxxxxxxxxxxxxxxxxxxxxxxxxxxxxxxxxxxxxxxxxxxxxxxxxxxxxxxxxxxxxxxxxxxxxxxxxxxxxxxxxxxxxxxxxxxxxxxxxxxxxxxxxxxxxxxxxxxxxxxxxxxxxxxxxxxxxxxxxxxxxxxxxxxxxxxxxxxxxxxxxxxxxxxxxxxxxxxxxxxxxxxxxxxxxxxxxxxxxxxxxxxxxxxxxxxxxxxxxxxxxxxxxxxxxxxxxxxxxxxxxxxxxxxxxxx]") (piece 0 0 1005 0 ∷ []) ≡ (enter Name.Data 1 1 0 0 ∷ exit Name.Data 1 1006 1005 0 ∷ [])) ×
+    -- text definition=a «[a][⟦x×1000⟧]»: Data 0-1005
+    (text_answer (record default { definitions = (codes "a") ∷ [] }) (codes "[a][xxxxxxxxxxxxxxxxxxxxxxxxxxxxxxxxxxxxxxxxxxxxxxxxxxxxxxxxxxxxxxxxxxxxxxxxxxxxxxxxxxxxxxxxxxxxxxxxxxxxxxxxxxxxxxxxxxxxxxxxxxxxxxxxxxxxxxxxxxxxxxxxxxxxxxxxxxxxxxxxxxxxxxxxxxxxxxxxxxxxxxxxxxxxxxxxxxxxxxxxxxxxxxxxxxxxxxxxxxxxxxxxxxxxxxxxxxxxxxxxxxxxxxxxxxxxxxxxxxxxxxxxxxxxxxxxxxxxxxxxxxxxxxxxxxxxxxxxxxxxxxxxxxxxxxxxxxxxxxxxxxxxxxxxxxxxxxxxxxxxxxxxxxxxxxxxxxxxxxxxxxxxxxxxxxxxxxxxxxxxxxxxxxxxxxxxxxxxxxxxxxxxxxxxxxxxxxxxxxxxxxxxxxxxxxxxxxxxxxxxxxxxxxxxxxxxxxxxxxxxxxxxxxxxxxxxxxxxxxxxxxxxxxxxxxxxxxxxxxxxxxxxxxxxxxxxxxxxxxxxxxxxxxxxxxxxxxxxxxxxxxxxxxxxxxxxxxxxxxxxxxxxxxxxxxxxxxxxxxxxxxxxxxxxxxxxxxxxxxxxxxxxxxxxxxxxxxxxxxxxxxxxxxxxxxxxxxxxxxxxxxxxxxxxxxxxxxxxxxxxxxxxxxxxxxxxxxxxxxxxxxxxxxxxxxxxxxxxxxxxxxxxxxxxxxxxxxxxxxxxxxxxxxxxxxxxxxxxxxxxxxxxxxxxxxxxxxxxxxxxxxxxxxxxxxxxxxxxxxxxxxxxxxxxxxxxxxxxxxxxxxxxxxxxxxxxxxxxxxxxxxxxxxxxxxxxxxxxxxxxxxxxxxxxxxxxxxxxxxxxxxxxxxxxxxxxxxxxxxxxxxxxxxxxxxxxxxxxxxxxxxxxxxxxxxxxxxxxxxxxxxxxxxxxxxxxxxxxxxxxxxxxxxxxxxxxxxxxxxxxxxxxxxxxxxxxxxxxxxxxxxxxxxxxxxxxxxxxxxxx]") (piece 0 0 1005 0 ∷ []) ≡ (enter Name.Data 1 1 0 0 ∷ exit Name.Data 1 1006 1005 0 ∷ [])) ×
+    -- text outer shortcut definition=a «[a][⟦x×1000⟧]»: Link 0-3, Data 3-1005
+    (text_outline (record default { shortcut = true; definitions = (codes "a") ∷ [] }) (codes "[a][xxxxxxxxxxxxxxxxxxxxxxxxxxxxxxxxxxxxxxxxxxxxxxxxxxxxxxxxxxxxxxxxxxxxxxxxxxxxxxxxxxxxxxxxxxxxxxxxxxxxxxxxxxxxxxxxxxxxxxxxxxxxxxxxxxxxxxxxxxxxxxxxxxxxxxxxxxxxxxxxxxxxxxxxxxxxxxxxxxxxxxxxxxxxxxxxxxxxxxxxxxxxxxxxxxxxxxxxxxxxxxxxxxxxxxxxxxxxxxxxxxxxxxxxxxxxxxxxxxxxxxxxxxxxxxxxxxxxxxxxxxxxxxxxxxxxxxxxxxxxxxxxxxxxxxxxxxxxxxxxxxxxxxxxxxxxxxxxxxxxxxxxxxxxxxxxxxxxxxxxxxxxxxxxxxxxxxxxxxxxxxxxxxxxxxxxxxxxxxxxxxxxxxxxxxxxxxxxxxxxxxxxxxxxxxxxxxxxxxxxxxxxxxxxxxxxxxxxxxxxxxxxxxxxxxxxxxxxxxxxxxxxxxxxxxxxxxxxxxxxxxxxxxxxxxxxxxxxxxxxxxxxxxxxxxxxxxxxxxxxxxxxxxxxxxxxxxxxxxxxxxxxxxxxxxxxxxxxxxxxxxxxxxxxxxxxxxxxxxxxxxxxxxxxxxxxxxxxxxxxxxxxxxxxxxxxxxxxxxxxxxxxxxxxxxxxxxxxxxxxxxxxxxxxxxxxxxxxxxxxxxxxxxxxxxxxxxxxxxxxxxxxxxxxxxxxxxxxxxxxxxxxxxxxxxxxxxxxxxxxxxxxxxxxxxxxxxxxxxxxxxxxxxxxxxxxxxxxxxxxxxxxxxxxxxxxxxxxxxxxxxxxxxxxxxxxxxxxxxxxxxxxxxxxxxxxxxxxxxxxxxxxxxxxxxxxxxxxxxxxxxxxxxxxxxxxxxxxxxxxxxxxxxxxxxxxxxxxxxxxxxxxxxxxxxxxxxxxxxxxxxxxxxxxxxxxxxxxxxxxxxxxxxxxxxxxxxxxxxxxxxxxxxxxxxxxxxxxxxxxxxxxxxxxxxxxxxxxxxxx]") (piece 0 0 1005 0 ∷ []) ≡ (enter Name.Link 1 1 0 0 ∷ exit Name.Link 1 4 3 0 ∷ enter Name.Data 1 4 3 0 ∷ exit Name.Data 1 1006 1005 0 ∷ []))

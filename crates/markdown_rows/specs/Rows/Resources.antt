@@ -4,357 +4,181 @@ use Rattle.markdown_engine.specs.declared.event.Name.{Name}
 use Rattle.markdown_engine.specs.declared.event.Content.{Content}
 use Rattle.markdown_rows.specs.RowWords.{enter, exit, chained, label_answer, title_answer, destination_answer, spacing_answer, bounded_answer, data_answer}
 
--- destination «<a>b»: ResourceDestination 0-3 [ResourceDestinationLiteral 0-3 [ResourceDestinationLiteralMarker 0-1, ResourceDestinationString 1-2 [Data 1-2], ResourceDestinationLiteralMarker 2-3]]
-abbrev pub row_1 : Type 0
-row_1 = destination_answer (codes "<a>b") ≡ Some (enter Name.ResourceDestination 1 1 0 0 ∷ enter Name.ResourceDestinationLiteral 1 1 0 0 ∷ enter Name.ResourceDestinationLiteralMarker 1 1 0 0 ∷ exit Name.ResourceDestinationLiteralMarker 1 2 1 0 ∷ enter Name.ResourceDestinationString 1 2 1 0 ∷ chained Name.Data 1 2 1 0 None None ∷ exit Name.Data 1 3 2 0 ∷ exit Name.ResourceDestinationString 1 3 2 0 ∷ enter Name.ResourceDestinationLiteralMarker 1 3 2 0 ∷ exit Name.ResourceDestinationLiteralMarker 1 4 3 0 ∷ exit Name.ResourceDestinationLiteral 1 4 3 0 ∷ exit Name.ResourceDestination 1 4 3 0 ∷ [])
-
--- destination «<>»: ResourceDestination 0-2 [ResourceDestinationLiteral 0-2 [ResourceDestinationLiteralMarker 0-1, ResourceDestinationLiteralMarker 1-2]]
-abbrev pub row_2 : Type 0
-row_2 = destination_answer (codes "<>") ≡ Some (enter Name.ResourceDestination 1 1 0 0 ∷ enter Name.ResourceDestinationLiteral 1 1 0 0 ∷ enter Name.ResourceDestinationLiteralMarker 1 1 0 0 ∷ exit Name.ResourceDestinationLiteralMarker 1 2 1 0 ∷ enter Name.ResourceDestinationLiteralMarker 1 2 1 0 ∷ exit Name.ResourceDestinationLiteralMarker 1 3 2 0 ∷ exit Name.ResourceDestinationLiteral 1 3 2 0 ∷ exit Name.ResourceDestination 1 3 2 0 ∷ [])
-
--- destination «a(b)c d»: Raw 0-5
-abbrev pub row_3 : Type 0
-row_3 = destination_answer (codes "a(b)c d") ≡ Some (enter Name.ResourceDestination 1 1 0 0 ∷ enter Name.ResourceDestinationRaw 1 1 0 0 ∷ enter Name.ResourceDestinationString 1 1 0 0 ∷ chained Name.Data 1 1 0 0 None None ∷ exit Name.Data 1 6 5 0 ∷ exit Name.ResourceDestinationString 1 6 5 0 ∷ exit Name.ResourceDestinationRaw 1 6 5 0 ∷ exit Name.ResourceDestination 1 6 5 0 ∷ [])
-
--- destination «a\)b»: Raw 0-4
-abbrev pub row_4 : Type 0
-row_4 = destination_answer (codes "a\\)b") ≡ Some (enter Name.ResourceDestination 1 1 0 0 ∷ enter Name.ResourceDestinationRaw 1 1 0 0 ∷ enter Name.ResourceDestinationString 1 1 0 0 ∷ chained Name.Data 1 1 0 0 None None ∷ exit Name.Data 1 5 4 0 ∷ exit Name.ResourceDestinationString 1 5 4 0 ∷ exit Name.ResourceDestinationRaw 1 5 4 0 ∷ exit Name.ResourceDestination 1 5 4 0 ∷ [])
-
--- destination «<a»: no
-abbrev pub row_5 : Type 0
-row_5 = destination_answer (codes "<a") ≡ None
-
--- destination «a(b»: no
-abbrev pub row_6 : Type 0
-row_6 = destination_answer (codes "a(b") ≡ None
-
--- destination «)»: no
-abbrev pub row_7 : Type 0
-row_7 = destination_answer (codes ")") ≡ None
-
--- destination «␠a»: no
-abbrev pub row_8 : Type 0
-row_8 = destination_answer (codes " a") ≡ None
-
--- title «""»: ResourceTitle 0-2 [ResourceTitleMarker 0-1, ResourceTitleMarker 1-2]
-abbrev pub row_9 : Type 0
-row_9 = title_answer (codes "\"\"") ≡ Some (enter Name.ResourceTitle 1 1 0 0 ∷ enter Name.ResourceTitleMarker 1 1 0 0 ∷ exit Name.ResourceTitleMarker 1 2 1 0 ∷ enter Name.ResourceTitleMarker 1 2 1 0 ∷ exit Name.ResourceTitleMarker 1 3 2 0 ∷ exit Name.ResourceTitle 1 3 2 0 ∷ [])
-
--- title «(a(b)»: ResourceTitle 0-5 [ResourceTitleMarker 0-1, ResourceTitleString 1-4 [Data 1-4], ResourceTitleMarker 4-5]
-abbrev pub row_10 : Type 0
-row_10 = title_answer (codes "(a(b)") ≡ Some (enter Name.ResourceTitle 1 1 0 0 ∷ enter Name.ResourceTitleMarker 1 1 0 0 ∷ exit Name.ResourceTitleMarker 1 2 1 0 ∷ enter Name.ResourceTitleString 1 2 1 0 ∷ chained Name.Data 1 2 1 0 None None ∷ exit Name.Data 1 5 4 0 ∷ exit Name.ResourceTitleString 1 5 4 0 ∷ enter Name.ResourceTitleMarker 1 5 4 0 ∷ exit Name.ResourceTitleMarker 1 6 5 0 ∷ exit Name.ResourceTitle 1 6 5 0 ∷ [])
-
--- title «"a␊ b"»: ResourceTitle 0-6 [ResourceTitleMarker 0-1, ResourceTitleString 1-5 [Data 1-2, LineEnding 2-3, SpaceOrTab 3-4, Data 4-5], ResourceTitleMarker 5-6]
-abbrev pub row_11 : Type 0
-row_11 = title_answer (34 ∷ 97 ∷ 10 ∷ 32 ∷ 98 ∷ 34 ∷ []) ≡ Some (enter Name.ResourceTitle 1 1 0 0 ∷ enter Name.ResourceTitleMarker 1 1 0 0 ∷ exit Name.ResourceTitleMarker 1 2 1 0 ∷ enter Name.ResourceTitleString 1 2 1 0 ∷ chained Name.Data 1 2 1 0 None (Some 6) ∷ exit Name.Data 1 3 2 0 ∷ chained Name.LineEnding 1 3 2 0 (Some 4) (Some 8) ∷ exit Name.LineEnding 2 1 3 0 ∷ chained Name.SpaceOrTab 2 1 3 0 (Some 6) (Some 10) ∷ exit Name.SpaceOrTab 2 2 4 0 ∷ chained Name.Data 2 2 4 0 (Some 8) None ∷ exit Name.Data 2 3 5 0 ∷ exit Name.ResourceTitleString 2 3 5 0 ∷ enter Name.ResourceTitleMarker 2 3 5 0 ∷ exit Name.ResourceTitleMarker 2 4 6 0 ∷ exit Name.ResourceTitle 2 4 6 0 ∷ [])
-
--- title «"a»: no
-abbrev pub row_12 : Type 0
-row_12 = title_answer (codes "\"a") ≡ None
-
--- title «"a␊ ␊"»: no
-abbrev pub row_13 : Type 0
-row_13 = title_answer (34 ∷ 97 ∷ 10 ∷ 32 ∷ 10 ∷ 34 ∷ []) ≡ None
-
--- label «[a]»: Reference 0-3 [ReferenceMarker 0-1, ReferenceString 1-2 [Data 1-2], ReferenceMarker 2-3]
-abbrev pub row_14 : Type 0
-row_14 = label_answer (codes "[a]") ≡ Some (enter Name.Reference 1 1 0 0 ∷ enter Name.ReferenceMarker 1 1 0 0 ∷ exit Name.ReferenceMarker 1 2 1 0 ∷ enter Name.ReferenceString 1 2 1 0 ∷ chained Name.Data 1 2 1 0 None None ∷ exit Name.Data 1 3 2 0 ∷ exit Name.ReferenceString 1 3 2 0 ∷ enter Name.ReferenceMarker 1 3 2 0 ∷ exit Name.ReferenceMarker 1 4 3 0 ∷ exit Name.Reference 1 4 3 0 ∷ [])
-
--- label «[a\]b]»: Reference 0-6 [ReferenceMarker 0-1, ReferenceString 1-5 [Data 1-5], ReferenceMarker 5-6]
-abbrev pub row_15 : Type 0
-row_15 = label_answer (codes "[a\\]b]") ≡ Some (enter Name.Reference 1 1 0 0 ∷ enter Name.ReferenceMarker 1 1 0 0 ∷ exit Name.ReferenceMarker 1 2 1 0 ∷ enter Name.ReferenceString 1 2 1 0 ∷ chained Name.Data 1 2 1 0 None None ∷ exit Name.Data 1 6 5 0 ∷ exit Name.ReferenceString 1 6 5 0 ∷ enter Name.ReferenceMarker 1 6 5 0 ∷ exit Name.ReferenceMarker 1 7 6 0 ∷ exit Name.Reference 1 7 6 0 ∷ [])
-
--- label «[ ]»: no
-abbrev pub row_16 : Type 0
-row_16 = label_answer (codes "[ ]") ≡ None
-
--- label «[a[b]»: no
-abbrev pub row_17 : Type 0
-row_17 = label_answer (codes "[a[b]") ≡ None
-
--- label «[⟦a×999⟧]»: Reference 0-1001 [ReferenceMarker 0-1, ReferenceString 1-1000 [Data 1-1000], ReferenceMarker 1000-1001]
-abbrev pub row_18 : Type 0
-row_18 = label_answer (codes "[aaaaaaaaaaaaaaaaaaaaaaaaaaaaaaaaaaaaaaaaaaaaaaaaaaaaaaaaaaaaaaaaaaaaaaaaaaaaaaaaaaaaaaaaaaaaaaaaaaaaaaaaaaaaaaaaaaaaaaaaaaaaaaaaaaaaaaaaaaaaaaaaaaaaaaaaaaaaaaaaaaaaaaaaaaaaaaaaaaaaaaaaaaaaaaaaaaaaaaaaaaaaaaaaaaaaaaaaaaaaaaaaaaaaaaaaaaaaaaaaaaaaaaaaaaaaaaaaaaaaaaaaaaaaaaaaaaaaaaaaaaaaaaaaaaaaaaaaaaaaaaaaaaaaaaaaaaaaaaaaaaaaaaaaaaaaaaaaaaaaaaaaaaaaaaaaaaaaaaaaaaaaaaaaaaaaaaaaaaaaaaaaaaaaaaaaaaaaaaaaaaaaaaaaaaaaaaaaaaaaaaaaaaaaaaaaaaaaaaaaaaaaaaaaaaaaaaaaaaaaaaaaaaaaaaaaaaaaaaaaaaaaaaaaaaaaaaaaaaaaaaaaaaaaaaaaaaaaaaaaaaaaaaaaaaaaaaaaaaaaaaaaaaaaaaaaaaaaaaaaaaaaaaaaaaaaaaaaaaaaaaaaaaaaaaaaaaaaaaaaaaaaaaaaaaaaaaaaaaaaaaaaaaaaaaaaaaaaaaaaaaaaaaaaaaaaaaaaaaaaaaaaaaaaaaaaaaaaaaaaaaaaaaaaaaaaaaaaaaaaaaaaaaaaaaaaaaaaaaaaaaaaaaaaaaaaaaaaaaaaaaaaaaaaaaaaaaaaaaaaaaaaaaaaaaaaaaaaaaaaaaaaaaaaaaaaaaaaaaaaaaaaaaaaaaaaaaaaaaaaaaaaaaaaaaaaaaaaaaaaaaaaaaaaaaaaaaaaaaaaaaaaaaaaaaaaaaaaaaaaaaaaaaaaaaaaaaaaaaaaaaaaaaaaaaaaaaaaaaaaaaaaaaaaaaaaaaaaaaaaaaaaaaaaaaaaaaaaaaaaaaaaaaaaaaaaaaaaaaaaaaaaaaaaaaaaaaaaaaa]") ≡ Some (enter Name.Reference 1 1 0 0 ∷ enter Name.ReferenceMarker 1 1 0 0 ∷ exit Name.ReferenceMarker 1 2 1 0 ∷ enter Name.ReferenceString 1 2 1 0 ∷ chained Name.Data 1 2 1 0 None None ∷ exit Name.Data 1 1001 1000 0 ∷ exit Name.ReferenceString 1 1001 1000 0 ∷ enter Name.ReferenceMarker 1 1001 1000 0 ∷ exit Name.ReferenceMarker 1 1002 1001 0 ∷ exit Name.Reference 1 1002 1001 0 ∷ [])
-
--- label «[⟦a×1000⟧]»: no
-abbrev pub row_19 : Type 0
-row_19 = label_answer (codes "[aaaaaaaaaaaaaaaaaaaaaaaaaaaaaaaaaaaaaaaaaaaaaaaaaaaaaaaaaaaaaaaaaaaaaaaaaaaaaaaaaaaaaaaaaaaaaaaaaaaaaaaaaaaaaaaaaaaaaaaaaaaaaaaaaaaaaaaaaaaaaaaaaaaaaaaaaaaaaaaaaaaaaaaaaaaaaaaaaaaaaaaaaaaaaaaaaaaaaaaaaaaaaaaaaaaaaaaaaaaaaaaaaaaaaaaaaaaaaaaaaaaaaaaaaaaaaaaaaaaaaaaaaaaaaaaaaaaaaaaaaaaaaaaaaaaaaaaaaaaaaaaaaaaaaaaaaaaaaaaaaaaaaaaaaaaaaaaaaaaaaaaaaaaaaaaaaaaaaaaaaaaaaaaaaaaaaaaaaaaaaaaaaaaaaaaaaaaaaaaaaaaaaaaaaaaaaaaaaaaaaaaaaaaaaaaaaaaaaaaaaaaaaaaaaaaaaaaaaaaaaaaaaaaaaaaaaaaaaaaaaaaaaaaaaaaaaaaaaaaaaaaaaaaaaaaaaaaaaaaaaaaaaaaaaaaaaaaaaaaaaaaaaaaaaaaaaaaaaaaaaaaaaaaaaaaaaaaaaaaaaaaaaaaaaaaaaaaaaaaaaaaaaaaaaaaaaaaaaaaaaaaaaaaaaaaaaaaaaaaaaaaaaaaaaaaaaaaaaaaaaaaaaaaaaaaaaaaaaaaaaaaaaaaaaaaaaaaaaaaaaaaaaaaaaaaaaaaaaaaaaaaaaaaaaaaaaaaaaaaaaaaaaaaaaaaaaaaaaaaaaaaaaaaaaaaaaaaaaaaaaaaaaaaaaaaaaaaaaaaaaaaaaaaaaaaaaaaaaaaaaaaaaaaaaaaaaaaaaaaaaaaaaaaaaaaaaaaaaaaaaaaaaaaaaaaaaaaaaaaaaaaaaaaaaaaaaaaaaaaaaaaaaaaaaaaaaaaaaaaaaaaaaaaaaaaaaaaaaaaaaaaaaaaaaaaaaaaaaaaaaaaaaaaaaaaaaaaaaaaaaaaaaaaaaaaaaaaaaaaa]") ≡ None
-
--- label «[⟦a×999⟧␊]»: Reference 0-1002 [ReferenceMarker 0-1, ReferenceString 1-1001 [Data 1-1000, LineEnding 1000-1001], ReferenceMarker 1001-1002]
-abbrev pub row_20 : Type 0
-row_20 = label_answer (91 ∷ 97 ∷ 97 ∷ 97 ∷ 97 ∷ 97 ∷ 97 ∷ 97 ∷ 97 ∷ 97 ∷ 97 ∷ 97 ∷ 97 ∷ 97 ∷ 97 ∷ 97 ∷ 97 ∷ 97 ∷ 97 ∷ 97 ∷ 97 ∷ 97 ∷ 97 ∷ 97 ∷ 97 ∷ 97 ∷ 97 ∷ 97 ∷ 97 ∷ 97 ∷ 97 ∷ 97 ∷ 97 ∷ 97 ∷ 97 ∷ 97 ∷ 97 ∷ 97 ∷ 97 ∷ 97 ∷ 97 ∷ 97 ∷ 97 ∷ 97 ∷ 97 ∷ 97 ∷ 97 ∷ 97 ∷ 97 ∷ 97 ∷ 97 ∷ 97 ∷ 97 ∷ 97 ∷ 97 ∷ 97 ∷ 97 ∷ 97 ∷ 97 ∷ 97 ∷ 97 ∷ 97 ∷ 97 ∷ 97 ∷ 97 ∷ 97 ∷ 97 ∷ 97 ∷ 97 ∷ 97 ∷ 97 ∷ 97 ∷ 97 ∷ 97 ∷ 97 ∷ 97 ∷ 97 ∷ 97 ∷ 97 ∷ 97 ∷ 97 ∷ 97 ∷ 97 ∷ 97 ∷ 97 ∷ 97 ∷ 97 ∷ 97 ∷ 97 ∷ 97 ∷ 97 ∷ 97 ∷ 97 ∷ 97 ∷ 97 ∷ 97 ∷ 97 ∷ 97 ∷ 97 ∷ 97 ∷ 97 ∷ 97 ∷ 97 ∷ 97 ∷ 97 ∷ 97 ∷ 97 ∷ 97 ∷ 97 ∷ 97 ∷ 97 ∷ 97 ∷ 97 ∷ 97 ∷ 97 ∷ 97 ∷ 97 ∷ 97 ∷ 97 ∷ 97 ∷ 97 ∷ 97 ∷ 97 ∷ 97 ∷ 97 ∷ 97 ∷ 97 ∷ 97 ∷ 97 ∷ 97 ∷ 97 ∷ 97 ∷ 97 ∷ 97 ∷ 97 ∷ 97 ∷ 97 ∷ 97 ∷ 97 ∷ 97 ∷ 97 ∷ 97 ∷ 97 ∷ 97 ∷ 97 ∷ 97 ∷ 97 ∷ 97 ∷ 97 ∷ 97 ∷ 97 ∷ 97 ∷ 97 ∷ 97 ∷ 97 ∷ 97 ∷ 97 ∷ 97 ∷ 97 ∷ 97 ∷ 97 ∷ 97 ∷ 97 ∷ 97 ∷ 97 ∷ 97 ∷ 97 ∷ 97 ∷ 97 ∷ 97 ∷ 97 ∷ 97 ∷ 97 ∷ 97 ∷ 97 ∷ 97 ∷ 97 ∷ 97 ∷ 97 ∷ 97 ∷ 97 ∷ 97 ∷ 97 ∷ 97 ∷ 97 ∷ 97 ∷ 97 ∷ 97 ∷ 97 ∷ 97 ∷ 97 ∷ 97 ∷ 97 ∷ 97 ∷ 97 ∷ 97 ∷ 97 ∷ 97 ∷ 97 ∷ 97 ∷ 97 ∷ 97 ∷ 97 ∷ 97 ∷ 97 ∷ 97 ∷ 97 ∷ 97 ∷ 97 ∷ 97 ∷ 97 ∷ 97 ∷ 97 ∷ 97 ∷ 97 ∷ 97 ∷ 97 ∷ 97 ∷ 97 ∷ 97 ∷ 97 ∷ 97 ∷ 97 ∷ 97 ∷ 97 ∷ 97 ∷ 97 ∷ 97 ∷ 97 ∷ 97 ∷ 97 ∷ 97 ∷ 97 ∷ 97 ∷ 97 ∷ 97 ∷ 97 ∷ 97 ∷ 97 ∷ 97 ∷ 97 ∷ 97 ∷ 97 ∷ 97 ∷ 97 ∷ 97 ∷ 97 ∷ 97 ∷ 97 ∷ 97 ∷ 97 ∷ 97 ∷ 97 ∷ 97 ∷ 97 ∷ 97 ∷ 97 ∷ 97 ∷ 97 ∷ 97 ∷ 97 ∷ 97 ∷ 97 ∷ 97 ∷ 97 ∷ 97 ∷ 97 ∷ 97 ∷ 97 ∷ 97 ∷ 97 ∷ 97 ∷ 97 ∷ 97 ∷ 97 ∷ 97 ∷ 97 ∷ 97 ∷ 97 ∷ 97 ∷ 97 ∷ 97 ∷ 97 ∷ 97 ∷ 97 ∷ 97 ∷ 97 ∷ 97 ∷ 97 ∷ 97 ∷ 97 ∷ 97 ∷ 97 ∷ 97 ∷ 97 ∷ 97 ∷ 97 ∷ 97 ∷ 97 ∷ 97 ∷ 97 ∷ 97 ∷ 97 ∷ 97 ∷ 97 ∷ 97 ∷ 97 ∷ 97 ∷ 97 ∷ 97 ∷ 97 ∷ 97 ∷ 97 ∷ 97 ∷ 97 ∷ 97 ∷ 97 ∷ 97 ∷ 97 ∷ 97 ∷ 97 ∷ 97 ∷ 97 ∷ 97 ∷ 97 ∷ 97 ∷ 97 ∷ 97 ∷ 97 ∷ 97 ∷ 97 ∷ 97 ∷ 97 ∷ 97 ∷ 97 ∷ 97 ∷ 97 ∷ 97 ∷ 97 ∷ 97 ∷ 97 ∷ 97 ∷ 97 ∷ 97 ∷ 97 ∷ 97 ∷ 97 ∷ 97 ∷ 97 ∷ 97 ∷ 97 ∷ 97 ∷ 97 ∷ 97 ∷ 97 ∷ 97 ∷ 97 ∷ 97 ∷ 97 ∷ 97 ∷ 97 ∷ 97 ∷ 97 ∷ 97 ∷ 97 ∷ 97 ∷ 97 ∷ 97 ∷ 97 ∷ 97 ∷ 97 ∷ 97 ∷ 97 ∷ 97 ∷ 97 ∷ 97 ∷ 97 ∷ 97 ∷ 97 ∷ 97 ∷ 97 ∷ 97 ∷ 97 ∷ 97 ∷ 97 ∷ 97 ∷ 97 ∷ 97 ∷ 97 ∷ 97 ∷ 97 ∷ 97 ∷ 97 ∷ 97 ∷ 97 ∷ 97 ∷ 97 ∷ 97 ∷ 97 ∷ 97 ∷ 97 ∷ 97 ∷ 97 ∷ 97 ∷ 97 ∷ 97 ∷ 97 ∷ 97 ∷ 97 ∷ 97 ∷ 97 ∷ 97 ∷ 97 ∷ 97 ∷ 97 ∷ 97 ∷ 97 ∷ 97 ∷ 97 ∷ 97 ∷ 97 ∷ 97 ∷ 97 ∷ 97 ∷ 97 ∷ 97 ∷ 97 ∷ 97 ∷ 97 ∷ 97 ∷ 97 ∷ 97 ∷ 97 ∷ 97 ∷ 97 ∷ 97 ∷ 97 ∷ 97 ∷ 97 ∷ 97 ∷ 97 ∷ 97 ∷ 97 ∷ 97 ∷ 97 ∷ 97 ∷ 97 ∷ 97 ∷ 97 ∷ 97 ∷ 97 ∷ 97 ∷ 97 ∷ 97 ∷ 97 ∷ 97 ∷ 97 ∷ 97 ∷ 97 ∷ 97 ∷ 97 ∷ 97 ∷ 97 ∷ 97 ∷ 97 ∷ 97 ∷ 97 ∷ 97 ∷ 97 ∷ 97 ∷ 97 ∷ 97 ∷ 97 ∷ 97 ∷ 97 ∷ 97 ∷ 97 ∷ 97 ∷ 97 ∷ 97 ∷ 97 ∷ 97 ∷ 97 ∷ 97 ∷ 97 ∷ 97 ∷ 97 ∷ 97 ∷ 97 ∷ 97 ∷ 97 ∷ 97 ∷ 97 ∷ 97 ∷ 97 ∷ 97 ∷ 97 ∷ 97 ∷ 97 ∷ 97 ∷ 97 ∷ 97 ∷ 97 ∷ 97 ∷ 97 ∷ 97 ∷ 97 ∷ 97 ∷ 97 ∷ 97 ∷ 97 ∷ 97 ∷ 97 ∷ 97 ∷ 97 ∷ 97 ∷ 97 ∷ 97 ∷ 97 ∷ 97 ∷ 97 ∷ 97 ∷ 97 ∷ 97 ∷ 97 ∷ 97 ∷ 97 ∷ 97 ∷ 97 ∷ 97 ∷ 97 ∷ 97 ∷ 97 ∷ 97 ∷ 97 ∷ 97 ∷ 97 ∷ 97 ∷ 97 ∷ 97 ∷ 97 ∷ 97 ∷ 97 ∷ 97 ∷ 97 ∷ 97 ∷ 97 ∷ 97 ∷ 97 ∷ 97 ∷ 97 ∷ 97 ∷ 97 ∷ 97 ∷ 97 ∷ 97 ∷ 97 ∷ 97 ∷ 97 ∷ 97 ∷ 97 ∷ 97 ∷ 97 ∷ 97 ∷ 97 ∷ 97 ∷ 97 ∷ 97 ∷ 97 ∷ 97 ∷ 97 ∷ 97 ∷ 97 ∷ 97 ∷ 97 ∷ 97 ∷ 97 ∷ 97 ∷ 97 ∷ 97 ∷ 97 ∷ 97 ∷ 97 ∷ 97 ∷ 97 ∷ 97 ∷ 97 ∷ 97 ∷ 97 ∷ 97 ∷ 97 ∷ 97 ∷ 97 ∷ 97 ∷ 97 ∷ 97 ∷ 97 ∷ 97 ∷ 97 ∷ 97 ∷ 97 ∷ 97 ∷ 97 ∷ 97 ∷ 97 ∷ 97 ∷ 97 ∷ 97 ∷ 97 ∷ 97 ∷ 97 ∷ 97 ∷ 97 ∷ 97 ∷ 97 ∷ 97 ∷ 97 ∷ 97 ∷ 97 ∷ 97 ∷ 97 ∷ 97 ∷ 97 ∷ 97 ∷ 97 ∷ 97 ∷ 97 ∷ 97 ∷ 97 ∷ 97 ∷ 97 ∷ 97 ∷ 97 ∷ 97 ∷ 97 ∷ 97 ∷ 97 ∷ 97 ∷ 97 ∷ 97 ∷ 97 ∷ 97 ∷ 97 ∷ 97 ∷ 97 ∷ 97 ∷ 97 ∷ 97 ∷ 97 ∷ 97 ∷ 97 ∷ 97 ∷ 97 ∷ 97 ∷ 97 ∷ 97 ∷ 97 ∷ 97 ∷ 97 ∷ 97 ∷ 97 ∷ 97 ∷ 97 ∷ 97 ∷ 97 ∷ 97 ∷ 97 ∷ 97 ∷ 97 ∷ 97 ∷ 97 ∷ 97 ∷ 97 ∷ 97 ∷ 97 ∷ 97 ∷ 97 ∷ 97 ∷ 97 ∷ 97 ∷ 97 ∷ 97 ∷ 97 ∷ 97 ∷ 97 ∷ 97 ∷ 97 ∷ 97 ∷ 97 ∷ 97 ∷ 97 ∷ 97 ∷ 97 ∷ 97 ∷ 97 ∷ 97 ∷ 97 ∷ 97 ∷ 97 ∷ 97 ∷ 97 ∷ 97 ∷ 97 ∷ 97 ∷ 97 ∷ 97 ∷ 97 ∷ 97 ∷ 97 ∷ 97 ∷ 97 ∷ 97 ∷ 97 ∷ 97 ∷ 97 ∷ 97 ∷ 97 ∷ 97 ∷ 97 ∷ 97 ∷ 97 ∷ 97 ∷ 97 ∷ 97 ∷ 97 ∷ 97 ∷ 97 ∷ 97 ∷ 97 ∷ 97 ∷ 97 ∷ 97 ∷ 97 ∷ 97 ∷ 97 ∷ 97 ∷ 97 ∷ 97 ∷ 97 ∷ 97 ∷ 97 ∷ 97 ∷ 97 ∷ 97 ∷ 97 ∷ 97 ∷ 97 ∷ 97 ∷ 97 ∷ 97 ∷ 97 ∷ 97 ∷ 97 ∷ 97 ∷ 97 ∷ 97 ∷ 97 ∷ 97 ∷ 97 ∷ 97 ∷ 97 ∷ 97 ∷ 97 ∷ 97 ∷ 97 ∷ 97 ∷ 97 ∷ 97 ∷ 97 ∷ 97 ∷ 97 ∷ 97 ∷ 97 ∷ 97 ∷ 97 ∷ 97 ∷ 97 ∷ 97 ∷ 97 ∷ 97 ∷ 97 ∷ 97 ∷ 97 ∷ 97 ∷ 97 ∷ 97 ∷ 97 ∷ 97 ∷ 97 ∷ 97 ∷ 97 ∷ 97 ∷ 97 ∷ 97 ∷ 97 ∷ 97 ∷ 97 ∷ 97 ∷ 97 ∷ 97 ∷ 97 ∷ 97 ∷ 97 ∷ 97 ∷ 97 ∷ 97 ∷ 97 ∷ 97 ∷ 97 ∷ 97 ∷ 97 ∷ 97 ∷ 97 ∷ 97 ∷ 97 ∷ 97 ∷ 97 ∷ 97 ∷ 97 ∷ 97 ∷ 97 ∷ 97 ∷ 97 ∷ 97 ∷ 97 ∷ 97 ∷ 97 ∷ 97 ∷ 97 ∷ 97 ∷ 97 ∷ 97 ∷ 97 ∷ 97 ∷ 97 ∷ 97 ∷ 97 ∷ 97 ∷ 97 ∷ 97 ∷ 97 ∷ 97 ∷ 97 ∷ 97 ∷ 97 ∷ 97 ∷ 97 ∷ 97 ∷ 97 ∷ 97 ∷ 97 ∷ 97 ∷ 97 ∷ 97 ∷ 97 ∷ 97 ∷ 97 ∷ 97 ∷ 97 ∷ 97 ∷ 97 ∷ 97 ∷ 97 ∷ 97 ∷ 97 ∷ 97 ∷ 97 ∷ 97 ∷ 97 ∷ 97 ∷ 97 ∷ 97 ∷ 97 ∷ 97 ∷ 97 ∷ 97 ∷ 97 ∷ 97 ∷ 97 ∷ 97 ∷ 97 ∷ 97 ∷ 97 ∷ 97 ∷ 97 ∷ 97 ∷ 97 ∷ 97 ∷ 97 ∷ 97 ∷ 97 ∷ 97 ∷ 97 ∷ 97 ∷ 97 ∷ 97 ∷ 97 ∷ 97 ∷ 97 ∷ 97 ∷ 97 ∷ 97 ∷ 97 ∷ 97 ∷ 97 ∷ 97 ∷ 97 ∷ 97 ∷ 97 ∷ 97 ∷ 97 ∷ 97 ∷ 97 ∷ 97 ∷ 97 ∷ 97 ∷ 97 ∷ 97 ∷ 97 ∷ 97 ∷ 97 ∷ 97 ∷ 97 ∷ 97 ∷ 97 ∷ 97 ∷ 97 ∷ 97 ∷ 97 ∷ 97 ∷ 97 ∷ 97 ∷ 97 ∷ 97 ∷ 97 ∷ 97 ∷ 97 ∷ 97 ∷ 97 ∷ 97 ∷ 97 ∷ 97 ∷ 97 ∷ 97 ∷ 97 ∷ 97 ∷ 97 ∷ 97 ∷ 97 ∷ 97 ∷ 97 ∷ 97 ∷ 97 ∷ 97 ∷ 97 ∷ 97 ∷ 97 ∷ 97 ∷ 97 ∷ 97 ∷ 97 ∷ 97 ∷ 97 ∷ 97 ∷ 97 ∷ 97 ∷ 97 ∷ 97 ∷ 97 ∷ 97 ∷ 97 ∷ 97 ∷ 97 ∷ 97 ∷ 97 ∷ 97 ∷ 97 ∷ 97 ∷ 97 ∷ 97 ∷ 97 ∷ 97 ∷ 97 ∷ 97 ∷ 97 ∷ 97 ∷ 97 ∷ 97 ∷ 97 ∷ 97 ∷ 97 ∷ 97 ∷ 97 ∷ 97 ∷ 97 ∷ 97 ∷ 97 ∷ 97 ∷ 97 ∷ 97 ∷ 10 ∷ 93 ∷ []) ≡ Some (enter Name.Reference 1 1 0 0 ∷ enter Name.ReferenceMarker 1 1 0 0 ∷ exit Name.ReferenceMarker 1 2 1 0 ∷ enter Name.ReferenceString 1 2 1 0 ∷ chained Name.Data 1 2 1 0 None (Some 6) ∷ exit Name.Data 1 1001 1000 0 ∷ chained Name.LineEnding 1 1001 1000 0 (Some 4) None ∷ exit Name.LineEnding 2 1 1001 0 ∷ exit Name.ReferenceString 2 1 1001 0 ∷ enter Name.ReferenceMarker 2 1 1001 0 ∷ exit Name.ReferenceMarker 2 2 1002 0 ∷ exit Name.Reference 2 2 1002 0 ∷ [])
-
--- label «[⟦a×999⟧␊b]»: no
-abbrev pub row_21 : Type 0
-row_21 = label_answer (91 ∷ 97 ∷ 97 ∷ 97 ∷ 97 ∷ 97 ∷ 97 ∷ 97 ∷ 97 ∷ 97 ∷ 97 ∷ 97 ∷ 97 ∷ 97 ∷ 97 ∷ 97 ∷ 97 ∷ 97 ∷ 97 ∷ 97 ∷ 97 ∷ 97 ∷ 97 ∷ 97 ∷ 97 ∷ 97 ∷ 97 ∷ 97 ∷ 97 ∷ 97 ∷ 97 ∷ 97 ∷ 97 ∷ 97 ∷ 97 ∷ 97 ∷ 97 ∷ 97 ∷ 97 ∷ 97 ∷ 97 ∷ 97 ∷ 97 ∷ 97 ∷ 97 ∷ 97 ∷ 97 ∷ 97 ∷ 97 ∷ 97 ∷ 97 ∷ 97 ∷ 97 ∷ 97 ∷ 97 ∷ 97 ∷ 97 ∷ 97 ∷ 97 ∷ 97 ∷ 97 ∷ 97 ∷ 97 ∷ 97 ∷ 97 ∷ 97 ∷ 97 ∷ 97 ∷ 97 ∷ 97 ∷ 97 ∷ 97 ∷ 97 ∷ 97 ∷ 97 ∷ 97 ∷ 97 ∷ 97 ∷ 97 ∷ 97 ∷ 97 ∷ 97 ∷ 97 ∷ 97 ∷ 97 ∷ 97 ∷ 97 ∷ 97 ∷ 97 ∷ 97 ∷ 97 ∷ 97 ∷ 97 ∷ 97 ∷ 97 ∷ 97 ∷ 97 ∷ 97 ∷ 97 ∷ 97 ∷ 97 ∷ 97 ∷ 97 ∷ 97 ∷ 97 ∷ 97 ∷ 97 ∷ 97 ∷ 97 ∷ 97 ∷ 97 ∷ 97 ∷ 97 ∷ 97 ∷ 97 ∷ 97 ∷ 97 ∷ 97 ∷ 97 ∷ 97 ∷ 97 ∷ 97 ∷ 97 ∷ 97 ∷ 97 ∷ 97 ∷ 97 ∷ 97 ∷ 97 ∷ 97 ∷ 97 ∷ 97 ∷ 97 ∷ 97 ∷ 97 ∷ 97 ∷ 97 ∷ 97 ∷ 97 ∷ 97 ∷ 97 ∷ 97 ∷ 97 ∷ 97 ∷ 97 ∷ 97 ∷ 97 ∷ 97 ∷ 97 ∷ 97 ∷ 97 ∷ 97 ∷ 97 ∷ 97 ∷ 97 ∷ 97 ∷ 97 ∷ 97 ∷ 97 ∷ 97 ∷ 97 ∷ 97 ∷ 97 ∷ 97 ∷ 97 ∷ 97 ∷ 97 ∷ 97 ∷ 97 ∷ 97 ∷ 97 ∷ 97 ∷ 97 ∷ 97 ∷ 97 ∷ 97 ∷ 97 ∷ 97 ∷ 97 ∷ 97 ∷ 97 ∷ 97 ∷ 97 ∷ 97 ∷ 97 ∷ 97 ∷ 97 ∷ 97 ∷ 97 ∷ 97 ∷ 97 ∷ 97 ∷ 97 ∷ 97 ∷ 97 ∷ 97 ∷ 97 ∷ 97 ∷ 97 ∷ 97 ∷ 97 ∷ 97 ∷ 97 ∷ 97 ∷ 97 ∷ 97 ∷ 97 ∷ 97 ∷ 97 ∷ 97 ∷ 97 ∷ 97 ∷ 97 ∷ 97 ∷ 97 ∷ 97 ∷ 97 ∷ 97 ∷ 97 ∷ 97 ∷ 97 ∷ 97 ∷ 97 ∷ 97 ∷ 97 ∷ 97 ∷ 97 ∷ 97 ∷ 97 ∷ 97 ∷ 97 ∷ 97 ∷ 97 ∷ 97 ∷ 97 ∷ 97 ∷ 97 ∷ 97 ∷ 97 ∷ 97 ∷ 97 ∷ 97 ∷ 97 ∷ 97 ∷ 97 ∷ 97 ∷ 97 ∷ 97 ∷ 97 ∷ 97 ∷ 97 ∷ 97 ∷ 97 ∷ 97 ∷ 97 ∷ 97 ∷ 97 ∷ 97 ∷ 97 ∷ 97 ∷ 97 ∷ 97 ∷ 97 ∷ 97 ∷ 97 ∷ 97 ∷ 97 ∷ 97 ∷ 97 ∷ 97 ∷ 97 ∷ 97 ∷ 97 ∷ 97 ∷ 97 ∷ 97 ∷ 97 ∷ 97 ∷ 97 ∷ 97 ∷ 97 ∷ 97 ∷ 97 ∷ 97 ∷ 97 ∷ 97 ∷ 97 ∷ 97 ∷ 97 ∷ 97 ∷ 97 ∷ 97 ∷ 97 ∷ 97 ∷ 97 ∷ 97 ∷ 97 ∷ 97 ∷ 97 ∷ 97 ∷ 97 ∷ 97 ∷ 97 ∷ 97 ∷ 97 ∷ 97 ∷ 97 ∷ 97 ∷ 97 ∷ 97 ∷ 97 ∷ 97 ∷ 97 ∷ 97 ∷ 97 ∷ 97 ∷ 97 ∷ 97 ∷ 97 ∷ 97 ∷ 97 ∷ 97 ∷ 97 ∷ 97 ∷ 97 ∷ 97 ∷ 97 ∷ 97 ∷ 97 ∷ 97 ∷ 97 ∷ 97 ∷ 97 ∷ 97 ∷ 97 ∷ 97 ∷ 97 ∷ 97 ∷ 97 ∷ 97 ∷ 97 ∷ 97 ∷ 97 ∷ 97 ∷ 97 ∷ 97 ∷ 97 ∷ 97 ∷ 97 ∷ 97 ∷ 97 ∷ 97 ∷ 97 ∷ 97 ∷ 97 ∷ 97 ∷ 97 ∷ 97 ∷ 97 ∷ 97 ∷ 97 ∷ 97 ∷ 97 ∷ 97 ∷ 97 ∷ 97 ∷ 97 ∷ 97 ∷ 97 ∷ 97 ∷ 97 ∷ 97 ∷ 97 ∷ 97 ∷ 97 ∷ 97 ∷ 97 ∷ 97 ∷ 97 ∷ 97 ∷ 97 ∷ 97 ∷ 97 ∷ 97 ∷ 97 ∷ 97 ∷ 97 ∷ 97 ∷ 97 ∷ 97 ∷ 97 ∷ 97 ∷ 97 ∷ 97 ∷ 97 ∷ 97 ∷ 97 ∷ 97 ∷ 97 ∷ 97 ∷ 97 ∷ 97 ∷ 97 ∷ 97 ∷ 97 ∷ 97 ∷ 97 ∷ 97 ∷ 97 ∷ 97 ∷ 97 ∷ 97 ∷ 97 ∷ 97 ∷ 97 ∷ 97 ∷ 97 ∷ 97 ∷ 97 ∷ 97 ∷ 97 ∷ 97 ∷ 97 ∷ 97 ∷ 97 ∷ 97 ∷ 97 ∷ 97 ∷ 97 ∷ 97 ∷ 97 ∷ 97 ∷ 97 ∷ 97 ∷ 97 ∷ 97 ∷ 97 ∷ 97 ∷ 97 ∷ 97 ∷ 97 ∷ 97 ∷ 97 ∷ 97 ∷ 97 ∷ 97 ∷ 97 ∷ 97 ∷ 97 ∷ 97 ∷ 97 ∷ 97 ∷ 97 ∷ 97 ∷ 97 ∷ 97 ∷ 97 ∷ 97 ∷ 97 ∷ 97 ∷ 97 ∷ 97 ∷ 97 ∷ 97 ∷ 97 ∷ 97 ∷ 97 ∷ 97 ∷ 97 ∷ 97 ∷ 97 ∷ 97 ∷ 97 ∷ 97 ∷ 97 ∷ 97 ∷ 97 ∷ 97 ∷ 97 ∷ 97 ∷ 97 ∷ 97 ∷ 97 ∷ 97 ∷ 97 ∷ 97 ∷ 97 ∷ 97 ∷ 97 ∷ 97 ∷ 97 ∷ 97 ∷ 97 ∷ 97 ∷ 97 ∷ 97 ∷ 97 ∷ 97 ∷ 97 ∷ 97 ∷ 97 ∷ 97 ∷ 97 ∷ 97 ∷ 97 ∷ 97 ∷ 97 ∷ 97 ∷ 97 ∷ 97 ∷ 97 ∷ 97 ∷ 97 ∷ 97 ∷ 97 ∷ 97 ∷ 97 ∷ 97 ∷ 97 ∷ 97 ∷ 97 ∷ 97 ∷ 97 ∷ 97 ∷ 97 ∷ 97 ∷ 97 ∷ 97 ∷ 97 ∷ 97 ∷ 97 ∷ 97 ∷ 97 ∷ 97 ∷ 97 ∷ 97 ∷ 97 ∷ 97 ∷ 97 ∷ 97 ∷ 97 ∷ 97 ∷ 97 ∷ 97 ∷ 97 ∷ 97 ∷ 97 ∷ 97 ∷ 97 ∷ 97 ∷ 97 ∷ 97 ∷ 97 ∷ 97 ∷ 97 ∷ 97 ∷ 97 ∷ 97 ∷ 97 ∷ 97 ∷ 97 ∷ 97 ∷ 97 ∷ 97 ∷ 97 ∷ 97 ∷ 97 ∷ 97 ∷ 97 ∷ 97 ∷ 97 ∷ 97 ∷ 97 ∷ 97 ∷ 97 ∷ 97 ∷ 97 ∷ 97 ∷ 97 ∷ 97 ∷ 97 ∷ 97 ∷ 97 ∷ 97 ∷ 97 ∷ 97 ∷ 97 ∷ 97 ∷ 97 ∷ 97 ∷ 97 ∷ 97 ∷ 97 ∷ 97 ∷ 97 ∷ 97 ∷ 97 ∷ 97 ∷ 97 ∷ 97 ∷ 97 ∷ 97 ∷ 97 ∷ 97 ∷ 97 ∷ 97 ∷ 97 ∷ 97 ∷ 97 ∷ 97 ∷ 97 ∷ 97 ∷ 97 ∷ 97 ∷ 97 ∷ 97 ∷ 97 ∷ 97 ∷ 97 ∷ 97 ∷ 97 ∷ 97 ∷ 97 ∷ 97 ∷ 97 ∷ 97 ∷ 97 ∷ 97 ∷ 97 ∷ 97 ∷ 97 ∷ 97 ∷ 97 ∷ 97 ∷ 97 ∷ 97 ∷ 97 ∷ 97 ∷ 97 ∷ 97 ∷ 97 ∷ 97 ∷ 97 ∷ 97 ∷ 97 ∷ 97 ∷ 97 ∷ 97 ∷ 97 ∷ 97 ∷ 97 ∷ 97 ∷ 97 ∷ 97 ∷ 97 ∷ 97 ∷ 97 ∷ 97 ∷ 97 ∷ 97 ∷ 97 ∷ 97 ∷ 97 ∷ 97 ∷ 97 ∷ 97 ∷ 97 ∷ 97 ∷ 97 ∷ 97 ∷ 97 ∷ 97 ∷ 97 ∷ 97 ∷ 97 ∷ 97 ∷ 97 ∷ 97 ∷ 97 ∷ 97 ∷ 97 ∷ 97 ∷ 97 ∷ 97 ∷ 97 ∷ 97 ∷ 97 ∷ 97 ∷ 97 ∷ 97 ∷ 97 ∷ 97 ∷ 97 ∷ 97 ∷ 97 ∷ 97 ∷ 97 ∷ 97 ∷ 97 ∷ 97 ∷ 97 ∷ 97 ∷ 97 ∷ 97 ∷ 97 ∷ 97 ∷ 97 ∷ 97 ∷ 97 ∷ 97 ∷ 97 ∷ 97 ∷ 97 ∷ 97 ∷ 97 ∷ 97 ∷ 97 ∷ 97 ∷ 97 ∷ 97 ∷ 97 ∷ 97 ∷ 97 ∷ 97 ∷ 97 ∷ 97 ∷ 97 ∷ 97 ∷ 97 ∷ 97 ∷ 97 ∷ 97 ∷ 97 ∷ 97 ∷ 97 ∷ 97 ∷ 97 ∷ 97 ∷ 97 ∷ 97 ∷ 97 ∷ 97 ∷ 97 ∷ 97 ∷ 97 ∷ 97 ∷ 97 ∷ 97 ∷ 97 ∷ 97 ∷ 97 ∷ 97 ∷ 97 ∷ 97 ∷ 97 ∷ 97 ∷ 97 ∷ 97 ∷ 97 ∷ 97 ∷ 97 ∷ 97 ∷ 97 ∷ 97 ∷ 97 ∷ 97 ∷ 97 ∷ 97 ∷ 97 ∷ 97 ∷ 97 ∷ 97 ∷ 97 ∷ 97 ∷ 97 ∷ 97 ∷ 97 ∷ 97 ∷ 97 ∷ 97 ∷ 97 ∷ 97 ∷ 97 ∷ 97 ∷ 97 ∷ 97 ∷ 97 ∷ 97 ∷ 97 ∷ 97 ∷ 97 ∷ 97 ∷ 97 ∷ 97 ∷ 97 ∷ 97 ∷ 97 ∷ 97 ∷ 97 ∷ 97 ∷ 97 ∷ 97 ∷ 97 ∷ 97 ∷ 97 ∷ 97 ∷ 97 ∷ 97 ∷ 97 ∷ 97 ∷ 97 ∷ 97 ∷ 97 ∷ 97 ∷ 97 ∷ 97 ∷ 97 ∷ 97 ∷ 97 ∷ 97 ∷ 97 ∷ 97 ∷ 97 ∷ 97 ∷ 97 ∷ 97 ∷ 97 ∷ 97 ∷ 97 ∷ 97 ∷ 97 ∷ 97 ∷ 97 ∷ 97 ∷ 97 ∷ 97 ∷ 97 ∷ 97 ∷ 97 ∷ 97 ∷ 97 ∷ 97 ∷ 97 ∷ 97 ∷ 97 ∷ 97 ∷ 97 ∷ 97 ∷ 97 ∷ 97 ∷ 97 ∷ 97 ∷ 97 ∷ 97 ∷ 97 ∷ 97 ∷ 97 ∷ 97 ∷ 97 ∷ 97 ∷ 97 ∷ 97 ∷ 97 ∷ 97 ∷ 97 ∷ 97 ∷ 97 ∷ 97 ∷ 97 ∷ 97 ∷ 97 ∷ 97 ∷ 97 ∷ 97 ∷ 97 ∷ 97 ∷ 97 ∷ 97 ∷ 97 ∷ 97 ∷ 97 ∷ 97 ∷ 97 ∷ 97 ∷ 97 ∷ 97 ∷ 97 ∷ 97 ∷ 97 ∷ 97 ∷ 97 ∷ 97 ∷ 97 ∷ 97 ∷ 97 ∷ 97 ∷ 97 ∷ 97 ∷ 97 ∷ 97 ∷ 97 ∷ 97 ∷ 97 ∷ 97 ∷ 97 ∷ 97 ∷ 97 ∷ 97 ∷ 97 ∷ 97 ∷ 97 ∷ 97 ∷ 97 ∷ 97 ∷ 97 ∷ 97 ∷ 97 ∷ 97 ∷ 97 ∷ 97 ∷ 97 ∷ 97 ∷ 97 ∷ 97 ∷ 97 ∷ 97 ∷ 97 ∷ 97 ∷ 97 ∷ 97 ∷ 97 ∷ 97 ∷ 97 ∷ 97 ∷ 97 ∷ 97 ∷ 97 ∷ 97 ∷ 97 ∷ 97 ∷ 97 ∷ 97 ∷ 97 ∷ 97 ∷ 97 ∷ 97 ∷ 97 ∷ 97 ∷ 97 ∷ 97 ∷ 97 ∷ 97 ∷ 97 ∷ 97 ∷ 97 ∷ 97 ∷ 97 ∷ 97 ∷ 97 ∷ 97 ∷ 97 ∷ 97 ∷ 97 ∷ 97 ∷ 97 ∷ 97 ∷ 97 ∷ 97 ∷ 97 ∷ 97 ∷ 97 ∷ 97 ∷ 97 ∷ 97 ∷ 97 ∷ 97 ∷ 97 ∷ 97 ∷ 97 ∷ 97 ∷ 97 ∷ 97 ∷ 97 ∷ 97 ∷ 97 ∷ 97 ∷ 97 ∷ 97 ∷ 97 ∷ 97 ∷ 97 ∷ 97 ∷ 97 ∷ 97 ∷ 97 ∷ 97 ∷ 97 ∷ 97 ∷ 97 ∷ 97 ∷ 10 ∷ 98 ∷ 93 ∷ []) ≡ None
-
--- bounded min=1 max=2 «␠␠␠a»: SpaceOrTab 0-2
-abbrev pub row_22 : Type 0
-row_22 = bounded_answer None 1 2 (codes "   a") ≡ Some (enter Name.SpaceOrTab 1 1 0 0 ∷ exit Name.SpaceOrTab 1 3 2 0 ∷ [])
-
--- bounded min=4 «␠␠␠a»: no
-abbrev pub row_23 : Type 0
-row_23 = bounded_answer None 4 18446744073709551615 (codes "   a") ≡ None
-
--- bounded min=0 max=0 «␠␠␠a»:
-abbrev pub row_24 : Type 0
-row_24 = bounded_answer None 0 0 (codes "   a") ≡ Some ([])
-
--- spacing «␠␊ b»: SpaceOrTab 0-1, LineEnding 1-2, SpaceOrTab 2-3
-abbrev pub row_25 : Type 0
-row_25 = spacing_answer None (32 ∷ 10 ∷ 32 ∷ 98 ∷ []) ≡ Some (enter Name.SpaceOrTab 1 1 0 0 ∷ exit Name.SpaceOrTab 1 2 1 0 ∷ enter Name.LineEnding 1 2 1 0 ∷ exit Name.LineEnding 2 1 2 0 ∷ enter Name.SpaceOrTab 2 1 2 0 ∷ exit Name.SpaceOrTab 2 2 3 0 ∷ [])
-
--- spacing «b»: no
-abbrev pub row_26 : Type 0
-row_26 = spacing_answer None (codes "b") ≡ None
-
--- spacing «␊␊b»: no
-abbrev pub row_27 : Type 0
-row_27 = spacing_answer None (10 ∷ 10 ∷ 98 ∷ []) ≡ None
-
--- label «[\\]»: Reference 0-4 [ReferenceMarker 0-1, ReferenceString 1-3 [Data 1-3], ReferenceMarker 3-4]
-abbrev pub row_28 : Type 0
-row_28 = label_answer (codes "[\\\\]") ≡ Some (enter Name.Reference 1 1 0 0 ∷ enter Name.ReferenceMarker 1 1 0 0 ∷ exit Name.ReferenceMarker 1 2 1 0 ∷ enter Name.ReferenceString 1 2 1 0 ∷ chained Name.Data 1 2 1 0 None None ∷ exit Name.Data 1 4 3 0 ∷ exit Name.ReferenceString 1 4 3 0 ∷ enter Name.ReferenceMarker 1 4 3 0 ∷ exit Name.ReferenceMarker 1 5 4 0 ∷ exit Name.Reference 1 5 4 0 ∷ [])
-
--- label «[\[]»: Reference 0-4 [ReferenceMarker 0-1, ReferenceString 1-3 [Data 1-3], ReferenceMarker 3-4]
-abbrev pub row_29 : Type 0
-row_29 = label_answer (codes "[\\[]") ≡ Some (enter Name.Reference 1 1 0 0 ∷ enter Name.ReferenceMarker 1 1 0 0 ∷ exit Name.ReferenceMarker 1 2 1 0 ∷ enter Name.ReferenceString 1 2 1 0 ∷ chained Name.Data 1 2 1 0 None None ∷ exit Name.Data 1 4 3 0 ∷ exit Name.ReferenceString 1 4 3 0 ∷ enter Name.ReferenceMarker 1 4 3 0 ∷ exit Name.ReferenceMarker 1 5 4 0 ∷ exit Name.Reference 1 5 4 0 ∷ [])
-
--- label «[\a]»: Reference 0-4 [ReferenceMarker 0-1, ReferenceString 1-3 [Data 1-3], ReferenceMarker 3-4]
-abbrev pub row_30 : Type 0
-row_30 = label_answer (codes "[\\a]") ≡ Some (enter Name.Reference 1 1 0 0 ∷ enter Name.ReferenceMarker 1 1 0 0 ∷ exit Name.ReferenceMarker 1 2 1 0 ∷ enter Name.ReferenceString 1 2 1 0 ∷ chained Name.Data 1 2 1 0 None None ∷ exit Name.Data 1 4 3 0 ∷ exit Name.ReferenceString 1 4 3 0 ∷ enter Name.ReferenceMarker 1 4 3 0 ∷ exit Name.ReferenceMarker 1 5 4 0 ∷ exit Name.Reference 1 5 4 0 ∷ [])
-
--- label «[]»: no
-abbrev pub row_31 : Type 0
-row_31 = label_answer (codes "[]") ≡ None
-
--- label «[␊]»: no
-abbrev pub row_32 : Type 0
-row_32 = label_answer (91 ∷ 10 ∷ 93 ∷ []) ≡ None
-
--- label «[␉]»: no
-abbrev pub row_33 : Type 0
-row_33 = label_answer (91 ∷ 9 ∷ 93 ∷ []) ≡ None
-
--- label «[a␊␊b]»: no
-abbrev pub row_34 : Type 0
-row_34 = label_answer (91 ∷ 97 ∷ 10 ∷ 10 ∷ 98 ∷ 93 ∷ []) ≡ None
-
--- label «[a␊]»: Reference 0-4 [ReferenceMarker 0-1, ReferenceString 1-3 [Data 1-2, LineEnding 2-3], ReferenceMarker 3-4]
-abbrev pub row_35 : Type 0
-row_35 = label_answer (91 ∷ 97 ∷ 10 ∷ 93 ∷ []) ≡ Some (enter Name.Reference 1 1 0 0 ∷ enter Name.ReferenceMarker 1 1 0 0 ∷ exit Name.ReferenceMarker 1 2 1 0 ∷ enter Name.ReferenceString 1 2 1 0 ∷ chained Name.Data 1 2 1 0 None (Some 6) ∷ exit Name.Data 1 3 2 0 ∷ chained Name.LineEnding 1 3 2 0 (Some 4) None ∷ exit Name.LineEnding 2 1 3 0 ∷ exit Name.ReferenceString 2 1 3 0 ∷ enter Name.ReferenceMarker 2 1 3 0 ∷ exit Name.ReferenceMarker 2 2 4 0 ∷ exit Name.Reference 2 2 4 0 ∷ [])
-
--- label «[⟦a×998⟧␊ a]»: Reference 0-1003 [ReferenceMarker 0-1, ReferenceString 1-1002 [Data 1-999, LineEnding 999-1000, SpaceOrTab 1000-1001, Data 1001-1002], ReferenceMarker 1002-1003]
-abbrev pub row_36 : Type 0
-row_36 = label_answer (91 ∷ 97 ∷ 97 ∷ 97 ∷ 97 ∷ 97 ∷ 97 ∷ 97 ∷ 97 ∷ 97 ∷ 97 ∷ 97 ∷ 97 ∷ 97 ∷ 97 ∷ 97 ∷ 97 ∷ 97 ∷ 97 ∷ 97 ∷ 97 ∷ 97 ∷ 97 ∷ 97 ∷ 97 ∷ 97 ∷ 97 ∷ 97 ∷ 97 ∷ 97 ∷ 97 ∷ 97 ∷ 97 ∷ 97 ∷ 97 ∷ 97 ∷ 97 ∷ 97 ∷ 97 ∷ 97 ∷ 97 ∷ 97 ∷ 97 ∷ 97 ∷ 97 ∷ 97 ∷ 97 ∷ 97 ∷ 97 ∷ 97 ∷ 97 ∷ 97 ∷ 97 ∷ 97 ∷ 97 ∷ 97 ∷ 97 ∷ 97 ∷ 97 ∷ 97 ∷ 97 ∷ 97 ∷ 97 ∷ 97 ∷ 97 ∷ 97 ∷ 97 ∷ 97 ∷ 97 ∷ 97 ∷ 97 ∷ 97 ∷ 97 ∷ 97 ∷ 97 ∷ 97 ∷ 97 ∷ 97 ∷ 97 ∷ 97 ∷ 97 ∷ 97 ∷ 97 ∷ 97 ∷ 97 ∷ 97 ∷ 97 ∷ 97 ∷ 97 ∷ 97 ∷ 97 ∷ 97 ∷ 97 ∷ 97 ∷ 97 ∷ 97 ∷ 97 ∷ 97 ∷ 97 ∷ 97 ∷ 97 ∷ 97 ∷ 97 ∷ 97 ∷ 97 ∷ 97 ∷ 97 ∷ 97 ∷ 97 ∷ 97 ∷ 97 ∷ 97 ∷ 97 ∷ 97 ∷ 97 ∷ 97 ∷ 97 ∷ 97 ∷ 97 ∷ 97 ∷ 97 ∷ 97 ∷ 97 ∷ 97 ∷ 97 ∷ 97 ∷ 97 ∷ 97 ∷ 97 ∷ 97 ∷ 97 ∷ 97 ∷ 97 ∷ 97 ∷ 97 ∷ 97 ∷ 97 ∷ 97 ∷ 97 ∷ 97 ∷ 97 ∷ 97 ∷ 97 ∷ 97 ∷ 97 ∷ 97 ∷ 97 ∷ 97 ∷ 97 ∷ 97 ∷ 97 ∷ 97 ∷ 97 ∷ 97 ∷ 97 ∷ 97 ∷ 97 ∷ 97 ∷ 97 ∷ 97 ∷ 97 ∷ 97 ∷ 97 ∷ 97 ∷ 97 ∷ 97 ∷ 97 ∷ 97 ∷ 97 ∷ 97 ∷ 97 ∷ 97 ∷ 97 ∷ 97 ∷ 97 ∷ 97 ∷ 97 ∷ 97 ∷ 97 ∷ 97 ∷ 97 ∷ 97 ∷ 97 ∷ 97 ∷ 97 ∷ 97 ∷ 97 ∷ 97 ∷ 97 ∷ 97 ∷ 97 ∷ 97 ∷ 97 ∷ 97 ∷ 97 ∷ 97 ∷ 97 ∷ 97 ∷ 97 ∷ 97 ∷ 97 ∷ 97 ∷ 97 ∷ 97 ∷ 97 ∷ 97 ∷ 97 ∷ 97 ∷ 97 ∷ 97 ∷ 97 ∷ 97 ∷ 97 ∷ 97 ∷ 97 ∷ 97 ∷ 97 ∷ 97 ∷ 97 ∷ 97 ∷ 97 ∷ 97 ∷ 97 ∷ 97 ∷ 97 ∷ 97 ∷ 97 ∷ 97 ∷ 97 ∷ 97 ∷ 97 ∷ 97 ∷ 97 ∷ 97 ∷ 97 ∷ 97 ∷ 97 ∷ 97 ∷ 97 ∷ 97 ∷ 97 ∷ 97 ∷ 97 ∷ 97 ∷ 97 ∷ 97 ∷ 97 ∷ 97 ∷ 97 ∷ 97 ∷ 97 ∷ 97 ∷ 97 ∷ 97 ∷ 97 ∷ 97 ∷ 97 ∷ 97 ∷ 97 ∷ 97 ∷ 97 ∷ 97 ∷ 97 ∷ 97 ∷ 97 ∷ 97 ∷ 97 ∷ 97 ∷ 97 ∷ 97 ∷ 97 ∷ 97 ∷ 97 ∷ 97 ∷ 97 ∷ 97 ∷ 97 ∷ 97 ∷ 97 ∷ 97 ∷ 97 ∷ 97 ∷ 97 ∷ 97 ∷ 97 ∷ 97 ∷ 97 ∷ 97 ∷ 97 ∷ 97 ∷ 97 ∷ 97 ∷ 97 ∷ 97 ∷ 97 ∷ 97 ∷ 97 ∷ 97 ∷ 97 ∷ 97 ∷ 97 ∷ 97 ∷ 97 ∷ 97 ∷ 97 ∷ 97 ∷ 97 ∷ 97 ∷ 97 ∷ 97 ∷ 97 ∷ 97 ∷ 97 ∷ 97 ∷ 97 ∷ 97 ∷ 97 ∷ 97 ∷ 97 ∷ 97 ∷ 97 ∷ 97 ∷ 97 ∷ 97 ∷ 97 ∷ 97 ∷ 97 ∷ 97 ∷ 97 ∷ 97 ∷ 97 ∷ 97 ∷ 97 ∷ 97 ∷ 97 ∷ 97 ∷ 97 ∷ 97 ∷ 97 ∷ 97 ∷ 97 ∷ 97 ∷ 97 ∷ 97 ∷ 97 ∷ 97 ∷ 97 ∷ 97 ∷ 97 ∷ 97 ∷ 97 ∷ 97 ∷ 97 ∷ 97 ∷ 97 ∷ 97 ∷ 97 ∷ 97 ∷ 97 ∷ 97 ∷ 97 ∷ 97 ∷ 97 ∷ 97 ∷ 97 ∷ 97 ∷ 97 ∷ 97 ∷ 97 ∷ 97 ∷ 97 ∷ 97 ∷ 97 ∷ 97 ∷ 97 ∷ 97 ∷ 97 ∷ 97 ∷ 97 ∷ 97 ∷ 97 ∷ 97 ∷ 97 ∷ 97 ∷ 97 ∷ 97 ∷ 97 ∷ 97 ∷ 97 ∷ 97 ∷ 97 ∷ 97 ∷ 97 ∷ 97 ∷ 97 ∷ 97 ∷ 97 ∷ 97 ∷ 97 ∷ 97 ∷ 97 ∷ 97 ∷ 97 ∷ 97 ∷ 97 ∷ 97 ∷ 97 ∷ 97 ∷ 97 ∷ 97 ∷ 97 ∷ 97 ∷ 97 ∷ 97 ∷ 97 ∷ 97 ∷ 97 ∷ 97 ∷ 97 ∷ 97 ∷ 97 ∷ 97 ∷ 97 ∷ 97 ∷ 97 ∷ 97 ∷ 97 ∷ 97 ∷ 97 ∷ 97 ∷ 97 ∷ 97 ∷ 97 ∷ 97 ∷ 97 ∷ 97 ∷ 97 ∷ 97 ∷ 97 ∷ 97 ∷ 97 ∷ 97 ∷ 97 ∷ 97 ∷ 97 ∷ 97 ∷ 97 ∷ 97 ∷ 97 ∷ 97 ∷ 97 ∷ 97 ∷ 97 ∷ 97 ∷ 97 ∷ 97 ∷ 97 ∷ 97 ∷ 97 ∷ 97 ∷ 97 ∷ 97 ∷ 97 ∷ 97 ∷ 97 ∷ 97 ∷ 97 ∷ 97 ∷ 97 ∷ 97 ∷ 97 ∷ 97 ∷ 97 ∷ 97 ∷ 97 ∷ 97 ∷ 97 ∷ 97 ∷ 97 ∷ 97 ∷ 97 ∷ 97 ∷ 97 ∷ 97 ∷ 97 ∷ 97 ∷ 97 ∷ 97 ∷ 97 ∷ 97 ∷ 97 ∷ 97 ∷ 97 ∷ 97 ∷ 97 ∷ 97 ∷ 97 ∷ 97 ∷ 97 ∷ 97 ∷ 97 ∷ 97 ∷ 97 ∷ 97 ∷ 97 ∷ 97 ∷ 97 ∷ 97 ∷ 97 ∷ 97 ∷ 97 ∷ 97 ∷ 97 ∷ 97 ∷ 97 ∷ 97 ∷ 97 ∷ 97 ∷ 97 ∷ 97 ∷ 97 ∷ 97 ∷ 97 ∷ 97 ∷ 97 ∷ 97 ∷ 97 ∷ 97 ∷ 97 ∷ 97 ∷ 97 ∷ 97 ∷ 97 ∷ 97 ∷ 97 ∷ 97 ∷ 97 ∷ 97 ∷ 97 ∷ 97 ∷ 97 ∷ 97 ∷ 97 ∷ 97 ∷ 97 ∷ 97 ∷ 97 ∷ 97 ∷ 97 ∷ 97 ∷ 97 ∷ 97 ∷ 97 ∷ 97 ∷ 97 ∷ 97 ∷ 97 ∷ 97 ∷ 97 ∷ 97 ∷ 97 ∷ 97 ∷ 97 ∷ 97 ∷ 97 ∷ 97 ∷ 97 ∷ 97 ∷ 97 ∷ 97 ∷ 97 ∷ 97 ∷ 97 ∷ 97 ∷ 97 ∷ 97 ∷ 97 ∷ 97 ∷ 97 ∷ 97 ∷ 97 ∷ 97 ∷ 97 ∷ 97 ∷ 97 ∷ 97 ∷ 97 ∷ 97 ∷ 97 ∷ 97 ∷ 97 ∷ 97 ∷ 97 ∷ 97 ∷ 97 ∷ 97 ∷ 97 ∷ 97 ∷ 97 ∷ 97 ∷ 97 ∷ 97 ∷ 97 ∷ 97 ∷ 97 ∷ 97 ∷ 97 ∷ 97 ∷ 97 ∷ 97 ∷ 97 ∷ 97 ∷ 97 ∷ 97 ∷ 97 ∷ 97 ∷ 97 ∷ 97 ∷ 97 ∷ 97 ∷ 97 ∷ 97 ∷ 97 ∷ 97 ∷ 97 ∷ 97 ∷ 97 ∷ 97 ∷ 97 ∷ 97 ∷ 97 ∷ 97 ∷ 97 ∷ 97 ∷ 97 ∷ 97 ∷ 97 ∷ 97 ∷ 97 ∷ 97 ∷ 97 ∷ 97 ∷ 97 ∷ 97 ∷ 97 ∷ 97 ∷ 97 ∷ 97 ∷ 97 ∷ 97 ∷ 97 ∷ 97 ∷ 97 ∷ 97 ∷ 97 ∷ 97 ∷ 97 ∷ 97 ∷ 97 ∷ 97 ∷ 97 ∷ 97 ∷ 97 ∷ 97 ∷ 97 ∷ 97 ∷ 97 ∷ 97 ∷ 97 ∷ 97 ∷ 97 ∷ 97 ∷ 97 ∷ 97 ∷ 97 ∷ 97 ∷ 97 ∷ 97 ∷ 97 ∷ 97 ∷ 97 ∷ 97 ∷ 97 ∷ 97 ∷ 97 ∷ 97 ∷ 97 ∷ 97 ∷ 97 ∷ 97 ∷ 97 ∷ 97 ∷ 97 ∷ 97 ∷ 97 ∷ 97 ∷ 97 ∷ 97 ∷ 97 ∷ 97 ∷ 97 ∷ 97 ∷ 97 ∷ 97 ∷ 97 ∷ 97 ∷ 97 ∷ 97 ∷ 97 ∷ 97 ∷ 97 ∷ 97 ∷ 97 ∷ 97 ∷ 97 ∷ 97 ∷ 97 ∷ 97 ∷ 97 ∷ 97 ∷ 97 ∷ 97 ∷ 97 ∷ 97 ∷ 97 ∷ 97 ∷ 97 ∷ 97 ∷ 97 ∷ 97 ∷ 97 ∷ 97 ∷ 97 ∷ 97 ∷ 97 ∷ 97 ∷ 97 ∷ 97 ∷ 97 ∷ 97 ∷ 97 ∷ 97 ∷ 97 ∷ 97 ∷ 97 ∷ 97 ∷ 97 ∷ 97 ∷ 97 ∷ 97 ∷ 97 ∷ 97 ∷ 97 ∷ 97 ∷ 97 ∷ 97 ∷ 97 ∷ 97 ∷ 97 ∷ 97 ∷ 97 ∷ 97 ∷ 97 ∷ 97 ∷ 97 ∷ 97 ∷ 97 ∷ 97 ∷ 97 ∷ 97 ∷ 97 ∷ 97 ∷ 97 ∷ 97 ∷ 97 ∷ 97 ∷ 97 ∷ 97 ∷ 97 ∷ 97 ∷ 97 ∷ 97 ∷ 97 ∷ 97 ∷ 97 ∷ 97 ∷ 97 ∷ 97 ∷ 97 ∷ 97 ∷ 97 ∷ 97 ∷ 97 ∷ 97 ∷ 97 ∷ 97 ∷ 97 ∷ 97 ∷ 97 ∷ 97 ∷ 97 ∷ 97 ∷ 97 ∷ 97 ∷ 97 ∷ 97 ∷ 97 ∷ 97 ∷ 97 ∷ 97 ∷ 97 ∷ 97 ∷ 97 ∷ 97 ∷ 97 ∷ 97 ∷ 97 ∷ 97 ∷ 97 ∷ 97 ∷ 97 ∷ 97 ∷ 97 ∷ 97 ∷ 97 ∷ 97 ∷ 97 ∷ 97 ∷ 97 ∷ 97 ∷ 97 ∷ 97 ∷ 97 ∷ 97 ∷ 97 ∷ 97 ∷ 97 ∷ 97 ∷ 97 ∷ 97 ∷ 97 ∷ 97 ∷ 97 ∷ 97 ∷ 97 ∷ 97 ∷ 97 ∷ 97 ∷ 97 ∷ 97 ∷ 97 ∷ 97 ∷ 97 ∷ 97 ∷ 97 ∷ 97 ∷ 97 ∷ 97 ∷ 97 ∷ 97 ∷ 97 ∷ 97 ∷ 97 ∷ 97 ∷ 97 ∷ 97 ∷ 97 ∷ 97 ∷ 97 ∷ 97 ∷ 97 ∷ 97 ∷ 97 ∷ 97 ∷ 97 ∷ 97 ∷ 97 ∷ 97 ∷ 97 ∷ 97 ∷ 97 ∷ 97 ∷ 97 ∷ 97 ∷ 97 ∷ 97 ∷ 97 ∷ 97 ∷ 97 ∷ 97 ∷ 97 ∷ 97 ∷ 97 ∷ 97 ∷ 97 ∷ 97 ∷ 97 ∷ 97 ∷ 97 ∷ 97 ∷ 97 ∷ 97 ∷ 97 ∷ 97 ∷ 97 ∷ 97 ∷ 97 ∷ 97 ∷ 97 ∷ 97 ∷ 97 ∷ 97 ∷ 97 ∷ 97 ∷ 97 ∷ 97 ∷ 97 ∷ 97 ∷ 97 ∷ 97 ∷ 97 ∷ 97 ∷ 97 ∷ 97 ∷ 97 ∷ 97 ∷ 97 ∷ 97 ∷ 97 ∷ 97 ∷ 97 ∷ 97 ∷ 97 ∷ 97 ∷ 97 ∷ 97 ∷ 97 ∷ 97 ∷ 97 ∷ 97 ∷ 97 ∷ 97 ∷ 97 ∷ 97 ∷ 97 ∷ 97 ∷ 97 ∷ 97 ∷ 97 ∷ 97 ∷ 97 ∷ 97 ∷ 97 ∷ 97 ∷ 97 ∷ 97 ∷ 97 ∷ 97 ∷ 97 ∷ 97 ∷ 97 ∷ 97 ∷ 97 ∷ 97 ∷ 97 ∷ 97 ∷ 97 ∷ 97 ∷ 97 ∷ 97 ∷ 97 ∷ 97 ∷ 97 ∷ 97 ∷ 97 ∷ 97 ∷ 97 ∷ 97 ∷ 97 ∷ 97 ∷ 97 ∷ 97 ∷ 97 ∷ 97 ∷ 97 ∷ 97 ∷ 97 ∷ 97 ∷ 97 ∷ 97 ∷ 97 ∷ 97 ∷ 97 ∷ 97 ∷ 97 ∷ 97 ∷ 97 ∷ 97 ∷ 97 ∷ 10 ∷ 32 ∷ 97 ∷ 93 ∷ []) ≡ Some (enter Name.Reference 1 1 0 0 ∷ enter Name.ReferenceMarker 1 1 0 0 ∷ exit Name.ReferenceMarker 1 2 1 0 ∷ enter Name.ReferenceString 1 2 1 0 ∷ chained Name.Data 1 2 1 0 None (Some 6) ∷ exit Name.Data 1 1000 999 0 ∷ chained Name.LineEnding 1 1000 999 0 (Some 4) (Some 8) ∷ exit Name.LineEnding 2 1 1000 0 ∷ chained Name.SpaceOrTab 2 1 1000 0 (Some 6) (Some 10) ∷ exit Name.SpaceOrTab 2 2 1001 0 ∷ chained Name.Data 2 2 1001 0 (Some 8) None ∷ exit Name.Data 2 3 1002 0 ∷ exit Name.ReferenceString 2 3 1002 0 ∷ enter Name.ReferenceMarker 2 3 1002 0 ∷ exit Name.ReferenceMarker 2 4 1003 0 ∷ exit Name.Reference 2 4 1003 0 ∷ [])
-
--- label «[⟦a×999⟧ ]»: no
-abbrev pub row_37 : Type 0
-row_37 = label_answer (codes "[aaaaaaaaaaaaaaaaaaaaaaaaaaaaaaaaaaaaaaaaaaaaaaaaaaaaaaaaaaaaaaaaaaaaaaaaaaaaaaaaaaaaaaaaaaaaaaaaaaaaaaaaaaaaaaaaaaaaaaaaaaaaaaaaaaaaaaaaaaaaaaaaaaaaaaaaaaaaaaaaaaaaaaaaaaaaaaaaaaaaaaaaaaaaaaaaaaaaaaaaaaaaaaaaaaaaaaaaaaaaaaaaaaaaaaaaaaaaaaaaaaaaaaaaaaaaaaaaaaaaaaaaaaaaaaaaaaaaaaaaaaaaaaaaaaaaaaaaaaaaaaaaaaaaaaaaaaaaaaaaaaaaaaaaaaaaaaaaaaaaaaaaaaaaaaaaaaaaaaaaaaaaaaaaaaaaaaaaaaaaaaaaaaaaaaaaaaaaaaaaaaaaaaaaaaaaaaaaaaaaaaaaaaaaaaaaaaaaaaaaaaaaaaaaaaaaaaaaaaaaaaaaaaaaaaaaaaaaaaaaaaaaaaaaaaaaaaaaaaaaaaaaaaaaaaaaaaaaaaaaaaaaaaaaaaaaaaaaaaaaaaaaaaaaaaaaaaaaaaaaaaaaaaaaaaaaaaaaaaaaaaaaaaaaaaaaaaaaaaaaaaaaaaaaaaaaaaaaaaaaaaaaaaaaaaaaaaaaaaaaaaaaaaaaaaaaaaaaaaaaaaaaaaaaaaaaaaaaaaaaaaaaaaaaaaaaaaaaaaaaaaaaaaaaaaaaaaaaaaaaaaaaaaaaaaaaaaaaaaaaaaaaaaaaaaaaaaaaaaaaaaaaaaaaaaaaaaaaaaaaaaaaaaaaaaaaaaaaaaaaaaaaaaaaaaaaaaaaaaaaaaaaaaaaaaaaaaaaaaaaaaaaaaaaaaaaaaaaaaaaaaaaaaaaaaaaaaaaaaaaaaaaaaaaaaaaaaaaaaaaaaaaaaaaaaaaaaaaaaaaaaaaaaaaaaaaaaaaaaaaaaaaaaaaaaaaaaaaaaaaaaaaaaaaaaaaaaaaaaaaaaaaaaaaaaaaaaaaaaa ]") ≡ None
-
--- label «[␠⟦a×999⟧]»: no
-abbrev pub row_38 : Type 0
-row_38 = label_answer (codes "[ aaaaaaaaaaaaaaaaaaaaaaaaaaaaaaaaaaaaaaaaaaaaaaaaaaaaaaaaaaaaaaaaaaaaaaaaaaaaaaaaaaaaaaaaaaaaaaaaaaaaaaaaaaaaaaaaaaaaaaaaaaaaaaaaaaaaaaaaaaaaaaaaaaaaaaaaaaaaaaaaaaaaaaaaaaaaaaaaaaaaaaaaaaaaaaaaaaaaaaaaaaaaaaaaaaaaaaaaaaaaaaaaaaaaaaaaaaaaaaaaaaaaaaaaaaaaaaaaaaaaaaaaaaaaaaaaaaaaaaaaaaaaaaaaaaaaaaaaaaaaaaaaaaaaaaaaaaaaaaaaaaaaaaaaaaaaaaaaaaaaaaaaaaaaaaaaaaaaaaaaaaaaaaaaaaaaaaaaaaaaaaaaaaaaaaaaaaaaaaaaaaaaaaaaaaaaaaaaaaaaaaaaaaaaaaaaaaaaaaaaaaaaaaaaaaaaaaaaaaaaaaaaaaaaaaaaaaaaaaaaaaaaaaaaaaaaaaaaaaaaaaaaaaaaaaaaaaaaaaaaaaaaaaaaaaaaaaaaaaaaaaaaaaaaaaaaaaaaaaaaaaaaaaaaaaaaaaaaaaaaaaaaaaaaaaaaaaaaaaaaaaaaaaaaaaaaaaaaaaaaaaaaaaaaaaaaaaaaaaaaaaaaaaaaaaaaaaaaaaaaaaaaaaaaaaaaaaaaaaaaaaaaaaaaaaaaaaaaaaaaaaaaaaaaaaaaaaaaaaaaaaaaaaaaaaaaaaaaaaaaaaaaaaaaaaaaaaaaaaaaaaaaaaaaaaaaaaaaaaaaaaaaaaaaaaaaaaaaaaaaaaaaaaaaaaaaaaaaaaaaaaaaaaaaaaaaaaaaaaaaaaaaaaaaaaaaaaaaaaaaaaaaaaaaaaaaaaaaaaaaaaaaaaaaaaaaaaaaaaaaaaaaaaaaaaaaaaaaaaaaaaaaaaaaaaaaaaaaaaaaaaaaaaaaaaaaaaaaaaaaaaaaaaaaaaaaaaaaaaaaaaaaaaaaaaaaaaaaaaa]") ≡ None
-
--- title « »: no
-abbrev pub row_39 : Type 0
-row_39 = title_answer (codes " ") ≡ None
-
--- title «"\\"»: ResourceTitle 0-4 [ResourceTitleMarker 0-1, ResourceTitleString 1-3 [Data 1-3], ResourceTitleMarker 3-4]
-abbrev pub row_40 : Type 0
-row_40 = title_answer (codes "\"\\\\\"") ≡ Some (enter Name.ResourceTitle 1 1 0 0 ∷ enter Name.ResourceTitleMarker 1 1 0 0 ∷ exit Name.ResourceTitleMarker 1 2 1 0 ∷ enter Name.ResourceTitleString 1 2 1 0 ∷ chained Name.Data 1 2 1 0 None None ∷ exit Name.Data 1 4 3 0 ∷ exit Name.ResourceTitleString 1 4 3 0 ∷ enter Name.ResourceTitleMarker 1 4 3 0 ∷ exit Name.ResourceTitleMarker 1 5 4 0 ∷ exit Name.ResourceTitle 1 5 4 0 ∷ [])
-
--- title «"\""»: ResourceTitle 0-4 [ResourceTitleMarker 0-1, ResourceTitleString 1-3 [Data 1-3], ResourceTitleMarker 3-4]
-abbrev pub row_41 : Type 0
-row_41 = title_answer (codes "\"\\\"\"") ≡ Some (enter Name.ResourceTitle 1 1 0 0 ∷ enter Name.ResourceTitleMarker 1 1 0 0 ∷ exit Name.ResourceTitleMarker 1 2 1 0 ∷ enter Name.ResourceTitleString 1 2 1 0 ∷ chained Name.Data 1 2 1 0 None None ∷ exit Name.Data 1 4 3 0 ∷ exit Name.ResourceTitleString 1 4 3 0 ∷ enter Name.ResourceTitleMarker 1 4 3 0 ∷ exit Name.ResourceTitleMarker 1 5 4 0 ∷ exit Name.ResourceTitle 1 5 4 0 ∷ [])
-
--- title «"\a"»: ResourceTitle 0-4 [ResourceTitleMarker 0-1, ResourceTitleString 1-3 [Data 1-3], ResourceTitleMarker 3-4]
-abbrev pub row_42 : Type 0
-row_42 = title_answer (codes "\"\\a\"") ≡ Some (enter Name.ResourceTitle 1 1 0 0 ∷ enter Name.ResourceTitleMarker 1 1 0 0 ∷ exit Name.ResourceTitleMarker 1 2 1 0 ∷ enter Name.ResourceTitleString 1 2 1 0 ∷ chained Name.Data 1 2 1 0 None None ∷ exit Name.Data 1 4 3 0 ∷ exit Name.ResourceTitleString 1 4 3 0 ∷ enter Name.ResourceTitleMarker 1 4 3 0 ∷ exit Name.ResourceTitleMarker 1 5 4 0 ∷ exit Name.ResourceTitle 1 5 4 0 ∷ [])
-
--- title «'a'»: ResourceTitle 0-3 [ResourceTitleMarker 0-1, ResourceTitleString 1-2 [Data 1-2], ResourceTitleMarker 2-3]
-abbrev pub row_43 : Type 0
-row_43 = title_answer (codes "'a'") ≡ Some (enter Name.ResourceTitle 1 1 0 0 ∷ enter Name.ResourceTitleMarker 1 1 0 0 ∷ exit Name.ResourceTitleMarker 1 2 1 0 ∷ enter Name.ResourceTitleString 1 2 1 0 ∷ chained Name.Data 1 2 1 0 None None ∷ exit Name.Data 1 3 2 0 ∷ exit Name.ResourceTitleString 1 3 2 0 ∷ enter Name.ResourceTitleMarker 1 3 2 0 ∷ exit Name.ResourceTitleMarker 1 4 3 0 ∷ exit Name.ResourceTitle 1 4 3 0 ∷ [])
-
--- title «"'"»: ResourceTitle 0-3 [ResourceTitleMarker 0-1, ResourceTitleString 1-2 [Data 1-2], ResourceTitleMarker 2-3]
-abbrev pub row_44 : Type 0
-row_44 = title_answer (codes "\"'\"") ≡ Some (enter Name.ResourceTitle 1 1 0 0 ∷ enter Name.ResourceTitleMarker 1 1 0 0 ∷ exit Name.ResourceTitleMarker 1 2 1 0 ∷ enter Name.ResourceTitleString 1 2 1 0 ∷ chained Name.Data 1 2 1 0 None None ∷ exit Name.Data 1 3 2 0 ∷ exit Name.ResourceTitleString 1 3 2 0 ∷ enter Name.ResourceTitleMarker 1 3 2 0 ∷ exit Name.ResourceTitleMarker 1 4 3 0 ∷ exit Name.ResourceTitle 1 4 3 0 ∷ [])
-
--- title «'"'»: ResourceTitle 0-3 [ResourceTitleMarker 0-1, ResourceTitleString 1-2 [Data 1-2], ResourceTitleMarker 2-3]
-abbrev pub row_45 : Type 0
-row_45 = title_answer (codes "'\"'") ≡ Some (enter Name.ResourceTitle 1 1 0 0 ∷ enter Name.ResourceTitleMarker 1 1 0 0 ∷ exit Name.ResourceTitleMarker 1 2 1 0 ∷ enter Name.ResourceTitleString 1 2 1 0 ∷ chained Name.Data 1 2 1 0 None None ∷ exit Name.Data 1 3 2 0 ∷ exit Name.ResourceTitleString 1 3 2 0 ∷ enter Name.ResourceTitleMarker 1 3 2 0 ∷ exit Name.ResourceTitleMarker 1 4 3 0 ∷ exit Name.ResourceTitle 1 4 3 0 ∷ [])
-
--- title «(\))»: ResourceTitle 0-4 [ResourceTitleMarker 0-1, ResourceTitleString 1-3 [Data 1-3], ResourceTitleMarker 3-4]
-abbrev pub row_46 : Type 0
-row_46 = title_answer (codes "(\\))") ≡ Some (enter Name.ResourceTitle 1 1 0 0 ∷ enter Name.ResourceTitleMarker 1 1 0 0 ∷ exit Name.ResourceTitleMarker 1 2 1 0 ∷ enter Name.ResourceTitleString 1 2 1 0 ∷ chained Name.Data 1 2 1 0 None None ∷ exit Name.Data 1 4 3 0 ∷ exit Name.ResourceTitleString 1 4 3 0 ∷ enter Name.ResourceTitleMarker 1 4 3 0 ∷ exit Name.ResourceTitleMarker 1 5 4 0 ∷ exit Name.ResourceTitle 1 5 4 0 ∷ [])
-
--- title «"␠a"»: ResourceTitle 0-4 [ResourceTitleMarker 0-1, ResourceTitleString 1-3 [Data 1-3], ResourceTitleMarker 3-4]
-abbrev pub row_47 : Type 0
-row_47 = title_answer (codes "\" a\"") ≡ Some (enter Name.ResourceTitle 1 1 0 0 ∷ enter Name.ResourceTitleMarker 1 1 0 0 ∷ exit Name.ResourceTitleMarker 1 2 1 0 ∷ enter Name.ResourceTitleString 1 2 1 0 ∷ chained Name.Data 1 2 1 0 None None ∷ exit Name.Data 1 4 3 0 ∷ exit Name.ResourceTitleString 1 4 3 0 ∷ enter Name.ResourceTitleMarker 1 4 3 0 ∷ exit Name.ResourceTitleMarker 1 5 4 0 ∷ exit Name.ResourceTitle 1 5 4 0 ∷ [])
-
--- title «"a␊"»: ResourceTitle 0-4 [ResourceTitleMarker 0-1, ResourceTitleString 1-3 [Data 1-2, LineEnding 2-3], ResourceTitleMarker 3-4]
-abbrev pub row_48 : Type 0
-row_48 = title_answer (34 ∷ 97 ∷ 10 ∷ 34 ∷ []) ≡ Some (enter Name.ResourceTitle 1 1 0 0 ∷ enter Name.ResourceTitleMarker 1 1 0 0 ∷ exit Name.ResourceTitleMarker 1 2 1 0 ∷ enter Name.ResourceTitleString 1 2 1 0 ∷ chained Name.Data 1 2 1 0 None (Some 6) ∷ exit Name.Data 1 3 2 0 ∷ chained Name.LineEnding 1 3 2 0 (Some 4) None ∷ exit Name.LineEnding 2 1 3 0 ∷ exit Name.ResourceTitleString 2 1 3 0 ∷ enter Name.ResourceTitleMarker 2 1 3 0 ∷ exit Name.ResourceTitleMarker 2 2 4 0 ∷ exit Name.ResourceTitle 2 2 4 0 ∷ [])
-
--- title «"a␊ b␊ c"»: ResourceTitle 0-9 [ResourceTitleMarker 0-1, ResourceTitleString 1-8 [Data 1-2, LineEnding 2-3, SpaceOrTab 3-4, Data 4-5, LineEnding 5-6, SpaceOrTab 6-7, Data 7-8], ResourceTitleMarker 8-9]
-abbrev pub row_49 : Type 0
-row_49 = title_answer (34 ∷ 97 ∷ 10 ∷ 32 ∷ 98 ∷ 10 ∷ 32 ∷ 99 ∷ 34 ∷ []) ≡ Some (enter Name.ResourceTitle 1 1 0 0 ∷ enter Name.ResourceTitleMarker 1 1 0 0 ∷ exit Name.ResourceTitleMarker 1 2 1 0 ∷ enter Name.ResourceTitleString 1 2 1 0 ∷ chained Name.Data 1 2 1 0 None (Some 6) ∷ exit Name.Data 1 3 2 0 ∷ chained Name.LineEnding 1 3 2 0 (Some 4) (Some 8) ∷ exit Name.LineEnding 2 1 3 0 ∷ chained Name.SpaceOrTab 2 1 3 0 (Some 6) (Some 10) ∷ exit Name.SpaceOrTab 2 2 4 0 ∷ chained Name.Data 2 2 4 0 (Some 8) (Some 12) ∷ exit Name.Data 2 3 5 0 ∷ chained Name.LineEnding 2 3 5 0 (Some 10) (Some 14) ∷ exit Name.LineEnding 3 1 6 0 ∷ chained Name.SpaceOrTab 3 1 6 0 (Some 12) (Some 16) ∷ exit Name.SpaceOrTab 3 2 7 0 ∷ chained Name.Data 3 2 7 0 (Some 14) None ∷ exit Name.Data 3 3 8 0 ∷ exit Name.ResourceTitleString 3 3 8 0 ∷ enter Name.ResourceTitleMarker 3 3 8 0 ∷ exit Name.ResourceTitleMarker 3 4 9 0 ∷ exit Name.ResourceTitle 3 4 9 0 ∷ [])
-
--- title «"a␊␊b"»: no
-abbrev pub row_50 : Type 0
-row_50 = title_answer (34 ∷ 97 ∷ 10 ∷ 10 ∷ 98 ∷ 34 ∷ []) ≡ None
-
--- title «a»: no
-abbrev pub row_51 : Type 0
-row_51 = title_answer (codes "a") ≡ None
-
--- destination «<\<>»: ResourceDestination 0-4 [ResourceDestinationLiteral 0-4 [ResourceDestinationLiteralMarker 0-1, ResourceDestinationString 1-3 [Data 1-3], ResourceDestinationLiteralMarker 3-4]]
-abbrev pub row_52 : Type 0
-row_52 = destination_answer (codes "<\\<>") ≡ Some (enter Name.ResourceDestination 1 1 0 0 ∷ enter Name.ResourceDestinationLiteral 1 1 0 0 ∷ enter Name.ResourceDestinationLiteralMarker 1 1 0 0 ∷ exit Name.ResourceDestinationLiteralMarker 1 2 1 0 ∷ enter Name.ResourceDestinationString 1 2 1 0 ∷ chained Name.Data 1 2 1 0 None None ∷ exit Name.Data 1 4 3 0 ∷ exit Name.ResourceDestinationString 1 4 3 0 ∷ enter Name.ResourceDestinationLiteralMarker 1 4 3 0 ∷ exit Name.ResourceDestinationLiteralMarker 1 5 4 0 ∷ exit Name.ResourceDestinationLiteral 1 5 4 0 ∷ exit Name.ResourceDestination 1 5 4 0 ∷ [])
-
--- destination «<\>>»: ResourceDestination 0-4 [ResourceDestinationLiteral 0-4 [ResourceDestinationLiteralMarker 0-1, ResourceDestinationString 1-3 [Data 1-3], ResourceDestinationLiteralMarker 3-4]]
-abbrev pub row_53 : Type 0
-row_53 = destination_answer (codes "<\\>>") ≡ Some (enter Name.ResourceDestination 1 1 0 0 ∷ enter Name.ResourceDestinationLiteral 1 1 0 0 ∷ enter Name.ResourceDestinationLiteralMarker 1 1 0 0 ∷ exit Name.ResourceDestinationLiteralMarker 1 2 1 0 ∷ enter Name.ResourceDestinationString 1 2 1 0 ∷ chained Name.Data 1 2 1 0 None None ∷ exit Name.Data 1 4 3 0 ∷ exit Name.ResourceDestinationString 1 4 3 0 ∷ enter Name.ResourceDestinationLiteralMarker 1 4 3 0 ∷ exit Name.ResourceDestinationLiteralMarker 1 5 4 0 ∷ exit Name.ResourceDestinationLiteral 1 5 4 0 ∷ exit Name.ResourceDestination 1 5 4 0 ∷ [])
-
--- destination «<\\>»: ResourceDestination 0-4 [ResourceDestinationLiteral 0-4 [ResourceDestinationLiteralMarker 0-1, ResourceDestinationString 1-3 [Data 1-3], ResourceDestinationLiteralMarker 3-4]]
-abbrev pub row_54 : Type 0
-row_54 = destination_answer (codes "<\\\\>") ≡ Some (enter Name.ResourceDestination 1 1 0 0 ∷ enter Name.ResourceDestinationLiteral 1 1 0 0 ∷ enter Name.ResourceDestinationLiteralMarker 1 1 0 0 ∷ exit Name.ResourceDestinationLiteralMarker 1 2 1 0 ∷ enter Name.ResourceDestinationString 1 2 1 0 ∷ chained Name.Data 1 2 1 0 None None ∷ exit Name.Data 1 4 3 0 ∷ exit Name.ResourceDestinationString 1 4 3 0 ∷ enter Name.ResourceDestinationLiteralMarker 1 4 3 0 ∷ exit Name.ResourceDestinationLiteralMarker 1 5 4 0 ∷ exit Name.ResourceDestinationLiteral 1 5 4 0 ∷ exit Name.ResourceDestination 1 5 4 0 ∷ [])
-
--- destination «<a b>»: ResourceDestination 0-5 [ResourceDestinationLiteral 0-5 [ResourceDestinationLiteralMarker 0-1, ResourceDestinationString 1-4 [Data 1-4], ResourceDestinationLiteralMarker 4-5]]
-abbrev pub row_55 : Type 0
-row_55 = destination_answer (codes "<a b>") ≡ Some (enter Name.ResourceDestination 1 1 0 0 ∷ enter Name.ResourceDestinationLiteral 1 1 0 0 ∷ enter Name.ResourceDestinationLiteralMarker 1 1 0 0 ∷ exit Name.ResourceDestinationLiteralMarker 1 2 1 0 ∷ enter Name.ResourceDestinationString 1 2 1 0 ∷ chained Name.Data 1 2 1 0 None None ∷ exit Name.Data 1 5 4 0 ∷ exit Name.ResourceDestinationString 1 5 4 0 ∷ enter Name.ResourceDestinationLiteralMarker 1 5 4 0 ∷ exit Name.ResourceDestinationLiteralMarker 1 6 5 0 ∷ exit Name.ResourceDestinationLiteral 1 6 5 0 ∷ exit Name.ResourceDestination 1 6 5 0 ∷ [])
-
--- destination «<a<>»: no
-abbrev pub row_56 : Type 0
-row_56 = destination_answer (codes "<a<>") ≡ None
-
--- destination «<a␊>»: no
-abbrev pub row_57 : Type 0
-row_57 = destination_answer (60 ∷ 97 ∷ 10 ∷ 62 ∷ []) ≡ None
-
--- destination «<\␊>»: no
-abbrev pub row_58 : Type 0
-row_58 = destination_answer (60 ∷ 92 ∷ 10 ∷ 62 ∷ []) ≡ None
-
--- destination «a\(b»: Raw 0-4
-abbrev pub row_59 : Type 0
-row_59 = destination_answer (codes "a\\(b") ≡ Some (enter Name.ResourceDestination 1 1 0 0 ∷ enter Name.ResourceDestinationRaw 1 1 0 0 ∷ enter Name.ResourceDestinationString 1 1 0 0 ∷ chained Name.Data 1 1 0 0 None None ∷ exit Name.Data 1 5 4 0 ∷ exit Name.ResourceDestinationString 1 5 4 0 ∷ exit Name.ResourceDestinationRaw 1 5 4 0 ∷ exit Name.ResourceDestination 1 5 4 0 ∷ [])
-
--- destination «a\\(b»: no
-abbrev pub row_60 : Type 0
-row_60 = destination_answer (codes "a\\\\(b") ≡ None
-
--- destination «a\\)»: Raw 0-3
-abbrev pub row_61 : Type 0
-row_61 = destination_answer (codes "a\\\\)") ≡ Some (enter Name.ResourceDestination 1 1 0 0 ∷ enter Name.ResourceDestinationRaw 1 1 0 0 ∷ enter Name.ResourceDestinationString 1 1 0 0 ∷ chained Name.Data 1 1 0 0 None None ∷ exit Name.Data 1 4 3 0 ∷ exit Name.ResourceDestinationString 1 4 3 0 ∷ exit Name.ResourceDestinationRaw 1 4 3 0 ∷ exit Name.ResourceDestination 1 4 3 0 ∷ [])
-
--- destination «a\b(c)»: Raw 0-6
-abbrev pub row_62 : Type 0
-row_62 = destination_answer (codes "a\\b(c)") ≡ Some (enter Name.ResourceDestination 1 1 0 0 ∷ enter Name.ResourceDestinationRaw 1 1 0 0 ∷ enter Name.ResourceDestinationString 1 1 0 0 ∷ chained Name.Data 1 1 0 0 None None ∷ exit Name.Data 1 7 6 0 ∷ exit Name.ResourceDestinationString 1 7 6 0 ∷ exit Name.ResourceDestinationRaw 1 7 6 0 ∷ exit Name.ResourceDestination 1 7 6 0 ∷ [])
-
--- destination «a(b c»: no
-abbrev pub row_63 : Type 0
-row_63 = destination_answer (codes "a(b c") ≡ None
-
--- destination «a␊b»: Raw 0-1
-abbrev pub row_64 : Type 0
-row_64 = destination_answer (97 ∷ 10 ∷ 98 ∷ []) ≡ Some (enter Name.ResourceDestination 1 1 0 0 ∷ enter Name.ResourceDestinationRaw 1 1 0 0 ∷ enter Name.ResourceDestinationString 1 1 0 0 ∷ chained Name.Data 1 1 0 0 None None ∷ exit Name.Data 1 2 1 0 ∷ exit Name.ResourceDestinationString 1 2 1 0 ∷ exit Name.ResourceDestinationRaw 1 2 1 0 ∷ exit Name.ResourceDestination 1 2 1 0 ∷ [])
-
--- destination «a␉b»: Raw 0-1
-abbrev pub row_65 : Type 0
-row_65 = destination_answer (97 ∷ 9 ∷ 98 ∷ []) ≡ Some (enter Name.ResourceDestination 1 1 0 0 ∷ enter Name.ResourceDestinationRaw 1 1 0 0 ∷ enter Name.ResourceDestinationString 1 1 0 0 ∷ chained Name.Data 1 1 0 0 None None ∷ exit Name.Data 1 2 1 0 ∷ exit Name.ResourceDestinationString 1 2 1 0 ∷ exit Name.ResourceDestinationRaw 1 2 1 0 ∷ exit Name.ResourceDestination 1 2 1 0 ∷ [])
-
--- destination «a((b)c)d)»: Raw 0-8
-abbrev pub row_66 : Type 0
-row_66 = destination_answer (codes "a((b)c)d)") ≡ Some (enter Name.ResourceDestination 1 1 0 0 ∷ enter Name.ResourceDestinationRaw 1 1 0 0 ∷ enter Name.ResourceDestinationString 1 1 0 0 ∷ chained Name.Data 1 1 0 0 None None ∷ exit Name.Data 1 9 8 0 ∷ exit Name.ResourceDestinationString 1 9 8 0 ∷ exit Name.ResourceDestinationRaw 1 9 8 0 ∷ exit Name.ResourceDestination 1 9 8 0 ∷ [])
-
--- destination «a⟦U+0001⟧»: no
-abbrev pub row_67 : Type 0
-row_67 = destination_answer (97 ∷ 1 ∷ []) ≡ None
-
--- destination «a⟦U+001F⟧»: no
-abbrev pub row_68 : Type 0
-row_68 = destination_answer (97 ∷ 31 ∷ []) ≡ None
-
--- destination «a⟦U+007F⟧»: no
-abbrev pub row_69 : Type 0
-row_69 = destination_answer (97 ∷ 127 ∷ []) ≡ None
-
--- destination «⟦U+0080⟧»: Raw 0-2
-abbrev pub row_70 : Type 0
-row_70 = destination_answer (194 ∷ 128 ∷ []) ≡ Some (enter Name.ResourceDestination 1 1 0 0 ∷ enter Name.ResourceDestinationRaw 1 1 0 0 ∷ enter Name.ResourceDestinationString 1 1 0 0 ∷ chained Name.Data 1 1 0 0 None None ∷ exit Name.Data 1 3 2 0 ∷ exit Name.ResourceDestinationString 1 3 2 0 ∷ exit Name.ResourceDestinationRaw 1 3 2 0 ∷ exit Name.ResourceDestination 1 3 2 0 ∷ [])
-
--- spacing «␠␊␊b»: no
-abbrev pub row_71 : Type 0
-row_71 = spacing_answer None (32 ∷ 10 ∷ 10 ∷ 98 ∷ []) ≡ None
-
--- spacing «␊»: no
-abbrev pub row_72 : Type 0
-row_72 = spacing_answer None (10 ∷ []) ≡ None
-
--- spacing «␠»: SpaceOrTab 0-1
-abbrev pub row_73 : Type 0
-row_73 = spacing_answer None (codes " ") ≡ Some (enter Name.SpaceOrTab 1 1 0 0 ∷ exit Name.SpaceOrTab 1 2 1 0 ∷ [])
-
--- spacing «␠␉a»: SpaceOrTab 0-2
-abbrev pub row_74 : Type 0
-row_74 = spacing_answer None (32 ∷ 9 ∷ 97 ∷ []) ≡ Some (enter Name.SpaceOrTab 1 1 0 0 ∷ exit Name.SpaceOrTab 1 5 2 0 ∷ [])
-
--- spacing «␊b»: LineEnding 0-1
-abbrev pub row_75 : Type 0
-row_75 = spacing_answer None (10 ∷ 98 ∷ []) ≡ Some (enter Name.LineEnding 1 1 0 0 ∷ exit Name.LineEnding 2 1 1 0 ∷ [])
-
--- spacing «␊␠»: no
-abbrev pub row_76 : Type 0
-row_76 = spacing_answer None (10 ∷ 32 ∷ []) ≡ None
-
--- spacing linked «␠␊ b»: SpaceOrTab 0-1, LineEnding 1-2, SpaceOrTab 2-3
-abbrev pub row_77 : Type 0
-row_77 = spacing_answer (Some Content.String) (32 ∷ 10 ∷ 32 ∷ 98 ∷ []) ≡ Some (chained Name.SpaceOrTab 1 1 0 0 None (Some 2) ∷ exit Name.SpaceOrTab 1 2 1 0 ∷ chained Name.LineEnding 1 2 1 0 (Some 0) (Some 4) ∷ exit Name.LineEnding 2 1 2 0 ∷ chained Name.SpaceOrTab 2 1 2 0 (Some 2) None ∷ exit Name.SpaceOrTab 2 2 3 0 ∷ [])
-
--- spacing linked «␠b»: SpaceOrTab 0-1
-abbrev pub row_78 : Type 0
-row_78 = spacing_answer (Some Content.String) (codes " b") ≡ Some (chained Name.SpaceOrTab 1 1 0 0 None None ∷ exit Name.SpaceOrTab 1 2 1 0 ∷ [])
-
--- bounded min=3 «␠␠␠a»: SpaceOrTab 0-3
-abbrev pub row_79 : Type 0
-row_79 = bounded_answer None 3 18446744073709551615 (codes "   a") ≡ Some (enter Name.SpaceOrTab 1 1 0 0 ∷ exit Name.SpaceOrTab 1 4 3 0 ∷ [])
-
--- bounded max=2 «␉a»: SpaceOrTab 0-0.2
-abbrev pub row_80 : Type 0
-row_80 = bounded_answer None 0 2 (9 ∷ 97 ∷ []) ≡ Some (enter Name.SpaceOrTab 1 1 0 0 ∷ exit Name.SpaceOrTab 1 3 0 2 ∷ [])
-
--- bounded linked «␠»: SpaceOrTab 0-1
-abbrev pub row_81 : Type 0
-row_81 = bounded_answer (Some Content.String) 0 18446744073709551615 (codes " ") ≡ Some (chained Name.SpaceOrTab 1 1 0 0 None None ∷ exit Name.SpaceOrTab 1 2 1 0 ∷ [])
-
--- data upto=& «a&b»: Data 0-1
-abbrev pub row_82 : Type 0
-row_82 = data_answer (codes "&") (codes "a&b") ≡ Some (enter Name.Data 1 1 0 0 ∷ exit Name.Data 1 2 1 0 ∷ [])
-
--- data upto=& «&a»: Data 0-2
-abbrev pub row_83 : Type 0
-row_83 = data_answer (codes "&") (codes "&a") ≡ Some (enter Name.Data 1 1 0 0 ∷ exit Name.Data 1 3 2 0 ∷ [])
-
--- data upto=b «a␊ab»: Data 0-1, LineEnding 1-2, Data 2-3
-abbrev pub row_84 : Type 0
-row_84 = data_answer (codes "b") (97 ∷ 10 ∷ 97 ∷ 98 ∷ []) ≡ Some (enter Name.Data 1 1 0 0 ∷ exit Name.Data 1 2 1 0 ∷ enter Name.LineEnding 1 2 1 0 ∷ exit Name.LineEnding 2 1 2 0 ∷ enter Name.Data 2 1 2 0 ∷ exit Name.Data 2 2 3 0 ∷ [])
-
--- data upto=␊ «a␊b»: Data 0-1
-abbrev pub row_85 : Type 0
-row_85 = data_answer (10 ∷ []) (97 ∷ 10 ∷ 98 ∷ []) ≡ Some (enter Name.Data 1 1 0 0 ∷ exit Name.Data 1 2 1 0 ∷ [])
-
--- data upto=& «␊a»: LineEnding 0-1, Data 1-2
-abbrev pub row_86 : Type 0
-row_86 = data_answer (codes "&") (10 ∷ 97 ∷ []) ≡ Some (enter Name.LineEnding 1 1 0 0 ∷ exit Name.LineEnding 2 1 1 0 ∷ enter Name.Data 2 1 1 0 ∷ exit Name.Data 2 2 2 0 ∷ [])
-
--- data upto=& «»:
-abbrev pub row_87 : Type 0
-row_87 = data_answer (codes "&") (codes "") ≡ Some ([])
-
--- label «[⟦U+000C⟧]»: Reference 0-3 [ReferenceMarker 0-1, ReferenceString 1-2 [Data 1-2], ReferenceMarker 2-3]
-abbrev pub row_88 : Type 0
-row_88 = label_answer (91 ∷ 12 ∷ 93 ∷ []) ≡ Some (enter Name.Reference 1 1 0 0 ∷ enter Name.ReferenceMarker 1 1 0 0 ∷ exit Name.ReferenceMarker 1 2 1 0 ∷ enter Name.ReferenceString 1 2 1 0 ∷ chained Name.Data 1 2 1 0 None None ∷ exit Name.Data 1 3 2 0 ∷ exit Name.ReferenceString 1 3 2 0 ∷ enter Name.ReferenceMarker 1 3 2 0 ∷ exit Name.ReferenceMarker 1 4 3 0 ∷ exit Name.Reference 1 4 3 0 ∷ [])
-
 abbrev pub Rows : Type 0
-Rows = row_1 × row_2 × row_3 × row_4 × row_5 × row_6 × row_7 × row_8 × row_9 × row_10 × row_11 × row_12 × row_13 × row_14 × row_15 × row_16 × row_17 × row_18 × row_19 × row_20 × row_21 × row_22 × row_23 × row_24 × row_25 × row_26 × row_27 × row_28 × row_29 × row_30 × row_31 × row_32 × row_33 × row_34 × row_35 × row_36 × row_37 × row_38 × row_39 × row_40 × row_41 × row_42 × row_43 × row_44 × row_45 × row_46 × row_47 × row_48 × row_49 × row_50 × row_51 × row_52 × row_53 × row_54 × row_55 × row_56 × row_57 × row_58 × row_59 × row_60 × row_61 × row_62 × row_63 × row_64 × row_65 × row_66 × row_67 × row_68 × row_69 × row_70 × row_71 × row_72 × row_73 × row_74 × row_75 × row_76 × row_77 × row_78 × row_79 × row_80 × row_81 × row_82 × row_83 × row_84 × row_85 × row_86 × row_87 × row_88
+Rows =
+    -- destination «<a>b»: ResourceDestination 0-3 [ResourceDestinationLiteral 0-3 [ResourceDestinationLiteralMarker 0-1, ResourceDestinationString 1-2 [Data 1-2], ResourceDestinationLiteralMarker 2-3]]
+    (destination_answer (codes "<a>b") ≡ Some (enter Name.ResourceDestination 1 1 0 0 ∷ enter Name.ResourceDestinationLiteral 1 1 0 0 ∷ enter Name.ResourceDestinationLiteralMarker 1 1 0 0 ∷ exit Name.ResourceDestinationLiteralMarker 1 2 1 0 ∷ enter Name.ResourceDestinationString 1 2 1 0 ∷ chained Name.Data 1 2 1 0 None None ∷ exit Name.Data 1 3 2 0 ∷ exit Name.ResourceDestinationString 1 3 2 0 ∷ enter Name.ResourceDestinationLiteralMarker 1 3 2 0 ∷ exit Name.ResourceDestinationLiteralMarker 1 4 3 0 ∷ exit Name.ResourceDestinationLiteral 1 4 3 0 ∷ exit Name.ResourceDestination 1 4 3 0 ∷ [])) ×
+    -- destination «<>»: ResourceDestination 0-2 [ResourceDestinationLiteral 0-2 [ResourceDestinationLiteralMarker 0-1, ResourceDestinationLiteralMarker 1-2]]
+    (destination_answer (codes "<>") ≡ Some (enter Name.ResourceDestination 1 1 0 0 ∷ enter Name.ResourceDestinationLiteral 1 1 0 0 ∷ enter Name.ResourceDestinationLiteralMarker 1 1 0 0 ∷ exit Name.ResourceDestinationLiteralMarker 1 2 1 0 ∷ enter Name.ResourceDestinationLiteralMarker 1 2 1 0 ∷ exit Name.ResourceDestinationLiteralMarker 1 3 2 0 ∷ exit Name.ResourceDestinationLiteral 1 3 2 0 ∷ exit Name.ResourceDestination 1 3 2 0 ∷ [])) ×
+    -- destination «a(b)c d»: Raw 0-5
+    (destination_answer (codes "a(b)c d") ≡ Some (enter Name.ResourceDestination 1 1 0 0 ∷ enter Name.ResourceDestinationRaw 1 1 0 0 ∷ enter Name.ResourceDestinationString 1 1 0 0 ∷ chained Name.Data 1 1 0 0 None None ∷ exit Name.Data 1 6 5 0 ∷ exit Name.ResourceDestinationString 1 6 5 0 ∷ exit Name.ResourceDestinationRaw 1 6 5 0 ∷ exit Name.ResourceDestination 1 6 5 0 ∷ [])) ×
+    -- destination «a\)b»: Raw 0-4
+    (destination_answer (codes "a\\)b") ≡ Some (enter Name.ResourceDestination 1 1 0 0 ∷ enter Name.ResourceDestinationRaw 1 1 0 0 ∷ enter Name.ResourceDestinationString 1 1 0 0 ∷ chained Name.Data 1 1 0 0 None None ∷ exit Name.Data 1 5 4 0 ∷ exit Name.ResourceDestinationString 1 5 4 0 ∷ exit Name.ResourceDestinationRaw 1 5 4 0 ∷ exit Name.ResourceDestination 1 5 4 0 ∷ [])) ×
+    -- destination «<a»: no
+    (destination_answer (codes "<a") ≡ None) ×
+    -- destination «a(b»: no
+    (destination_answer (codes "a(b") ≡ None) ×
+    -- destination «)»: no
+    (destination_answer (codes ")") ≡ None) ×
+    -- destination «␠a»: no
+    (destination_answer (codes " a") ≡ None) ×
+    -- title «""»: ResourceTitle 0-2 [ResourceTitleMarker 0-1, ResourceTitleMarker 1-2]
+    (title_answer (codes "\"\"") ≡ Some (enter Name.ResourceTitle 1 1 0 0 ∷ enter Name.ResourceTitleMarker 1 1 0 0 ∷ exit Name.ResourceTitleMarker 1 2 1 0 ∷ enter Name.ResourceTitleMarker 1 2 1 0 ∷ exit Name.ResourceTitleMarker 1 3 2 0 ∷ exit Name.ResourceTitle 1 3 2 0 ∷ [])) ×
+    -- title «(a(b)»: ResourceTitle 0-5 [ResourceTitleMarker 0-1, ResourceTitleString 1-4 [Data 1-4], ResourceTitleMarker 4-5]
+    (title_answer (codes "(a(b)") ≡ Some (enter Name.ResourceTitle 1 1 0 0 ∷ enter Name.ResourceTitleMarker 1 1 0 0 ∷ exit Name.ResourceTitleMarker 1 2 1 0 ∷ enter Name.ResourceTitleString 1 2 1 0 ∷ chained Name.Data 1 2 1 0 None None ∷ exit Name.Data 1 5 4 0 ∷ exit Name.ResourceTitleString 1 5 4 0 ∷ enter Name.ResourceTitleMarker 1 5 4 0 ∷ exit Name.ResourceTitleMarker 1 6 5 0 ∷ exit Name.ResourceTitle 1 6 5 0 ∷ [])) ×
+    -- title «"a␊ b"»: ResourceTitle 0-6 [ResourceTitleMarker 0-1, ResourceTitleString 1-5 [Data 1-2, LineEnding 2-3, SpaceOrTab 3-4, Data 4-5], ResourceTitleMarker 5-6]
+    (title_answer (34 ∷ 97 ∷ 10 ∷ 32 ∷ 98 ∷ 34 ∷ []) ≡ Some (enter Name.ResourceTitle 1 1 0 0 ∷ enter Name.ResourceTitleMarker 1 1 0 0 ∷ exit Name.ResourceTitleMarker 1 2 1 0 ∷ enter Name.ResourceTitleString 1 2 1 0 ∷ chained Name.Data 1 2 1 0 None (Some 6) ∷ exit Name.Data 1 3 2 0 ∷ chained Name.LineEnding 1 3 2 0 (Some 4) (Some 8) ∷ exit Name.LineEnding 2 1 3 0 ∷ chained Name.SpaceOrTab 2 1 3 0 (Some 6) (Some 10) ∷ exit Name.SpaceOrTab 2 2 4 0 ∷ chained Name.Data 2 2 4 0 (Some 8) None ∷ exit Name.Data 2 3 5 0 ∷ exit Name.ResourceTitleString 2 3 5 0 ∷ enter Name.ResourceTitleMarker 2 3 5 0 ∷ exit Name.ResourceTitleMarker 2 4 6 0 ∷ exit Name.ResourceTitle 2 4 6 0 ∷ [])) ×
+    -- title «"a»: no
+    (title_answer (codes "\"a") ≡ None) ×
+    -- title «"a␊ ␊"»: no
+    (title_answer (34 ∷ 97 ∷ 10 ∷ 32 ∷ 10 ∷ 34 ∷ []) ≡ None) ×
+    -- label «[a]»: Reference 0-3 [ReferenceMarker 0-1, ReferenceString 1-2 [Data 1-2], ReferenceMarker 2-3]
+    (label_answer (codes "[a]") ≡ Some (enter Name.Reference 1 1 0 0 ∷ enter Name.ReferenceMarker 1 1 0 0 ∷ exit Name.ReferenceMarker 1 2 1 0 ∷ enter Name.ReferenceString 1 2 1 0 ∷ chained Name.Data 1 2 1 0 None None ∷ exit Name.Data 1 3 2 0 ∷ exit Name.ReferenceString 1 3 2 0 ∷ enter Name.ReferenceMarker 1 3 2 0 ∷ exit Name.ReferenceMarker 1 4 3 0 ∷ exit Name.Reference 1 4 3 0 ∷ [])) ×
+    -- label «[a\]b]»: Reference 0-6 [ReferenceMarker 0-1, ReferenceString 1-5 [Data 1-5], ReferenceMarker 5-6]
+    (label_answer (codes "[a\\]b]") ≡ Some (enter Name.Reference 1 1 0 0 ∷ enter Name.ReferenceMarker 1 1 0 0 ∷ exit Name.ReferenceMarker 1 2 1 0 ∷ enter Name.ReferenceString 1 2 1 0 ∷ chained Name.Data 1 2 1 0 None None ∷ exit Name.Data 1 6 5 0 ∷ exit Name.ReferenceString 1 6 5 0 ∷ enter Name.ReferenceMarker 1 6 5 0 ∷ exit Name.ReferenceMarker 1 7 6 0 ∷ exit Name.Reference 1 7 6 0 ∷ [])) ×
+    -- label «[ ]»: no
+    (label_answer (codes "[ ]") ≡ None) ×
+    -- label «[a[b]»: no
+    (label_answer (codes "[a[b]") ≡ None) ×
+    -- label «[⟦a×999⟧]»: Reference 0-1001 [ReferenceMarker 0-1, ReferenceString 1-1000 [Data 1-1000], ReferenceMarker 1000-1001]
+    (label_answer (codes "[aaaaaaaaaaaaaaaaaaaaaaaaaaaaaaaaaaaaaaaaaaaaaaaaaaaaaaaaaaaaaaaaaaaaaaaaaaaaaaaaaaaaaaaaaaaaaaaaaaaaaaaaaaaaaaaaaaaaaaaaaaaaaaaaaaaaaaaaaaaaaaaaaaaaaaaaaaaaaaaaaaaaaaaaaaaaaaaaaaaaaaaaaaaaaaaaaaaaaaaaaaaaaaaaaaaaaaaaaaaaaaaaaaaaaaaaaaaaaaaaaaaaaaaaaaaaaaaaaaaaaaaaaaaaaaaaaaaaaaaaaaaaaaaaaaaaaaaaaaaaaaaaaaaaaaaaaaaaaaaaaaaaaaaaaaaaaaaaaaaaaaaaaaaaaaaaaaaaaaaaaaaaaaaaaaaaaaaaaaaaaaaaaaaaaaaaaaaaaaaaaaaaaaaaaaaaaaaaaaaaaaaaaaaaaaaaaaaaaaaaaaaaaaaaaaaaaaaaaaaaaaaaaaaaaaaaaaaaaaaaaaaaaaaaaaaaaaaaaaaaaaaaaaaaaaaaaaaaaaaaaaaaaaaaaaaaaaaaaaaaaaaaaaaaaaaaaaaaaaaaaaaaaaaaaaaaaaaaaaaaaaaaaaaaaaaaaaaaaaaaaaaaaaaaaaaaaaaaaaaaaaaaaaaaaaaaaaaaaaaaaaaaaaaaaaaaaaaaaaaaaaaaaaaaaaaaaaaaaaaaaaaaaaaaaaaaaaaaaaaaaaaaaaaaaaaaaaaaaaaaaaaaaaaaaaaaaaaaaaaaaaaaaaaaaaaaaaaaaaaaaaaaaaaaaaaaaaaaaaaaaaaaaaaaaaaaaaaaaaaaaaaaaaaaaaaaaaaaaaaaaaaaaaaaaaaaaaaaaaaaaaaaaaaaaaaaaaaaaaaaaaaaaaaaaaaaaaaaaaaaaaaaaaaaaaaaaaaaaaaaaaaaaaaaaaaaaaaaaaaaaaaaaaaaaaaaaaaaaaaaaaaaaaaaaaaaaaaaaaaaaaaaaaaaaaaaaaaaaaaaaaaaaaaaaaaaaaaaaaa]") ≡ Some (enter Name.Reference 1 1 0 0 ∷ enter Name.ReferenceMarker 1 1 0 0 ∷ exit Name.ReferenceMarker 1 2 1 0 ∷ enter Name.ReferenceString 1 2 1 0 ∷ chained Name.Data 1 2 1 0 None None ∷ exit Name.Data 1 1001 1000 0 ∷ exit Name.ReferenceString 1 1001 1000 0 ∷ enter Name.ReferenceMarker 1 1001 1000 0 ∷ exit Name.ReferenceMarker 1 1002 1001 0 ∷ exit Name.Reference 1 1002 1001 0 ∷ [])) ×
+    -- label «[⟦a×1000⟧]»: no
+    (label_answer (codes "[aaaaaaaaaaaaaaaaaaaaaaaaaaaaaaaaaaaaaaaaaaaaaaaaaaaaaaaaaaaaaaaaaaaaaaaaaaaaaaaaaaaaaaaaaaaaaaaaaaaaaaaaaaaaaaaaaaaaaaaaaaaaaaaaaaaaaaaaaaaaaaaaaaaaaaaaaaaaaaaaaaaaaaaaaaaaaaaaaaaaaaaaaaaaaaaaaaaaaaaaaaaaaaaaaaaaaaaaaaaaaaaaaaaaaaaaaaaaaaaaaaaaaaaaaaaaaaaaaaaaaaaaaaaaaaaaaaaaaaaaaaaaaaaaaaaaaaaaaaaaaaaaaaaaaaaaaaaaaaaaaaaaaaaaaaaaaaaaaaaaaaaaaaaaaaaaaaaaaaaaaaaaaaaaaaaaaaaaaaaaaaaaaaaaaaaaaaaaaaaaaaaaaaaaaaaaaaaaaaaaaaaaaaaaaaaaaaaaaaaaaaaaaaaaaaaaaaaaaaaaaaaaaaaaaaaaaaaaaaaaaaaaaaaaaaaaaaaaaaaaaaaaaaaaaaaaaaaaaaaaaaaaaaaaaaaaaaaaaaaaaaaaaaaaaaaaaaaaaaaaaaaaaaaaaaaaaaaaaaaaaaaaaaaaaaaaaaaaaaaaaaaaaaaaaaaaaaaaaaaaaaaaaaaaaaaaaaaaaaaaaaaaaaaaaaaaaaaaaaaaaaaaaaaaaaaaaaaaaaaaaaaaaaaaaaaaaaaaaaaaaaaaaaaaaaaaaaaaaaaaaaaaaaaaaaaaaaaaaaaaaaaaaaaaaaaaaaaaaaaaaaaaaaaaaaaaaaaaaaaaaaaaaaaaaaaaaaaaaaaaaaaaaaaaaaaaaaaaaaaaaaaaaaaaaaaaaaaaaaaaaaaaaaaaaaaaaaaaaaaaaaaaaaaaaaaaaaaaaaaaaaaaaaaaaaaaaaaaaaaaaaaaaaaaaaaaaaaaaaaaaaaaaaaaaaaaaaaaaaaaaaaaaaaaaaaaaaaaaaaaaaaaaaaaaaaaaaaaaaaaaaaaaaaaaaaaaaaaaaaa]") ≡ None) ×
+    -- label «[⟦a×999⟧␊]»: Reference 0-1002 [ReferenceMarker 0-1, ReferenceString 1-1001 [Data 1-1000, LineEnding 1000-1001], ReferenceMarker 1001-1002]
+    (label_answer (91 ∷ 97 ∷ 97 ∷ 97 ∷ 97 ∷ 97 ∷ 97 ∷ 97 ∷ 97 ∷ 97 ∷ 97 ∷ 97 ∷ 97 ∷ 97 ∷ 97 ∷ 97 ∷ 97 ∷ 97 ∷ 97 ∷ 97 ∷ 97 ∷ 97 ∷ 97 ∷ 97 ∷ 97 ∷ 97 ∷ 97 ∷ 97 ∷ 97 ∷ 97 ∷ 97 ∷ 97 ∷ 97 ∷ 97 ∷ 97 ∷ 97 ∷ 97 ∷ 97 ∷ 97 ∷ 97 ∷ 97 ∷ 97 ∷ 97 ∷ 97 ∷ 97 ∷ 97 ∷ 97 ∷ 97 ∷ 97 ∷ 97 ∷ 97 ∷ 97 ∷ 97 ∷ 97 ∷ 97 ∷ 97 ∷ 97 ∷ 97 ∷ 97 ∷ 97 ∷ 97 ∷ 97 ∷ 97 ∷ 97 ∷ 97 ∷ 97 ∷ 97 ∷ 97 ∷ 97 ∷ 97 ∷ 97 ∷ 97 ∷ 97 ∷ 97 ∷ 97 ∷ 97 ∷ 97 ∷ 97 ∷ 97 ∷ 97 ∷ 97 ∷ 97 ∷ 97 ∷ 97 ∷ 97 ∷ 97 ∷ 97 ∷ 97 ∷ 97 ∷ 97 ∷ 97 ∷ 97 ∷ 97 ∷ 97 ∷ 97 ∷ 97 ∷ 97 ∷ 97 ∷ 97 ∷ 97 ∷ 97 ∷ 97 ∷ 97 ∷ 97 ∷ 97 ∷ 97 ∷ 97 ∷ 97 ∷ 97 ∷ 97 ∷ 97 ∷ 97 ∷ 97 ∷ 97 ∷ 97 ∷ 97 ∷ 97 ∷ 97 ∷ 97 ∷ 97 ∷ 97 ∷ 97 ∷ 97 ∷ 97 ∷ 97 ∷ 97 ∷ 97 ∷ 97 ∷ 97 ∷ 97 ∷ 97 ∷ 97 ∷ 97 ∷ 97 ∷ 97 ∷ 97 ∷ 97 ∷ 97 ∷ 97 ∷ 97 ∷ 97 ∷ 97 ∷ 97 ∷ 97 ∷ 97 ∷ 97 ∷ 97 ∷ 97 ∷ 97 ∷ 97 ∷ 97 ∷ 97 ∷ 97 ∷ 97 ∷ 97 ∷ 97 ∷ 97 ∷ 97 ∷ 97 ∷ 97 ∷ 97 ∷ 97 ∷ 97 ∷ 97 ∷ 97 ∷ 97 ∷ 97 ∷ 97 ∷ 97 ∷ 97 ∷ 97 ∷ 97 ∷ 97 ∷ 97 ∷ 97 ∷ 97 ∷ 97 ∷ 97 ∷ 97 ∷ 97 ∷ 97 ∷ 97 ∷ 97 ∷ 97 ∷ 97 ∷ 97 ∷ 97 ∷ 97 ∷ 97 ∷ 97 ∷ 97 ∷ 97 ∷ 97 ∷ 97 ∷ 97 ∷ 97 ∷ 97 ∷ 97 ∷ 97 ∷ 97 ∷ 97 ∷ 97 ∷ 97 ∷ 97 ∷ 97 ∷ 97 ∷ 97 ∷ 97 ∷ 97 ∷ 97 ∷ 97 ∷ 97 ∷ 97 ∷ 97 ∷ 97 ∷ 97 ∷ 97 ∷ 97 ∷ 97 ∷ 97 ∷ 97 ∷ 97 ∷ 97 ∷ 97 ∷ 97 ∷ 97 ∷ 97 ∷ 97 ∷ 97 ∷ 97 ∷ 97 ∷ 97 ∷ 97 ∷ 97 ∷ 97 ∷ 97 ∷ 97 ∷ 97 ∷ 97 ∷ 97 ∷ 97 ∷ 97 ∷ 97 ∷ 97 ∷ 97 ∷ 97 ∷ 97 ∷ 97 ∷ 97 ∷ 97 ∷ 97 ∷ 97 ∷ 97 ∷ 97 ∷ 97 ∷ 97 ∷ 97 ∷ 97 ∷ 97 ∷ 97 ∷ 97 ∷ 97 ∷ 97 ∷ 97 ∷ 97 ∷ 97 ∷ 97 ∷ 97 ∷ 97 ∷ 97 ∷ 97 ∷ 97 ∷ 97 ∷ 97 ∷ 97 ∷ 97 ∷ 97 ∷ 97 ∷ 97 ∷ 97 ∷ 97 ∷ 97 ∷ 97 ∷ 97 ∷ 97 ∷ 97 ∷ 97 ∷ 97 ∷ 97 ∷ 97 ∷ 97 ∷ 97 ∷ 97 ∷ 97 ∷ 97 ∷ 97 ∷ 97 ∷ 97 ∷ 97 ∷ 97 ∷ 97 ∷ 97 ∷ 97 ∷ 97 ∷ 97 ∷ 97 ∷ 97 ∷ 97 ∷ 97 ∷ 97 ∷ 97 ∷ 97 ∷ 97 ∷ 97 ∷ 97 ∷ 97 ∷ 97 ∷ 97 ∷ 97 ∷ 97 ∷ 97 ∷ 97 ∷ 97 ∷ 97 ∷ 97 ∷ 97 ∷ 97 ∷ 97 ∷ 97 ∷ 97 ∷ 97 ∷ 97 ∷ 97 ∷ 97 ∷ 97 ∷ 97 ∷ 97 ∷ 97 ∷ 97 ∷ 97 ∷ 97 ∷ 97 ∷ 97 ∷ 97 ∷ 97 ∷ 97 ∷ 97 ∷ 97 ∷ 97 ∷ 97 ∷ 97 ∷ 97 ∷ 97 ∷ 97 ∷ 97 ∷ 97 ∷ 97 ∷ 97 ∷ 97 ∷ 97 ∷ 97 ∷ 97 ∷ 97 ∷ 97 ∷ 97 ∷ 97 ∷ 97 ∷ 97 ∷ 97 ∷ 97 ∷ 97 ∷ 97 ∷ 97 ∷ 97 ∷ 97 ∷ 97 ∷ 97 ∷ 97 ∷ 97 ∷ 97 ∷ 97 ∷ 97 ∷ 97 ∷ 97 ∷ 97 ∷ 97 ∷ 97 ∷ 97 ∷ 97 ∷ 97 ∷ 97 ∷ 97 ∷ 97 ∷ 97 ∷ 97 ∷ 97 ∷ 97 ∷ 97 ∷ 97 ∷ 97 ∷ 97 ∷ 97 ∷ 97 ∷ 97 ∷ 97 ∷ 97 ∷ 97 ∷ 97 ∷ 97 ∷ 97 ∷ 97 ∷ 97 ∷ 97 ∷ 97 ∷ 97 ∷ 97 ∷ 97 ∷ 97 ∷ 97 ∷ 97 ∷ 97 ∷ 97 ∷ 97 ∷ 97 ∷ 97 ∷ 97 ∷ 97 ∷ 97 ∷ 97 ∷ 97 ∷ 97 ∷ 97 ∷ 97 ∷ 97 ∷ 97 ∷ 97 ∷ 97 ∷ 97 ∷ 97 ∷ 97 ∷ 97 ∷ 97 ∷ 97 ∷ 97 ∷ 97 ∷ 97 ∷ 97 ∷ 97 ∷ 97 ∷ 97 ∷ 97 ∷ 97 ∷ 97 ∷ 97 ∷ 97 ∷ 97 ∷ 97 ∷ 97 ∷ 97 ∷ 97 ∷ 97 ∷ 97 ∷ 97 ∷ 97 ∷ 97 ∷ 97 ∷ 97 ∷ 97 ∷ 97 ∷ 97 ∷ 97 ∷ 97 ∷ 97 ∷ 97 ∷ 97 ∷ 97 ∷ 97 ∷ 97 ∷ 97 ∷ 97 ∷ 97 ∷ 97 ∷ 97 ∷ 97 ∷ 97 ∷ 97 ∷ 97 ∷ 97 ∷ 97 ∷ 97 ∷ 97 ∷ 97 ∷ 97 ∷ 97 ∷ 97 ∷ 97 ∷ 97 ∷ 97 ∷ 97 ∷ 97 ∷ 97 ∷ 97 ∷ 97 ∷ 97 ∷ 97 ∷ 97 ∷ 97 ∷ 97 ∷ 97 ∷ 97 ∷ 97 ∷ 97 ∷ 97 ∷ 97 ∷ 97 ∷ 97 ∷ 97 ∷ 97 ∷ 97 ∷ 97 ∷ 97 ∷ 97 ∷ 97 ∷ 97 ∷ 97 ∷ 97 ∷ 97 ∷ 97 ∷ 97 ∷ 97 ∷ 97 ∷ 97 ∷ 97 ∷ 97 ∷ 97 ∷ 97 ∷ 97 ∷ 97 ∷ 97 ∷ 97 ∷ 97 ∷ 97 ∷ 97 ∷ 97 ∷ 97 ∷ 97 ∷ 97 ∷ 97 ∷ 97 ∷ 97 ∷ 97 ∷ 97 ∷ 97 ∷ 97 ∷ 97 ∷ 97 ∷ 97 ∷ 97 ∷ 97 ∷ 97 ∷ 97 ∷ 97 ∷ 97 ∷ 97 ∷ 97 ∷ 97 ∷ 97 ∷ 97 ∷ 97 ∷ 97 ∷ 97 ∷ 97 ∷ 97 ∷ 97 ∷ 97 ∷ 97 ∷ 97 ∷ 97 ∷ 97 ∷ 97 ∷ 97 ∷ 97 ∷ 97 ∷ 97 ∷ 97 ∷ 97 ∷ 97 ∷ 97 ∷ 97 ∷ 97 ∷ 97 ∷ 97 ∷ 97 ∷ 97 ∷ 97 ∷ 97 ∷ 97 ∷ 97 ∷ 97 ∷ 97 ∷ 97 ∷ 97 ∷ 97 ∷ 97 ∷ 97 ∷ 97 ∷ 97 ∷ 97 ∷ 97 ∷ 97 ∷ 97 ∷ 97 ∷ 97 ∷ 97 ∷ 97 ∷ 97 ∷ 97 ∷ 97 ∷ 97 ∷ 97 ∷ 97 ∷ 97 ∷ 97 ∷ 97 ∷ 97 ∷ 97 ∷ 97 ∷ 97 ∷ 97 ∷ 97 ∷ 97 ∷ 97 ∷ 97 ∷ 97 ∷ 97 ∷ 97 ∷ 97 ∷ 97 ∷ 97 ∷ 97 ∷ 97 ∷ 97 ∷ 97 ∷ 97 ∷ 97 ∷ 97 ∷ 97 ∷ 97 ∷ 97 ∷ 97 ∷ 97 ∷ 97 ∷ 97 ∷ 97 ∷ 97 ∷ 97 ∷ 97 ∷ 97 ∷ 97 ∷ 97 ∷ 97 ∷ 97 ∷ 97 ∷ 97 ∷ 97 ∷ 97 ∷ 97 ∷ 97 ∷ 97 ∷ 97 ∷ 97 ∷ 97 ∷ 97 ∷ 97 ∷ 97 ∷ 97 ∷ 97 ∷ 97 ∷ 97 ∷ 97 ∷ 97 ∷ 97 ∷ 97 ∷ 97 ∷ 97 ∷ 97 ∷ 97 ∷ 97 ∷ 97 ∷ 97 ∷ 97 ∷ 97 ∷ 97 ∷ 97 ∷ 97 ∷ 97 ∷ 97 ∷ 97 ∷ 97 ∷ 97 ∷ 97 ∷ 97 ∷ 97 ∷ 97 ∷ 97 ∷ 97 ∷ 97 ∷ 97 ∷ 97 ∷ 97 ∷ 97 ∷ 97 ∷ 97 ∷ 97 ∷ 97 ∷ 97 ∷ 97 ∷ 97 ∷ 97 ∷ 97 ∷ 97 ∷ 97 ∷ 97 ∷ 97 ∷ 97 ∷ 97 ∷ 97 ∷ 97 ∷ 97 ∷ 97 ∷ 97 ∷ 97 ∷ 97 ∷ 97 ∷ 97 ∷ 97 ∷ 97 ∷ 97 ∷ 97 ∷ 97 ∷ 97 ∷ 97 ∷ 97 ∷ 97 ∷ 97 ∷ 97 ∷ 97 ∷ 97 ∷ 97 ∷ 97 ∷ 97 ∷ 97 ∷ 97 ∷ 97 ∷ 97 ∷ 97 ∷ 97 ∷ 97 ∷ 97 ∷ 97 ∷ 97 ∷ 97 ∷ 97 ∷ 97 ∷ 97 ∷ 97 ∷ 97 ∷ 97 ∷ 97 ∷ 97 ∷ 97 ∷ 97 ∷ 97 ∷ 97 ∷ 97 ∷ 97 ∷ 97 ∷ 97 ∷ 97 ∷ 97 ∷ 97 ∷ 97 ∷ 97 ∷ 97 ∷ 97 ∷ 97 ∷ 97 ∷ 97 ∷ 97 ∷ 97 ∷ 97 ∷ 97 ∷ 97 ∷ 97 ∷ 97 ∷ 97 ∷ 97 ∷ 97 ∷ 97 ∷ 97 ∷ 97 ∷ 97 ∷ 97 ∷ 97 ∷ 97 ∷ 97 ∷ 97 ∷ 97 ∷ 97 ∷ 97 ∷ 97 ∷ 97 ∷ 97 ∷ 97 ∷ 97 ∷ 97 ∷ 97 ∷ 97 ∷ 97 ∷ 97 ∷ 97 ∷ 97 ∷ 97 ∷ 97 ∷ 97 ∷ 97 ∷ 97 ∷ 97 ∷ 97 ∷ 97 ∷ 97 ∷ 97 ∷ 97 ∷ 97 ∷ 97 ∷ 97 ∷ 97 ∷ 97 ∷ 97 ∷ 97 ∷ 97 ∷ 97 ∷ 97 ∷ 97 ∷ 97 ∷ 97 ∷ 97 ∷ 97 ∷ 97 ∷ 97 ∷ 97 ∷ 97 ∷ 97 ∷ 97 ∷ 97 ∷ 97 ∷ 97 ∷ 97 ∷ 97 ∷ 97 ∷ 97 ∷ 97 ∷ 97 ∷ 97 ∷ 97 ∷ 97 ∷ 97 ∷ 97 ∷ 97 ∷ 97 ∷ 97 ∷ 97 ∷ 97 ∷ 97 ∷ 97 ∷ 97 ∷ 97 ∷ 97 ∷ 97 ∷ 97 ∷ 97 ∷ 97 ∷ 97 ∷ 97 ∷ 97 ∷ 97 ∷ 97 ∷ 97 ∷ 97 ∷ 97 ∷ 97 ∷ 97 ∷ 97 ∷ 97 ∷ 97 ∷ 97 ∷ 97 ∷ 97 ∷ 97 ∷ 97 ∷ 97 ∷ 97 ∷ 97 ∷ 97 ∷ 97 ∷ 97 ∷ 97 ∷ 97 ∷ 97 ∷ 97 ∷ 97 ∷ 97 ∷ 97 ∷ 97 ∷ 97 ∷ 97 ∷ 97 ∷ 97 ∷ 97 ∷ 97 ∷ 97 ∷ 97 ∷ 97 ∷ 97 ∷ 97 ∷ 97 ∷ 97 ∷ 97 ∷ 97 ∷ 97 ∷ 97 ∷ 97 ∷ 97 ∷ 97 ∷ 97 ∷ 97 ∷ 97 ∷ 97 ∷ 97 ∷ 97 ∷ 97 ∷ 97 ∷ 97 ∷ 97 ∷ 97 ∷ 97 ∷ 97 ∷ 97 ∷ 97 ∷ 97 ∷ 97 ∷ 97 ∷ 97 ∷ 97 ∷ 97 ∷ 97 ∷ 97 ∷ 97 ∷ 97 ∷ 97 ∷ 97 ∷ 97 ∷ 97 ∷ 97 ∷ 97 ∷ 97 ∷ 97 ∷ 97 ∷ 97 ∷ 97 ∷ 97 ∷ 97 ∷ 97 ∷ 97 ∷ 97 ∷ 97 ∷ 97 ∷ 97 ∷ 97 ∷ 97 ∷ 97 ∷ 97 ∷ 97 ∷ 97 ∷ 97 ∷ 97 ∷ 97 ∷ 97 ∷ 97 ∷ 97 ∷ 97 ∷ 97 ∷ 97 ∷ 97 ∷ 97 ∷ 97 ∷ 97 ∷ 97 ∷ 97 ∷ 97 ∷ 10 ∷ 93 ∷ []) ≡ Some (enter Name.Reference 1 1 0 0 ∷ enter Name.ReferenceMarker 1 1 0 0 ∷ exit Name.ReferenceMarker 1 2 1 0 ∷ enter Name.ReferenceString 1 2 1 0 ∷ chained Name.Data 1 2 1 0 None (Some 6) ∷ exit Name.Data 1 1001 1000 0 ∷ chained Name.LineEnding 1 1001 1000 0 (Some 4) None ∷ exit Name.LineEnding 2 1 1001 0 ∷ exit Name.ReferenceString 2 1 1001 0 ∷ enter Name.ReferenceMarker 2 1 1001 0 ∷ exit Name.ReferenceMarker 2 2 1002 0 ∷ exit Name.Reference 2 2 1002 0 ∷ [])) ×
+    -- label «[⟦a×999⟧␊b]»: no
+    (label_answer (91 ∷ 97 ∷ 97 ∷ 97 ∷ 97 ∷ 97 ∷ 97 ∷ 97 ∷ 97 ∷ 97 ∷ 97 ∷ 97 ∷ 97 ∷ 97 ∷ 97 ∷ 97 ∷ 97 ∷ 97 ∷ 97 ∷ 97 ∷ 97 ∷ 97 ∷ 97 ∷ 97 ∷ 97 ∷ 97 ∷ 97 ∷ 97 ∷ 97 ∷ 97 ∷ 97 ∷ 97 ∷ 97 ∷ 97 ∷ 97 ∷ 97 ∷ 97 ∷ 97 ∷ 97 ∷ 97 ∷ 97 ∷ 97 ∷ 97 ∷ 97 ∷ 97 ∷ 97 ∷ 97 ∷ 97 ∷ 97 ∷ 97 ∷ 97 ∷ 97 ∷ 97 ∷ 97 ∷ 97 ∷ 97 ∷ 97 ∷ 97 ∷ 97 ∷ 97 ∷ 97 ∷ 97 ∷ 97 ∷ 97 ∷ 97 ∷ 97 ∷ 97 ∷ 97 ∷ 97 ∷ 97 ∷ 97 ∷ 97 ∷ 97 ∷ 97 ∷ 97 ∷ 97 ∷ 97 ∷ 97 ∷ 97 ∷ 97 ∷ 97 ∷ 97 ∷ 97 ∷ 97 ∷ 97 ∷ 97 ∷ 97 ∷ 97 ∷ 97 ∷ 97 ∷ 97 ∷ 97 ∷ 97 ∷ 97 ∷ 97 ∷ 97 ∷ 97 ∷ 97 ∷ 97 ∷ 97 ∷ 97 ∷ 97 ∷ 97 ∷ 97 ∷ 97 ∷ 97 ∷ 97 ∷ 97 ∷ 97 ∷ 97 ∷ 97 ∷ 97 ∷ 97 ∷ 97 ∷ 97 ∷ 97 ∷ 97 ∷ 97 ∷ 97 ∷ 97 ∷ 97 ∷ 97 ∷ 97 ∷ 97 ∷ 97 ∷ 97 ∷ 97 ∷ 97 ∷ 97 ∷ 97 ∷ 97 ∷ 97 ∷ 97 ∷ 97 ∷ 97 ∷ 97 ∷ 97 ∷ 97 ∷ 97 ∷ 97 ∷ 97 ∷ 97 ∷ 97 ∷ 97 ∷ 97 ∷ 97 ∷ 97 ∷ 97 ∷ 97 ∷ 97 ∷ 97 ∷ 97 ∷ 97 ∷ 97 ∷ 97 ∷ 97 ∷ 97 ∷ 97 ∷ 97 ∷ 97 ∷ 97 ∷ 97 ∷ 97 ∷ 97 ∷ 97 ∷ 97 ∷ 97 ∷ 97 ∷ 97 ∷ 97 ∷ 97 ∷ 97 ∷ 97 ∷ 97 ∷ 97 ∷ 97 ∷ 97 ∷ 97 ∷ 97 ∷ 97 ∷ 97 ∷ 97 ∷ 97 ∷ 97 ∷ 97 ∷ 97 ∷ 97 ∷ 97 ∷ 97 ∷ 97 ∷ 97 ∷ 97 ∷ 97 ∷ 97 ∷ 97 ∷ 97 ∷ 97 ∷ 97 ∷ 97 ∷ 97 ∷ 97 ∷ 97 ∷ 97 ∷ 97 ∷ 97 ∷ 97 ∷ 97 ∷ 97 ∷ 97 ∷ 97 ∷ 97 ∷ 97 ∷ 97 ∷ 97 ∷ 97 ∷ 97 ∷ 97 ∷ 97 ∷ 97 ∷ 97 ∷ 97 ∷ 97 ∷ 97 ∷ 97 ∷ 97 ∷ 97 ∷ 97 ∷ 97 ∷ 97 ∷ 97 ∷ 97 ∷ 97 ∷ 97 ∷ 97 ∷ 97 ∷ 97 ∷ 97 ∷ 97 ∷ 97 ∷ 97 ∷ 97 ∷ 97 ∷ 97 ∷ 97 ∷ 97 ∷ 97 ∷ 97 ∷ 97 ∷ 97 ∷ 97 ∷ 97 ∷ 97 ∷ 97 ∷ 97 ∷ 97 ∷ 97 ∷ 97 ∷ 97 ∷ 97 ∷ 97 ∷ 97 ∷ 97 ∷ 97 ∷ 97 ∷ 97 ∷ 97 ∷ 97 ∷ 97 ∷ 97 ∷ 97 ∷ 97 ∷ 97 ∷ 97 ∷ 97 ∷ 97 ∷ 97 ∷ 97 ∷ 97 ∷ 97 ∷ 97 ∷ 97 ∷ 97 ∷ 97 ∷ 97 ∷ 97 ∷ 97 ∷ 97 ∷ 97 ∷ 97 ∷ 97 ∷ 97 ∷ 97 ∷ 97 ∷ 97 ∷ 97 ∷ 97 ∷ 97 ∷ 97 ∷ 97 ∷ 97 ∷ 97 ∷ 97 ∷ 97 ∷ 97 ∷ 97 ∷ 97 ∷ 97 ∷ 97 ∷ 97 ∷ 97 ∷ 97 ∷ 97 ∷ 97 ∷ 97 ∷ 97 ∷ 97 ∷ 97 ∷ 97 ∷ 97 ∷ 97 ∷ 97 ∷ 97 ∷ 97 ∷ 97 ∷ 97 ∷ 97 ∷ 97 ∷ 97 ∷ 97 ∷ 97 ∷ 97 ∷ 97 ∷ 97 ∷ 97 ∷ 97 ∷ 97 ∷ 97 ∷ 97 ∷ 97 ∷ 97 ∷ 97 ∷ 97 ∷ 97 ∷ 97 ∷ 97 ∷ 97 ∷ 97 ∷ 97 ∷ 97 ∷ 97 ∷ 97 ∷ 97 ∷ 97 ∷ 97 ∷ 97 ∷ 97 ∷ 97 ∷ 97 ∷ 97 ∷ 97 ∷ 97 ∷ 97 ∷ 97 ∷ 97 ∷ 97 ∷ 97 ∷ 97 ∷ 97 ∷ 97 ∷ 97 ∷ 97 ∷ 97 ∷ 97 ∷ 97 ∷ 97 ∷ 97 ∷ 97 ∷ 97 ∷ 97 ∷ 97 ∷ 97 ∷ 97 ∷ 97 ∷ 97 ∷ 97 ∷ 97 ∷ 97 ∷ 97 ∷ 97 ∷ 97 ∷ 97 ∷ 97 ∷ 97 ∷ 97 ∷ 97 ∷ 97 ∷ 97 ∷ 97 ∷ 97 ∷ 97 ∷ 97 ∷ 97 ∷ 97 ∷ 97 ∷ 97 ∷ 97 ∷ 97 ∷ 97 ∷ 97 ∷ 97 ∷ 97 ∷ 97 ∷ 97 ∷ 97 ∷ 97 ∷ 97 ∷ 97 ∷ 97 ∷ 97 ∷ 97 ∷ 97 ∷ 97 ∷ 97 ∷ 97 ∷ 97 ∷ 97 ∷ 97 ∷ 97 ∷ 97 ∷ 97 ∷ 97 ∷ 97 ∷ 97 ∷ 97 ∷ 97 ∷ 97 ∷ 97 ∷ 97 ∷ 97 ∷ 97 ∷ 97 ∷ 97 ∷ 97 ∷ 97 ∷ 97 ∷ 97 ∷ 97 ∷ 97 ∷ 97 ∷ 97 ∷ 97 ∷ 97 ∷ 97 ∷ 97 ∷ 97 ∷ 97 ∷ 97 ∷ 97 ∷ 97 ∷ 97 ∷ 97 ∷ 97 ∷ 97 ∷ 97 ∷ 97 ∷ 97 ∷ 97 ∷ 97 ∷ 97 ∷ 97 ∷ 97 ∷ 97 ∷ 97 ∷ 97 ∷ 97 ∷ 97 ∷ 97 ∷ 97 ∷ 97 ∷ 97 ∷ 97 ∷ 97 ∷ 97 ∷ 97 ∷ 97 ∷ 97 ∷ 97 ∷ 97 ∷ 97 ∷ 97 ∷ 97 ∷ 97 ∷ 97 ∷ 97 ∷ 97 ∷ 97 ∷ 97 ∷ 97 ∷ 97 ∷ 97 ∷ 97 ∷ 97 ∷ 97 ∷ 97 ∷ 97 ∷ 97 ∷ 97 ∷ 97 ∷ 97 ∷ 97 ∷ 97 ∷ 97 ∷ 97 ∷ 97 ∷ 97 ∷ 97 ∷ 97 ∷ 97 ∷ 97 ∷ 97 ∷ 97 ∷ 97 ∷ 97 ∷ 97 ∷ 97 ∷ 97 ∷ 97 ∷ 97 ∷ 97 ∷ 97 ∷ 97 ∷ 97 ∷ 97 ∷ 97 ∷ 97 ∷ 97 ∷ 97 ∷ 97 ∷ 97 ∷ 97 ∷ 97 ∷ 97 ∷ 97 ∷ 97 ∷ 97 ∷ 97 ∷ 97 ∷ 97 ∷ 97 ∷ 97 ∷ 97 ∷ 97 ∷ 97 ∷ 97 ∷ 97 ∷ 97 ∷ 97 ∷ 97 ∷ 97 ∷ 97 ∷ 97 ∷ 97 ∷ 97 ∷ 97 ∷ 97 ∷ 97 ∷ 97 ∷ 97 ∷ 97 ∷ 97 ∷ 97 ∷ 97 ∷ 97 ∷ 97 ∷ 97 ∷ 97 ∷ 97 ∷ 97 ∷ 97 ∷ 97 ∷ 97 ∷ 97 ∷ 97 ∷ 97 ∷ 97 ∷ 97 ∷ 97 ∷ 97 ∷ 97 ∷ 97 ∷ 97 ∷ 97 ∷ 97 ∷ 97 ∷ 97 ∷ 97 ∷ 97 ∷ 97 ∷ 97 ∷ 97 ∷ 97 ∷ 97 ∷ 97 ∷ 97 ∷ 97 ∷ 97 ∷ 97 ∷ 97 ∷ 97 ∷ 97 ∷ 97 ∷ 97 ∷ 97 ∷ 97 ∷ 97 ∷ 97 ∷ 97 ∷ 97 ∷ 97 ∷ 97 ∷ 97 ∷ 97 ∷ 97 ∷ 97 ∷ 97 ∷ 97 ∷ 97 ∷ 97 ∷ 97 ∷ 97 ∷ 97 ∷ 97 ∷ 97 ∷ 97 ∷ 97 ∷ 97 ∷ 97 ∷ 97 ∷ 97 ∷ 97 ∷ 97 ∷ 97 ∷ 97 ∷ 97 ∷ 97 ∷ 97 ∷ 97 ∷ 97 ∷ 97 ∷ 97 ∷ 97 ∷ 97 ∷ 97 ∷ 97 ∷ 97 ∷ 97 ∷ 97 ∷ 97 ∷ 97 ∷ 97 ∷ 97 ∷ 97 ∷ 97 ∷ 97 ∷ 97 ∷ 97 ∷ 97 ∷ 97 ∷ 97 ∷ 97 ∷ 97 ∷ 97 ∷ 97 ∷ 97 ∷ 97 ∷ 97 ∷ 97 ∷ 97 ∷ 97 ∷ 97 ∷ 97 ∷ 97 ∷ 97 ∷ 97 ∷ 97 ∷ 97 ∷ 97 ∷ 97 ∷ 97 ∷ 97 ∷ 97 ∷ 97 ∷ 97 ∷ 97 ∷ 97 ∷ 97 ∷ 97 ∷ 97 ∷ 97 ∷ 97 ∷ 97 ∷ 97 ∷ 97 ∷ 97 ∷ 97 ∷ 97 ∷ 97 ∷ 97 ∷ 97 ∷ 97 ∷ 97 ∷ 97 ∷ 97 ∷ 97 ∷ 97 ∷ 97 ∷ 97 ∷ 97 ∷ 97 ∷ 97 ∷ 97 ∷ 97 ∷ 97 ∷ 97 ∷ 97 ∷ 97 ∷ 97 ∷ 97 ∷ 97 ∷ 97 ∷ 97 ∷ 97 ∷ 97 ∷ 97 ∷ 97 ∷ 97 ∷ 97 ∷ 97 ∷ 97 ∷ 97 ∷ 97 ∷ 97 ∷ 97 ∷ 97 ∷ 97 ∷ 97 ∷ 97 ∷ 97 ∷ 97 ∷ 97 ∷ 97 ∷ 97 ∷ 97 ∷ 97 ∷ 97 ∷ 97 ∷ 97 ∷ 97 ∷ 97 ∷ 97 ∷ 97 ∷ 97 ∷ 97 ∷ 97 ∷ 97 ∷ 97 ∷ 97 ∷ 97 ∷ 97 ∷ 97 ∷ 97 ∷ 97 ∷ 97 ∷ 97 ∷ 97 ∷ 97 ∷ 97 ∷ 97 ∷ 97 ∷ 97 ∷ 97 ∷ 97 ∷ 97 ∷ 97 ∷ 97 ∷ 97 ∷ 97 ∷ 97 ∷ 97 ∷ 97 ∷ 97 ∷ 97 ∷ 97 ∷ 97 ∷ 97 ∷ 97 ∷ 97 ∷ 97 ∷ 97 ∷ 97 ∷ 97 ∷ 97 ∷ 97 ∷ 97 ∷ 97 ∷ 97 ∷ 97 ∷ 97 ∷ 97 ∷ 97 ∷ 97 ∷ 97 ∷ 97 ∷ 97 ∷ 97 ∷ 97 ∷ 97 ∷ 97 ∷ 97 ∷ 97 ∷ 97 ∷ 97 ∷ 97 ∷ 97 ∷ 97 ∷ 97 ∷ 97 ∷ 97 ∷ 97 ∷ 97 ∷ 97 ∷ 97 ∷ 97 ∷ 97 ∷ 97 ∷ 97 ∷ 97 ∷ 97 ∷ 97 ∷ 97 ∷ 97 ∷ 97 ∷ 97 ∷ 97 ∷ 97 ∷ 97 ∷ 97 ∷ 97 ∷ 97 ∷ 97 ∷ 97 ∷ 97 ∷ 97 ∷ 97 ∷ 97 ∷ 97 ∷ 97 ∷ 97 ∷ 97 ∷ 97 ∷ 97 ∷ 97 ∷ 97 ∷ 97 ∷ 97 ∷ 97 ∷ 97 ∷ 97 ∷ 97 ∷ 97 ∷ 97 ∷ 97 ∷ 97 ∷ 97 ∷ 97 ∷ 97 ∷ 97 ∷ 97 ∷ 97 ∷ 97 ∷ 97 ∷ 97 ∷ 97 ∷ 97 ∷ 97 ∷ 97 ∷ 97 ∷ 97 ∷ 97 ∷ 97 ∷ 97 ∷ 97 ∷ 97 ∷ 97 ∷ 97 ∷ 97 ∷ 97 ∷ 97 ∷ 97 ∷ 97 ∷ 97 ∷ 97 ∷ 97 ∷ 97 ∷ 97 ∷ 97 ∷ 97 ∷ 97 ∷ 97 ∷ 97 ∷ 97 ∷ 97 ∷ 97 ∷ 97 ∷ 97 ∷ 97 ∷ 97 ∷ 97 ∷ 97 ∷ 97 ∷ 97 ∷ 97 ∷ 97 ∷ 97 ∷ 97 ∷ 97 ∷ 97 ∷ 97 ∷ 97 ∷ 97 ∷ 97 ∷ 97 ∷ 97 ∷ 97 ∷ 97 ∷ 97 ∷ 97 ∷ 97 ∷ 97 ∷ 97 ∷ 97 ∷ 97 ∷ 97 ∷ 97 ∷ 97 ∷ 97 ∷ 97 ∷ 97 ∷ 97 ∷ 97 ∷ 97 ∷ 97 ∷ 97 ∷ 97 ∷ 97 ∷ 97 ∷ 97 ∷ 97 ∷ 97 ∷ 97 ∷ 97 ∷ 97 ∷ 97 ∷ 97 ∷ 97 ∷ 97 ∷ 97 ∷ 97 ∷ 97 ∷ 97 ∷ 97 ∷ 97 ∷ 97 ∷ 97 ∷ 97 ∷ 97 ∷ 97 ∷ 97 ∷ 97 ∷ 97 ∷ 97 ∷ 97 ∷ 97 ∷ 97 ∷ 97 ∷ 97 ∷ 97 ∷ 97 ∷ 97 ∷ 97 ∷ 97 ∷ 97 ∷ 97 ∷ 97 ∷ 97 ∷ 97 ∷ 97 ∷ 97 ∷ 97 ∷ 97 ∷ 10 ∷ 98 ∷ 93 ∷ []) ≡ None) ×
+    -- bounded min=1 max=2 «␠␠␠a»: SpaceOrTab 0-2
+    (bounded_answer None 1 2 (codes "   a") ≡ Some (enter Name.SpaceOrTab 1 1 0 0 ∷ exit Name.SpaceOrTab 1 3 2 0 ∷ [])) ×
+    -- bounded min=4 «␠␠␠a»: no
+    (bounded_answer None 4 18446744073709551615 (codes "   a") ≡ None) ×
+    -- bounded min=0 max=0 «␠␠␠a»:
+    (bounded_answer None 0 0 (codes "   a") ≡ Some ([])) ×
+    -- spacing «␠␊ b»: SpaceOrTab 0-1, LineEnding 1-2, SpaceOrTab 2-3
+    (spacing_answer None (32 ∷ 10 ∷ 32 ∷ 98 ∷ []) ≡ Some (enter Name.SpaceOrTab 1 1 0 0 ∷ exit Name.SpaceOrTab 1 2 1 0 ∷ enter Name.LineEnding 1 2 1 0 ∷ exit Name.LineEnding 2 1 2 0 ∷ enter Name.SpaceOrTab 2 1 2 0 ∷ exit Name.SpaceOrTab 2 2 3 0 ∷ [])) ×
+    -- spacing «b»: no
+    (spacing_answer None (codes "b") ≡ None) ×
+    -- spacing «␊␊b»: no
+    (spacing_answer None (10 ∷ 10 ∷ 98 ∷ []) ≡ None) ×
+    -- label «[\\]»: Reference 0-4 [ReferenceMarker 0-1, ReferenceString 1-3 [Data 1-3], ReferenceMarker 3-4]
+    (label_answer (codes "[\\\\]") ≡ Some (enter Name.Reference 1 1 0 0 ∷ enter Name.ReferenceMarker 1 1 0 0 ∷ exit Name.ReferenceMarker 1 2 1 0 ∷ enter Name.ReferenceString 1 2 1 0 ∷ chained Name.Data 1 2 1 0 None None ∷ exit Name.Data 1 4 3 0 ∷ exit Name.ReferenceString 1 4 3 0 ∷ enter Name.ReferenceMarker 1 4 3 0 ∷ exit Name.ReferenceMarker 1 5 4 0 ∷ exit Name.Reference 1 5 4 0 ∷ [])) ×
+    -- label «[\[]»: Reference 0-4 [ReferenceMarker 0-1, ReferenceString 1-3 [Data 1-3], ReferenceMarker 3-4]
+    (label_answer (codes "[\\[]") ≡ Some (enter Name.Reference 1 1 0 0 ∷ enter Name.ReferenceMarker 1 1 0 0 ∷ exit Name.ReferenceMarker 1 2 1 0 ∷ enter Name.ReferenceString 1 2 1 0 ∷ chained Name.Data 1 2 1 0 None None ∷ exit Name.Data 1 4 3 0 ∷ exit Name.ReferenceString 1 4 3 0 ∷ enter Name.ReferenceMarker 1 4 3 0 ∷ exit Name.ReferenceMarker 1 5 4 0 ∷ exit Name.Reference 1 5 4 0 ∷ [])) ×
+    -- label «[\a]»: Reference 0-4 [ReferenceMarker 0-1, ReferenceString 1-3 [Data 1-3], ReferenceMarker 3-4]
+    (label_answer (codes "[\\a]") ≡ Some (enter Name.Reference 1 1 0 0 ∷ enter Name.ReferenceMarker 1 1 0 0 ∷ exit Name.ReferenceMarker 1 2 1 0 ∷ enter Name.ReferenceString 1 2 1 0 ∷ chained Name.Data 1 2 1 0 None None ∷ exit Name.Data 1 4 3 0 ∷ exit Name.ReferenceString 1 4 3 0 ∷ enter Name.ReferenceMarker 1 4 3 0 ∷ exit Name.ReferenceMarker 1 5 4 0 ∷ exit Name.Reference 1 5 4 0 ∷ [])) ×
+    -- label «[]»: no
+    (label_answer (codes "[]") ≡ None) ×
+    -- label «[␊]»: no
+    (label_answer (91 ∷ 10 ∷ 93 ∷ []) ≡ None) ×
+    -- label «[␉]»: no
+    (label_answer (91 ∷ 9 ∷ 93 ∷ []) ≡ None) ×
+    -- label «[a␊␊b]»: no
+    (label_answer (91 ∷ 97 ∷ 10 ∷ 10 ∷ 98 ∷ 93 ∷ []) ≡ None) ×
+    -- label «[a␊]»: Reference 0-4 [ReferenceMarker 0-1, ReferenceString 1-3 [Data 1-2, LineEnding 2-3], ReferenceMarker 3-4]
+    (label_answer (91 ∷ 97 ∷ 10 ∷ 93 ∷ []) ≡ Some (enter Name.Reference 1 1 0 0 ∷ enter Name.ReferenceMarker 1 1 0 0 ∷ exit Name.ReferenceMarker 1 2 1 0 ∷ enter Name.ReferenceString 1 2 1 0 ∷ chained Name.Data 1 2 1 0 None (Some 6) ∷ exit Name.Data 1 3 2 0 ∷ chained Name.LineEnding 1 3 2 0 (Some 4) None ∷ exit Name.LineEnding 2 1 3 0 ∷ exit Name.ReferenceString 2 1 3 0 ∷ enter Name.ReferenceMarker 2 1 3 0 ∷ exit Name.ReferenceMarker 2 2 4 0 ∷ exit Name.Reference 2 2 4 0 ∷ [])) ×
+    -- label «[⟦a×998⟧␊ a]»: Reference 0-1003 [ReferenceMarker 0-1, ReferenceString 1-1002 [Data 1-999, LineEnding 999-1000, SpaceOrTab 1000-1001, Data 1001-1002], ReferenceMarker 1002-1003]
+    (label_answer (91 ∷ 97 ∷ 97 ∷ 97 ∷ 97 ∷ 97 ∷ 97 ∷ 97 ∷ 97 ∷ 97 ∷ 97 ∷ 97 ∷ 97 ∷ 97 ∷ 97 ∷ 97 ∷ 97 ∷ 97 ∷ 97 ∷ 97 ∷ 97 ∷ 97 ∷ 97 ∷ 97 ∷ 97 ∷ 97 ∷ 97 ∷ 97 ∷ 97 ∷ 97 ∷ 97 ∷ 97 ∷ 97 ∷ 97 ∷ 97 ∷ 97 ∷ 97 ∷ 97 ∷ 97 ∷ 97 ∷ 97 ∷ 97 ∷ 97 ∷ 97 ∷ 97 ∷ 97 ∷ 97 ∷ 97 ∷ 97 ∷ 97 ∷ 97 ∷ 97 ∷ 97 ∷ 97 ∷ 97 ∷ 97 ∷ 97 ∷ 97 ∷ 97 ∷ 97 ∷ 97 ∷ 97 ∷ 97 ∷ 97 ∷ 97 ∷ 97 ∷ 97 ∷ 97 ∷ 97 ∷ 97 ∷ 97 ∷ 97 ∷ 97 ∷ 97 ∷ 97 ∷ 97 ∷ 97 ∷ 97 ∷ 97 ∷ 97 ∷ 97 ∷ 97 ∷ 97 ∷ 97 ∷ 97 ∷ 97 ∷ 97 ∷ 97 ∷ 97 ∷ 97 ∷ 97 ∷ 97 ∷ 97 ∷ 97 ∷ 97 ∷ 97 ∷ 97 ∷ 97 ∷ 97 ∷ 97 ∷ 97 ∷ 97 ∷ 97 ∷ 97 ∷ 97 ∷ 97 ∷ 97 ∷ 97 ∷ 97 ∷ 97 ∷ 97 ∷ 97 ∷ 97 ∷ 97 ∷ 97 ∷ 97 ∷ 97 ∷ 97 ∷ 97 ∷ 97 ∷ 97 ∷ 97 ∷ 97 ∷ 97 ∷ 97 ∷ 97 ∷ 97 ∷ 97 ∷ 97 ∷ 97 ∷ 97 ∷ 97 ∷ 97 ∷ 97 ∷ 97 ∷ 97 ∷ 97 ∷ 97 ∷ 97 ∷ 97 ∷ 97 ∷ 97 ∷ 97 ∷ 97 ∷ 97 ∷ 97 ∷ 97 ∷ 97 ∷ 97 ∷ 97 ∷ 97 ∷ 97 ∷ 97 ∷ 97 ∷ 97 ∷ 97 ∷ 97 ∷ 97 ∷ 97 ∷ 97 ∷ 97 ∷ 97 ∷ 97 ∷ 97 ∷ 97 ∷ 97 ∷ 97 ∷ 97 ∷ 97 ∷ 97 ∷ 97 ∷ 97 ∷ 97 ∷ 97 ∷ 97 ∷ 97 ∷ 97 ∷ 97 ∷ 97 ∷ 97 ∷ 97 ∷ 97 ∷ 97 ∷ 97 ∷ 97 ∷ 97 ∷ 97 ∷ 97 ∷ 97 ∷ 97 ∷ 97 ∷ 97 ∷ 97 ∷ 97 ∷ 97 ∷ 97 ∷ 97 ∷ 97 ∷ 97 ∷ 97 ∷ 97 ∷ 97 ∷ 97 ∷ 97 ∷ 97 ∷ 97 ∷ 97 ∷ 97 ∷ 97 ∷ 97 ∷ 97 ∷ 97 ∷ 97 ∷ 97 ∷ 97 ∷ 97 ∷ 97 ∷ 97 ∷ 97 ∷ 97 ∷ 97 ∷ 97 ∷ 97 ∷ 97 ∷ 97 ∷ 97 ∷ 97 ∷ 97 ∷ 97 ∷ 97 ∷ 97 ∷ 97 ∷ 97 ∷ 97 ∷ 97 ∷ 97 ∷ 97 ∷ 97 ∷ 97 ∷ 97 ∷ 97 ∷ 97 ∷ 97 ∷ 97 ∷ 97 ∷ 97 ∷ 97 ∷ 97 ∷ 97 ∷ 97 ∷ 97 ∷ 97 ∷ 97 ∷ 97 ∷ 97 ∷ 97 ∷ 97 ∷ 97 ∷ 97 ∷ 97 ∷ 97 ∷ 97 ∷ 97 ∷ 97 ∷ 97 ∷ 97 ∷ 97 ∷ 97 ∷ 97 ∷ 97 ∷ 97 ∷ 97 ∷ 97 ∷ 97 ∷ 97 ∷ 97 ∷ 97 ∷ 97 ∷ 97 ∷ 97 ∷ 97 ∷ 97 ∷ 97 ∷ 97 ∷ 97 ∷ 97 ∷ 97 ∷ 97 ∷ 97 ∷ 97 ∷ 97 ∷ 97 ∷ 97 ∷ 97 ∷ 97 ∷ 97 ∷ 97 ∷ 97 ∷ 97 ∷ 97 ∷ 97 ∷ 97 ∷ 97 ∷ 97 ∷ 97 ∷ 97 ∷ 97 ∷ 97 ∷ 97 ∷ 97 ∷ 97 ∷ 97 ∷ 97 ∷ 97 ∷ 97 ∷ 97 ∷ 97 ∷ 97 ∷ 97 ∷ 97 ∷ 97 ∷ 97 ∷ 97 ∷ 97 ∷ 97 ∷ 97 ∷ 97 ∷ 97 ∷ 97 ∷ 97 ∷ 97 ∷ 97 ∷ 97 ∷ 97 ∷ 97 ∷ 97 ∷ 97 ∷ 97 ∷ 97 ∷ 97 ∷ 97 ∷ 97 ∷ 97 ∷ 97 ∷ 97 ∷ 97 ∷ 97 ∷ 97 ∷ 97 ∷ 97 ∷ 97 ∷ 97 ∷ 97 ∷ 97 ∷ 97 ∷ 97 ∷ 97 ∷ 97 ∷ 97 ∷ 97 ∷ 97 ∷ 97 ∷ 97 ∷ 97 ∷ 97 ∷ 97 ∷ 97 ∷ 97 ∷ 97 ∷ 97 ∷ 97 ∷ 97 ∷ 97 ∷ 97 ∷ 97 ∷ 97 ∷ 97 ∷ 97 ∷ 97 ∷ 97 ∷ 97 ∷ 97 ∷ 97 ∷ 97 ∷ 97 ∷ 97 ∷ 97 ∷ 97 ∷ 97 ∷ 97 ∷ 97 ∷ 97 ∷ 97 ∷ 97 ∷ 97 ∷ 97 ∷ 97 ∷ 97 ∷ 97 ∷ 97 ∷ 97 ∷ 97 ∷ 97 ∷ 97 ∷ 97 ∷ 97 ∷ 97 ∷ 97 ∷ 97 ∷ 97 ∷ 97 ∷ 97 ∷ 97 ∷ 97 ∷ 97 ∷ 97 ∷ 97 ∷ 97 ∷ 97 ∷ 97 ∷ 97 ∷ 97 ∷ 97 ∷ 97 ∷ 97 ∷ 97 ∷ 97 ∷ 97 ∷ 97 ∷ 97 ∷ 97 ∷ 97 ∷ 97 ∷ 97 ∷ 97 ∷ 97 ∷ 97 ∷ 97 ∷ 97 ∷ 97 ∷ 97 ∷ 97 ∷ 97 ∷ 97 ∷ 97 ∷ 97 ∷ 97 ∷ 97 ∷ 97 ∷ 97 ∷ 97 ∷ 97 ∷ 97 ∷ 97 ∷ 97 ∷ 97 ∷ 97 ∷ 97 ∷ 97 ∷ 97 ∷ 97 ∷ 97 ∷ 97 ∷ 97 ∷ 97 ∷ 97 ∷ 97 ∷ 97 ∷ 97 ∷ 97 ∷ 97 ∷ 97 ∷ 97 ∷ 97 ∷ 97 ∷ 97 ∷ 97 ∷ 97 ∷ 97 ∷ 97 ∷ 97 ∷ 97 ∷ 97 ∷ 97 ∷ 97 ∷ 97 ∷ 97 ∷ 97 ∷ 97 ∷ 97 ∷ 97 ∷ 97 ∷ 97 ∷ 97 ∷ 97 ∷ 97 ∷ 97 ∷ 97 ∷ 97 ∷ 97 ∷ 97 ∷ 97 ∷ 97 ∷ 97 ∷ 97 ∷ 97 ∷ 97 ∷ 97 ∷ 97 ∷ 97 ∷ 97 ∷ 97 ∷ 97 ∷ 97 ∷ 97 ∷ 97 ∷ 97 ∷ 97 ∷ 97 ∷ 97 ∷ 97 ∷ 97 ∷ 97 ∷ 97 ∷ 97 ∷ 97 ∷ 97 ∷ 97 ∷ 97 ∷ 97 ∷ 97 ∷ 97 ∷ 97 ∷ 97 ∷ 97 ∷ 97 ∷ 97 ∷ 97 ∷ 97 ∷ 97 ∷ 97 ∷ 97 ∷ 97 ∷ 97 ∷ 97 ∷ 97 ∷ 97 ∷ 97 ∷ 97 ∷ 97 ∷ 97 ∷ 97 ∷ 97 ∷ 97 ∷ 97 ∷ 97 ∷ 97 ∷ 97 ∷ 97 ∷ 97 ∷ 97 ∷ 97 ∷ 97 ∷ 97 ∷ 97 ∷ 97 ∷ 97 ∷ 97 ∷ 97 ∷ 97 ∷ 97 ∷ 97 ∷ 97 ∷ 97 ∷ 97 ∷ 97 ∷ 97 ∷ 97 ∷ 97 ∷ 97 ∷ 97 ∷ 97 ∷ 97 ∷ 97 ∷ 97 ∷ 97 ∷ 97 ∷ 97 ∷ 97 ∷ 97 ∷ 97 ∷ 97 ∷ 97 ∷ 97 ∷ 97 ∷ 97 ∷ 97 ∷ 97 ∷ 97 ∷ 97 ∷ 97 ∷ 97 ∷ 97 ∷ 97 ∷ 97 ∷ 97 ∷ 97 ∷ 97 ∷ 97 ∷ 97 ∷ 97 ∷ 97 ∷ 97 ∷ 97 ∷ 97 ∷ 97 ∷ 97 ∷ 97 ∷ 97 ∷ 97 ∷ 97 ∷ 97 ∷ 97 ∷ 97 ∷ 97 ∷ 97 ∷ 97 ∷ 97 ∷ 97 ∷ 97 ∷ 97 ∷ 97 ∷ 97 ∷ 97 ∷ 97 ∷ 97 ∷ 97 ∷ 97 ∷ 97 ∷ 97 ∷ 97 ∷ 97 ∷ 97 ∷ 97 ∷ 97 ∷ 97 ∷ 97 ∷ 97 ∷ 97 ∷ 97 ∷ 97 ∷ 97 ∷ 97 ∷ 97 ∷ 97 ∷ 97 ∷ 97 ∷ 97 ∷ 97 ∷ 97 ∷ 97 ∷ 97 ∷ 97 ∷ 97 ∷ 97 ∷ 97 ∷ 97 ∷ 97 ∷ 97 ∷ 97 ∷ 97 ∷ 97 ∷ 97 ∷ 97 ∷ 97 ∷ 97 ∷ 97 ∷ 97 ∷ 97 ∷ 97 ∷ 97 ∷ 97 ∷ 97 ∷ 97 ∷ 97 ∷ 97 ∷ 97 ∷ 97 ∷ 97 ∷ 97 ∷ 97 ∷ 97 ∷ 97 ∷ 97 ∷ 97 ∷ 97 ∷ 97 ∷ 97 ∷ 97 ∷ 97 ∷ 97 ∷ 97 ∷ 97 ∷ 97 ∷ 97 ∷ 97 ∷ 97 ∷ 97 ∷ 97 ∷ 97 ∷ 97 ∷ 97 ∷ 97 ∷ 97 ∷ 97 ∷ 97 ∷ 97 ∷ 97 ∷ 97 ∷ 97 ∷ 97 ∷ 97 ∷ 97 ∷ 97 ∷ 97 ∷ 97 ∷ 97 ∷ 97 ∷ 97 ∷ 97 ∷ 97 ∷ 97 ∷ 97 ∷ 97 ∷ 97 ∷ 97 ∷ 97 ∷ 97 ∷ 97 ∷ 97 ∷ 97 ∷ 97 ∷ 97 ∷ 97 ∷ 97 ∷ 97 ∷ 97 ∷ 97 ∷ 97 ∷ 97 ∷ 97 ∷ 97 ∷ 97 ∷ 97 ∷ 97 ∷ 97 ∷ 97 ∷ 97 ∷ 97 ∷ 97 ∷ 97 ∷ 97 ∷ 97 ∷ 97 ∷ 97 ∷ 97 ∷ 97 ∷ 97 ∷ 97 ∷ 97 ∷ 97 ∷ 97 ∷ 97 ∷ 97 ∷ 97 ∷ 97 ∷ 97 ∷ 97 ∷ 97 ∷ 97 ∷ 97 ∷ 97 ∷ 97 ∷ 97 ∷ 97 ∷ 97 ∷ 97 ∷ 97 ∷ 97 ∷ 97 ∷ 97 ∷ 97 ∷ 97 ∷ 97 ∷ 97 ∷ 97 ∷ 97 ∷ 97 ∷ 97 ∷ 97 ∷ 97 ∷ 97 ∷ 97 ∷ 97 ∷ 97 ∷ 97 ∷ 97 ∷ 97 ∷ 97 ∷ 97 ∷ 97 ∷ 97 ∷ 97 ∷ 97 ∷ 97 ∷ 97 ∷ 97 ∷ 97 ∷ 97 ∷ 97 ∷ 97 ∷ 97 ∷ 97 ∷ 97 ∷ 97 ∷ 97 ∷ 97 ∷ 97 ∷ 97 ∷ 97 ∷ 97 ∷ 97 ∷ 97 ∷ 97 ∷ 97 ∷ 97 ∷ 97 ∷ 97 ∷ 97 ∷ 97 ∷ 97 ∷ 97 ∷ 97 ∷ 97 ∷ 97 ∷ 97 ∷ 97 ∷ 97 ∷ 97 ∷ 97 ∷ 97 ∷ 97 ∷ 97 ∷ 97 ∷ 97 ∷ 97 ∷ 97 ∷ 97 ∷ 97 ∷ 97 ∷ 97 ∷ 97 ∷ 97 ∷ 97 ∷ 97 ∷ 97 ∷ 97 ∷ 97 ∷ 97 ∷ 97 ∷ 97 ∷ 97 ∷ 97 ∷ 97 ∷ 97 ∷ 97 ∷ 97 ∷ 97 ∷ 97 ∷ 97 ∷ 97 ∷ 97 ∷ 97 ∷ 97 ∷ 97 ∷ 97 ∷ 97 ∷ 97 ∷ 97 ∷ 97 ∷ 97 ∷ 97 ∷ 97 ∷ 97 ∷ 97 ∷ 97 ∷ 97 ∷ 97 ∷ 97 ∷ 97 ∷ 97 ∷ 97 ∷ 97 ∷ 97 ∷ 97 ∷ 97 ∷ 97 ∷ 97 ∷ 97 ∷ 97 ∷ 97 ∷ 97 ∷ 97 ∷ 97 ∷ 97 ∷ 97 ∷ 97 ∷ 97 ∷ 97 ∷ 97 ∷ 97 ∷ 97 ∷ 97 ∷ 97 ∷ 97 ∷ 97 ∷ 97 ∷ 97 ∷ 97 ∷ 97 ∷ 97 ∷ 97 ∷ 97 ∷ 97 ∷ 97 ∷ 97 ∷ 97 ∷ 97 ∷ 97 ∷ 97 ∷ 97 ∷ 97 ∷ 97 ∷ 97 ∷ 97 ∷ 97 ∷ 97 ∷ 97 ∷ 97 ∷ 97 ∷ 97 ∷ 97 ∷ 97 ∷ 97 ∷ 97 ∷ 97 ∷ 97 ∷ 97 ∷ 97 ∷ 97 ∷ 97 ∷ 97 ∷ 97 ∷ 97 ∷ 97 ∷ 97 ∷ 97 ∷ 97 ∷ 97 ∷ 97 ∷ 97 ∷ 97 ∷ 97 ∷ 97 ∷ 97 ∷ 97 ∷ 97 ∷ 97 ∷ 97 ∷ 97 ∷ 97 ∷ 97 ∷ 97 ∷ 97 ∷ 97 ∷ 97 ∷ 97 ∷ 97 ∷ 97 ∷ 97 ∷ 97 ∷ 97 ∷ 97 ∷ 97 ∷ 97 ∷ 97 ∷ 97 ∷ 97 ∷ 97 ∷ 10 ∷ 32 ∷ 97 ∷ 93 ∷ []) ≡ Some (enter Name.Reference 1 1 0 0 ∷ enter Name.ReferenceMarker 1 1 0 0 ∷ exit Name.ReferenceMarker 1 2 1 0 ∷ enter Name.ReferenceString 1 2 1 0 ∷ chained Name.Data 1 2 1 0 None (Some 6) ∷ exit Name.Data 1 1000 999 0 ∷ chained Name.LineEnding 1 1000 999 0 (Some 4) (Some 8) ∷ exit Name.LineEnding 2 1 1000 0 ∷ chained Name.SpaceOrTab 2 1 1000 0 (Some 6) (Some 10) ∷ exit Name.SpaceOrTab 2 2 1001 0 ∷ chained Name.Data 2 2 1001 0 (Some 8) None ∷ exit Name.Data 2 3 1002 0 ∷ exit Name.ReferenceString 2 3 1002 0 ∷ enter Name.ReferenceMarker 2 3 1002 0 ∷ exit Name.ReferenceMarker 2 4 1003 0 ∷ exit Name.Reference 2 4 1003 0 ∷ [])) ×
+    -- label «[⟦a×999⟧ ]»: no
+    (label_answer (codes "[aaaaaaaaaaaaaaaaaaaaaaaaaaaaaaaaaaaaaaaaaaaaaaaaaaaaaaaaaaaaaaaaaaaaaaaaaaaaaaaaaaaaaaaaaaaaaaaaaaaaaaaaaaaaaaaaaaaaaaaaaaaaaaaaaaaaaaaaaaaaaaaaaaaaaaaaaaaaaaaaaaaaaaaaaaaaaaaaaaaaaaaaaaaaaaaaaaaaaaaaaaaaaaaaaaaaaaaaaaaaaaaaaaaaaaaaaaaaaaaaaaaaaaaaaaaaaaaaaaaaaaaaaaaaaaaaaaaaaaaaaaaaaaaaaaaaaaaaaaaaaaaaaaaaaaaaaaaaaaaaaaaaaaaaaaaaaaaaaaaaaaaaaaaaaaaaaaaaaaaaaaaaaaaaaaaaaaaaaaaaaaaaaaaaaaaaaaaaaaaaaaaaaaaaaaaaaaaaaaaaaaaaaaaaaaaaaaaaaaaaaaaaaaaaaaaaaaaaaaaaaaaaaaaaaaaaaaaaaaaaaaaaaaaaaaaaaaaaaaaaaaaaaaaaaaaaaaaaaaaaaaaaaaaaaaaaaaaaaaaaaaaaaaaaaaaaaaaaaaaaaaaaaaaaaaaaaaaaaaaaaaaaaaaaaaaaaaaaaaaaaaaaaaaaaaaaaaaaaaaaaaaaaaaaaaaaaaaaaaaaaaaaaaaaaaaaaaaaaaaaaaaaaaaaaaaaaaaaaaaaaaaaaaaaaaaaaaaaaaaaaaaaaaaaaaaaaaaaaaaaaaaaaaaaaaaaaaaaaaaaaaaaaaaaaaaaaaaaaaaaaaaaaaaaaaaaaaaaaaaaaaaaaaaaaaaaaaaaaaaaaaaaaaaaaaaaaaaaaaaaaaaaaaaaaaaaaaaaaaaaaaaaaaaaaaaaaaaaaaaaaaaaaaaaaaaaaaaaaaaaaaaaaaaaaaaaaaaaaaaaaaaaaaaaaaaaaaaaaaaaaaaaaaaaaaaaaaaaaaaaaaaaaaaaaaaaaaaaaaaaaaaaaaaaaaaaaaaaaaaaaaaaaaaaaaaaaaaaaaa ]") ≡ None) ×
+    -- label «[␠⟦a×999⟧]»: no
+    (label_answer (codes "[ aaaaaaaaaaaaaaaaaaaaaaaaaaaaaaaaaaaaaaaaaaaaaaaaaaaaaaaaaaaaaaaaaaaaaaaaaaaaaaaaaaaaaaaaaaaaaaaaaaaaaaaaaaaaaaaaaaaaaaaaaaaaaaaaaaaaaaaaaaaaaaaaaaaaaaaaaaaaaaaaaaaaaaaaaaaaaaaaaaaaaaaaaaaaaaaaaaaaaaaaaaaaaaaaaaaaaaaaaaaaaaaaaaaaaaaaaaaaaaaaaaaaaaaaaaaaaaaaaaaaaaaaaaaaaaaaaaaaaaaaaaaaaaaaaaaaaaaaaaaaaaaaaaaaaaaaaaaaaaaaaaaaaaaaaaaaaaaaaaaaaaaaaaaaaaaaaaaaaaaaaaaaaaaaaaaaaaaaaaaaaaaaaaaaaaaaaaaaaaaaaaaaaaaaaaaaaaaaaaaaaaaaaaaaaaaaaaaaaaaaaaaaaaaaaaaaaaaaaaaaaaaaaaaaaaaaaaaaaaaaaaaaaaaaaaaaaaaaaaaaaaaaaaaaaaaaaaaaaaaaaaaaaaaaaaaaaaaaaaaaaaaaaaaaaaaaaaaaaaaaaaaaaaaaaaaaaaaaaaaaaaaaaaaaaaaaaaaaaaaaaaaaaaaaaaaaaaaaaaaaaaaaaaaaaaaaaaaaaaaaaaaaaaaaaaaaaaaaaaaaaaaaaaaaaaaaaaaaaaaaaaaaaaaaaaaaaaaaaaaaaaaaaaaaaaaaaaaaaaaaaaaaaaaaaaaaaaaaaaaaaaaaaaaaaaaaaaaaaaaaaaaaaaaaaaaaaaaaaaaaaaaaaaaaaaaaaaaaaaaaaaaaaaaaaaaaaaaaaaaaaaaaaaaaaaaaaaaaaaaaaaaaaaaaaaaaaaaaaaaaaaaaaaaaaaaaaaaaaaaaaaaaaaaaaaaaaaaaaaaaaaaaaaaaaaaaaaaaaaaaaaaaaaaaaaaaaaaaaaaaaaaaaaaaaaaaaaaaaaaaaaaaaaaaaaaaaaaaaaaaaaaaaaaaaaaaaaaaaaa]") ≡ None) ×
+    -- title « »: no
+    (title_answer (codes " ") ≡ None) ×
+    -- title «"\\"»: ResourceTitle 0-4 [ResourceTitleMarker 0-1, ResourceTitleString 1-3 [Data 1-3], ResourceTitleMarker 3-4]
+    (title_answer (codes "\"\\\\\"") ≡ Some (enter Name.ResourceTitle 1 1 0 0 ∷ enter Name.ResourceTitleMarker 1 1 0 0 ∷ exit Name.ResourceTitleMarker 1 2 1 0 ∷ enter Name.ResourceTitleString 1 2 1 0 ∷ chained Name.Data 1 2 1 0 None None ∷ exit Name.Data 1 4 3 0 ∷ exit Name.ResourceTitleString 1 4 3 0 ∷ enter Name.ResourceTitleMarker 1 4 3 0 ∷ exit Name.ResourceTitleMarker 1 5 4 0 ∷ exit Name.ResourceTitle 1 5 4 0 ∷ [])) ×
+    -- title «"\""»: ResourceTitle 0-4 [ResourceTitleMarker 0-1, ResourceTitleString 1-3 [Data 1-3], ResourceTitleMarker 3-4]
+    (title_answer (codes "\"\\\"\"") ≡ Some (enter Name.ResourceTitle 1 1 0 0 ∷ enter Name.ResourceTitleMarker 1 1 0 0 ∷ exit Name.ResourceTitleMarker 1 2 1 0 ∷ enter Name.ResourceTitleString 1 2 1 0 ∷ chained Name.Data 1 2 1 0 None None ∷ exit Name.Data 1 4 3 0 ∷ exit Name.ResourceTitleString 1 4 3 0 ∷ enter Name.ResourceTitleMarker 1 4 3 0 ∷ exit Name.ResourceTitleMarker 1 5 4 0 ∷ exit Name.ResourceTitle 1 5 4 0 ∷ [])) ×
+    -- title «"\a"»: ResourceTitle 0-4 [ResourceTitleMarker 0-1, ResourceTitleString 1-3 [Data 1-3], ResourceTitleMarker 3-4]
+    (title_answer (codes "\"\\a\"") ≡ Some (enter Name.ResourceTitle 1 1 0 0 ∷ enter Name.ResourceTitleMarker 1 1 0 0 ∷ exit Name.ResourceTitleMarker 1 2 1 0 ∷ enter Name.ResourceTitleString 1 2 1 0 ∷ chained Name.Data 1 2 1 0 None None ∷ exit Name.Data 1 4 3 0 ∷ exit Name.ResourceTitleString 1 4 3 0 ∷ enter Name.ResourceTitleMarker 1 4 3 0 ∷ exit Name.ResourceTitleMarker 1 5 4 0 ∷ exit Name.ResourceTitle 1 5 4 0 ∷ [])) ×
+    -- title «'a'»: ResourceTitle 0-3 [ResourceTitleMarker 0-1, ResourceTitleString 1-2 [Data 1-2], ResourceTitleMarker 2-3]
+    (title_answer (codes "'a'") ≡ Some (enter Name.ResourceTitle 1 1 0 0 ∷ enter Name.ResourceTitleMarker 1 1 0 0 ∷ exit Name.ResourceTitleMarker 1 2 1 0 ∷ enter Name.ResourceTitleString 1 2 1 0 ∷ chained Name.Data 1 2 1 0 None None ∷ exit Name.Data 1 3 2 0 ∷ exit Name.ResourceTitleString 1 3 2 0 ∷ enter Name.ResourceTitleMarker 1 3 2 0 ∷ exit Name.ResourceTitleMarker 1 4 3 0 ∷ exit Name.ResourceTitle 1 4 3 0 ∷ [])) ×
+    -- title «"'"»: ResourceTitle 0-3 [ResourceTitleMarker 0-1, ResourceTitleString 1-2 [Data 1-2], ResourceTitleMarker 2-3]
+    (title_answer (codes "\"'\"") ≡ Some (enter Name.ResourceTitle 1 1 0 0 ∷ enter Name.ResourceTitleMarker 1 1 0 0 ∷ exit Name.ResourceTitleMarker 1 2 1 0 ∷ enter Name.ResourceTitleString 1 2 1 0 ∷ chained Name.Data 1 2 1 0 None None ∷ exit Name.Data 1 3 2 0 ∷ exit Name.ResourceTitleString 1 3 2 0 ∷ enter Name.ResourceTitleMarker 1 3 2 0 ∷ exit Name.ResourceTitleMarker 1 4 3 0 ∷ exit Name.ResourceTitle 1 4 3 0 ∷ [])) ×
+    -- title «'"'»: ResourceTitle 0-3 [ResourceTitleMarker 0-1, ResourceTitleString 1-2 [Data 1-2], ResourceTitleMarker 2-3]
+    (title_answer (codes "'\"'") ≡ Some (enter Name.ResourceTitle 1 1 0 0 ∷ enter Name.ResourceTitleMarker 1 1 0 0 ∷ exit Name.ResourceTitleMarker 1 2 1 0 ∷ enter Name.ResourceTitleString 1 2 1 0 ∷ chained Name.Data 1 2 1 0 None None ∷ exit Name.Data 1 3 2 0 ∷ exit Name.ResourceTitleString 1 3 2 0 ∷ enter Name.ResourceTitleMarker 1 3 2 0 ∷ exit Name.ResourceTitleMarker 1 4 3 0 ∷ exit Name.ResourceTitle 1 4 3 0 ∷ [])) ×
+    -- title «(\))»: ResourceTitle 0-4 [ResourceTitleMarker 0-1, ResourceTitleString 1-3 [Data 1-3], ResourceTitleMarker 3-4]
+    (title_answer (codes "(\\))") ≡ Some (enter Name.ResourceTitle 1 1 0 0 ∷ enter Name.ResourceTitleMarker 1 1 0 0 ∷ exit Name.ResourceTitleMarker 1 2 1 0 ∷ enter Name.ResourceTitleString 1 2 1 0 ∷ chained Name.Data 1 2 1 0 None None ∷ exit Name.Data 1 4 3 0 ∷ exit Name.ResourceTitleString 1 4 3 0 ∷ enter Name.ResourceTitleMarker 1 4 3 0 ∷ exit Name.ResourceTitleMarker 1 5 4 0 ∷ exit Name.ResourceTitle 1 5 4 0 ∷ [])) ×
+    -- title «"␠a"»: ResourceTitle 0-4 [ResourceTitleMarker 0-1, ResourceTitleString 1-3 [Data 1-3], ResourceTitleMarker 3-4]
+    (title_answer (codes "\" a\"") ≡ Some (enter Name.ResourceTitle 1 1 0 0 ∷ enter Name.ResourceTitleMarker 1 1 0 0 ∷ exit Name.ResourceTitleMarker 1 2 1 0 ∷ enter Name.ResourceTitleString 1 2 1 0 ∷ chained Name.Data 1 2 1 0 None None ∷ exit Name.Data 1 4 3 0 ∷ exit Name.ResourceTitleString 1 4 3 0 ∷ enter Name.ResourceTitleMarker 1 4 3 0 ∷ exit Name.ResourceTitleMarker 1 5 4 0 ∷ exit Name.ResourceTitle 1 5 4 0 ∷ [])) ×
+    -- title «"a␊"»: ResourceTitle 0-4 [ResourceTitleMarker 0-1, ResourceTitleString 1-3 [Data 1-2, LineEnding 2-3], ResourceTitleMarker 3-4]
+    (title_answer (34 ∷ 97 ∷ 10 ∷ 34 ∷ []) ≡ Some (enter Name.ResourceTitle 1 1 0 0 ∷ enter Name.ResourceTitleMarker 1 1 0 0 ∷ exit Name.ResourceTitleMarker 1 2 1 0 ∷ enter Name.ResourceTitleString 1 2 1 0 ∷ chained Name.Data 1 2 1 0 None (Some 6) ∷ exit Name.Data 1 3 2 0 ∷ chained Name.LineEnding 1 3 2 0 (Some 4) None ∷ exit Name.LineEnding 2 1 3 0 ∷ exit Name.ResourceTitleString 2 1 3 0 ∷ enter Name.ResourceTitleMarker 2 1 3 0 ∷ exit Name.ResourceTitleMarker 2 2 4 0 ∷ exit Name.ResourceTitle 2 2 4 0 ∷ [])) ×
+    -- title «"a␊ b␊ c"»: ResourceTitle 0-9 [ResourceTitleMarker 0-1, ResourceTitleString 1-8 [Data 1-2, LineEnding 2-3, SpaceOrTab 3-4, Data 4-5, LineEnding 5-6, SpaceOrTab 6-7, Data 7-8], ResourceTitleMarker 8-9]
+    (title_answer (34 ∷ 97 ∷ 10 ∷ 32 ∷ 98 ∷ 10 ∷ 32 ∷ 99 ∷ 34 ∷ []) ≡ Some (enter Name.ResourceTitle 1 1 0 0 ∷ enter Name.ResourceTitleMarker 1 1 0 0 ∷ exit Name.ResourceTitleMarker 1 2 1 0 ∷ enter Name.ResourceTitleString 1 2 1 0 ∷ chained Name.Data 1 2 1 0 None (Some 6) ∷ exit Name.Data 1 3 2 0 ∷ chained Name.LineEnding 1 3 2 0 (Some 4) (Some 8) ∷ exit Name.LineEnding 2 1 3 0 ∷ chained Name.SpaceOrTab 2 1 3 0 (Some 6) (Some 10) ∷ exit Name.SpaceOrTab 2 2 4 0 ∷ chained Name.Data 2 2 4 0 (Some 8) (Some 12) ∷ exit Name.Data 2 3 5 0 ∷ chained Name.LineEnding 2 3 5 0 (Some 10) (Some 14) ∷ exit Name.LineEnding 3 1 6 0 ∷ chained Name.SpaceOrTab 3 1 6 0 (Some 12) (Some 16) ∷ exit Name.SpaceOrTab 3 2 7 0 ∷ chained Name.Data 3 2 7 0 (Some 14) None ∷ exit Name.Data 3 3 8 0 ∷ exit Name.ResourceTitleString 3 3 8 0 ∷ enter Name.ResourceTitleMarker 3 3 8 0 ∷ exit Name.ResourceTitleMarker 3 4 9 0 ∷ exit Name.ResourceTitle 3 4 9 0 ∷ [])) ×
+    -- title «"a␊␊b"»: no
+    (title_answer (34 ∷ 97 ∷ 10 ∷ 10 ∷ 98 ∷ 34 ∷ []) ≡ None) ×
+    -- title «a»: no
+    (title_answer (codes "a") ≡ None) ×
+    -- destination «<\<>»: ResourceDestination 0-4 [ResourceDestinationLiteral 0-4 [ResourceDestinationLiteralMarker 0-1, ResourceDestinationString 1-3 [Data 1-3], ResourceDestinationLiteralMarker 3-4]]
+    (destination_answer (codes "<\\<>") ≡ Some (enter Name.ResourceDestination 1 1 0 0 ∷ enter Name.ResourceDestinationLiteral 1 1 0 0 ∷ enter Name.ResourceDestinationLiteralMarker 1 1 0 0 ∷ exit Name.ResourceDestinationLiteralMarker 1 2 1 0 ∷ enter Name.ResourceDestinationString 1 2 1 0 ∷ chained Name.Data 1 2 1 0 None None ∷ exit Name.Data 1 4 3 0 ∷ exit Name.ResourceDestinationString 1 4 3 0 ∷ enter Name.ResourceDestinationLiteralMarker 1 4 3 0 ∷ exit Name.ResourceDestinationLiteralMarker 1 5 4 0 ∷ exit Name.ResourceDestinationLiteral 1 5 4 0 ∷ exit Name.ResourceDestination 1 5 4 0 ∷ [])) ×
+    -- destination «<\>>»: ResourceDestination 0-4 [ResourceDestinationLiteral 0-4 [ResourceDestinationLiteralMarker 0-1, ResourceDestinationString 1-3 [Data 1-3], ResourceDestinationLiteralMarker 3-4]]
+    (destination_answer (codes "<\\>>") ≡ Some (enter Name.ResourceDestination 1 1 0 0 ∷ enter Name.ResourceDestinationLiteral 1 1 0 0 ∷ enter Name.ResourceDestinationLiteralMarker 1 1 0 0 ∷ exit Name.ResourceDestinationLiteralMarker 1 2 1 0 ∷ enter Name.ResourceDestinationString 1 2 1 0 ∷ chained Name.Data 1 2 1 0 None None ∷ exit Name.Data 1 4 3 0 ∷ exit Name.ResourceDestinationString 1 4 3 0 ∷ enter Name.ResourceDestinationLiteralMarker 1 4 3 0 ∷ exit Name.ResourceDestinationLiteralMarker 1 5 4 0 ∷ exit Name.ResourceDestinationLiteral 1 5 4 0 ∷ exit Name.ResourceDestination 1 5 4 0 ∷ [])) ×
+    -- destination «<\\>»: ResourceDestination 0-4 [ResourceDestinationLiteral 0-4 [ResourceDestinationLiteralMarker 0-1, ResourceDestinationString 1-3 [Data 1-3], ResourceDestinationLiteralMarker 3-4]]
+    (destination_answer (codes "<\\\\>") ≡ Some (enter Name.ResourceDestination 1 1 0 0 ∷ enter Name.ResourceDestinationLiteral 1 1 0 0 ∷ enter Name.ResourceDestinationLiteralMarker 1 1 0 0 ∷ exit Name.ResourceDestinationLiteralMarker 1 2 1 0 ∷ enter Name.ResourceDestinationString 1 2 1 0 ∷ chained Name.Data 1 2 1 0 None None ∷ exit Name.Data 1 4 3 0 ∷ exit Name.ResourceDestinationString 1 4 3 0 ∷ enter Name.ResourceDestinationLiteralMarker 1 4 3 0 ∷ exit Name.ResourceDestinationLiteralMarker 1 5 4 0 ∷ exit Name.ResourceDestinationLiteral 1 5 4 0 ∷ exit Name.ResourceDestination 1 5 4 0 ∷ [])) ×
+    -- destination «<a b>»: ResourceDestination 0-5 [ResourceDestinationLiteral 0-5 [ResourceDestinationLiteralMarker 0-1, ResourceDestinationString 1-4 [Data 1-4], ResourceDestinationLiteralMarker 4-5]]
+    (destination_answer (codes "<a b>") ≡ Some (enter Name.ResourceDestination 1 1 0 0 ∷ enter Name.ResourceDestinationLiteral 1 1 0 0 ∷ enter Name.ResourceDestinationLiteralMarker 1 1 0 0 ∷ exit Name.ResourceDestinationLiteralMarker 1 2 1 0 ∷ enter Name.ResourceDestinationString 1 2 1 0 ∷ chained Name.Data 1 2 1 0 None None ∷ exit Name.Data 1 5 4 0 ∷ exit Name.ResourceDestinationString 1 5 4 0 ∷ enter Name.ResourceDestinationLiteralMarker 1 5 4 0 ∷ exit Name.ResourceDestinationLiteralMarker 1 6 5 0 ∷ exit Name.ResourceDestinationLiteral 1 6 5 0 ∷ exit Name.ResourceDestination 1 6 5 0 ∷ [])) ×
+    -- destination «<a<>»: no
+    (destination_answer (codes "<a<>") ≡ None) ×
+    -- destination «<a␊>»: no
+    (destination_answer (60 ∷ 97 ∷ 10 ∷ 62 ∷ []) ≡ None) ×
+    -- destination «<\␊>»: no
+    (destination_answer (60 ∷ 92 ∷ 10 ∷ 62 ∷ []) ≡ None) ×
+    -- destination «a\(b»: Raw 0-4
+    (destination_answer (codes "a\\(b") ≡ Some (enter Name.ResourceDestination 1 1 0 0 ∷ enter Name.ResourceDestinationRaw 1 1 0 0 ∷ enter Name.ResourceDestinationString 1 1 0 0 ∷ chained Name.Data 1 1 0 0 None None ∷ exit Name.Data 1 5 4 0 ∷ exit Name.ResourceDestinationString 1 5 4 0 ∷ exit Name.ResourceDestinationRaw 1 5 4 0 ∷ exit Name.ResourceDestination 1 5 4 0 ∷ [])) ×
+    -- destination «a\\(b»: no
+    (destination_answer (codes "a\\\\(b") ≡ None) ×
+    -- destination «a\\)»: Raw 0-3
+    (destination_answer (codes "a\\\\)") ≡ Some (enter Name.ResourceDestination 1 1 0 0 ∷ enter Name.ResourceDestinationRaw 1 1 0 0 ∷ enter Name.ResourceDestinationString 1 1 0 0 ∷ chained Name.Data 1 1 0 0 None None ∷ exit Name.Data 1 4 3 0 ∷ exit Name.ResourceDestinationString 1 4 3 0 ∷ exit Name.ResourceDestinationRaw 1 4 3 0 ∷ exit Name.ResourceDestination 1 4 3 0 ∷ [])) ×
+    -- destination «a\b(c)»: Raw 0-6
+    (destination_answer (codes "a\\b(c)") ≡ Some (enter Name.ResourceDestination 1 1 0 0 ∷ enter Name.ResourceDestinationRaw 1 1 0 0 ∷ enter Name.ResourceDestinationString 1 1 0 0 ∷ chained Name.Data 1 1 0 0 None None ∷ exit Name.Data 1 7 6 0 ∷ exit Name.ResourceDestinationString 1 7 6 0 ∷ exit Name.ResourceDestinationRaw 1 7 6 0 ∷ exit Name.ResourceDestination 1 7 6 0 ∷ [])) ×
+    -- destination «a(b c»: no
+    (destination_answer (codes "a(b c") ≡ None) ×
+    -- destination «a␊b»: Raw 0-1
+    (destination_answer (97 ∷ 10 ∷ 98 ∷ []) ≡ Some (enter Name.ResourceDestination 1 1 0 0 ∷ enter Name.ResourceDestinationRaw 1 1 0 0 ∷ enter Name.ResourceDestinationString 1 1 0 0 ∷ chained Name.Data 1 1 0 0 None None ∷ exit Name.Data 1 2 1 0 ∷ exit Name.ResourceDestinationString 1 2 1 0 ∷ exit Name.ResourceDestinationRaw 1 2 1 0 ∷ exit Name.ResourceDestination 1 2 1 0 ∷ [])) ×
+    -- destination «a␉b»: Raw 0-1
+    (destination_answer (97 ∷ 9 ∷ 98 ∷ []) ≡ Some (enter Name.ResourceDestination 1 1 0 0 ∷ enter Name.ResourceDestinationRaw 1 1 0 0 ∷ enter Name.ResourceDestinationString 1 1 0 0 ∷ chained Name.Data 1 1 0 0 None None ∷ exit Name.Data 1 2 1 0 ∷ exit Name.ResourceDestinationString 1 2 1 0 ∷ exit Name.ResourceDestinationRaw 1 2 1 0 ∷ exit Name.ResourceDestination 1 2 1 0 ∷ [])) ×
+    -- destination «a((b)c)d)»: Raw 0-8
+    (destination_answer (codes "a((b)c)d)") ≡ Some (enter Name.ResourceDestination 1 1 0 0 ∷ enter Name.ResourceDestinationRaw 1 1 0 0 ∷ enter Name.ResourceDestinationString 1 1 0 0 ∷ chained Name.Data 1 1 0 0 None None ∷ exit Name.Data 1 9 8 0 ∷ exit Name.ResourceDestinationString 1 9 8 0 ∷ exit Name.ResourceDestinationRaw 1 9 8 0 ∷ exit Name.ResourceDestination 1 9 8 0 ∷ [])) ×
+    -- destination «a⟦U+0001⟧»: no
+    (destination_answer (97 ∷ 1 ∷ []) ≡ None) ×
+    -- destination «a⟦U+001F⟧»: no
+    (destination_answer (97 ∷ 31 ∷ []) ≡ None) ×
+    -- destination «a⟦U+007F⟧»: no
+    (destination_answer (97 ∷ 127 ∷ []) ≡ None) ×
+    -- destination «⟦U+0080⟧»: Raw 0-2
+    (destination_answer (194 ∷ 128 ∷ []) ≡ Some (enter Name.ResourceDestination 1 1 0 0 ∷ enter Name.ResourceDestinationRaw 1 1 0 0 ∷ enter Name.ResourceDestinationString 1 1 0 0 ∷ chained Name.Data 1 1 0 0 None None ∷ exit Name.Data 1 3 2 0 ∷ exit Name.ResourceDestinationString 1 3 2 0 ∷ exit Name.ResourceDestinationRaw 1 3 2 0 ∷ exit Name.ResourceDestination 1 3 2 0 ∷ [])) ×
+    -- spacing «␠␊␊b»: no
+    (spacing_answer None (32 ∷ 10 ∷ 10 ∷ 98 ∷ []) ≡ None) ×
+    -- spacing «␊»: no
+    (spacing_answer None (10 ∷ []) ≡ None) ×
+    -- spacing «␠»: SpaceOrTab 0-1
+    (spacing_answer None (codes " ") ≡ Some (enter Name.SpaceOrTab 1 1 0 0 ∷ exit Name.SpaceOrTab 1 2 1 0 ∷ [])) ×
+    -- spacing «␠␉a»: SpaceOrTab 0-2
+    (spacing_answer None (32 ∷ 9 ∷ 97 ∷ []) ≡ Some (enter Name.SpaceOrTab 1 1 0 0 ∷ exit Name.SpaceOrTab 1 5 2 0 ∷ [])) ×
+    -- spacing «␊b»: LineEnding 0-1
+    (spacing_answer None (10 ∷ 98 ∷ []) ≡ Some (enter Name.LineEnding 1 1 0 0 ∷ exit Name.LineEnding 2 1 1 0 ∷ [])) ×
+    -- spacing «␊␠»: no
+    (spacing_answer None (10 ∷ 32 ∷ []) ≡ None) ×
+    -- spacing linked «␠␊ b»: SpaceOrTab 0-1, LineEnding 1-2, SpaceOrTab 2-3
+    (spacing_answer (Some Content.String) (32 ∷ 10 ∷ 32 ∷ 98 ∷ []) ≡ Some (chained Name.SpaceOrTab 1 1 0 0 None (Some 2) ∷ exit Name.SpaceOrTab 1 2 1 0 ∷ chained Name.LineEnding 1 2 1 0 (Some 0) (Some 4) ∷ exit Name.LineEnding 2 1 2 0 ∷ chained Name.SpaceOrTab 2 1 2 0 (Some 2) None ∷ exit Name.SpaceOrTab 2 2 3 0 ∷ [])) ×
+    -- spacing linked «␠b»: SpaceOrTab 0-1
+    (spacing_answer (Some Content.String) (codes " b") ≡ Some (chained Name.SpaceOrTab 1 1 0 0 None None ∷ exit Name.SpaceOrTab 1 2 1 0 ∷ [])) ×
+    -- bounded min=3 «␠␠␠a»: SpaceOrTab 0-3
+    (bounded_answer None 3 18446744073709551615 (codes "   a") ≡ Some (enter Name.SpaceOrTab 1 1 0 0 ∷ exit Name.SpaceOrTab 1 4 3 0 ∷ [])) ×
+    -- bounded max=2 «␉a»: SpaceOrTab 0-0.2
+    (bounded_answer None 0 2 (9 ∷ 97 ∷ []) ≡ Some (enter Name.SpaceOrTab 1 1 0 0 ∷ exit Name.SpaceOrTab 1 3 0 2 ∷ [])) ×
+    -- bounded linked «␠»: SpaceOrTab 0-1
+    (bounded_answer (Some Content.String) 0 18446744073709551615 (codes " ") ≡ Some (chained Name.SpaceOrTab 1 1 0 0 None None ∷ exit Name.SpaceOrTab 1 2 1 0 ∷ [])) ×
+    -- data upto=& «a&b»: Data 0-1
+    (data_answer (codes "&") (codes "a&b") ≡ Some (enter Name.Data 1 1 0 0 ∷ exit Name.Data 1 2 1 0 ∷ [])) ×
+    -- data upto=& «&a»: Data 0-2
+    (data_answer (codes "&") (codes "&a") ≡ Some (enter Name.Data 1 1 0 0 ∷ exit Name.Data 1 3 2 0 ∷ [])) ×
+    -- data upto=b «a␊ab»: Data 0-1, LineEnding 1-2, Data 2-3
+    (data_answer (codes "b") (97 ∷ 10 ∷ 97 ∷ 98 ∷ []) ≡ Some (enter Name.Data 1 1 0 0 ∷ exit Name.Data 1 2 1 0 ∷ enter Name.LineEnding 1 2 1 0 ∷ exit Name.LineEnding 2 1 2 0 ∷ enter Name.Data 2 1 2 0 ∷ exit Name.Data 2 2 3 0 ∷ [])) ×
+    -- data upto=␊ «a␊b»: Data 0-1
+    (data_answer (10 ∷ []) (97 ∷ 10 ∷ 98 ∷ []) ≡ Some (enter Name.Data 1 1 0 0 ∷ exit Name.Data 1 2 1 0 ∷ [])) ×
+    -- data upto=& «␊a»: LineEnding 0-1, Data 1-2
+    (data_answer (codes "&") (10 ∷ 97 ∷ []) ≡ Some (enter Name.LineEnding 1 1 0 0 ∷ exit Name.LineEnding 2 1 1 0 ∷ enter Name.Data 2 1 1 0 ∷ exit Name.Data 2 2 2 0 ∷ [])) ×
+    -- data upto=& «»:
+    (data_answer (codes "&") (codes "") ≡ Some ([])) ×
+    -- label «[⟦U+000C⟧]»: Reference 0-3 [ReferenceMarker 0-1, ReferenceString 1-2 [Data 1-2], ReferenceMarker 2-3]
+    (label_answer (91 ∷ 12 ∷ 93 ∷ []) ≡ Some (enter Name.Reference 1 1 0 0 ∷ enter Name.ReferenceMarker 1 1 0 0 ∷ exit Name.ReferenceMarker 1 2 1 0 ∷ enter Name.ReferenceString 1 2 1 0 ∷ chained Name.Data 1 2 1 0 None None ∷ exit Name.Data 1 3 2 0 ∷ exit Name.ReferenceString 1 3 2 0 ∷ enter Name.ReferenceMarker 1 3 2 0 ∷ exit Name.ReferenceMarker 1 4 3 0 ∷ exit Name.Reference 1 4 3 0 ∷ []))
