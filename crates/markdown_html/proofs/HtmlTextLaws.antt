@@ -18,17 +18,18 @@ use Rattle.markdown_engine.proofs.Laws.{code-step, if-step}
 use Rattle.markdown_engine.proofs.OpRules.{ahead-none, ahead-some, Begins, some-codes}
 use Rattle.markdown_engine.proofs.OpsLemmas.{scratch-done}
 use Rattle.markdown_model.specs.CodeTests.{is_value, next_is}
-use Rattle.markdown_model.specs.Grammar.{with_first, word, word_of, through, ◌then_◌}
+use Rattle.markdown_model.specs.Grammar.{Reading, with_first, word, word_of, through, ◌then_◌}
 use Rattle.markdown_construct.specs.Values.{letter_value, among_values}
 use Rattle.markdown_construct.specs.Plan.{DoesAs}
 use Rattle.markdown_construct.specs.Scratch.{with_size}
 use Rattle.markdown_html.specs.LineOps.{InLine, break_from, text_from, text_of}
-use Rattle.markdown_html.specs.Rests.{Open, DeclarationOpen, CommentOpenInside, Comment, CommentClose, CommentEnd, Cdata, CdataClose, CdataEnd, Declaration, Instruction, InstructionClose, TagCloseStart, TagClose, TagCloseBetween, TagOpen, TagOpenBetween, AttributeName, AttributeNameAfter, ValueBefore, ValueQuotedAfter, ValueUnquoted, End, rank_of, tag_rest, tag_next, name_next, value_rest, quoted_rest, closing_between, comment_after_two, cdata_opening, cdata_after_two, instruction_after_one, declaration_rest}
+use Rattle.markdown_html.specs.Rests.{Part, state_of, reading_of, Open, DeclarationOpen, CommentOpenInside, Comment, CommentClose, CommentEnd, Cdata, CdataClose, CdataEnd, Declaration, Instruction, InstructionClose, TagCloseStart, TagClose, TagCloseBetween, TagOpen, TagOpenBetween, AttributeName, AttributeNameAfter, ValueBefore, ValueQuotedAfter, ValueUnquoted, End, rank_of, tag_rest, tag_next, name_next, value_rest, quoted_rest, closing_between, marked, after_mark, after_two_marks, cdata_opening, instruction_after_one, declaration_rest}
 use Rattle.markdown_html.specs.Values.{blank_value, whitespace_value, name_value, attribute_first_value, attribute_rest_value, after_value, barred_value}
-use Rattle.markdown_html.specs.HtmlText.{rested, with_marker, closing, is_hopeless, past_code, past_unless, prefix_value, cdata_passed, starts_no_value, quote_value, quote_passed, PartReady, CdataReady, QuotedReady, part_ends, quoted_ends, open_at, declaration_open_at, comment_open_inside_at, comment_at, comment_close_at, comment_end_at, cdata_open_inside_at, cdata_open_inside_step, cdata_at, cdata_close_at, cdata_end_at, declaration_at, instruction_at, instruction_close_at, tag_close_start_at, tag_close_at, tag_close_between_at, tag_open_at, tag_open_between_at, tag_open_attribute_name_at, tag_open_attribute_name_after_at, tag_open_attribute_value_before_at, tag_open_attribute_value_quoted_at, tag_open_attribute_value_quoted_step, tag_open_attribute_value_quoted_after_at, tag_open_attribute_value_unquoted_at, end_at, cdata_open_inside_words, tag_open_attribute_value_quoted_words, part_words}
+use Rattle.markdown_html.specs.HtmlText.{rested, with_marker, closing, is_hopeless, past_code, past_unless, prefix_value, cdata_passed, starts_no_value, quote_value, quote_passed, PartReady, CdataReady, QuotedReady, part_ends, quoted_ends, open_at, declaration_open_at, comment_open_inside_at, marked_at, after_mark_at, after_two_marks_at, over_to, cdata_open_inside_at, cdata_open_inside_step, declaration_at, instruction_at, instruction_close_at, tag_close_start_at, tag_close_at, tag_close_between_at, tag_open_at, tag_open_between_at, tag_open_attribute_name_at, tag_open_attribute_name_after_at, tag_open_attribute_value_before_at, tag_open_attribute_value_quoted_at, tag_open_attribute_value_quoted_step, tag_open_attribute_value_quoted_after_at, tag_open_attribute_value_unquoted_at, end_at, cdata_open_inside_words, tag_open_attribute_value_quoted_words, part_words}
+use Rattle.markdown_html.proofs.BreakLemmas.{Goes}
 use Rattle.markdown_html.proofs.LineLemmas.{from-data}
-use Rattle.markdown_html.proofs.CodeReadings.{then-nothing, word-end, word-then, word-then-none}
-use Rattle.markdown_html.proofs.KindReadings.{end-here, end-none, comment-goes, comment-end, comment-dash, comment-other, comment-one-dash, comment-one-other, comment-two-end, comment-two-one, comment-inside-dash, comment-inside-none, cdata-goes, cdata-end, cdata-bracket, cdata-other, cdata-one-bracket, cdata-one-other, cdata-two-end, cdata-two-one, declaration-goes, declaration-end, declaration-here, declaration-other, instruction-goes, instruction-end, instruction-mark, instruction-other, instruction-one-end, instruction-one-other, spaces-first, spaces-none, closing-goes, name-on, name-none, name-first, name-not, marked-none, marked-dash, marked-letter, marked-bracket, open-none, open-letter, open-slash, open-question, open-bang}
+use Rattle.markdown_html.proofs.CodeReadings.{then-nothing, word-end, word-then, word-then-none, up-goes}
+use Rattle.markdown_html.proofs.KindReadings.{end-here, end-none, marked-end, marked-on, marked-other, after-mark-on, after-mark-other, after-two-end, after-two-one, comment-inside-dash, comment-inside-none, declaration-goes, declaration-end, declaration-here, declaration-other, instruction-goes, instruction-end, instruction-mark, instruction-other, instruction-one-end, instruction-one-other, spaces-first, spaces-none, closing-goes, name-on, name-none, name-first, name-not, marked-none, marked-dash, marked-letter, marked-bracket, open-none, open-letter, open-slash, open-question, open-bang}
 use Rattle.markdown_html.proofs.TagReadings.{among-each, rest-between, rest-refused, between-none, between-slash, between-first, name-rest-on, name-rest-end, name-after-equals, name-after-other, value-space, value-quote, value-end, value-none, value-plain, quoted-end, quoted-close, quoted-more, unquoted-more, unquoted-after, unquoted-none, between-goes, name-after-goes, value-goes, quoted-goes}
 use Rattle.markdown_html.proofs.EndingLemmas.{hopeless-none, instruction-absent, declaration-absent, section-absent, comment-absent}
 use Rattle.markdown_html.proofs.HtmlTextReady.{quoted-next, quoted-broken, quoted-opened, quoted-closed, cdata-opened, cdata-next, cdata-closed, part-next}
@@ -110,7 +111,8 @@ prefix-on n h c cs e = ap (λ ns. (word_of ns then_ through "]]>") (c ∷ cs)) (
 prefix-none : (n : ℕ) → n < 6 → (cs : List Code) → next_is (is_value (prefix_value n)) cs ≡ false → cdata_opening n cs ≡ None
 prefix-none n h cs e = ap (λ ns. (word_of ns then_ through "]]>") cs) (prefix-from n h) ∙ word-then-none (prefix_value n) (drop (n + 1) (codes "CDATA[")) (through "]]>") cs e
 
-prefix-end : (n : ℕ) (cs : List Code) → n ≡ 6 → cdata_opening n cs ≡ through "]]>" cs
+prefix-end : (n : ℕ) (cs : List Code) → n ≡ 6 → cdata_opening n cs ≡ marked 93 cs
+unfolding through
 prefix-end n cs e = ap (λ m. cdata_opening m cs) e ∙ then-nothing (word_of []) (through "]]>") cs (word-end cs)
 
 not-bracket-by : (c : ℕ) (b : Bool) → (c == 91) ≡ b → letter_value c ≡ true → b ≡ false
@@ -134,6 +136,27 @@ quoted-says : (os : List Op) (T : Tokenizer) → QuotedReady T → (ok : Bool) (
 quoted-says os T r ok U x =
     subst (λ (q : TokenizeState). DoesAs 2 (text_of (quoted_rest T.tokenize_state.marker)) q (done os T) ok U) r.rest
     (subst (λ (q : TokenizeState). DoesAs 2 (text_of (quoted_rest q.marker)) (rested q) (done os T) ok U) (scratch-done os T) x)
+
+-- Comments and CDATA sections end with a mark twice and a `>`: the states in one, after one mark, and after two.
+
+record IsMarked (mark : ℕ) (inside close end : Part) : Type 0 where
+  pub inside_reads : reading_of inside ≡ marked mark
+  pub close_reads : reading_of close ≡ after_mark mark
+  pub end_reads : reading_of end ≡ after_two_marks mark
+  pub inside_rank : rank_of inside ≡ 2
+  pub close_rank : rank_of close ≡ 3
+  pub end_rank : rank_of end ≡ 4
+  pub plain : (mark == 10) ≡ false
+  pub blank : whitespace_value mark ≡ false
+
+comments : IsMarked 45 Comment CommentClose CommentEnd
+comments = record { inside_reads = refl; close_reads = refl; end_reads = refl; inside_rank = refl; close_rank = refl; end_rank = refl; plain = refl; blank = refl }
+
+sections : IsMarked 93 Cdata CdataClose CdataEnd
+sections = record { inside_reads = refl; close_reads = refl; end_reads = refl; inside_rank = refl; close_rank = refl; end_rank = refl; plain = refl; blank = refl }
+
+read : {r q : Reading (List Code)} → r ≡ q → (cs : List Code) → r cs ≡ q cs
+read e cs = ap (λ (f : Reading (List Code)). f cs) e
 
 module _ (W : Words) (within : Within W) where
   pub open-law : Law W (part_words Open)
@@ -203,85 +226,68 @@ module _ (W : Words) (within : Within W) where
       (λ h. part-past W within CommentOpenInside CommentEnd T c alone r e (ap (λ v. v == 10) (eqb-true c 45 h)) (comment-inside-dash b.code rest (at (λ v. v == 45) T c e ∙ h)))
       (λ h. part-fails W within CommentOpenInside T alone (comment-inside-none (ahead T) (next-at (λ v. v == 45) T c e ∙ h))))
 
+  -- In what ends with a mark twice and a `>`, after one mark, and after two.
+  module _ (mark : ℕ) (inside close end : Part) (k : IsMarked mark inside close end) where
+    marked-law : (T : Tokenizer) → T.attempts ≡ [] → PartReady T → GoesIn W (weight_at (rank_of inside) T) (part_ends inside T) (marked_at mark (state_of inside) (state_of close) (current_of T) T)
+    marked-law T alone r =
+        let P : Stepped → Type 0 = GoesIn W (weight_at (rank_of inside) T) (part_ends inside T) in
+        code-step P (current_of T) (λ o. marked_at mark (state_of inside) (state_of close) o T)
+        (λ e. part-fails W within inside T alone (ap (reading_of inside) (ahead-none T e) ∙ read k.inside_reads [] ∙ marked-end mark))
+        (λ c e.
+        let b : Begins c (ahead T) = ahead-some T c e in
+        let rest : List Code = rest_of (ahead T) in
+        if-step P (c == 10) _ _
+        (λ h. part-broken-on W within inside T (omega (arith, k.inside_rank)) (subst Goes (sym k.inside_reads) (up-goes mark (mark ∷ 62 ∷ []) k.blank)) alone r (e ∙ ap (λ v. Some v) (eqb-true c 10 h)))
+        (λ h. if-step P (c == mark) _ _
+        (λ g. part-past W within inside close T c alone r e h (read k.inside_reads _ ∙ marked-on mark b.code rest (at (λ v. v == mark) T c e ∙ g) ∙ ap (with_first b.code) (sym (read k.close_reads rest))))
+        (λ g. part-past W within inside inside T c alone r e h (read k.inside_reads _ ∙ marked-other mark b.code rest (at (λ v. v == mark) T c e ∙ g) ∙ ap (with_first b.code) (sym (read k.inside_reads rest))))))
+
+    after_mark-law : (T : Tokenizer) → T.attempts ≡ [] → PartReady T → GoesIn W (weight_at (rank_of close) T) (part_ends close T) (after_mark_at mark (state_of inside) (state_of end) (current_of T) T)
+    after_mark-law T alone r =
+        let P : Stepped → Type 0 = GoesIn W (weight_at (rank_of close) T) (part_ends close T) in
+        let over : next_is (is_value mark) (ahead T) ≡ false → P (over_to (state_of inside) T) = λ n. part-over W within close inside T alone r (omega (arith, k.inside_rank, k.close_rank)) (read k.close_reads _ ∙ after-mark-other mark (ahead T) n ∙ sym (read k.inside_reads _)) in
+        code-step P (current_of T) (λ o. after_mark_at mark (state_of inside) (state_of end) o T)
+        (λ e. over (next-end (λ v. v == mark) T e))
+        (λ c e.
+        let b : Begins c (ahead T) = ahead-some T c e in
+        let rest : List Code = rest_of (ahead T) in
+        if-step P (c == mark) _ _
+        (λ h. part-past W within close end T c alone r e (ap (λ v. v == 10) (eqb-true c mark h) ∙ k.plain) (read k.close_reads _ ∙ after-mark-on mark b.code rest (at (λ v. v == mark) T c e ∙ h) ∙ ap (with_first b.code) (sym (read k.end_reads rest))))
+        (λ h. over (next-at (λ v. v == mark) T c e ∙ h)))
+
+    after_two_marks-law : (T : Tokenizer) → T.attempts ≡ [] → PartReady T → GoesIn W (weight_at (rank_of end) T) (part_ends end T) (after_two_marks_at mark (state_of inside) (state_of close) (current_of T) T)
+    after_two_marks-law T alone r =
+        let P : Stepped → Type 0 = GoesIn W (weight_at (rank_of end) T) (part_ends end T) in
+        let one : next_is (is_value 62) (ahead T) ≡ false → reading_of end (ahead T) ≡ after_mark mark (ahead T) = λ n. read k.end_reads _ ∙ after-two-one mark (ahead T) n in
+        let over : next_is (is_value 62) (ahead T) ≡ false → next_is (is_value mark) (ahead T) ≡ false → P (over_to (state_of inside) T) = λ n m. part-over W within end inside T alone r (omega (arith, k.inside_rank, k.end_rank)) (one n ∙ after-mark-other mark (ahead T) m ∙ sym (read k.inside_reads _)) in
+        code-step P (current_of T) (λ o. after_two_marks_at mark (state_of inside) (state_of close) o T)
+        (λ e. over (next-end (λ v. v == 62) T e) (next-end (λ v. v == mark) T e))
+        (λ c e.
+        let b : Begins c (ahead T) = ahead-some T c e in
+        let rest : List Code = rest_of (ahead T) in
+        if-step P (c == 62) _ _
+        (λ h. part-over W within end End T alone r (omega (arith, k.end_rank)) (read k.end_reads _ ∙ ap (after_two_marks mark) b.whole ∙ after-two-end mark b.code rest (at (λ v. v == 62) T c e ∙ h) ∙ ap (word ">") (sym b.whole)))
+        (λ h. if-step P (c == mark) _ _
+        (λ g. part-over W within end close T alone r (omega (arith, k.close_rank, k.end_rank)) (one (next-at (λ v. v == 62) T c e ∙ h) ∙ sym (read k.close_reads _)))
+        (λ g. over (next-at (λ v. v == 62) T c e ∙ h) (next-at (λ v. v == mark) T c e ∙ g))))
+
   pub comment-law : Law W (part_words Comment)
-  comment-law T alone r =
-      let P : Stepped → Type 0 = GoesIn W (weight_at (rank_of Comment) T) (part_ends Comment T) in
-      code-step P (current_of T) (λ o. comment_at o T)
-      (λ e. part-fails W within Comment T alone (ap (through "-->") (ahead-none T e) ∙ comment-end))
-      (λ c e.
-      let b : Begins c (ahead T) = ahead-some T c e in
-      let rest : List Code = rest_of (ahead T) in
-      if-step P (c == 10) _ _
-      (λ h. part-broken-on W within Comment T (omega arith) (comment-goes) alone r (e ∙ ap (λ v. Some v) (eqb-true c 10 h)))
-      (λ h. if-step P (c == 45) _ _
-      (λ g. part-past W within Comment CommentClose T c alone r e (h) (comment-dash b.code rest (at (λ v. v == 45) T c e ∙ g)))
-      (λ g. part-past W within Comment Comment T c alone r e (h) (comment-other b.code rest (at (λ v. v == 45) T c e ∙ g)))))
+  comment-law = marked-law 45 Comment CommentClose CommentEnd comments
 
   pub comment_close-law : Law W (part_words CommentClose)
-  comment_close-law T alone r =
-      let P : Stepped → Type 0 = GoesIn W (weight_at (rank_of CommentClose) T) (part_ends CommentClose T) in
-      code-step P (current_of T) (λ o. comment_close_at o T)
-      (λ e. part-over W within CommentClose Comment T alone r (omega arith) (comment-one-other (ahead T) (next-end (λ v. v == 45) T e)))
-      (λ c e.
-      let b : Begins c (ahead T) = ahead-some T c e in
-      let rest : List Code = rest_of (ahead T) in
-      if-step P (c == 45) _ _
-      (λ h. part-past W within CommentClose CommentEnd T c alone r e (ap (λ v. v == 10) (eqb-true c 45 h)) (comment-one-dash b.code rest (at (λ v. v == 45) T c e ∙ h)))
-      (λ h. part-over W within CommentClose Comment T alone r (omega arith) (comment-one-other (ahead T) (next-at (λ v. v == 45) T c e ∙ h))))
+  comment_close-law = after_mark-law 45 Comment CommentClose CommentEnd comments
 
   pub comment_end-law : Law W (part_words CommentEnd)
-  comment_end-law T alone r =
-      let P : Stepped → Type 0 = GoesIn W (weight_at (rank_of CommentEnd) T) (part_ends CommentEnd T) in
-      code-step P (current_of T) (λ o. comment_end_at o T)
-      (λ e. part-over W within CommentEnd Comment T alone r (omega arith) (comment-two-one (ahead T) (next-end (λ v. v == 62) T e) ∙ comment-one-other (ahead T) (next-end (λ v. v == 45) T e)))
-      (λ c e.
-      let b : Begins c (ahead T) = ahead-some T c e in
-      let rest : List Code = rest_of (ahead T) in
-      if-step P (c == 62) _ _
-      (λ h. part-over W within CommentEnd End T alone r (omega arith) (ap comment_after_two b.whole ∙ comment-two-end b.code rest (at (λ v. v == 62) T c e ∙ h) ∙ ap (word ">") (sym b.whole)))
-      (λ h. if-step P (c == 45) _ _
-      (λ g. part-over W within CommentEnd CommentClose T alone r (omega arith) (comment-two-one (ahead T) (next-at (λ v. v == 62) T c e ∙ h)))
-      (λ g. part-over W within CommentEnd Comment T alone r (omega arith) (comment-two-one (ahead T) (next-at (λ v. v == 62) T c e ∙ h) ∙ comment-one-other (ahead T) (next-at (λ v. v == 45) T c e ∙ g)))))
+  comment_end-law = after_two_marks-law 45 Comment CommentClose CommentEnd comments
 
   pub cdata-law : Law W (part_words Cdata)
-  cdata-law T alone r =
-      let P : Stepped → Type 0 = GoesIn W (weight_at (rank_of Cdata) T) (part_ends Cdata T) in
-      code-step P (current_of T) (λ o. cdata_at o T)
-      (λ e. part-fails W within Cdata T alone (ap (through "]]>") (ahead-none T e) ∙ cdata-end))
-      (λ c e.
-      let b : Begins c (ahead T) = ahead-some T c e in
-      let rest : List Code = rest_of (ahead T) in
-      if-step P (c == 10) _ _
-      (λ h. part-broken-on W within Cdata T (omega arith) (cdata-goes) alone r (e ∙ ap (λ v. Some v) (eqb-true c 10 h)))
-      (λ h. if-step P (c == 93) _ _
-      (λ g. part-past W within Cdata CdataClose T c alone r e (h) (cdata-bracket b.code rest (at (λ v. v == 93) T c e ∙ g)))
-      (λ g. part-past W within Cdata Cdata T c alone r e (h) (cdata-other b.code rest (at (λ v. v == 93) T c e ∙ g)))))
+  cdata-law = marked-law 93 Cdata CdataClose CdataEnd sections
 
   pub cdata_close-law : Law W (part_words CdataClose)
-  cdata_close-law T alone r =
-      let P : Stepped → Type 0 = GoesIn W (weight_at (rank_of CdataClose) T) (part_ends CdataClose T) in
-      code-step P (current_of T) (λ o. cdata_close_at o T)
-      (λ e. part-over W within CdataClose Cdata T alone r (omega arith) (cdata-one-other (ahead T) (next-end (λ v. v == 93) T e)))
-      (λ c e.
-      let b : Begins c (ahead T) = ahead-some T c e in
-      let rest : List Code = rest_of (ahead T) in
-      if-step P (c == 93) _ _
-      (λ h. part-past W within CdataClose CdataEnd T c alone r e (ap (λ v. v == 10) (eqb-true c 93 h)) (cdata-one-bracket b.code rest (at (λ v. v == 93) T c e ∙ h)))
-      (λ h. part-over W within CdataClose Cdata T alone r (omega arith) (cdata-one-other (ahead T) (next-at (λ v. v == 93) T c e ∙ h))))
+  cdata_close-law = after_mark-law 93 Cdata CdataClose CdataEnd sections
 
   pub cdata_end-law : Law W (part_words CdataEnd)
-  cdata_end-law T alone r =
-      let P : Stepped → Type 0 = GoesIn W (weight_at (rank_of CdataEnd) T) (part_ends CdataEnd T) in
-      code-step P (current_of T) (λ o. cdata_end_at o T)
-      (λ e. part-over W within CdataEnd Cdata T alone r (omega arith) (cdata-two-one (ahead T) (next-end (λ v. v == 62) T e) ∙ cdata-one-other (ahead T) (next-end (λ v. v == 93) T e)))
-      (λ c e.
-      let b : Begins c (ahead T) = ahead-some T c e in
-      let rest : List Code = rest_of (ahead T) in
-      if-step P (c == 62) _ _
-      (λ h. part-over W within CdataEnd End T alone r (omega arith) (ap cdata_after_two b.whole ∙ cdata-two-end b.code rest (at (λ v. v == 62) T c e ∙ h) ∙ ap (word ">") (sym b.whole)))
-      (λ h. if-step P (c == 93) _ _
-      (λ g. part-over W within CdataEnd CdataClose T alone r (omega arith) (cdata-two-one (ahead T) (next-at (λ v. v == 62) T c e ∙ h)))
-      (λ g. part-over W within CdataEnd Cdata T alone r (omega arith) (cdata-two-one (ahead T) (next-at (λ v. v == 62) T c e ∙ h) ∙ cdata-one-other (ahead T) (next-at (λ v. v == 93) T c e ∙ g)))))
+  cdata_end-law = after_two_marks-law 93 Cdata CdataClose CdataEnd sections
 
   pub declaration-law : Law W (part_words Declaration)
   declaration-law T alone r =
@@ -506,8 +512,8 @@ module _ (W : Words) (within : Within W) where
       let on : cdata_opening n (b.code ∷ rest) ≡ with_first b.code (cdata_opening (n + 1) rest) = prefix-on n r.size b.code rest (at (λ v. v == prefix_value n) T c e ∙ h) in
       let P : Stepped → Type 0 = GoesIn W (weight_at 2 T) (DoesAs 2 (text_of (cdata_opening n)) (with_size 0 s) T) in
       if-step P (n + 1 == 6) _ _
-      (λ g. Goes-on W 2 2 (text_of (cdata_opening n)) (text_of (through "]]>")) (Consume ∷ []) (with_size 0 s) (with_size 0 s) T (Next H.HtmlTextCdata) (within.parts Cdata) alone refl more (omega arith)
-      (text-next (cdata_opening n) (through "]]>") T c e plain (on ∙ ap (with_first b.code) (prefix-end (n + 1) rest (eqb-true (n + 1) 6 g))))
+      (λ g. Goes-on W 2 2 (text_of (cdata_opening n)) (text_of (marked 93)) (Consume ∷ []) (with_size 0 s) (with_size 0 s) T (Next H.HtmlTextCdata) (within.parts Cdata) alone refl more (omega arith)
+      (text-next (cdata_opening n) (marked 93) T c e plain (on ∙ ap (with_first b.code) (prefix-end (n + 1) rest (eqb-true (n + 1) 6 g))))
       (cdata-closed T more r)
       (λ ok U x. x))
       (λ g. Goes-on W 2 2 (text_of (cdata_opening n)) (text_of (cdata_opening (n + 1))) (Consume ∷ []) (with_size 0 s) (with_size (n + 1) s) T (Next H.HtmlTextCdataOpenInside) within.cdata alone refl more (omega arith)

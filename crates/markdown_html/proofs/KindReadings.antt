@@ -1,12 +1,12 @@
 -- What is still to be read of comments, instructions, declarations, CDATA sections and closing tags, from one code on.
-use Rattle.std.proofs.Common.{◌≡◌, true, false, Some, None, List, [], ◌∷◌, refl, sym, ◌∙◌}
+use Rattle.std.proofs.Common.{◌≡◌, ℕ, true, false, Some, None, List, [], ◌∷◌, refl, sym, ◌∙◌}
 use Rattle.markdown_engine.specs.Codes.{Code}
 use Rattle.markdown_model.specs.CodeTests.{is_value, is_letter, is_whitespace_code, next_is}
-use Rattle.markdown_model.specs.Grammar.{Reading, either, one, any_number, with_first, word, through, ◌then_◌}
+use Rattle.markdown_model.specs.Grammar.{Reading, either, one, any_number, with_first, word, word_of, through, ◌then_◌}
 use Rattle.markdown_model.specs.Html.{optional_spaces, tag_name}
 use Rattle.markdown_model.proofs.Readings.{takes_then, takes_word, takes_optional_spaces}
 use Rattle.markdown_model.proofs.Consuming.{any_takes, text_takes}
-use Rattle.markdown_html.specs.Rests.{tag_rest, closing_between, is_name_code, comment_after_one, comment_after_two, comment_inside, cdata_after_one, cdata_after_two, cdata_opening, instruction_after_one, declaration_rest, open_rest}
+use Rattle.markdown_html.specs.Rests.{tag_rest, closing_between, is_name_code, marked, after_mark, after_two_marks, comment_inside, cdata_opening, instruction_after_one, declaration_rest, open_rest}
 use Rattle.markdown_html.proofs.BreakLemmas.{Goes}
 use Rattle.markdown_html.proofs.CodeReadings.{then-first, then-nothing, either-on, either-left, either-right, either-none, either-same, either-here, one-on, one-none, any-on, any-none, word-on, word-none, word-here, word-then, word-then-none, last-then, up-other, up-first, up-end, up-here, second_takes, up-goes}
 use Rattle.markdown_model.proofs.ReadingSteps.{then-none}
@@ -21,42 +21,36 @@ pub end-none : (cs : List Code) → next_is (is_value 62) cs ≡ false → word 
 unfolding word
 end-none cs e = word-none 62 [] cs e
 
--- Comments.
+-- What ends with a mark twice and a `>`.
 
-pub comment-goes : Goes (through "-->")
-unfolding through
-comment-goes = up-goes 45 (45 ∷ 62 ∷ []) refl
+pub marked-end : (mark : ℕ) → marked mark [] ≡ None
+marked-end mark = up-end (mark ∷ mark ∷ 62 ∷ [])
 
-pub comment-end : through "-->" [] ≡ None
-unfolding through
-comment-end = up-end (45 ∷ 45 ∷ 62 ∷ [])
+pub marked-on : (mark : ℕ) (c : Code) (cs : List Code) → is_value mark c ≡ true → marked mark (c ∷ cs) ≡ with_first c (after_mark mark cs)
+marked-on mark c cs e = up-first mark (mark ∷ 62 ∷ []) c cs e
 
-pub comment-dash : (c : Code) (cs : List Code) → is_value 45 c ≡ true → through "-->" (c ∷ cs) ≡ with_first c (comment_after_one cs)
-unfolding through word
-comment-dash c cs e = up-first 45 (45 ∷ 62 ∷ []) c cs e
+pub marked-other : (mark : ℕ) (c : Code) (cs : List Code) → is_value mark c ≡ false → marked mark (c ∷ cs) ≡ with_first c (marked mark cs)
+marked-other mark c cs e = up-other mark (mark ∷ 62 ∷ []) c cs e
 
-pub comment-other : (c : Code) (cs : List Code) → is_value 45 c ≡ false → through "-->" (c ∷ cs) ≡ with_first c (through "-->" cs)
-unfolding through
-comment-other c cs e = up-other 45 (45 ∷ 62 ∷ []) c cs e
-
-pub comment-one-dash : (c : Code) (cs : List Code) → is_value 45 c ≡ true → comment_after_one (c ∷ cs) ≡ with_first c (comment_after_two cs)
+pub after-mark-on : (mark : ℕ) (c : Code) (cs : List Code) → is_value mark c ≡ true → after_mark mark (c ∷ cs) ≡ with_first c (after_two_marks mark cs)
 unfolding word
-comment-one-dash c cs e = either-on (word "->") (word ">") (through "-->") comment_after_one c cs (word-on 45 (62 ∷ []) c cs e) (comment-dash c cs e)
+after-mark-on mark c cs e = either-on (word_of (mark ∷ 62 ∷ [])) (word ">") (marked mark) (after_mark mark) c cs (word-on mark (62 ∷ []) c cs e) (marked-on mark c cs e)
 
-pub comment-one-other : (cs : List Code) → next_is (is_value 45) cs ≡ false → comment_after_one cs ≡ through "-->" cs
-unfolding word
-comment-one-other cs e = either-right (word "->") (through "-->") cs (word-none 45 (62 ∷ []) cs e)
+pub after-mark-other : (mark : ℕ) (cs : List Code) → next_is (is_value mark) cs ≡ false → after_mark mark cs ≡ marked mark cs
+after-mark-other mark cs e = either-right (word_of (mark ∷ 62 ∷ [])) (marked mark) cs (word-none mark (62 ∷ []) cs e)
 
-pub comment-two-end : (c : Code) (cs : List Code) → is_value 62 c ≡ true → comment_after_two (c ∷ cs) ≡ word ">" (c ∷ cs)
-comment-two-end c cs e = either-here (word ">") comment_after_one (c ∷ cs) (c ∷ [], cs) (end-here c cs e)
+pub after-two-end : (mark : ℕ) (c : Code) (cs : List Code) → is_value 62 c ≡ true → after_two_marks mark (c ∷ cs) ≡ word ">" (c ∷ cs)
+after-two-end mark c cs e = either-here (word ">") (after_mark mark) (c ∷ cs) (c ∷ [], cs) (end-here c cs e)
 
-pub comment-two-one : (cs : List Code) → next_is (is_value 62) cs ≡ false → comment_after_two cs ≡ comment_after_one cs
-comment-two-one cs e = either-right (word ">") comment_after_one cs (end-none cs e)
+pub after-two-one : (mark : ℕ) (cs : List Code) → next_is (is_value 62) cs ≡ false → after_two_marks mark cs ≡ after_mark mark cs
+after-two-one mark cs e = either-right (word ">") (after_mark mark) cs (end-none cs e)
 
-pub comment-inside-dash : (c : Code) (cs : List Code) → is_value 45 c ≡ true → comment_inside (c ∷ cs) ≡ with_first c (comment_after_two cs)
-unfolding word
+-- The beginning of a comment.
+
+pub comment-inside-dash : (c : Code) (cs : List Code) → is_value 45 c ≡ true → comment_inside (c ∷ cs) ≡ with_first c (after_two_marks 45 cs)
+unfolding word through
 comment-inside-dash c cs e =
-    either-on (word "->") (word ">") (either (word "-->") (word "-" then_ through "-->")) comment_after_one c cs (word-on 45 (62 ∷ []) c cs e)
+    either-on (word "->") (word ">") (either (word "-->") (word "-" then_ through "-->")) (after_mark 45) c cs (word-on 45 (62 ∷ []) c cs e)
     (either-on (word "-->") (word "->") (word "-" then_ through "-->") (through "-->") c cs (word-on 45 (45 ∷ 62 ∷ []) c cs e) (last-then 45 (through "-->") c cs e))
 
 pub comment-inside-none : (cs : List Code) → next_is (is_value 45) cs ≡ false → comment_inside cs ≡ None
@@ -64,38 +58,6 @@ unfolding word
 comment-inside-none cs e =
     either-none (word "->") (either (word "-->") (word "-" then_ through "-->")) cs (word-none 45 (62 ∷ []) cs e)
     (either-none (word "-->") (word "-" then_ through "-->") cs (word-none 45 (45 ∷ 62 ∷ []) cs e) (word-then-none 45 [] (through "-->") cs e))
-
--- CDATA sections.
-
-pub cdata-goes : Goes (through "]]>")
-unfolding through
-cdata-goes = up-goes 93 (93 ∷ 62 ∷ []) refl
-
-pub cdata-end : through "]]>" [] ≡ None
-unfolding through
-cdata-end = up-end (93 ∷ 93 ∷ 62 ∷ [])
-
-pub cdata-bracket : (c : Code) (cs : List Code) → is_value 93 c ≡ true → through "]]>" (c ∷ cs) ≡ with_first c (cdata_after_one cs)
-unfolding through word
-cdata-bracket c cs e = up-first 93 (93 ∷ 62 ∷ []) c cs e
-
-pub cdata-other : (c : Code) (cs : List Code) → is_value 93 c ≡ false → through "]]>" (c ∷ cs) ≡ with_first c (through "]]>" cs)
-unfolding through
-cdata-other c cs e = up-other 93 (93 ∷ 62 ∷ []) c cs e
-
-pub cdata-one-bracket : (c : Code) (cs : List Code) → is_value 93 c ≡ true → cdata_after_one (c ∷ cs) ≡ with_first c (cdata_after_two cs)
-unfolding word
-cdata-one-bracket c cs e = either-on (word "]>") (word ">") (through "]]>") cdata_after_one c cs (word-on 93 (62 ∷ []) c cs e) (cdata-bracket c cs e)
-
-pub cdata-one-other : (cs : List Code) → next_is (is_value 93) cs ≡ false → cdata_after_one cs ≡ through "]]>" cs
-unfolding word
-cdata-one-other cs e = either-right (word "]>") (through "]]>") cs (word-none 93 (62 ∷ []) cs e)
-
-pub cdata-two-end : (c : Code) (cs : List Code) → is_value 62 c ≡ true → cdata_after_two (c ∷ cs) ≡ word ">" (c ∷ cs)
-cdata-two-end c cs e = either-here (word ">") cdata_after_one (c ∷ cs) (c ∷ [], cs) (end-here c cs e)
-
-pub cdata-two-one : (cs : List Code) → next_is (is_value 62) cs ≡ false → cdata_after_two cs ≡ cdata_after_one cs
-cdata-two-one cs e = either-right (word ">") cdata_after_one cs (end-none cs e)
 
 -- Declarations and instructions.
 

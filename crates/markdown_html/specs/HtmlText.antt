@@ -106,34 +106,37 @@ comment_open_inside_at (Some c) T =
 abbrev pub comment_open_inside_step : Tokenizer → Stepped
 comment_open_inside_step T = comment_open_inside_at (current_of T) T
 
-abbrev pub comment_at : Option ℕ → Tokenizer → Stepped
-comment_at None T = stepped Nok T
-comment_at (Some c) T =
-    if c == byte "\n" then broken H.HtmlTextComment T
-    else (if c == byte "-" then past_code H.HtmlTextCommentClose T
-    else past_code H.HtmlTextComment T)
+-- in what ends with a mark twice and a `>`, as comments and CDATA sections do
+abbrev pub marked_at : ℕ → StateName → StateName → Option ℕ → Tokenizer → Stepped
+marked_at mark inside close None T = stepped Nok T
+marked_at mark inside close (Some c) T =
+    if c == byte "\n" then broken inside T
+    else (if c == mark then past_code close T
+    else past_code inside T)
+
+-- after one mark
+abbrev pub after_mark_at : ℕ → StateName → StateName → Option ℕ → Tokenizer → Stepped
+after_mark_at mark inside end None T = over_to inside T
+after_mark_at mark inside end (Some c) T =
+    if c == mark then past_code end T
+    else over_to inside T
+
+-- after two
+abbrev pub after_two_marks_at : ℕ → StateName → StateName → Option ℕ → Tokenizer → Stepped
+after_two_marks_at mark inside close None T = over_to inside T
+after_two_marks_at mark inside close (Some c) T =
+    if c == byte ">" then over_to H.HtmlTextEnd T
+    else (if c == mark then over_to close T
+    else over_to inside T)
 
 abbrev pub comment_step : Tokenizer → Stepped
-comment_step T = comment_at (current_of T) T
-
-abbrev pub comment_close_at : Option ℕ → Tokenizer → Stepped
-comment_close_at None T = over_to H.HtmlTextComment T
-comment_close_at (Some c) T =
-    if c == byte "-" then past_code H.HtmlTextCommentEnd T
-    else over_to H.HtmlTextComment T
+comment_step T = marked_at (byte "-") H.HtmlTextComment H.HtmlTextCommentClose (current_of T) T
 
 abbrev pub comment_close_step : Tokenizer → Stepped
-comment_close_step T = comment_close_at (current_of T) T
-
-abbrev pub comment_end_at : Option ℕ → Tokenizer → Stepped
-comment_end_at None T = over_to H.HtmlTextComment T
-comment_end_at (Some c) T =
-    if c == byte ">" then over_to H.HtmlTextEnd T
-    else (if c == byte "-" then over_to H.HtmlTextCommentClose T
-    else over_to H.HtmlTextComment T)
+comment_close_step T = after_mark_at (byte "-") H.HtmlTextComment H.HtmlTextCommentEnd (current_of T) T
 
 abbrev pub comment_end_step : Tokenizer → Stepped
-comment_end_step T = comment_end_at (current_of T) T
+comment_end_step T = after_two_marks_at (byte "-") H.HtmlTextComment H.HtmlTextCommentClose (current_of T) T
 
 -- the code of `CDATA[` after so many
 abbrev pub prefix_value : ℕ → ℕ
@@ -153,34 +156,14 @@ cdata_open_inside_at (Some c) T =
 abbrev pub cdata_open_inside_step : Tokenizer → Stepped
 cdata_open_inside_step T = cdata_open_inside_at (current_of T) T
 
-abbrev pub cdata_at : Option ℕ → Tokenizer → Stepped
-cdata_at None T = stepped Nok T
-cdata_at (Some c) T =
-    if c == byte "\n" then broken H.HtmlTextCdata T
-    else (if c == byte "]" then past_code H.HtmlTextCdataClose T
-    else past_code H.HtmlTextCdata T)
-
 abbrev pub cdata_step : Tokenizer → Stepped
-cdata_step T = cdata_at (current_of T) T
-
-abbrev pub cdata_close_at : Option ℕ → Tokenizer → Stepped
-cdata_close_at None T = over_to H.HtmlTextCdata T
-cdata_close_at (Some c) T =
-    if c == byte "]" then past_code H.HtmlTextCdataEnd T
-    else over_to H.HtmlTextCdata T
+cdata_step T = marked_at (byte "]") H.HtmlTextCdata H.HtmlTextCdataClose (current_of T) T
 
 abbrev pub cdata_close_step : Tokenizer → Stepped
-cdata_close_step T = cdata_close_at (current_of T) T
-
-abbrev pub cdata_end_at : Option ℕ → Tokenizer → Stepped
-cdata_end_at None T = over_to H.HtmlTextCdata T
-cdata_end_at (Some c) T =
-    if c == byte ">" then over_to H.HtmlTextEnd T
-    else (if c == byte "]" then over_to H.HtmlTextCdataClose T
-    else over_to H.HtmlTextCdata T)
+cdata_close_step T = after_mark_at (byte "]") H.HtmlTextCdata H.HtmlTextCdataEnd (current_of T) T
 
 abbrev pub cdata_end_step : Tokenizer → Stepped
-cdata_end_step T = cdata_end_at (current_of T) T
+cdata_end_step T = after_two_marks_at (byte "]") H.HtmlTextCdata H.HtmlTextCdataClose (current_of T) T
 
 abbrev pub declaration_at : Option ℕ → Tokenizer → Stepped
 declaration_at None T = over_to H.HtmlTextEnd T

@@ -1,11 +1,11 @@
 -- What is still to be read of HTML in text, from each of its states.
-use Rattle.std.specs.Prelude.{ℕ, Bool, ◌||◌, not, List, codes, drop}
+use Rattle.std.specs.Prelude.{ℕ, Bool, ◌||◌, not, List, ◌∷◌, codes, drop}
 use Rattle.std.specs.Str.{byte}
 use Rattle.markdown_engine.specs.Codes.{Code}
 use Rattle.markdown_engine.specs.declared.state.StateName.{StateName}
 use Rattle.markdown_engine.specs.declared.state.StateName.TheVariants as H
 use Rattle.markdown_model.specs.CodeTests.{is_value, is_among, next_is, is_whitespace_code, is_letter, is_alphanumeric}
-use Rattle.markdown_model.specs.Grammar.{Reading, either, one, any_number, before, word, word_of, through, if_next, ◌then_◌, repeatedly, optional}
+use Rattle.markdown_model.specs.Grammar.{Reading, either, one, any_number, before, word, word_of, up_to_word, through, if_next, ◌then_◌, repeatedly, optional}
 use Rattle.markdown_model.specs.Html.{spaces, optional_spaces, tag_name, attribute_value, attribute, ends_value}
 
 abbrev pub is_name_code : Code → Bool
@@ -69,22 +69,21 @@ unquoted_rest = before (any_number is_unquoted_code) (next_is is_after_value) th
 abbrev pub closing_between : Reading (List Code)
 closing_between = optional_spaces then_ word ">"
 
--- after so many hyphens of a comment's end
-abbrev pub comment_after_one : Reading (List Code)
-comment_after_one = either (word "->") (through "-->")
+-- what ends with a mark twice and a `>`, as comments (`-`) and CDATA sections (`]`) do
+abbrev pub marked : ℕ → Reading (List Code)
+marked mark = up_to_word (mark ∷ mark ∷ codes ">")
 
-abbrev pub comment_after_two : Reading (List Code)
-comment_after_two = either (word ">") comment_after_one
+-- after one mark of the end
+abbrev pub after_mark : ℕ → Reading (List Code)
+after_mark mark = either (word_of (mark ∷ codes ">")) (marked mark)
+
+-- after two
+abbrev pub after_two_marks : ℕ → Reading (List Code)
+after_two_marks mark = either (word ">") (after_mark mark)
 
 -- after `<!-`
 abbrev pub comment_inside : Reading (List Code)
 comment_inside = either (word "->") (either (word "-->") (word "-" then_ through "-->"))
-
-abbrev pub cdata_after_one : Reading (List Code)
-cdata_after_one = either (word "]>") (through "]]>")
-
-abbrev pub cdata_after_two : Reading (List Code)
-cdata_after_two = either (word ">") cdata_after_one
 
 -- after so many codes of `CDATA[`
 abbrev pub cdata_opening : ℕ → Reading (List Code)
@@ -144,12 +143,12 @@ abbrev pub reading_of : Part → Reading (List Code)
 reading_of Open = open_rest
 reading_of DeclarationOpen = declaration_rest
 reading_of CommentOpenInside = comment_inside
-reading_of Comment = through "-->"
-reading_of CommentClose = comment_after_one
-reading_of CommentEnd = comment_after_two
-reading_of Cdata = through "]]>"
-reading_of CdataClose = cdata_after_one
-reading_of CdataEnd = cdata_after_two
+reading_of Comment = marked (byte "-")
+reading_of CommentClose = after_mark (byte "-")
+reading_of CommentEnd = after_two_marks (byte "-")
+reading_of Cdata = marked (byte "]")
+reading_of CdataClose = after_mark (byte "]")
+reading_of CdataEnd = after_two_marks (byte "]")
 reading_of Declaration = through ">"
 reading_of Instruction = through "?>"
 reading_of InstructionClose = instruction_after_one
