@@ -49,6 +49,5 @@ pub mod LaneLemmas
 pub mod PlainRuns
 pub mod Stretches
 pub mod SteadyLemmas
-pub mod ReverseSet
 pub mod ScriptLaws
 pub mod Turns

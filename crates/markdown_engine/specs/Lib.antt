@@ -14,7 +14,6 @@ pub mod Nesting
 pub mod RunIndex
 pub mod SequenceIndex
 pub mod TitleIndex
-pub mod PlaceIndex
 pub mod BracketIndex
 pub mod NameIndex
 pub mod Rest

@@ -4,7 +4,7 @@ ghost use Rattle.markdown_engine.specs.Chain.{bare, chained, changed_at, next_li
 ghost use Rattle.std.specs.List.{All};
 
 use crate::event::{Event, Link};
-use crate::seq::Seq;
+use markdown_lists::seq::Seq;
 use std::alloc::{AllocError, Global};
 use std::marker::Model;
 

@@ -7,7 +7,7 @@ ghost use Rattle.markdown_engine.specs.Resolves.{MayResolve, Resolves, unregiste
 ghost use Rattle.markdown_engine.specs.declared.state.State.TheVariants.{Retry};
 
 use crate::layer::Layer;
-use crate::seq::{Seq, Stack};
+use markdown_lists::seq::{Seq, Stack};
 use crate::state::{State, StateName};
 use crate::tokenizer::{Attempt, Tokenizer};
 use std::alloc::AllocError;

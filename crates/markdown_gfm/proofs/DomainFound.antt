@@ -8,7 +8,7 @@ use Rattle.std.proofs.lemmas.Grind.{common_steps}
 use Rattle.std.proofs.lemmas.List.{append_assoc}
 use Rattle.markdown_engine.specs.Codes.{Code}
 use Rattle.markdown_engine.specs.Place.{Place, ahead_at, code_at, moved}
-use Rattle.markdown_engine.specs.PlaceIndex.{is_kept}
+use Rattle.markdown_lists.specs.PlaceIndex.{is_kept}
 use Rattle.markdown_engine.specs.Stretch.{past_stretch}
 use Rattle.markdown_engine.specs.declared.event.Point.{Point}
 use Rattle.markdown_engine.proofs.PlaceRules.{IsAhead, ahead_none, ahead_some, at_moved, end_moved, code_at_ahead, code_at_end}

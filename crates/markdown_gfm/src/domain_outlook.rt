@@ -21,7 +21,7 @@ use markdown_construct::bytes::is_letter;
 use markdown_engine::byte_set;
 use markdown_engine::bytes::ByteSet;
 use markdown_engine::cursor::Cursor;
-use markdown_engine::place_index::PlaceIndex;
+use markdown_lists::place_index::PlaceIndex;
 use markdown_util::util::char::{Kind, kind_after_index};
 use std::alloc::{AllocError, Global};
 

@@ -18,7 +18,7 @@ ghost use Rattle.markdown_label.specs.LabelEnd.{LabelIsAround, ReferenceIsAround
 use crate::identifier::{is_call, is_defined_between, is_link, name_between};
 use markdown_engine::event::Name;
 use markdown_engine::resolve::ResolveName;
-use markdown_engine::seq::Stack;
+use markdown_lists::seq::Stack;
 use markdown_engine::state::{State, StateName};
 use markdown_engine::tokenizer::{Label, LabelKind, LabelStart, TokenizeState, Tokenizer};
 pub use markdown_resource::resource::{

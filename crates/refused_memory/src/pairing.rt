@@ -9,7 +9,7 @@ use crate::runs::{piece, state_of};
 use crate::single::refused;
 use markdown_engine::parser::{ParseState, Piece};
 use markdown_engine::resolve::ResolveName;
-use markdown_engine::seq::Seq;
+use markdown_lists::seq::Seq;
 use markdown_engine::state::StateName;
 use markdown_engine::tokenizer::Tokenizer;
 use markdown_inline::attention::runs::Runs;

@@ -8,7 +8,7 @@ use crate::rows::{GROUPS, LEAVES, Row, STRINGS};
 use crate::runs::{are, piece, state_of};
 use crate::single::refused;
 use markdown_engine::parser::{ParseState, Piece};
-use markdown_engine::seq::Seq;
+use markdown_lists::seq::Seq;
 use markdown_engine::state::StateName;
 use markdown_engine::tokenizer::Tokenizer;
 use markdown_inline::resolve;

@@ -9,7 +9,7 @@ ghost use Rattle.markdown_util.specs.Neighbours.{class_of};
 use crate::attention::runs::Sequence;
 use markdown_engine::event::{Event, Kind, Name, Point};
 use markdown_engine::events::Events;
-use markdown_engine::seq::Stack;
+use markdown_lists::seq::Stack;
 use markdown_util::util::char::{self, Kind as CharacterKind};
 use std::alloc::{AllocError, Global};
 

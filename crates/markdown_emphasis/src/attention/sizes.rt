@@ -6,7 +6,7 @@ ghost use Rattle.std.specs.List.{All};
 ghost use Rattle.markdown_emphasis.specs.Sides.{side_of, AreSizes};
 
 use markdown_attention::attention::pairing::Pair;
-use markdown_engine::seq::Stack;
+use markdown_lists::seq::Stack;
 use std::alloc::{AllocError, Global};
 use std::marker::Model;
 

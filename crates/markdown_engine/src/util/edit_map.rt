@@ -7,7 +7,7 @@ ghost use Rattle.markdown_engine.specs.Edits.{removed_at, front_at, back_at, add
 
 use crate::event::{Event, Link};
 use crate::events::Events;
-use crate::seq::{Seq, Stack};
+use markdown_lists::seq::{Seq, Stack};
 use std::alloc::{AllocError, Global};
 use std::marker::Model;
 

@@ -14,7 +14,7 @@ use markdown_engine::event::{Event, Kind, Name, Point};
 use markdown_engine::events::Events;
 use markdown_engine::parser::{ParseState, Piece};
 use markdown_engine::resolve::ResolveName;
-use markdown_engine::seq::Seq;
+use markdown_lists::seq::Seq;
 use markdown_engine::state::StateName;
 use markdown_engine::tokenizer::Tokenizer;
 use markdown_engine::walk::walk_to;

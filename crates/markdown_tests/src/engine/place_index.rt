@@ -1,5 +1,5 @@
 // Some places of a content.
-use markdown_engine::place_index::PlaceIndex;
+use markdown_lists::place_index::PlaceIndex;
 use std::test::Fail;
 
 #[test]

@@ -1,7 +1,7 @@
 // Lists and stacks.
 ghost use Rattle.std.specs.Prelude.{◌≡◌, ◌∷◌, [], OnOk};
 
-use markdown_engine::seq::{Seq, Stack};
+use markdown_lists::seq::{Seq, Stack};
 use std::alloc::AllocError;
 use std::process::Abort;
 use std::test::Fail;

@@ -6,8 +6,8 @@ use Rattle.std.proofs.lemmas.Bool.{cases_lt}
 use Rattle.std.proofs.lemmas.List.{get_or_default}
 use Rattle.std.proofs.lemmas.List.Folds.{list_any_at, list_any_none}
 use Rattle.std.proofs.lemmas.List.Sorted.{searched}
-use Rattle.markdown_engine.specs.PlaceIndex.{is_kept}
-use Rattle.markdown_engine.proofs.place_index.PlaceIndex.holds.Goals as goal
+use Rattle.markdown_lists.specs.PlaceIndex.{is_kept}
+use Rattle.markdown_lists.proofs.place_index.PlaceIndex.holds.Goals as goal
 
 alike : (n m : ℕ) → n ≡ m → (n == m) ≡ true
 alike n m e = grind (arith, e)

@@ -1,7 +1,7 @@
 // Some places of a content.
 ghost use Rattle.std.specs.Prelude.{◌≡◌};
 ghost use Rattle.std.specs.List.Sorted.{IsNonDecreasing};
-ghost use Rattle.markdown_engine.specs.PlaceIndex.{is_kept};
+ghost use Rattle.markdown_lists.specs.PlaceIndex.{is_kept};
 
 use std::marker::Model;
 

@@ -1,7 +1,7 @@
 use Rattle.std.proofs.Common.{◌≡◌, ◌-◌, ℕ, List, ◌++◌, length, take, drop, reverse, sym, ap, ◌∙◌, arith}
 use Rattle.std.proofs.lemmas.List.{reverse-append, length-reverse, take-append-drop}
 use Rattle.std.proofs.lemmas.Grind.{common_steps}
-use Rattle.markdown_engine.proofs.seq.Stack.truncate.Goals as goal
+use Rattle.markdown_lists.proofs.seq.Stack.truncate.Goals as goal
 
 -- dropping a first part of known length
 drop-first : {X : Type 0} → (a b : List X) (n : ℕ) → n ≡ length a → drop n (a ++ b) ≡ b
