@@ -1,9 +1,10 @@
 -- What the table of a set of bytes says.
-use Rattle.std.proofs.Common.{ℕ, zero, suc, ◌+◌, ◌<◌, Bool, true, false, not, ◌&&◌, ◌||◌, nat_lt, ◌==◌, ◌≡◌, arith, List, [], ◌∷◌, get_or, refl, ap, subst, ◌∙◌, inl, inr}
+use Rattle.std.proofs.Common.{ℕ, zero, suc, ◌+◌, ◌-◌, ◌<◌, ◌≤◌, Bool, true, false, not, ◌&&◌, ◌||◌, nat_lt, ◌==◌, ◌≡◌, arith, List, [], ◌∷◌, get_or, refl, sym, ap, subst, ◌∙◌, ◌≢◌, eq-eqb, inl, inr}
 use Rattle.std.specs.List.{list_any}
-use Rattle.std.proofs.lemmas.Bool.{both_ways, and_parts, or_parts, eqb-true, not-true, cases_Bool, cases_lt}
+use Rattle.std.proofs.lemmas.Bool.{both_ways, and_parts, or_parts, eqb-true, not-true, cases_Bool}
 use Rattle.std.proofs.lemmas.Bool.Decides.{nat_tests}
-use Rattle.markdown_engine.specs.Plain.{is_plain, same, is_plain_from, is_plain_table, is_word, spares_words, ArePlain, AreWords}
+use Rattle.std.specs.Int.{bit_at}
+use Rattle.markdown_engine.specs.Plain.{is_plain, same, is_plain_from, is_plain_table, is_word, spares_words, ArePlain}
 
 same-is : (b c : Bool) → same b c ≡ true → b ≡ c
 same-is true true h = refl
@@ -20,7 +21,7 @@ says-from set (b ∷ bs) i (suc k) h lt = says-from set bs (suc i) k (and_parts 
 pub table-says : (set : List ℕ) (table : List Bool) (b : ℕ) → is_plain_table set table ≡ true → b < 256 → get_or table b false ≡ is_plain set b
 table-says set table b h lt = says-from set table 0 b h (omega (arith, lt)) ∙ ap (is_plain set) (omega arith)
 
-plain-above : (set : List ℕ) (b : ℕ) → 13 < b → is_plain set b ≡ not (list_any (λ n. b == n) set)
+pub plain-above : (set : List ℕ) (b : ℕ) → 13 < b → is_plain set b ≡ not (list_any (λ n. b == n) set)
 plain-above set b h = grind (arith, nat_tests)
 
 not-not : (b : Bool) → not (not b) ≡ b
@@ -48,22 +49,26 @@ not-held (n ∷ ns) b w h =
 above-13 : (b : ℕ) → is_word b ≡ true → nat_lt 13 b ≡ true
 above-13 b w = grind (arith, nat_tests)
 
-word-plain : (set : List ℕ) (b : ℕ) → spares_words set ≡ true → is_word b ≡ true → is_plain set b ≡ true
+pub word-plain : (set : List ℕ) (b : ℕ) → spares_words set ≡ true → is_word b ≡ true → is_plain set b ≡ true
 word-plain set b spares w =
     ap (λ (t : Bool). t && not (list_any (λ n. b == n) set)) (above-13 b w) ∙ ap not (not-held set b w (not-true _ spares))
 
--- ordinary bytes, and bytes of words behind them
-pub more-words : (set bytes : List ℕ) (from index to : ℕ) → spares_words set ≡ true → ArePlain set bytes from index → AreWords bytes index to → ArePlain set bytes from to
-more-words set bytes from index to spares before words i low high =
-    elim (cases_lt i index) [
-      | inl k ↦ before i low k
-      | inr k ↦ word-plain set (get_or bytes i 0) spares (words i k high)
-    ]
+-- Bytes that are looked at together: where no bit is set, the byte is ordinary.
 
--- ordinary bytes, and one more of them
-pub one-more : (set bytes : List ℕ) (from index : ℕ) → ArePlain set bytes from index → is_plain set (get_or bytes index 0) ≡ true → ArePlain set bytes from (index + 1)
-one-more set bytes from index before here i low high =
-    elim (cases_lt i index) [
-      | inl k ↦ before i low k
-      | inr k ↦ ap (λ (j : ℕ). is_plain set (get_or bytes j 0)) (omega (arith, k, high)) ∙ here
+abbrev pub ArePlainUnder : List ℕ → List ℕ → ℕ → ℕ → Type 0
+ArePlainUnder set bytes at signs = (i : ℕ) → i < 16 → bit_at signs i ≡ 0 → is_plain set (get_or bytes (at + i) 0) ≡ true
+
+-- where no bit is set before one
+pub plain-under : (set bytes : List ℕ) (at signs n : ℕ) → ArePlainUnder set bytes at signs → n ≤ 16 → ((i : ℕ) → i < n → bit_at signs i ≡ 0) → ArePlain set bytes at (at + n)
+plain-under set bytes at signs n plain le clear i low high =
+    let here : at + (i - at) ≡ i = omega (arith, low) in
+    let lt : i - at < n = omega (arith, low, high) in
+    ap (λ (j : ℕ). is_plain set (get_or bytes j 0)) (sym here) ∙ plain (i - at) (omega (arith, lt, le)) (clear (i - at) lt)
+
+-- without the bit of an ordinary byte
+pub plain-without : (set bytes : List ℕ) (at signs left k : ℕ) → ArePlainUnder set bytes at signs → ((i : ℕ) → i < 16 → i ≢ k → bit_at left i ≡ bit_at signs i) → is_plain set (get_or bytes (at + k) 0) ≡ true → ArePlainUnder set bytes at left
+plain-without set bytes at signs left k plain others here i lt clear =
+    elim (cases_Bool (i == k)) [
+      | inl e ↦ ap (λ (j : ℕ). is_plain set (get_or bytes (at + j) 0)) (eqb-true i k e) ∙ here
+      | inr e ↦ plain i lt (sym (others i lt (λ s. both_ways (i == k) e (ap (λ (j : ℕ). j == k) s ∙ eq-eqb k k refl))) ∙ clear)
     ]

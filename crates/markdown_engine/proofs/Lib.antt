@@ -44,7 +44,6 @@ pub mod ChainTree
 pub mod SolidLemmas
 pub mod Bounds
 pub mod ByteSets
-pub mod EightPlain
 pub mod LaneLemmas
 pub mod PlainRuns
 pub mod Stretches

@@ -67,3 +67,9 @@ plain_code {bytes} {pieces} {k} {p} {e} {before} {n} h d lt fits plain =
     let at : IsAtCode bytes pieces k p n = at_code h (open-before-end pieces k p d lt fits) in
     let byte : is_line_ending_byte b ≡ false = other_byte b (not-control b 10 plain (omega arith)) (not-control b 13 plain (omega arith)) in
     sym at.value ∙ value_byte bytes p h.standing.is_point at.in_bytes byte (λ x. absurd (not-control b tab_value plain (omega arith) x))
+
+-- the code at a line feed is a line ending
+pub feed_code : {bytes : List ℕ} {pieces : List Piece} {k : ℕ} {p e : Point} {before : Option ℕ} {n : ℕ} → IsCursor bytes pieces k p e before n → (d : Piece) → k < length pieces → p.index < (get_or pieces k d).end.0 → get_or bytes p.index 0 ≡ 10 → code_at (content_place bytes pieces n) ≡ Some 10
+feed_code {bytes} {pieces} {k} {p} {e} {before} {n} h d lt fits feed =
+    let at : IsAtCode bytes pieces k p n = at_code h (open-before-end pieces k p d lt fits) in
+    sym at.value ∙ value_ending bytes p h.standing.is_point at.in_bytes (ending_byte (get_or bytes p.index 0) (inl feed))

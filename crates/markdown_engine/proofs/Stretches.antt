@@ -11,7 +11,7 @@ use Rattle.markdown_engine.specs.Place.{Place, ahead_at, code_at, moved}
 use Rattle.markdown_engine.specs.Standing.{IsCursor, content_place}
 use Rattle.markdown_engine.specs.Stretch.{stops, is_free, stretch, walked, past_stretch}
 use Rattle.markdown_engine.specs.Plain.{is_plain, ArePlain}
-use Rattle.markdown_engine.proofs.ByteSets.{plain-parts}
+use Rattle.markdown_engine.proofs.ByteSets.{plain-above, plain-parts}
 use Rattle.markdown_engine.proofs.CursorSteps.{moved_is}
 use Rattle.markdown_engine.proofs.PlaceRules.{ahead_none, ahead_some, ahead_moved, IsAhead, code_at_ahead, code_at_end, codes_moved, at_moved, left_moved}
 use Rattle.markdown_engine.proofs.PlainRuns.{plain_next, plain_code}
@@ -104,6 +104,12 @@ not-feed b h = grind (arith, nat_tests)
 
 free-byte : (ms : List ℕ) (b : ℕ) → is_plain ms b ≡ true → is_free ms (Some b) ≡ true
 free-byte ms b h = let p = plain-parts ms b h in rw (not-feed b p.0, p.1) refl
+
+-- a byte above 13 that is not ordinary stops
+pub stop-byte : (ms : List ℕ) (b : ℕ) → 13 < b → is_plain ms b ≡ false → is_free ms (Some b) ≡ false
+stop-byte ms b above other =
+    let held : list_any (λ n. b == n) ms ≡ true = not-false (list_any (λ n. b == n) ms) (sym (plain-above ms b above) ∙ other) in
+    rw (not-feed b above, held) refl
 
 -- the place so many columns on
 abbrev pub along : Point → ℕ → Point

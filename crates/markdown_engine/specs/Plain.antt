@@ -1,16 +1,12 @@
 -- Bytes over which text goes on at once.
-use Rattle.std.specs.Prelude.{◌≡◌, ℕ, suc, ◌<◌, ◌≤◌, Bool, true, not, ◌&&◌, ◌||◌, nat_lt, nat_le, ◌==◌, if◌then◌else◌, List, [], ◌∷◌, length, take, get_or}
-use Rattle.std.specs.List.{list_all, list_any}
+use Rattle.std.specs.Prelude.{◌≡◌, ℕ, suc, ◌<◌, ◌≤◌, Bool, true, not, ◌&&◌, ◌||◌, nat_lt, nat_le, ◌==◌, if◌then◌else◌, List, [], ◌∷◌, get_or}
+use Rattle.std.specs.List.{list_any}
 use Rattle.std.specs.Str.{byte}
 use Rattle.std.specs.Int.{w64, trailing_zeros}
 
 -- neither a tab nor of a line ending, and none of these bytes
 abbrev pub is_plain : List ℕ → ℕ → Bool
 is_plain set b = nat_lt 13 b && not (list_any (λ n. b == n) set)
-
--- eight bytes come first, and all of them are such
-abbrev pub are_eight_plain : List ℕ → List ℕ → Bool
-are_eight_plain set bytes = nat_le 8 (length bytes) && list_all (is_plain set) (take 8 bytes)
 
 abbrev pub same : Bool → Bool → Bool
 same b c = if b then c else not c
@@ -35,10 +31,6 @@ is_word b = b == byte " " || (nat_le (byte "A") b && nat_le b (byte "Z")) || (na
 -- none of these bytes is such
 abbrev pub spares_words : List ℕ → Bool
 spares_words set = not (list_any is_word set)
-
--- all bytes of a range are such
-abbrev pub AreWords : List ℕ → ℕ → ℕ → Type 0
-AreWords bytes from to = (i : ℕ) → from ≤ i → i < to → is_word (get_or bytes i 0) ≡ true
 
 -- the place of the lowest bit that is set among sixteen, or sixteen
 abbrev pub first_set : ℕ → ℕ

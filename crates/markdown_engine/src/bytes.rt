@@ -1,7 +1,7 @@
 // Sets of bytes, and which bytes text goes on over at once.
 ghost use Rattle.std.specs.List.{list_any};
 ghost use Rattle.std.specs.Prelude.{◌≡◌, ◌==◌, ◌∷◌, [], ℕ, IsTrue};
-ghost use Rattle.markdown_engine.specs.Plain.{is_plain, are_eight_plain, is_plain_table, spares_words};
+ghost use Rattle.markdown_engine.specs.Plain.{is_plain, is_plain_table, spares_words};
 
 use std::marker::Model;
 
@@ -84,21 +84,6 @@ impl ByteSet {
         ensures { result ≡ spares_words self.now }
     {
         self.words_are_plain
-    }
-
-    // Whether eight bytes come first, and all of them are ordinary.
-    pub(crate) fn are_eight_plain(&self, bytes: &[u8]) -> bool
-        ensures { result ≡ are_eight_plain self.now bytes.now }
-    {
-        match bytes {
-            [a, b, c, d, e, f, g, h, ..] => {
-                (self.is_plain(*a) & self.is_plain(*b))
-                    & (self.is_plain(*c) & self.is_plain(*d))
-                    & (self.is_plain(*e) & self.is_plain(*f))
-                    & (self.is_plain(*g) & self.is_plain(*h))
-            }
-            _ => false,
-        }
     }
 }
 

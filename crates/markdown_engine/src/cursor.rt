@@ -1,5 +1,5 @@
 // A place in a content, which hides the pieces, the tabs and what is left out of the lines.
-ghost use Rattle.std.specs.Prelude.{◌≡◌, ◌∷◌, [], ℕ, List, drop, length, nat_le, ◌<◌, ◌≤◌, IsSome, IsTrue};
+ghost use Rattle.std.specs.Prelude.{◌≡◌, ◌∷◌, [], ℕ, List, drop, length, nat_le, ◌<◌, ◌≤◌, false, IsSome, IsTrue};
 ghost use Rattle.markdown_engine.specs.Codes.{count_among, line_feed, place_of};
 ghost use Rattle.markdown_engine.specs.Content.{IsContent};
 ghost use Rattle.markdown_engine.specs.Place.{start_of_content, code_at, code_before, point_of, exit_point, moved};
@@ -10,7 +10,7 @@ ghost use Rattle.markdown_engine.specs.Walk.{IsPoint};
 
 use crate::bytes::ByteSet;
 use crate::event::Point;
-use crate::lanes::{LANES, ordinary_among, words_among};
+use crate::lanes::{EIGHT, LANES, ordinary_among, others_among, plain_among, plain_among_eight};
 use crate::parser::Piece;
 use crate::walk::{DOCUMENT_START, code_from, past_code, walk_to};
 use std::marker::Model;
@@ -216,7 +216,20 @@ impl<'a> Cursor<'a> {
         behind.current()
     }
 
+    // Whether the piece goes on with a line feed, or with a byte above 13 that is one of these: so most stretches end.
+    #[inline(always)]
+    fn stands_at_stop(&self, stops: &ByteSet) -> bool
+        ensures { IsTrue result → is_free stops.now (code_at self.now) ≡ false }
+    {
+        if self.piece >= self.pieces.len() || self.point.index >= self.pieces[self.piece].end.0 {
+            return false;
+        }
+        let byte = self.bytes[self.point.index];
+        byte == b'\n' || (byte > b'\r' && !stops.is_plain(byte))
+    }
+
     // Moves past the ordinary bytes at the place, as far as the last of the piece.
+    #[inline(always)]
     fn pass_plain(&mut self, stops: &ByteSet)
         ensures past { past_stretch stops.now self.new ≡ past_stretch stops.now self.old }
         ensures codes { self.new.codes ≡ self.old.codes }
@@ -261,6 +274,16 @@ impl<'a> Cursor<'a> {
         ensures { self.new ≡ past_stretch stops.now self.old }
     {
         self.pass_plain(stops);
+        if !self.stands_at_stop(stops) {
+            self.consume_rest(stops);
+        }
+    }
+
+    // What `consume_stretch` does, whatever the codes are.
+    #[inline(never)]
+    fn consume_rest(&mut self, stops: &ByteSet)
+        ensures { self.new ≡ past_stretch stops.now self.old }
+    {
         while self.is_free(stops) {
             self.consume();
             self.pass_plain(stops);
@@ -317,7 +340,8 @@ impl<'a> Cursor<'a> {
     }
 }
 
-// Where the groups of sixteen bytes above 13 from this index on end, or the first of them that is not whole, not past `to`.
+// Where the bytes above 13 from this index on end, or where fewer than sixteen are left, not past `to`.
+#[inline(always)]
 fn ordinary_groups_end(bytes: &[u8], from: usize, to: usize) -> usize
     requires order { from ≤ to }
     requires within { to ≤ length bytes.now }
@@ -336,7 +360,32 @@ fn ordinary_groups_end(bytes: &[u8], from: usize, to: usize) -> usize
     index
 }
 
-// Where the ordinary bytes from this index on end, where words are ordinary, or where fewer than sixteen are left, not past `to`.
+// As `ordinary_groups_end`, of bytes that are none of these, which are one or two.
+#[inline(always)]
+fn few_groups_end(bytes: &[u8], from: usize, to: usize, stops: &ByteSet) -> usize
+    requires some { 0 < length stops.now }
+    requires few { length stops.now ≤ 2 }
+    requires order { from ≤ to }
+    requires within { to ≤ length bytes.now }
+    ensures from { from ≤ result }
+    ensures to { result ≤ to }
+    ensures plain { ArePlain stops.now bytes.now from result }
+{
+    let set = stops.as_slice();
+    let (one, two) = (set[0], set[set.len() - 1]);
+    let mut index = from;
+    while to - index >= LANES {
+        let count = others_among(bytes, index, one, two);
+        index += count;
+        if count < LANES {
+            return index;
+        }
+    }
+    index
+}
+
+// As `ordinary_groups_end`, of bytes that are none of these, where words are ordinary.
+#[inline(always)]
 fn words_end(bytes: &[u8], from: usize, to: usize, stops: &ByteSet) -> usize
     requires words { IsTrue (spares_words stops.now) }
     requires order { from ≤ to }
@@ -347,19 +396,17 @@ fn words_end(bytes: &[u8], from: usize, to: usize, stops: &ByteSet) -> usize
 {
     let mut index = from;
     while to - index >= LANES {
-        let count = words_among(bytes, index);
+        let count = plain_among(bytes, index, stops);
         index += count;
         if count < LANES {
-            if !stops.is_plain(bytes[index]) {
-                return index;
-            }
-            index += 1;
+            return index;
         }
     }
     index
 }
 
-// Where the groups of eight ordinary bytes from this index on end, not past `to`.
+// Where the ordinary bytes from this index on end, or where fewer than eight are left, not past `to`.
+#[inline(always)]
 fn eights_end(bytes: &[u8], from: usize, to: usize, stops: &ByteSet) -> usize
     requires order { from ≤ to }
     requires within { to ≤ length bytes.now }
@@ -368,13 +415,18 @@ fn eights_end(bytes: &[u8], from: usize, to: usize, stops: &ByteSet) -> usize
     ensures plain { ArePlain stops.now bytes.now from result }
 {
     let mut index = from;
-    while stops.are_eight_plain(&bytes[index..to]) {
-        index += 8;
+    while to - index >= EIGHT {
+        let count = plain_among_eight(bytes, index, stops);
+        index += count;
+        if count < EIGHT {
+            return index;
+        }
     }
     index
 }
 
 // Where the ordinary bytes from this index on that are looked at together end, not past `to`.
+#[inline(always)]
 fn plain_groups_end(bytes: &[u8], from: usize, to: usize, stops: &ByteSet) -> usize
     requires order { from ≤ to }
     requires within { to ≤ length bytes.now }
@@ -382,16 +434,18 @@ fn plain_groups_end(bytes: &[u8], from: usize, to: usize, stops: &ByteSet) -> us
     ensures to { result ≤ to }
     ensures plain { ArePlain stops.now bytes.now from result }
 {
-    if stops.as_slice().is_empty() {
-        ordinary_groups_end(bytes, from, to)
-    } else if stops.spares_words() {
-        words_end(bytes, from, to, stops)
-    } else {
-        eights_end(bytes, from, to, stops)
+    if !stops.spares_words() {
+        return eights_end(bytes, from, to, stops);
+    }
+    match stops.as_slice().len() {
+        0 => ordinary_groups_end(bytes, from, to),
+        1 | 2 => few_groups_end(bytes, from, to, stops),
+        _ => words_end(bytes, from, to, stops),
     }
 }
 
 // Where the ordinary bytes from this index on end, not past `to`.
+#[inline(always)]
 pub(crate) fn plain_end(bytes: &[u8], from: usize, to: usize, stops: &ByteSet) -> usize
     requires order { from ≤ to }
     requires within { to ≤ length bytes.now }

@@ -1,17 +1,10 @@
-use Rattle.std.proofs.Common.{◌∙◌, ap, sym}
-use Rattle.markdown_engine.specs.Stretch.{past_stretch}
-use Rattle.markdown_engine.proofs.Stretches.{past-one, past-none, fewer}
+use Rattle.std.proofs.Common.{◌∙◌, sym}
+use Rattle.markdown_engine.proofs.Stretches.{past-none}
 use Rattle.markdown_engine.proofs.cursor.Cursor.consume_stretch.Goals as goal
 
-pub loop-self-smaller : goal.loop-self-smaller
-loop-self-smaller c =
-    fewer c.args.stops.now c.loop-self.self c.consume.new.self c.pass_plain-in-loop-self.new.self (sym c.is_free.ensures ∙ c.loop-self-test.true) c.consume.ensures c.pass_plain-in-loop-self.ensures.codes c.pass_plain-in-loop-self.ensures.forward
+pub returns-then-not-stands_at_stop : goal.returns-then-not-stands_at_stop
+returns-then-not-stands_at_stop c = c.consume_rest.ensures ∙ c.pass_plain.ensures.past
 
-pub loop-self-preserved : goal.loop-self-preserved
-loop-self-preserved c =
-    c.pass_plain-in-loop-self.ensures.past ∙ ap (past_stretch c.args.stops.now) c.consume.ensures
-    ∙ sym (past-one c.args.stops.now c.loop-self.self (sym c.is_free.ensures ∙ c.loop-self-test.true)) ∙ c.loop-self.invariant
-
-pub returns : goal.returns
-returns c =
-    sym (past-none c.args.stops.now c.loop-self.self (sym c.is_free.ensures ∙ c.loop-self-test.false)) ∙ c.loop-self.invariant ∙ c.pass_plain.ensures.past
+pub returns-else-not-stands_at_stop : goal.returns-else-not-stands_at_stop
+returns-else-not-stands_at_stop c =
+    sym (past-none c.args.stops.now c.pass_plain.new.self (c.stands_at_stop.ensures c.if-not-stands_at_stop.false)) ∙ c.pass_plain.ensures.past

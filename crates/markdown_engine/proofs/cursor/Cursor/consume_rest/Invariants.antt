@@ -1,6 +1,6 @@
 use Rattle.std.proofs.Common.{◌≡◌, ◌-◌, length}
 use Rattle.markdown_engine.specs.Stretch.{past_stretch}
-use Rattle.markdown_engine.proofs.cursor.Cursor.consume_stretch.Given as goal
+use Rattle.markdown_engine.proofs.cursor.Cursor.consume_rest.Given as goal
 
 abbrev pub invariant-loop-self : goal.invariant-loop-self
 invariant-loop-self l = past_stretch l.fn.stops l.self ≡ past_stretch l.fn.stops l.initial.self
