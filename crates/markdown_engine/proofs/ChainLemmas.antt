@@ -1,5 +1,5 @@
 -- The links of a list of events, as it grows, shrinks and gains a link.
-use Rattle.std.proofs.Common.{◌≡◌, ◌≢◌, ℕ, zero, suc, ◌+◌, ◌<◌, ◌≤◌, ◌⊎◌, inl, inr, true, false, cond, Option, Some, None, List, [], ◌∷◌, ◌++◌, length, set, get_or, refl, sym, ap, subst, ◌∙◌, arith}
+use Rattle.std.proofs.Common.{◌≡◌, ◌≢◌, ℕ, zero, suc, ◌+◌, ◌<◌, ◌≤◌, ◌⊎◌, inl, inr, true, false, cond, Option, Some, None, List, [], ◌∷◌, ◌++◌, ◌-◌, length, take, drop, set, get_or, refl, sym, ap, subst, ◌∙◌, arith}
 use Rattle.std.proofs.lemmas.Option.{same_Some}
 use Rattle.std.proofs.lemmas.Bool.{ne_eqb, eq-eqb, false≢true}
 use Rattle.std.proofs.lemmas.Bool.Decides.{eqb_tells}
@@ -7,7 +7,7 @@ use Rattle.markdown_engine.specs.declared.event.Event.{Event}
 use Rattle.markdown_engine.specs.declared.event.Kind.{Kind}
 use Rattle.markdown_engine.specs.declared.event.Kind.TheVariants.{Enter, Exit}
 use Rattle.markdown_engine.specs.declared.event.Link.{Link}
-use Rattle.markdown_engine.specs.Chain.{next_link, with_next, previous_link, with_previous, bare, bares, link_previous, previous_of, has_link, is_number, follower, chained_from, changed_at, previous_at, linked_at, MayLink, OnlyEnters, EndsChain, IsLinked, IsFreshLink, IsFresh}
+use Rattle.markdown_engine.specs.Chain.{next_link, with_next, previous_link, with_previous, bare, bares, link_previous, previous_of, has_link, is_number, follower, chained_from, chained, changed_at, previous_at, linked_at, MayLink, OnlyEnters, EndsChain, IsLinked, IsFreshLink, IsFresh, IsUnlinked}
 
 -- one event changed
 
@@ -145,6 +145,44 @@ follower-pushed p n m (x ∷ es) e k h u =
     let next : m ≡ suc n + length es = omega arith in
     follower-skip p n x (es ++ e ∷ []) (u 0) ∙ follower-pushed p (suc n) m es e next h (tail-ends p x es u)
 
+-- where there is no follower, no event names the one before
+pub follower-ends : (p n : ℕ) (es : List Event) → follower p n es ≡ None → EndsChain p es
+follower-ends p n [] h j e = some-none p e
+follower-ends p n (x ∷ es) h zero e = some-none n (sym h ∙ follower-here p n x es e)
+follower-ends p n (x ∷ es) h (suc j) e =
+    elim (is_number p (previous_of x)) as (λ b. is_number p (previous_of x) ≡ b → ⊥) [
+      | true ↦ λ t. some-none n (sym h ∙ ap (λ b. cond b (Some n) (follower p (suc n) es)) t)
+      | false ↦ λ f. follower-ends p (suc n) es (sym (ap (λ b. cond b (Some n) (follower p (suc n) es)) f) ∙ h) j e
+    ] refl
+
+previous-behind : (i k : ℕ) (es : List Event) → i ≤ k → previous_at (drop i es) (k - i) ≡ previous_at es k
+previous-behind zero k es h = ap (previous_at es) (omega arith)
+previous-behind (suc i) k [] h = refl
+previous-behind (suc i) zero (e ∷ es) h = absurd (omega arith)
+previous-behind (suc i) (suc k) (e ∷ es) h = ap (previous_at (drop i es)) (omega arith) ∙ previous-behind i k es (omega arith)
+
+abbrev link_next : Option Link → Option ℕ
+link_next None = None
+link_next (Some l) = l.next
+
+none-next : (k : Option ℕ) (l : Option Link) → has_link l ≡ true → next_link None (next_link k l) ≡ next_link k l → k ≡ None
+none-next k None h e = absurd (false≢true h)
+none-next k (Some l) h e = sym (ap link_next e)
+
+follower-at : (n i p : ℕ) (es : List Event) (d : Event) → p ≡ n + i → linked_at es i ≡ true → next_link None (get_or (chained_from n es) i d).link ≡ (get_or (chained_from n es) i d).link → follower p (suc p) (drop (suc i) es) ≡ None
+follower-at n i p [] d at h e = absurd (false≢true h)
+follower-at n zero p (x ∷ es) d at h e =
+    let here : p ≡ n = omega (arith, at) in
+    ap (λ q. follower q (suc q) es) here ∙ none-next (follower n (suc n) es) x.link h e
+follower-at n (suc i) p (x ∷ es) d at h e = follower-at (suc n) i p es d (omega (arith, at)) h e
+
+-- an event with no event after ends its chain
+pub chained-ends : (p : ℕ) (es : List Event) (d : Event) → IsLinked es → next_link None (get_or (chained es) p d).link ≡ (get_or (chained es) p d).link → EndsChain p es
+chained-ends p es d w e j named =
+    let later : p < j = w.earlier j p named in
+    let none : follower p (suc p) (drop (suc p) es) ≡ None = follower-at 0 p p es d (omega arith) (w.linked j p named) e in
+    follower-ends p (suc p) (drop (suc p) es) none (j - suc p) (previous-behind (suc p) j es (omega (arith, later)) ∙ named)
+
 -- an event added at the end
 
 pub chained-fresh : (n : ℕ) (es : List Event) (e : Event) → previous_of e ≡ None → chained_from n (es ++ e ∷ []) ≡ chained_from n es ++ with_next None e ∷ []
@@ -254,6 +292,19 @@ pub OnlyEnters-append : (xs ys : List Event) → OnlyEnters xs → OnlyEnters ys
 OnlyEnters-append [] ys h k = k
 OnlyEnters-append (x ∷ xs) ys h k = (h.0, OnlyEnters-append xs ys h.1 k)
 
+OnlyEnters-drop : (n : ℕ) (xs : List Event) → OnlyEnters xs → OnlyEnters (drop n xs)
+OnlyEnters-drop zero xs h = h
+OnlyEnters-drop (suc n) [] h = tt
+OnlyEnters-drop (suc n) (x ∷ xs) h = OnlyEnters-drop n xs h.1
+
+OnlyEnters-take : (n : ℕ) (xs : List Event) → OnlyEnters xs → OnlyEnters (take n xs)
+OnlyEnters-take zero xs h = tt
+OnlyEnters-take (suc n) [] h = tt
+OnlyEnters-take (suc n) (x ∷ xs) h = (h.0, OnlyEnters-take n xs h.1)
+
+pub OnlyEnters-part : (n k : ℕ) (xs : List Event) → OnlyEnters xs → OnlyEnters (take k (drop n xs))
+OnlyEnters-part n k xs h = OnlyEnters-take k (drop n xs) (OnlyEnters-drop n xs h)
+
 pub IsLinked-prefix : (xs ys : List Event) → IsLinked (xs ++ ys) → IsLinked xs
 IsLinked-prefix xs ys w =
     let up = λ (j p : ℕ) (h : previous_at xs j ≡ Some p). previous_at-before xs ys j (within-previous xs j p h) ∙ h in
@@ -281,6 +332,14 @@ fresh-may : (k : Kind) (l : Option Link) → IsFreshLink k l → MayLink k l
 fresh-may k None h = tt
 fresh-may Enter (Some l) h = tt
 fresh-may Exit (Some l) h = absurd h
+
+pub fresh-of : (k : Kind) (l : Option Link) → MayLink k l → link_previous l ≡ None → next_link None l ≡ l → IsFreshLink k l
+fresh-of k None m p e = tt
+fresh-of Enter (Some l) m p e = (p, sym (ap link_next e))
+fresh-of Exit (Some l) m p e = absurd m
+
+pub unlinked-fresh : (e : Event) → IsUnlinked e → IsFresh e
+unlinked-fresh e u = let P : Option Link → Type 0 = λ l. IsFreshLink e.kind l in subst P (sym u) tt
 
 pub bare-fresh : (e : Event) → IsFresh e → bare e ≡ e
 bare-fresh e h = ap (λ (l : Option Link). record e { link = l }) (fresh-bare e.kind e.link h)

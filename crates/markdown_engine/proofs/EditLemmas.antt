@@ -1,15 +1,15 @@
 -- Edits of a list of events: where each event stands afterwards, and that chains stay chains.
-use Rattle.std.proofs.Common.{◌≡◌, ℕ, zero, suc, ◌+◌, ◌-◌, ◌<◌, ◌≤◌, ◌==◌, ◌||◌, ◌&&◌, not, nat_lt, nat_le, max, min, ◌^◌, ◌⊎◌, inl, inr, Bool, true, false, cond, Option, Some, None, List, [], ◌∷◌, ◌++◌, length, drop, get_or, refl, sym, ap, subst, ◌∙◌, arith, append_assoc, take}
+use Rattle.std.proofs.Common.{◌≡◌, ℕ, zero, suc, ◌+◌, ◌-◌, ◌<◌, ◌≤◌, ◌==◌, ◌||◌, ◌&&◌, not, nat_lt, nat_le, max, min, ◌^◌, ◌⊎◌, inl, inr, Bool, true, false, cond, Option, Some, None, List, [], ◌∷◌, ◌++◌, length, drop, get_or, refl, sym, ap, subst, ◌∙◌, arith, append_assoc}
 use Rattle.std.specs.List.{All, slice_get}
 use Rattle.std.specs.Option.{option_map}
-use Rattle.std.proofs.lemmas.List.{length-append, append-nil, drop_more, length-take, length-drop, get_or-take, get_or-drop}
+use Rattle.std.proofs.lemmas.List.{length-append, append-nil, drop_more}
 use Rattle.std.proofs.lemmas.Option.{get_or_from_slice_get, slice_get_within, slice_get-get_or, same_Some}
 use Rattle.std.proofs.lemmas.Bool.{false≢true, le-ltb, eq-eqb, cases_Bool}
 use Rattle.std.proofs.lemmas.Bool.Decides.{nat_tests, eqb_tells, leb_tells}
 use Rattle.markdown_engine.specs.declared.event.Event.{Event}
 use Rattle.markdown_engine.specs.declared.event.Link.{Link}
 use Rattle.markdown_engine.specs.declared.util.edit_map.Edit.{Edit}
-use Rattle.markdown_engine.specs.Chain.{previous_link, with_previous, link_previous, previous_of, has_link, previous_at, linked_at, MayLink, OnlyEnters, IsLinked, IsUnlinked}
+use Rattle.markdown_engine.specs.Chain.{previous_link, with_previous, link_previous, previous_of, has_link, previous_at, linked_at, MayLink, OnlyEnters, EndsChain, IsLinked, IsUnlinked}
 use Rattle.markdown_engine.specs.Edits.{removed_at, front_at, back_at, added_at, removed_by, is_removed, added_up_to, removed_before, moved_number, moved, edited_from, edited, number_of, renumbered, noted, AddsUnlinked, CanEdit}
 use Rattle.markdown_engine.proofs.ChainLemmas.{OnlyEnters-append, has-previous, may-previous, within-linked, IsLinked-prefix}
 
@@ -418,14 +418,14 @@ map-same : (f g : ℕ → ℕ) (o : Option ℕ) → ((p : ℕ) → o ≡ Some p 
 map-same f g None h = refl
 map-same f g (Some p) h = ap (λ x. Some x) (h p refl)
 
--- the notes so far name the numbers of the events before that carry a link
+-- the notes so far name the numbers of the events before that carry a link and that an event names
 abbrev pub Notes : List Edit → List Event → ℕ → List (ℕ × ℕ) → Type 0
-Notes log es i notes = (j : ℕ) → j < i → linked_at es j ≡ true → number_of notes j ≡ moved_number log j
+Notes log es i notes = (j by : ℕ) → j < i → linked_at es j ≡ true → previous_at es by ≡ Some j → number_of notes j ≡ moved_number log j
 
 -- the link looked up in them
 pub renumbered-moved : (log : List Edit) (es : List Event) (i : ℕ) (notes : List (ℕ × ℕ)) (e : Event) → i < length es → e ≡ get_or es i e → IsLinked es → Notes log es i notes → renumbered notes e ≡ moved log e
 renumbered-moved log es i notes e l r w n =
-    ap (λ o. with_previous o e) (map-same (number_of notes) (moved_number log) (previous_of e) (λ p k. n p (previous-below es i p e l r w k) (w.linked i p (previous-read es i e l r ∙ k))))
+    ap (λ o. with_previous o e) (map-same (number_of notes) (moved_number log) (previous_of e) (λ p k. n p i (previous-below es i p e l r w k) (w.linked i p (previous-read es i e l r ∙ k)) (previous-read es i e l r ∙ k)))
 
 note-found : (e : Event) (i n j : ℕ) (notes : List (ℕ × ℕ)) → i ≡ j → has_link e.link ≡ true → number_of (noted e i n notes) j ≡ n
 note-found e i n j notes h g = ap (λ b. number_of (cond b ((i, n) ∷ notes) notes) j) g ∙ ap (λ b. cond b n (number_of notes j)) (eq-eqb i j h)
@@ -438,19 +438,19 @@ note-other e i n j notes h = over (has_link e.link) i n j notes h
     over false i n j notes h = refl
 
 pub notes-kept : (log : List Edit) (es : List Event) (i n : ℕ) (e : Event) (notes : List (ℕ × ℕ)) → i < length es → e ≡ get_or es i e → n ≡ moved_number log i → Notes log es i notes → Notes log es (i + 1) (noted e i n notes)
-notes-kept log es i n e notes l r m h = λ j k g.
+notes-kept log es i n e notes l r m h = λ j by k g named.
     elim (eqb_tells i j) [
       | inl t ↦
           let at : linked_at es i ≡ has_link e.link = linked-get es i e (slice_get-get_or es i e l ∙ ap (λ x. Some x) (sym r)) in
           note-found e i n j notes t.1 (sym at ∙ ap (linked_at es) t.1 ∙ g) ∙ m ∙ ap (moved_number log) t.1
-      | inr f ↦ note-other e i n j notes f.0 ∙ h j (omega arith) g
+      | inr f ↦ note-other e i n j notes f.0 ∙ h j by (omega arith) g named
     ]
 
 pub notes-gone : (log : List Edit) (es : List Event) (n m : ℕ) (notes : List (ℕ × ℕ)) → ((j : ℕ) → n ≤ j → j < m → linked_at es j ≡ false) → Notes log es n notes → Notes log es m notes
-notes-gone log es n m notes gone h = λ j k g.
+notes-gone log es n m notes gone h = λ j by k g named.
     elim (leb_tells n j) [
       | inl low ↦ absurd (false≢true (sym (gone j (omega arith) k) ∙ g))
-      | inr high ↦ h j (omega arith) g
+      | inr high ↦ h j by (omega arith) g named
     ]
 
 -- what the code knows at place i of where the ranges end, once those of the places before j are counted
@@ -462,19 +462,11 @@ found [] i l = absurd (omega arith)
 found (x ∷ es) zero l = (x, refl)
 found (x ∷ es) (suc i) l = found es i (omega arith)
 
-pub notes-plain : (log : List Edit) (es : List Event) (n m : ℕ) (notes : List (ℕ × ℕ)) → m ≤ length es → All IsUnlinked (take (m - n) (drop n es)) → Notes log es n notes → Notes log es m notes
-notes-plain log es n m notes w u h = λ j k g.
+pub notes-alone : (log : List Edit) (es : List Event) (n m : ℕ) (notes : List (ℕ × ℕ)) → ((j : ℕ) → n ≤ j → j < m → EndsChain j es) → Notes log es n notes → Notes log es m notes
+notes-alone log es n m notes ends h = λ j by k g named.
     elim (leb_tells n j) [
-      | inl low ↦
-          let e = found es j (omega arith) in
-          let at : slice_get es j ≡ Some e.0 = slice_get-get_or es j e.0 (omega arith) ∙ ap (λ x. Some x) (sym e.1) in
-          let size : length (take (m - n) (drop n es)) ≡ m - n = omega (arith, length-take (m - n) (drop n es), length-drop n es) in
-          let there : n + (j - n) ≡ j = omega arith in
-          let inside : j - n < m - n = omega arith in
-          let plain = u (j - n) e.0 (omega arith) in
-          let same : get_or (take (m - n) (drop n es)) (j - n) e.0 ≡ e.0 = get_or-take (m - n) (drop n es) (j - n) e.0 inside ∙ get_or-drop n es (j - n) e.0 ∙ ap (λ i. get_or es i e.0) there ∙ sym e.1 in
-          absurd (false≢true (sym (ap has_link plain) ∙ ap (λ (x : Event). has_link x.link) same ∙ sym (linked-get es j e.0 at) ∙ g))
-      | inr high ↦ h j (omega arith) g
+      | inl low ↦ absurd (ends j (omega arith) k by named)
+      | inr high ↦ h j by (omega arith) g named
     ]
 
 pub range-more : (log : List Edit) (i a b c d : ℕ) → i < 2 ^ 64 - 1 → EndsAt log i i a → b ≡ min (removed_at i log) (2 ^ 64 - 1) → c ≡ min (i + b) (2 ^ 64 - 1) → d ≡ max a c → EndsAt log i (i + 1) d

@@ -13,8 +13,9 @@ use Rattle.std.proofs.lemmas.Bool.Decides.{nat_tests}
 use Rattle.markdown_engine.specs.declared.event.Event.{Event}
 use Rattle.markdown_engine.specs.declared.util.edit_map.Edit.{Edit}
 use Rattle.markdown_engine.specs.declared.util.edit_map.Entry.{Entry}
-use Rattle.markdown_engine.specs.Chain.{IsUnlinked}
+use Rattle.markdown_engine.specs.Chain.{IsFresh, IsUnlinked}
 use Rattle.markdown_engine.specs.Edits.{removed_at, front_at, back_at, added_at, edit_of, kept, AddsUnlinked, AreBrought, AreKept, IsRest}
+use Rattle.markdown_engine.proofs.ChainLemmas.{unlinked-fresh}
 use Rattle.markdown_engine.proofs.EditLemmas.{back_push, removed_push, range-more, EndsAt}
 use Rattle.markdown_engine.proofs.EditFacts.{added-none, removed-none, added-first, added-second, removed-first, removed-second}
 
@@ -179,10 +180,13 @@ kept-read cs es k l e = get_or-map (edit_of cs) es k none e l
 kept-more : (cs : List Event) (es : List Entry) (k : ℕ) → k < length es → kept cs (take (k + 1) es) ≡ kept cs (take k es) ++ edit_of cs (entry es k) ∷ []
 kept-more cs es k l = map_more (edit_of cs) es k none l
 
-pub plain-read : (cs : List Event) (r : Entry) (xs : List Event) → All IsUnlinked cs → xs ≡ (edit_of cs r).events → All IsUnlinked xs
+plain-read : (cs : List Event) (r : Entry) (xs : List Event) → All IsUnlinked cs → xs ≡ (edit_of cs r).events → All IsUnlinked xs
 plain-read cs r xs u h =
     let P : List Event → Type 0 = λ ys. All IsUnlinked ys in
     subst P (sym h) (All-take IsUnlinked (r.to - r.from) (drop r.from cs) (All-drop IsUnlinked r.from cs u))
+
+pub fresh-read : (cs : List Event) (r : Entry) (xs : List Event) → All IsUnlinked cs → xs ≡ (edit_of cs r).events → All IsFresh xs
+fresh-read cs r xs u h = λ k d l. unlinked-fresh (get_or xs k d) (plain-read cs r xs u h k d l)
 
 pub here-more : (i : ℕ) (es : List Entry) (k : ℕ) → k < length es → (entry es k).at ≡ i → All (λ e. e.at ≡ i) (take k es) → All (λ e. e.at ≡ i) (take (k + 1) es)
 here-more i es k l at all =

@@ -1,11 +1,11 @@
 -- What a change of the kept events does to the events that contracts see, and that their links stay filled in.
 use Rattle.std.proofs.Common.{◌≡◌, ℕ, zero, suc, ◌+◌, ◌-◌, ◌<◌, ◌≤◌, Option, Some, None, List, [], ◌∷◌, ◌++◌, length, take, drop, get_or, true, refl, append_assoc, sym, ap, subst, ◌∙◌, arith}
-use Rattle.std.proofs.lemmas.List.{take_at, same_from_push, length_push, append-nil, length-take}
+use Rattle.std.proofs.lemmas.List.{take_at, same_from_push, length_push, append-nil, length-take, get_or-take, get_or-drop}
 use Rattle.std.specs.List.{All}
 use Rattle.markdown_engine.specs.declared.event.Link.{Link}
 use Rattle.markdown_engine.specs.declared.event.Event.{Event}
-use Rattle.markdown_engine.specs.Chain.{with_next, with_previous, bare, bares, previous_of, chained, changed_at, previous_at, linked_at, EndsChain, IsLinked, IsFresh, IsFreshLink, IsUnlinked, IsFilled, next_link}
-use Rattle.markdown_engine.proofs.ChainLemmas.{length-changed_at, changed_at-append, length-bares, bares-append, bares-next, bares-previous, get-bares, chained-fresh, chained-push, chained-end, chained-link, IsLinked-prefix, IsLinked-push, bare-fresh, fresh-unnamed, ends-before, last-earlier, IsLinked-connect, previous_of-bare, within-linked, changed_at-twice}
+use Rattle.markdown_engine.specs.Chain.{with_next, with_previous, bare, bares, previous_of, chained, changed_at, previous_at, linked_at, EndsChain, IsLinked, IsFresh, IsFilled, OnlyEnters, MayLink, link_previous, next_link}
+use Rattle.markdown_engine.proofs.ChainLemmas.{length-changed_at, changed_at-append, length-bares, bares-append, bares-next, bares-previous, get-bares, chained-fresh, chained-push, chained-end, chained-link, IsLinked-prefix, IsLinked-push, OnlyEnters-part, bare-fresh, fresh-of, chained-ends, fresh-unnamed, ends-before, last-earlier, IsLinked-connect, previous_of-bare, within-linked, changed_at-twice}
 
 -- the kept events at their view
 pub filled-at : (xs vs : List Event) → bares xs ≡ vs → IsFilled xs → xs ≡ chained vs
@@ -131,12 +131,16 @@ linked-within-changed xs vs ys f p i v h g =
 pub bare-read : (xs vs : List Event) (i : ℕ) (d r : Event) → bares xs ≡ vs → d ≡ get_or xs i d → r ≡ bare d → r ≡ get_or vs i r
 bare-read xs vs i d r v h k = k ∙ ap bare h ∙ get-bares xs i d ∙ ap (λ x. get_or (bares xs) i x) (sym k) ∙ ap (λ x. get_or x i r) v
 
--- events that carry no link
+-- events that are linked to no other
 
-bares-plain : (xs : List Event) → All IsUnlinked xs → bares xs ≡ xs
-bares-plain [] u = refl
-bares-plain (x ∷ xs) u =
-    ap (λ (l : Option Link). record x { link = next_link None l } ∷ bares xs) (u 0 x (omega arith)) ∙ ap (λ (l : Option Link). record x { link = l } ∷ bares xs) (sym (u 0 x (omega arith))) ∙ ap (λ ys. x ∷ ys) (bares-plain xs (λ k d l. u (suc k) d (omega arith)))
+-- with no event after
+abbrev pub AreBare : List Event → Type 0
+AreBare xs = All (λ e. next_link None e.link ≡ e.link) xs
+
+bares-same : (xs : List Event) → AreBare xs → bares xs ≡ xs
+bares-same [] u = refl
+bares-same (x ∷ xs) u =
+    ap (λ (l : Option Link). record x { link = l } ∷ bares xs) (u 0 x (omega arith)) ∙ ap (λ ys. x ∷ ys) (bares-same xs (λ k d l. u (suc k) d (omega arith)))
 
 bares-part : (n k : ℕ) (xs : List Event) → take k (drop n (bares xs)) ≡ bares (take k (drop n xs))
 bares-part zero zero xs = refl
@@ -147,31 +151,63 @@ bares-part (suc n) (suc k) [] = refl
 bares-part (suc n) zero (x ∷ xs) = bares-part n zero xs
 bares-part (suc n) (suc k) (x ∷ xs) = bares-part n (suc k) xs
 
-pub part-seen : (xs vs ws : List Event) (n m k : ℕ) → bares xs ≡ vs → ws ≡ xs → k ≤ length (take m (drop n ws)) → All IsUnlinked (take k (take m (drop n ws))) → take k (take m (drop n ws)) ≡ take (length (take k (take m (drop n ws)))) (drop n vs)
-part-seen xs vs ws n m k v w l u =
-    let size : length (take k (take m (drop n ws))) ≡ k = omega (arith, length-take k (take m (drop n ws))) in
-    let near : k ≤ m = omega (arith, length-take m (drop n ws)) in
-    let once : take k (take m (drop n ws)) ≡ take k (drop n ws) = take-take-le k m (drop n ws) near in
-    let P : List Event → Type 0 = λ ys. All IsUnlinked ys in
-    once ∙ sym (bares-plain (take k (drop n ws)) (subst P once u)) ∙ sym (bares-part n k ws) ∙ ap (λ y. take k (drop n (bares y))) w ∙ ap (λ y. take k (drop n y)) v ∙ ap (λ j. take j (drop n vs)) (sym size)
+take-take-le : (a b : ℕ) (ys : List Event) → a ≤ b → take a (take b ys) ≡ take a ys
+take-take-le zero b ys h = refl
+take-take-le (suc a) zero ys h = absurd (omega arith)
+take-take-le (suc a) (suc b) [] h = refl
+take-take-le (suc a) (suc b) (y ∷ ys) h = ap (λ zs. y ∷ zs) (take-take-le a b ys (omega arith))
+
+enters-each : (xs : List Event) → OnlyEnters xs → All (λ e. MayLink e.kind e.link) xs
+enters-each [] h = λ k d l. absurd (omega arith)
+enters-each (x ∷ xs) h = λ k d l. enters-step x xs h.0 (enters-each xs h.1) k d l
   where
-    take-take-le : (a b : ℕ) (ys : List Event) → a ≤ b → take a (take b ys) ≡ take a ys
-    take-take-le zero b ys h = refl
-    take-take-le (suc a) zero ys h = absurd (omega arith)
-    take-take-le (suc a) (suc b) [] h = refl
-    take-take-le (suc a) (suc b) (y ∷ ys) h = ap (λ zs. y ∷ zs) (take-take-le a b ys (omega arith))
+    enters-step : (x : Event) (xs : List Event) → MayLink x.kind x.link → All (λ e. MayLink e.kind e.link) xs → (k : ℕ) (d : Event) → k < length (x ∷ xs) → MayLink (get_or (x ∷ xs) k d).kind (get_or (x ∷ xs) k d).link
+    enters-step x xs h g zero d l = h
+    enters-step x xs h g (suc k) d l = g k d (omega arith)
 
-fresh-plain : (e : Event) → IsUnlinked e → IsFresh e
-fresh-plain e u = let P : Option Link → Type 0 = λ l. IsFreshLink e.kind l in subst P (sym u) tt
+some-event : (xs : List Event) (i : ℕ) → i < length xs → Event
+some-event [] i l = absurd (omega arith)
+some-event (x ∷ xs) i l = x
 
-pub view-extended : (xs vs ys zs : List Event) → bares xs ≡ vs → All IsUnlinked ys → zs ≡ xs ++ ys → bares zs ≡ vs ++ ys
-view-extended xs vs ys zs v u h = ap bares h ∙ bares-append xs ys ∙ ap (λ x. bares xs ++ x) (bares-plain ys u) ∙ ap (λ x. x ++ ys) v
+module _ (xs vs ws : List Event) (n m k : ℕ) (v : bares xs ≡ vs) (w : ws ≡ xs) (l : k ≤ length (take m (drop n ws))) (u : AreBare (take k (take m (drop n ws)))) where
+  size : length (take k (take m (drop n ws))) ≡ k
+  size = omega (arith, length-take k (take m (drop n ws)))
 
-extended : (xs ys : List Event) → IsFilled xs → All IsUnlinked ys → IsFilled (xs ++ ys)
+  once : take k (take m (drop n ws)) ≡ take k (drop n ws)
+  once = take-take-le k m (drop n ws) (omega (arith, length-take m (drop n ws)))
+
+  pub part-seen : take k (take m (drop n ws)) ≡ take (length (take k (take m (drop n ws)))) (drop n vs)
+  part-seen =
+      let P : List Event → Type 0 = λ ys. AreBare ys in
+      once ∙ sym (bares-same (take k (drop n ws)) (subst P once u)) ∙ sym (bares-part n k ws) ∙ ap (λ y. take k (drop n (bares y))) w ∙ ap (λ y. take k (drop n y)) v ∙ ap (λ j. take j (drop n vs)) (sym size)
+
+  pub part-fresh : IsFilled xs → All (λ e. link_previous e.link ≡ None) (take k (take m (drop n ws))) → All IsFresh (take k (take m (drop n ws)))
+  part-fresh f none j d h =
+      let ys : List Event = take k (take m (drop n ws)) in
+      let P : List Event → Type 0 = λ zs. OnlyEnters zs in
+      let whole : OnlyEnters vs = subst P v f.linked.enters in
+      let part : OnlyEnters ys = subst P (sym part-seen) (OnlyEnters-part n (length ys) vs whole) in
+      fresh-of (get_or ys j d).kind (get_or ys j d).link (enters-each ys part j d h) (none j d h) (u j d h)
+
+  pub part-ends : IsFilled xs → (j : ℕ) → n ≤ j → j < n + length (take k (take m (drop n ws))) → EndsChain j vs
+  part-ends f j low high =
+      let ys : List Event = take k (take m (drop n ws)) in
+      let lt : j - n < k = omega (arith, size, low, high) in
+      let d : Event = some-event ys (j - n) (omega (arith, size, lt)) in
+      let there : n + (j - n) ≡ j = omega (arith, low) in
+      let same : get_or ys (j - n) d ≡ get_or (chained vs) j d =
+      ap (λ zs. get_or zs (j - n) d) once ∙ get_or-take k (drop n ws) (j - n) d lt ∙ get_or-drop n ws (j - n) d ∙ ap (λ i. get_or ws i d) there ∙ ap (λ zs. get_or zs j d) (w ∙ filled-at xs vs v f) in
+      let P : Event → Type 0 = λ e. next_link None e.link ≡ e.link in
+      chained-ends j vs d (subst IsLinked v f.linked) (subst P same (u (j - n) d (omega (arith, size, lt))))
+
+pub view-extended : (xs vs ys zs : List Event) → bares xs ≡ vs → All IsFresh ys → zs ≡ xs ++ ys → bares zs ≡ vs ++ ys
+view-extended xs vs ys zs v u h = ap bares h ∙ bares-append xs ys ∙ ap (λ x. bares xs ++ x) (bares-same ys (λ k d l. ap (λ (e : Event). e.link) (bare-fresh (get_or ys k d) (u k d l)))) ∙ ap (λ x. x ++ ys) v
+
+extended : (xs ys : List Event) → IsFilled xs → All IsFresh ys → IsFilled (xs ++ ys)
 extended xs [] k u = subst IsFilled (sym (append-nil xs)) k
 extended xs (y ∷ ys) k u =
-    let one : IsFilled (xs ++ y ∷ []) = kept-push xs (bares xs) (xs ++ y ∷ []) y refl k (fresh-plain y (u 0 y (omega arith))) refl in
+    let one : IsFilled (xs ++ y ∷ []) = kept-push xs (bares xs) (xs ++ y ∷ []) y refl k (u 0 y (omega arith)) refl in
     subst IsFilled (append_assoc xs (y ∷ []) ys) (extended (xs ++ y ∷ []) ys one (λ j d l. u (suc j) d (omega arith)))
 
-pub kept-extended : (xs ys zs : List Event) → IsFilled xs → All IsUnlinked ys → zs ≡ xs ++ ys → IsFilled zs
+pub kept-extended : (xs ys zs : List Event) → IsFilled xs → All IsFresh ys → zs ≡ xs ++ ys → IsFilled zs
 kept-extended xs ys zs k u h = subst IsFilled (sym h) (extended xs ys k u)

@@ -1,6 +1,6 @@
 // The events so far.
-ghost use Rattle.std.specs.Prelude.{◌≡◌, ◌<◌, ◌≤◌, ◌+◌, ◌-◌, ◌++◌, ◌∷◌, ◌==◌, [], length, take, drop, OnOk, OnErr, IfOk, Some, None, true, slice_index_or};
-ghost use Rattle.markdown_engine.specs.Chain.{bare, chained, changed_at, next_link, with_next, with_previous, link_previous, previous_at, linked_at, EndsChain, IsLinked, IsFresh, IsUnlinked};
+ghost use Rattle.std.specs.Prelude.{◌≡◌, ◌<◌, ◌≤◌, ◌+◌, ◌-◌, ◌++◌, ◌∷◌, ◌==◌, [], ℕ, length, take, drop, OnOk, OnErr, IfOk, IsTrue, Some, None, true, slice_index_or};
+ghost use Rattle.markdown_engine.specs.Chain.{bare, chained, changed_at, next_link, with_next, with_previous, link_previous, previous_at, linked_at, EndsChain, IsLinked, IsFresh};
 ghost use Rattle.std.specs.List.{All};
 
 use crate::event::{Event, Link};
@@ -104,13 +104,26 @@ fn set_previous(items: &mut Seq<Event>, index: usize, previous: usize)
     items.put(index, event);
 }
 
-// How many events at the front carry no link.
-fn plain_count(items: &[Event]) -> usize
+// Whether a link, where there is one, names no event before it and none after it.
+#[inline]
+fn is_alone(link: &Option<Link>) -> bool
+    ensures previous { IsTrue result → link_previous link.now ≡ None }
+    ensures next { IsTrue result → next_link None link.now ≡ link.now }
+{
+    match link {
+        None => true,
+        Some(link) => link.previous.is_none() && link.next.is_none(),
+    }
+}
+
+// How many events at the front are linked to no other.
+fn alone_count(items: &[Event]) -> usize
     ensures within { result ≤ length items.now }
-    ensures plain { All IsUnlinked (take result items.now) }
+    ensures previous { All (λ e. link_previous e.link ≡ None) (take result items.now) }
+    ensures next { All (λ e. next_link None e.link ≡ e.link) (take result items.now) }
 {
     let mut count = 0usize;
-    while count < items.len() && items[count].link.is_none() {
+    while count < items.len() && is_alone(&items[count].link) {
         count += 1;
     }
     count
@@ -188,21 +201,22 @@ impl Events {
         })
     }
 
-    // The events from `from` on that carry no link, up to the first that does, or up to `to`; lent.
-    pub(crate) fn plain(&self, from: usize, to: usize) -> &[Event]
+    // The events from `from` on that are linked to no other, up to the first that is, or up to `to`; lent.
+    pub(crate) fn alone(&self, from: usize, to: usize) -> &[Event]
         requires order { from ≤ to }
         requires within { to ≤ length self.now }
         ensures here { result.now ≡ take (length result.now) (drop from self.now) }
-        ensures plain { All IsUnlinked result.now }
+        ensures fresh { All IsFresh result.now }
+        ensures ends { (j : ℕ) → from ≤ j → j < from + length result.now → EndsChain j self.now }
         ensures end { from + length result.now ≤ to }
     {
         let items = &self.items.as_slice()[from..to];
-        &items[..plain_count(items)]
+        &items[..alone_count(items)]
     }
 
-    // Adds events that carry no link. `Err` only if memory is refused; the events are then as they were.
-    pub(crate) fn extend_plain(&mut self, items: &[Event]) -> Result<(), AllocError>
-        requires { All IsUnlinked items.now }
+    // Adds events that are linked to no other yet. `Err` only if memory is refused; the events are then as they were.
+    pub(crate) fn extend_fresh(&mut self, items: &[Event]) -> Result<(), AllocError>
+        requires { All IsFresh items.now }
         ensures ok { OnOk result (self.new ≡ self.old ++ items.now) }
         ensures err { OnErr result (self.new ≡ self.old) }
     {

@@ -2,7 +2,7 @@
 ghost use Rattle.std.specs.Prelude.{◌≡◌, ◌≢◌, ℕ, ◌<◌, ◌≤◌, ◌+◌, ◌-◌, ◌^◌, ◌++◌, ◌∷◌, ◌==◌, [], length, take, drop, slice_index_or, min, max, sum_by, OnOk, OnErr, IfOk, IsTrue, List, true, false};
 ghost use Rattle.std.specs.List.{All};
 ghost use Rattle.std.specs.List.Sorted.{IsNonDecreasingBy};
-ghost use Rattle.markdown_engine.specs.Chain.{bare, IsLinked, IsUnlinked};
+ghost use Rattle.markdown_engine.specs.Chain.{bare, EndsChain, IsFresh, IsLinked, IsUnlinked};
 ghost use Rattle.markdown_engine.specs.Edits.{removed_at, front_at, back_at, added_at, edit_of, kept, edits_of, number_of, renumbered, noted, edited, AreBrought, AreKept, IsRest, CanEdit};
 
 use crate::event::{Event, Link};
@@ -135,7 +135,7 @@ fn push_fronts(done: &mut Events, edits: &Kept, at: usize) -> Result<(), AllocEr
     for index in (0..edits.entries.len()).rev() {
         let edit = &edits.entries[index];
         if edit.at == at && edit.before {
-            done.extend_plain(brought(edits.comes, edit))?;
+            done.extend_fresh(brought(edits.comes, edit))?;
         }
     }
     Ok(())
@@ -148,7 +148,7 @@ fn push_backs(done: &mut Events, edits: &Kept, at: usize) -> Result<(), AllocErr
 {
     for edit in edits.entries {
         if edit.at == at && !edit.before {
-            done.extend_plain(brought(edits.comes, edit))?;
+            done.extend_fresh(brought(edits.comes, edit))?;
         }
     }
     Ok(())
@@ -178,7 +178,7 @@ fn push_here(done: &mut Events, edits: &Kept, at: usize) -> Result<usize, AllocE
 {
     if edits.entries.len() == 1 {
         let edit = &edits.entries[0];
-        done.extend_plain(brought(edits.comes, edit))?;
+        done.extend_fresh(brought(edits.comes, edit))?;
         return Ok(edit.remove);
     }
     push_fronts(done, edits, at)?;
@@ -323,13 +323,13 @@ fn next_place(edits: &Kept, passed: usize, count: usize) -> usize
     }
 }
 
-// How many events `pass_plain` adds at once, at the most: the look at each event for its link and the copy of the events then
+// How many events `pass_alone` adds at once, at the most: the look at each event for its link and the copy of the events then
 // work on events that are in the nearest cache.
 const AT_ONCE: usize = 64;
 
-// Adds the events from a place on, up to the next edit or the next event that carries a link, or `AT_ONCE` of them. The answer
-// is the place behind them.
-fn pass_plain(
+// Adds the events from a place on, up to the next edit or the next event that is linked to another, or `AT_ONCE` of them. The
+// answer is the place behind them.
+fn pass_alone(
     done: &mut Events,
     events: &Events,
     edits: &Kept,
@@ -342,14 +342,15 @@ fn pass_plain(
     ensures order { IfOk result (λ end. from ≤ end) }
     ensures within { IfOk result (λ end. end ≤ length events.now) }
     ensures done { IfOk result (λ end. done.new ≡ done.old ++ take (end - from) (drop from events.now)) }
-    ensures plain { IfOk result (λ end. All IsUnlinked (take (end - from) (drop from events.now))) }
+    ensures fresh { IfOk result (λ end. All IsFresh (take (end - from) (drop from events.now))) }
+    ensures ends { IfOk result (λ end. (j : ℕ) → from ≤ j → j < end → EndsChain j events.now) }
     ensures rest { IfOk result (λ end. All (λ e. end ≤ e.at) (drop passed (edits_of edits.now))) }
 {
     let end = events.len().min(from.saturating_add(AT_ONCE));
     let to = next_place(edits, passed, end);
-    let plain = events.plain(from, to);
-    done.extend_plain(plain)?;
-    Ok(from + plain.len())
+    let alone = events.alone(from, to);
+    done.extend_fresh(alone)?;
+    Ok(from + alone.len())
 }
 
 // How many events there are after the edits, where so many come and no event goes twice.
@@ -517,9 +518,9 @@ impl EditMap {
                 index = next_place(&edits, passed.edits, passed.removed_to.min(count));
                 continue;
             }
-            let plain_to = pass_plain(&mut done, events, &edits, passed.edits, index)?;
-            if plain_to > index {
-                index = plain_to;
+            let alone_to = pass_alone(&mut done, events, &edits, passed.edits, index)?;
+            if alone_to > index {
+                index = alone_to;
             } else {
                 keep(&mut done, &mut notes, events.bare_at(index), index)?;
                 index += 1;

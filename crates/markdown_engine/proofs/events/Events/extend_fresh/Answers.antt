@@ -1,5 +1,5 @@
 use Rattle.markdown_engine.proofs.FilledLemmas.{view-extended, kept-extended}
-use Rattle.markdown_engine.proofs.events.Events.extend_plain.Goals as goal
+use Rattle.markdown_engine.proofs.events.Events.extend_fresh.Goals as goal
 
 pub invariant_of-self-2 : goal.invariant_of-self-2
 invariant_of-self-2 c = kept-extended c.self.inside.items c.args.items.now _ c.self.invariant c.requires c.in_ok-extend_from_slice.ensures.ok
