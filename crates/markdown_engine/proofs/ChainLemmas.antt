@@ -1,13 +1,25 @@
 -- The links of a list of events, as it grows, shrinks and gains a link.
-use Rattle.std.proofs.Common.{◌≡◌, ◌≢◌, ℕ, zero, suc, ◌+◌, ◌<◌, ◌≤◌, ◌⊎◌, inl, inr, true, false, cond, Option, Some, None, List, [], ◌∷◌, ◌++◌, ◌-◌, length, take, drop, set, get_or, refl, sym, ap, subst, ◌∙◌, arith}
+use Rattle.std.proofs.Common.{◌≡◌, ◌≢◌, ℕ, zero, suc, ◌+◌, ◌<◌, ◌≤◌, ◌⊎◌, inl, inr, true, false, cond, Option, Some, None, List, [], ◌∷◌, ◌++◌, ◌-◌, min, length, take, drop, set, get_or, refl, sym, ap, subst, ◌∙◌, arith}
 use Rattle.std.proofs.lemmas.Option.{same_Some}
-use Rattle.std.proofs.lemmas.Bool.{ne_eqb, eq-eqb, false≢true}
+use Rattle.std.specs.List.{All}
+use Rattle.std.proofs.lemmas.List.{get_or-take, length-take}
+use Rattle.std.proofs.lemmas.Bool.{cases_lt, ne_eqb, eq-eqb, false≢true}
 use Rattle.std.proofs.lemmas.Bool.Decides.{eqb_tells}
 use Rattle.markdown_engine.specs.declared.event.Event.{Event}
 use Rattle.markdown_engine.specs.declared.event.Kind.{Kind}
 use Rattle.markdown_engine.specs.declared.event.Kind.TheVariants.{Enter, Exit}
 use Rattle.markdown_engine.specs.declared.event.Link.{Link}
 use Rattle.markdown_engine.specs.Chain.{next_link, with_next, previous_link, with_previous, bare, bares, link_previous, previous_of, has_link, is_number, follower, chained_from, chained, changed_at, previous_at, linked_at, MayLink, OnlyEnters, EndsChain, IsLinked, IsFreshLink, IsFresh, IsUnlinked}
+
+-- what holds of events at the front, and of those behind them
+pub more-each : (P : Event → Type 0) (xs : List Event) (n m : ℕ) → All P (take n xs) → ((i : ℕ) (e : Event) → n ≤ i → i < n + m → P (get_or xs i e)) → All P (take (n + m) xs)
+more-each P xs n m front more k d l =
+    let size : length (take (n + m) xs) ≡ min (n + m) (length xs) = length-take (n + m) xs in
+    let same : get_or (take (n + m) xs) k d ≡ get_or xs k d = get_or-take (n + m) xs k d (omega (arith, l, size)) in
+    elim (cases_lt k n) [
+      | inl h ↦ subst P (get_or-take n xs k d h ∙ sym same) (front k d (omega (arith, h, l, size, length-take n xs)))
+      | inr h ↦ subst P (sym same) (more k d h (omega (arith, l, size)))
+    ]
 
 -- one event changed
 

@@ -116,13 +116,50 @@ fn is_alone(link: &Option<Link>) -> bool
     }
 }
 
+// How many events are looked at with no other look between.
+const FOUR: usize = 4;
+
+// How many of the four events from this index on are linked to no other, from the first.
+#[inline(always)]
+fn alone_among_four(items: &[Event], at: usize) -> usize
+    requires { at + FOUR ≤ length items.now }
+    ensures within { result ≤ FOUR }
+    ensures previous { (i : ℕ) (e : Event) → at ≤ i → i < at + result → link_previous (slice_index_or items.now i e).link ≡ None }
+    ensures next { (i : ℕ) (e : Event) → at ≤ i → i < at + result → next_link None (slice_index_or items.now i e).link ≡ (slice_index_or items.now i e).link }
+{
+    for count in 0..FOUR {
+        if !is_alone(&items[at + count].link) {
+            return count;
+        }
+    }
+    FOUR
+}
+
+// How many events at the front are linked to no other, or up to where fewer than four are left.
+#[inline(always)]
+fn alone_fours(items: &[Event]) -> usize
+    ensures within { result ≤ length items.now }
+    ensures previous { All (λ e. link_previous e.link ≡ None) (take result items.now) }
+    ensures next { All (λ e. next_link None e.link ≡ e.link) (take result items.now) }
+{
+    let mut count = 0usize;
+    while items.len() - count >= FOUR {
+        let more = alone_among_four(items, count);
+        count += more;
+        if more < FOUR {
+            return count;
+        }
+    }
+    count
+}
+
 // How many events at the front are linked to no other.
 fn alone_count(items: &[Event]) -> usize
     ensures within { result ≤ length items.now }
     ensures previous { All (λ e. link_previous e.link ≡ None) (take result items.now) }
     ensures next { All (λ e. next_link None e.link ≡ e.link) (take result items.now) }
 {
-    let mut count = 0usize;
+    let mut count = alone_fours(items);
     while count < items.len() && is_alone(&items[count].link) {
         count += 1;
     }
