@@ -152,29 +152,76 @@ fn ended(start: Point, end: Point) -> [Event; 6]
     ]
 }
 
+// Marks the start of a link. Each kind has a function of its own, so that none makes room for another kind's events.
+fn mark_link(label: &Label, events: &Events, map: &mut EditMap) -> Result<(), AllocError>
+    requires within { IsWithin (length events.now) label.now }
+    requires kind { label.now.kind ≡ LabelKind.Link }
+    ensures { let l = label.now in OnOk result (map.new ≡ map.old ++ replacing l.start.0 (l.start.1 + 1 - l.start.0)
+        (opened l.kind (place_at events.now l.start.0) (place_at events.now (l.start.0 + 2)) (place_at events.now (l.start.0 + 3)) (place_at events.now l.start.1)) ∷ []) }
+{
+    let (first, last) = label.start;
+    let start = place(events, first);
+    let marker_end = place(events, first + 2);
+    let comes = link_opened(start, marker_end);
+    map.add_slice(first, behind(events, last) - first, &comes)
+}
+
+// The same for a link whose text begins with the caret of a footnote start.
+fn mark_caret(label: &Label, events: &Events, map: &mut EditMap) -> Result<(), AllocError>
+    requires within { IsWithin (length events.now) label.now }
+    requires kind { label.now.kind ≡ LabelKind.GfmUndefinedFootnote }
+    ensures { let l = label.now in OnOk result (map.new ≡ map.old ++ replacing l.start.0 (l.start.1 + 1 - l.start.0)
+        (opened l.kind (place_at events.now l.start.0) (place_at events.now (l.start.0 + 2)) (place_at events.now (l.start.0 + 3)) (place_at events.now l.start.1)) ∷ []) }
+{
+    let (first, last) = label.start;
+    let start = place(events, first);
+    let marker_end = place(events, first + 2);
+    let second = place(events, first + 3);
+    let comes = caret_opened(start, marker_end, second, place(events, last));
+    map.add_slice(first, behind(events, last) - first, &comes)
+}
+
+// The same for an image.
+fn mark_image(label: &Label, events: &Events, map: &mut EditMap) -> Result<(), AllocError>
+    requires within { IsWithin (length events.now) label.now }
+    requires kind { label.now.kind ≡ LabelKind.Image }
+    ensures { let l = label.now in OnOk result (map.new ≡ map.old ++ replacing l.start.0 (l.start.1 + 1 - l.start.0)
+        (opened l.kind (place_at events.now l.start.0) (place_at events.now (l.start.0 + 2)) (place_at events.now (l.start.0 + 3)) (place_at events.now l.start.1)) ∷ []) }
+{
+    let (first, last) = label.start;
+    let start = place(events, first);
+    let marker_end = place(events, first + 2);
+    let second = place(events, first + 3);
+    let comes = image_opened(start, marker_end, second, place(events, last));
+    map.add_slice(first, behind(events, last) - first, &comes)
+}
+
+// The same for a footnote call.
+fn mark_call(label: &Label, events: &Events, map: &mut EditMap) -> Result<(), AllocError>
+    requires within { IsWithin (length events.now) label.now }
+    requires kind { label.now.kind ≡ LabelKind.GfmFootnote }
+    ensures { let l = label.now in OnOk result (map.new ≡ map.old ++ replacing l.start.0 (l.start.1 + 1 - l.start.0)
+        (opened l.kind (place_at events.now l.start.0) (place_at events.now (l.start.0 + 2)) (place_at events.now (l.start.0 + 3)) (place_at events.now l.start.1)) ∷ []) }
+{
+    let (first, last) = label.start;
+    let start = place(events, first);
+    let marker_end = place(events, first + 2);
+    let second = place(events, first + 3);
+    let comes = call_opened(start, marker_end, second, place(events, last));
+    map.add_slice(first, behind(events, last) - first, &comes)
+}
+
 // Marks the start of a label.
 fn mark_start(label: &Label, events: &Events, map: &mut EditMap) -> Result<(), AllocError>
     requires { IsWithin (length events.now) label.now }
     ensures { let l = label.now in OnOk result (map.new ≡ map.old ++ replacing l.start.0 (l.start.1 + 1 - l.start.0)
         (opened l.kind (place_at events.now l.start.0) (place_at events.now (l.start.0 + 2)) (place_at events.now (l.start.0 + 3)) (place_at events.now l.start.1)) ∷ []) }
 {
-    let (first, last) = label.start;
-    let remove = behind(events, last) - first;
-    let start = place(events, first);
-    let marker_end = place(events, first + 2);
-    let second = place(events, first + 3);
-    let end = place(events, last);
     match label.kind {
-        LabelKind::Link => map.add_slice(first, remove, &link_opened(start, marker_end)),
-        LabelKind::Image => {
-            map.add_slice(first, remove, &image_opened(start, marker_end, second, end))
-        }
-        LabelKind::GfmFootnote => {
-            map.add_slice(first, remove, &call_opened(start, marker_end, second, end))
-        }
-        LabelKind::GfmUndefinedFootnote => {
-            map.add_slice(first, remove, &caret_opened(start, marker_end, second, end))
-        }
+        LabelKind::Link => mark_link(label, events, map),
+        LabelKind::Image => mark_image(label, events, map),
+        LabelKind::GfmFootnote => mark_call(label, events, map),
+        LabelKind::GfmUndefinedFootnote => mark_caret(label, events, map),
     }
 }
 
