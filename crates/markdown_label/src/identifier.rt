@@ -130,6 +130,9 @@ fn is_link_defined(tokenizer: &Tokenizer, kind: LabelKind, name: &str) -> Result
     requires { IsListed tokenizer.now }
     ensures { IfOk result (λ defined. defined ≡ is_defined (setting_in tokenizer.now).definitions (link_identifier kind name.now)) }
 {
+    if !is_footnote(kind) {
+        return Ok(names_definition(tokenizer, name));
+    }
     let text = link_identifier(tokenizer.alloc, kind, name)?;
     Ok(names_definition(tokenizer, text.as_str()))
 }

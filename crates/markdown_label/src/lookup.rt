@@ -80,6 +80,9 @@ fn begins_defined(tokenizer: &Tokenizer, kind: LabelKind, front: &str) -> Result
     if is_footnote(kind) && begins_footnote(tokenizer, front) {
         return Ok(true);
     }
+    if !is_footnote(kind) {
+        return Ok(begins_definition(tokenizer, front));
+    }
     let text = link_identifier(tokenizer.alloc, kind, front)?;
     Ok(begins_definition(tokenizer, text.as_str()))
 }

@@ -1,3 +1,4 @@
+pub mod AsciiFold
 pub mod BracketCounts
 pub mod FirstByte
 pub mod Joining

@@ -13,15 +13,19 @@ use std::alloc::{AllocError, Global};
 pub fn normalize_identifier(alloc: Global, value: &str) -> Result<String, AllocError>
     ensures { IfOk result (λ identifier. string_bytes identifier ≡ identifier_of value.now) }
 {
-    let joined = joined_words(alloc, value)?;
+    let mut joined = joined_words(alloc, value)?;
+    if joined.as_str().is_ascii() {
+        joined.make_ascii_lowercase();
+        return Ok(joined);
+    }
     caseless::default_case_fold_str(alloc, joined.as_str())
 }
 
-/// The words joined by one space.
+/// The words joined by one space. Room for the whole text is made at once: no joined words are longer.
 fn joined_words(alloc: Global, value: &str) -> Result<String, AllocError>
     ensures { IfOk result (λ joined. string_bytes joined ≡ encode_utf8_all (joined_words (chars value.now))) }
 {
-    let mut joined = String::new(alloc);
+    let mut joined = String::with_capacity(alloc, value.len())?;
     let mut pending = false;
     for c in value.chars() {
         if separates_words(c) {

@@ -11,7 +11,7 @@ use Rattle.markdown_util.proofs.util.normalize_identifier.joined_words.Goals.{th
 
 pub loop-c-init : goal.loop-c-init
 loop-c-init c =
-    turn-start _ (chars c.args.value.now) _ _ false (ap (λ n. n == 0) c.new-joined.ensures.len) c.new-joined.ensures.bytes refl
+    turn-start _ (chars c.args.value.now) _ _ false (ap (λ n. n == 0) c.in_ok-joined.ensures.len) c.in_ok-joined.ensures.bytes refl
 
 pub loop-c-preserved-then-separates_words : goal.loop-c-preserved-then-separates_words
 loop-c-preserved-then-separates_words c =
