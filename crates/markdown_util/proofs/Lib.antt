@@ -1,3 +1,4 @@
+pub mod AsciiClass
 pub mod AsciiFold
 pub mod BracketCounts
 pub mod FirstByte

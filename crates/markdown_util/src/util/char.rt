@@ -2,6 +2,7 @@
 
 ghost use Rattle.std.specs.Prelude.{◌≡◌, IsUtf8};
 ghost use Rattle.std.specs.Str.{IsCharBoundary};
+ghost use Rattle.unicode.specs.Binary.{is_white_space};
 ghost use Rattle.markdown_util.specs.Neighbours.{before_index, after_index, class_of, is_punctuation};
 
 use unicode::properties::{GeneralCategory, GeneralCategoryGroup, is_white_space};
@@ -47,7 +48,7 @@ pub fn classify_opt(char_opt: Option<char>) -> Kind
 {
     match char_opt {
         None => Kind::Whitespace,
-        Some(c) if is_white_space(c) => Kind::Whitespace,
+        Some(c) if is_space(c) => Kind::Whitespace,
         Some(c) if is_punctuation(c) => Kind::Punctuation,
         Some(_) => Kind::Other,
     }
@@ -62,8 +63,31 @@ pub fn kind_after_index(bytes: &[u8], index: usize) -> Kind
     classify_opt(after_index(bytes, index))
 }
 
-/// Whether the general category of a character is P or S.
+// Whether a character is white space by Unicode. Of ASCII this needs no look into the tables.
+#[tactic(auto, using(crate::proofs::AsciiClass::white_space_ascii))]
+#[inline]
+fn is_space(c: char) -> bool
+    ensures { result ≡ is_white_space c }
+{
+    if c.is_ascii() {
+        return ('\t' <= c && c <= '\r') || c == ' ';
+    }
+    is_white_space(c)
+}
+
+// Whether the general category of a character is P or S. Of ASCII this needs no look into the tables.
+#[inline]
 fn is_punctuation(c: char) -> bool
+    ensures { result ≡ is_punctuation c }
+{
+    if c.is_ascii() {
+        return c.is_ascii_punctuation();
+    }
+    is_in_punctuation(c)
+}
+
+// The same of any character, by the tables.
+fn is_in_punctuation(c: char) -> bool
     ensures { result ≡ is_punctuation c }
 {
     let category = GeneralCategory::for_char(c);
