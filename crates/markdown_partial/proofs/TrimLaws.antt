@@ -21,7 +21,7 @@ use Rattle.markdown_engine.proofs.TreeLemmas.{length-appended_from, appended_fro
 use Rattle.markdown_model.specs.Passes.{trimmed, trimmed_data, blank_name, begins_line_ending, is_nothing}
 use Rattle.markdown_partial.specs.Merge.{is_data, opens_data}
 use Rattle.markdown_partial.specs.Trim.{trimmed_events, between, loses_blank, starts_blank, ends_blank}
-use Rattle.markdown_partial.specs.TrimEvents.{is_ending, closes_ending, goes_before, loses, HasParts}
+use Rattle.markdown_partial.specs.TrimEvents.{flag, is_ending, closes_ending, goes_before, loses, HasParts}
 use Rattle.markdown_partial.proofs.MergeLaws.{drop-part}
 use Rattle.markdown_engine.specs.Walk.{IsPoint}
 use Rattle.markdown_engine.specs.Codes.{codes_of, is_code_before, place_of, point_at}
@@ -33,7 +33,7 @@ use Rattle.markdown_engine.proofs.Points.{chain-split, point-split, after-split}
 use Rattle.markdown_partial.specs.Trim.{IsStretch}
 use Rattle.markdown_partial.specs.TrimEvents.{IsPart, HasPlaces}
 use Rattle.markdown_partial.proofs.TrimWalks.{forward-as}
-use Rattle.markdown_partial.proofs.TrimMarks.{comes, flag, log_of, added-here, stays-here, goes-first, goes-second, begins_cut}
+use Rattle.markdown_partial.proofs.TrimMarks.{comes, log_of, added-here, stays-here, goes-first, goes-second, begins_cut}
 use Rattle.markdown_partial.proofs.TrimRows.{three-leaves, kept_of, lead_of, tail_of, cut}
 use Rattle.markdown_model.proofs.ReadingSteps.{span-none}
 use Rattle.markdown_engine.proofs.OpRules.{drop-more}

@@ -11,7 +11,7 @@ use Rattle.markdown_engine.specs.declared.util.edit_map.Edit.{Edit}
 use Rattle.markdown_engine.proofs.EditFacts.{stays-where, goes-where}
 use Rattle.markdown_partial.specs.Merge.{is_enter, is_data, opens_data}
 use Rattle.markdown_partial.specs.Trim.{trimmed_events}
-use Rattle.markdown_partial.specs.TrimEvents.{closes_ending, goes_before, trim, trim_first, trims, ClosesAt, FirstHasPlaces, HasPlaces, loses}
+use Rattle.markdown_partial.specs.TrimEvents.{closes_ending, flag, goes_before, trim, trim_first, trims, ClosesAt, FirstHasPlaces, HasPlaces, loses}
 
 -- At the first event.
 
@@ -49,6 +49,26 @@ trims-more bytes hard whole i front more es e old new all l h c g k =
     ∙ ap (λ b. here ++ trims bytes hard whole (i + 1) b (drop (i + 1) es)) (sym c) in
     ap (λ ys. ys ++ rest) g ∙ append_assoc old here rest ∙ ap (λ ys. old ++ ys) (sym step) ∙ k
 
+-- behind an event that is passed
+pub flag-next : (k : ℕ) (front : Bool) (es : List Event) (e : Event) → k < length es → e ≡ get_or es k e → flag (suc k) front es ≡ closes_ending e
+flag-next k front [] e l h = absurd (omega (arith, l))
+flag-next zero front (x ∷ es) e l h = ap closes_ending (sym h)
+flag-next (suc k) front (x ∷ es) e l h = flag-next k (closes_ending x) es e (omega (arith, l)) h
+
+event-at : (k : ℕ) (es : List Event) → k < length es → (e : Event) × (e ≡ get_or es k e)
+event-at k [] l = absurd (omega (arith, l))
+event-at zero (x ∷ es) l = (x, refl)
+event-at (suc k) (x ∷ es) l = event-at k es (omega (arith, l))
+
+pub places-on : (bytes : List ℕ) (i : ℕ) (es : List Event) → i < length es → HasPlaces bytes (drop i es) → HasPlaces bytes (drop (i + 1) es)
+places-on bytes i es l p = let at = event-at i es l in places-more bytes i es at.0 l at.1 p
+
+pub trims-on : (bytes : List ℕ) (hard whole : Bool) (i : ℕ) (es : List Event) (old new all : List Edit) → i < length es → new ≡ old ++ trim_first bytes hard whole i (flag i whole es) (drop i es) → old ++ trims bytes hard whole i (flag i whole es) (drop i es) ≡ all → new ++ trims bytes hard whole (i + 1) (flag (i + 1) whole es) (drop (i + 1) es) ≡ all
+trims-on bytes hard whole i es old new all l g k =
+    let at = event-at i es l in
+    let one : i + 1 ≡ suc i = omega arith in
+    trims-more bytes hard whole i (flag i whole es) (flag (i + 1) whole es) es at.0 old new all l at.1 (ap (λ j. flag j whole es) one ∙ flag-next i whole es at.0 l at.1) g k
+
 -- What the edits collect at a place.
 
 -- the first two events are data that loses codes
@@ -61,12 +81,6 @@ abbrev pub comes : List ℕ → Bool → Bool → Bool → List Event → List E
 comes bytes hard whole front [] = []
 comes bytes hard whole front (e ∷ []) = []
 comes bytes hard whole front (e ∷ x ∷ es) = if opens_data e && loses front (goes_before whole es) bytes e.point x.point then trimmed_events front (goes_before whole es) (hard && goes_before false es) bytes e.point x.point else []
-
--- whether blank codes behind what stands before event k go
-abbrev pub flag : ℕ → Bool → List Event → Bool
-flag zero front es = front
-flag (suc k) front [] = front
-flag (suc k) front (e ∷ es) = flag k (closes_ending e) es
 
 abbrev pub two : Bool → ℕ
 two true = 2

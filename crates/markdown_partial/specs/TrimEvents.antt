@@ -1,5 +1,5 @@
 -- Trimming a list of events: which data loses its blank codes, and of which lists and trees this is said.
-use Rattle.std.specs.Prelude.{◌≡◌, ◌≢◌, ℕ, suc, Bool, true, false, ◌&&◌, not, List, [], ◌∷◌, ◌++◌, None, if◌then◌else◌}
+use Rattle.std.specs.Prelude.{◌≡◌, ◌≢◌, ℕ, zero, suc, Bool, true, false, ◌&&◌, not, List, [], ◌∷◌, ◌++◌, None, if◌then◌else◌}
 use Rattle.markdown_engine.specs.Chain.{IsUnlinked}
 use Rattle.markdown_engine.specs.Codes.{Code, codes_of}
 use Rattle.markdown_engine.specs.Tree.{Forest, empty, leaf_then, group_then}
@@ -43,6 +43,12 @@ trim_first bytes hard whole n front [] = []
 trim_first bytes hard whole n front (e ∷ []) = []
 trim_first bytes hard whole n front (e ∷ x ∷ es) =
     if opens_data e && loses front (goes_before whole es) bytes e.point x.point then trim bytes hard whole n front e x es ∷ [] else []
+
+-- whether blank codes behind what stands before the event of this number go; `front` says so of the first
+abbrev pub flag : ℕ → Bool → List Event → Bool
+flag zero front es = front
+flag (suc k) front [] = front
+flag (suc k) front (e ∷ es) = flag k (closes_ending e) es
 
 -- one edit for each data that loses codes
 abbrev pub trims : List ℕ → Bool → Bool → ℕ → Bool → List Event → List Edit

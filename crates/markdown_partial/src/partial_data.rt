@@ -120,15 +120,15 @@ pub fn inside_stops(fields: &TokenizeState) -> Option<ByteSet>
     Some(fields.markers.again())
 }
 
-/// Whether this is the Enter of data without a link.
+/// Whether this is the Enter of data without a link. The name is looked at first, since most events have another.
 pub fn opens_data(event: &Event) -> bool
     ensures { result ≡ opens_data event.now }
 {
     matches!(
         event,
         Event {
-            kind: Kind::Enter,
             name: Name::Data,
+            kind: Kind::Enter,
             link: None,
             ..
         }

@@ -8,7 +8,7 @@ ghost use Rattle.markdown_engine.specs.Content.{document_limit};
 ghost use Rattle.markdown_engine.specs.Walk.{value_from, IsPoint};
 ghost use Rattle.markdown_partial.specs.SpaceSteps.{at_blank};
 ghost use Rattle.markdown_partial.specs.Trim.{between, IsStretch, end_of_kept, end_of_lead, at_real_space, starts_blank, ends_blank, is_hard_break, is_same_place, leaf_events, trimmed_events};
-ghost use Rattle.markdown_partial.specs.TrimEvents.{opens_ending, closes_ending, goes_before, loses, trim_first, trims, FirstHasPlaces, HasPlaces, HasParts};
+ghost use Rattle.markdown_partial.specs.TrimEvents.{opens_ending, closes_ending, flag, goes_before, loses, trim_first, trims, FirstHasPlaces, HasPlaces, HasParts};
 ghost use Rattle.markdown_engine.specs.Past.{appended_from};
 ghost use Rattle.markdown_engine.specs.Tree.{Forest};
 ghost use Rattle.markdown_model.specs.Passes.{blank_name, trimmed};
@@ -237,6 +237,18 @@ fn goes_before(events: &Events, index: usize, whole: bool) -> bool
     }
 }
 
+// Whether blank codes behind what stands before the event of this number go: after a line ending, and at the start where the whole is
+// trimmed.
+fn front_goes(events: &Events, index: usize, whole: bool) -> bool
+    requires { index ≤ length events.now }
+    ensures { result ≡ flag index whole events.now }
+{
+    if index == 0 {
+        return whole;
+    }
+    closes_ending(&events.bare_at(index - 1))
+}
+
 // What is trimmed besides blank codes at line endings.
 #[derive(Clone, Copy)]
 struct Trimming {
@@ -247,24 +259,24 @@ struct Trimming {
 }
 
 // Where data begins at this event, and blank codes stand where they go: puts its trimmed events in place of its own. They are made in
-// the room, whatever it holds.
+// the room, whatever it holds. Most events begin no data, so nothing else is looked at before that.
 fn trim_first(
     room: &mut Vec<Event>,
     bytes: &[u8],
     events: &Events,
     map: &mut EditMap,
     index: usize,
-    front: bool,
     trimming: Trimming,
 ) -> Result<(), AllocError>
     requires fits { length bytes.now ≤ document_limit }
     requires within { index < length events.now }
     requires counted { length events.now < 2 ^ 64 }
     requires places { FirstHasPlaces bytes.now (drop index events.now) }
-    ensures { OnOk result (map.new ≡ map.old ++ trim_first bytes.now trimming.hard_break trimming.whole index front (drop index events.now)) }
+    ensures { OnOk result (map.new ≡ map.old ++ trim_first bytes.now trimming.hard_break trimming.whole index (flag index trimming.whole events.now) (drop index events.now)) }
 {
     let enter = events.bare_at(index);
     if opens_data(&enter) {
+        let front = front_goes(events, index, trimming.whole);
         let exit = events.bare_at(index + 1);
         let back = goes_before(events, index + 2, trimming.whole);
         if loses_blank(bytes, front, back, enter.point, exit.point) {
@@ -290,10 +302,8 @@ fn trim_each(
     ensures { OnOk result (map.new ≡ trims bytes.now trimming.hard_break trimming.whole 0 trimming.whole events.now) }
 {
     let mut room = Vec::new(alloc);
-    let mut front = trimming.whole;
     for index in 0..events.len() {
-        trim_first(&mut room, bytes, events, map, index, front, trimming)?;
-        front = closes_ending(&events.bare_at(index));
+        trim_first(&mut room, bytes, events, map, index, trimming)?;
     }
     Ok(())
 }
