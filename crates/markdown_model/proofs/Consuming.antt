@@ -1,7 +1,6 @@
 -- No element is empty: what reads it leaves fewer codes.
 use Rattle.std.proofs.Common.{◌≡◌, ℕ, suc, ◌+◌, ◌≤◌, ◌==◌, ◌&&◌, Bool, true, false, List, [], ◌∷◌, ◌++◌, length, refl, sym, ap, subst, arith, Option, Some, None}
 use Rattle.std.specs.Prelude.{codes}
-use Rattle.std.specs.List.{list_any}
 use Rattle.std.proofs.lemmas.List.{length-append}
 use Prim.Native.String.{String}
 use Rattle.markdown_engine.specs.declared.event.Name.{Name}
@@ -15,11 +14,12 @@ use Rattle.markdown_model.specs.Html.{html, html_text, open_tag, closing_tag, co
 use Rattle.markdown_model.specs.Literal.{letters, domain, protocol_literal, www_from_here, www_literal, may_precede_www, begins_with_www, is_domain, domain_from}
 use Rattle.markdown_model.specs.Setting.{Setting}
 use Rattle.markdown_model.specs.LabelEnd.{Element, label_before, label_end}
-use Rattle.markdown_model.specs.Element.{as_plain, switched, line_ending, data_code, attention_run, image_start, footnote_start, link_start, code_span, math_span, Tries, tries, tried, first_check, text_element, string_element}
+use Rattle.markdown_model.specs.Element.{as_plain, line_ending, data_code, attention_run, image_start, footnote_start, link_start, code_span, math_span, tries, tried, first_check, text_element, string_element}
 use Rattle.markdown_model.proofs.Leaves.{span-append}
 use Rattle.markdown_model.proofs.Readings.{At, Covers, takes_one, takes_then, takes_optional, takes_repeatedly, takes_word, takes_through, takes_uri, takes_email_address, takes_tag_name, takes_spaces, takes_optional_spaces, takes_attribute, covers_closing}
 use Rattle.markdown_model.proofs.Literals.{takes_letters, takes_domain, takes_path, domain_split}
 use Rattle.markdown_model.proofs.LabelCodes.{covers_outcome}
+use Rattle.markdown_model.proofs.ElementCases.{EachConstruct, string_has, text_has}
 
 abbrev pub Left : {A : Type 0} → ℕ → List Code → Option (A × List Code) → Type 0
 Left n cs None = Unit {0}
@@ -288,10 +288,6 @@ pub plain_takes : (a : Reading Forest) → Consumes 1 a → Consumes 1 (as_plain
 unfolding as_plain
 plain_takes a h = first_takes _ _ h λ tree. gives_takes _
 
-pub switched_takes : (on : Bool) (a : Reading Element) → Consumes 1 a → Consumes 1 (switched on a)
-unfolding switched
-switched_takes on a h = passed_takes _ _ _ h
-
 pub line_ending_takes : Consumes 1 line_ending
 unfolding line_ending
 line_ending_takes = search taking depth 8
@@ -330,84 +326,35 @@ pub math_span_takes : (single : Bool) (earlier : List Element) (previous : Optio
 unfolding math_span
 math_span_takes single earlier previous = plain_takes _ (span_here_takes _ _ _ _ _)
 
-abbrev EachTakes : Tries → Type 0
-EachTakes [] = Unit {0}
-EachTakes (row ∷ rows) = Consumes 1 row.1 × EachTakes rows
-
-pub tried_takes : (rows : Tries) (v : ℕ) → EachTakes rows → Consumes 1 (tried rows v)
-unfolding tried
-tried_takes [] v h = record { at = data_code_takes.at }
-tried_takes (row ∷ rows) v h = record { at = λ cs. by_test cs (list_any (λ n. v == n) row.0) (tried_takes rows v h.1) }
+pub text_element_takes : (s : Setting) (end : ℕ) (earlier : List Element) (previous : Option Code) → Consumes 1 (text_element s end earlier previous)
+text_element_takes s end earlier previous = record { at = λ cs. text_has s end earlier previous (Left 1 cs) cs (each cs) (data_code_takes.at cs) }
   where
-    by_test : (cs : List Code) (b : Bool) → Consumes 1 (tried rows v) → Left 1 cs ((elim b as (λ _. Reading Element) [ true ↦ row.1 | false ↦ tried rows v ]) cs)
-    by_test cs true k = h.0.at cs
-    by_test cs false k = k.at cs
-
-module _ (s : Setting) (end : ℕ) (earlier : List Element) (previous : Option Code) where
-  pub each_takes : EachTakes (tries s end earlier previous)
-  unfolding tries
-  each_takes = (
-    line_ending_takes,
-    (
-      switched_takes _ _ (image_start_takes _),
-      (
-        switched_takes _ _ (math_span_takes _ _ _),
-        (
-          switched_takes _ _ (code_span_takes _ _),
-          (
-            switched_takes _ _ (plain_takes _ (reference_takes _)),
-            (
-              switched_takes _ _ (run_takes _),
-              (
-                switched_takes _ _ (run_takes _),
-                (
-                  switched_takes _ _ (run_takes _),
-                  (
-                    either_takes _ _ _ (switched_takes _ _ (plain_takes _ autolink_takes)) (switched_takes _ _ (plain_takes _ html_takes)),
-                    (
-                      switched_takes _ _ (plain_takes _ (protocol_takes _ _ _)),
-                      (
-                        switched_takes _ _ (plain_takes _ (www_takes _ _ _)),
-                        (
-                          either_takes _ _ _ (switched_takes _ _ footnote_start_takes) (switched_takes _ _ link_start_takes),
-                          (
-                            either_takes _ _ _ (switched_takes _ _ (plain_takes _ escape_takes)) (switched_takes _ _ (plain_takes _ hard_break_takes)),
-                            (
-                              switched_takes _ _ (label_end_takes s earlier),
-                              tt,
-                            ),
-                          ),
-                        ),
-                      ),
-                    ),
-                  ),
-                ),
-              ),
-            ),
-          ),
-        ),
-      ),
-    ),
-  )
-
-  pub first_check_takes : Consumes 1 (first_check s end earlier previous)
-  unfolding first_check
-  first_check_takes = switched_takes _ _ (plain_takes _ task_check_takes)
-
-  pub text_element_takes : Consumes 1 (text_element s end earlier previous)
-  unfolding text_element
-  text_element_takes = record { at = at }
-    where
-      at : (cs : List Code) → Left 1 cs (text_element s end earlier previous cs)
-      at [] = tt
-      at (c ∷ cs) = (either_takes 1 _ _ first_check_takes (either_takes 1 _ _ (tried_takes (tries s end earlier previous) c.value each_takes) data_code_takes)).at (c ∷ cs)
+    each : (cs : List Code) → EachConstruct s end earlier previous (Left 1 cs) cs
+    each cs = record {
+      none = tt;
+      ending = line_ending_takes.at cs;
+      image = λ footnotes. (image_start_takes footnotes).at cs;
+      math = λ single. (math_span_takes single earlier previous).at cs;
+      code = (code_span_takes earlier previous).at cs;
+      referred = (plain_takes _ (reference_takes s.references)).at cs;
+      stars = λ _. (run_takes 42).at cs;
+      underscores = λ _. (run_takes 95).at cs;
+      tildes = λ _. (run_takes 126).at cs;
+      linked = (plain_takes _ autolink_takes).at cs;
+      tagged = (plain_takes _ html_takes).at cs;
+      protocol = (plain_takes _ (protocol_takes s.bytes end previous)).at cs;
+      www = (plain_takes _ (www_takes s.bytes end previous)).at cs;
+      footnote = footnote_start_takes.at cs;
+      link = link_start_takes.at cs;
+      escaped = (plain_takes _ escape_takes).at cs;
+      broken = (plain_takes _ hard_break_takes).at cs;
+      ended = (label_end_takes s earlier).at cs;
+      checked = (plain_takes _ task_check_takes).at cs;
+    }
 
 pub string_element_takes : (s : Setting) → Consumes 1 (string_element s)
-unfolding string_element
 string_element_takes s =
-    either_takes _ _ _ (switched_takes _ _ (plain_takes _ escape_takes))
-    (either_takes _ _ _ (switched_takes _ _ (plain_takes _ (reference_takes _)))
-    (either_takes _ _ _ line_ending_takes data_code_takes))
+    record { at = λ cs. string_has (Left 1 cs) tt cs s ((plain_takes _ escape_takes).at cs) ((plain_takes _ (reference_takes s.references)).at cs) ((either_takes 1 _ _ line_ending_takes data_code_takes).at cs) }
 
 -- Where a code is left, an element begins; data does, if nothing else.
 

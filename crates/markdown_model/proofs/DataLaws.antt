@@ -1,5 +1,5 @@
 -- A string's tree is the row of its elements.
-use Rattle.std.proofs.Common.{◌≡◌, List, [], ◌∷◌, ◌++◌, map, refl, ◌∙◌, ap, subst, Option, Some}
+use Rattle.std.proofs.Common.{◌≡◌, List, [], ◌∷◌, ◌++◌, map, refl, ◌∙◌, ap, Option}
 use Rattle.std.proofs.lemmas.List.{append-nil}
 use Rattle.markdown_engine.specs.declared.event.Name.{Name}
 use Rattle.markdown_engine.specs.Codes.{Code}
@@ -9,10 +9,11 @@ use Rattle.markdown_model.specs.Lines.{code_leaf}
 use Rattle.markdown_model.specs.Leaf.{escape, reference}
 use Rattle.markdown_model.specs.Setting.{Setting}
 use Rattle.markdown_model.specs.LabelEnd.{Element, plain, starts, ends}
-use Rattle.markdown_model.specs.Element.{as_plain, switched, line_ending, data_code, string_element, AreElementsFrom, code_before, string_choice}
+use Rattle.markdown_model.specs.Element.{as_plain, line_ending, data_code, string_element, AreElementsFrom, string_choice}
 use Rattle.markdown_model.specs.Groups.{nest, after_loose, joined}
 use Rattle.markdown_model.specs.Passes.{End, as_bracket, loose_start, loose_end, labelled, labels_of}
-use Rattle.markdown_model.proofs.LinkFree.{Passes, Yields, yields_gives, yields_either, yields_passed, then_any}
+use Rattle.markdown_model.proofs.LinkFree.{Passes, Yields, yields_gives, yields_either, then_any}
+use Rattle.markdown_model.proofs.ElementCases.{AllAre, all_are, string_has}
 
 abbrev pub code_leaves : List Code → Forest
 code_leaves [] = empty
@@ -26,26 +27,20 @@ IsPlain (starts kind marker) = ⊥
 IsPlain (ends marker outcome) = ⊥
 
 abbrev pub ArePlain : List Element → Type 0
-ArePlain [] = Unit {0}
-ArePlain (e ∷ es) = IsPlain e × ArePlain es
+ArePlain es = AllAre IsPlain es
 
 plain_yields : (a : Reading Forest) → Yields IsPlain (as_plain a)
 unfolding as_plain
 plain_yields a = then_any _ _ _ λ tree. yields_gives _ (plain tree) tt
 
-string_yields : (s : Setting) → Yields IsPlain (string_element s)
-unfolding string_element switched line_ending data_code
-string_yields s =
-    yields_either _ _ _ (yields_passed _ _ _ (plain_yields escape)) (yields_either _ _ _ (yields_passed _ _ _ (plain_yields (reference s.references)))
-    (yields_either _ _ _ (then_any _ _ _ λ c. yields_gives _ (plain (leaf Name.LineEnding c)) tt) (then_any _ _ _ λ c. yields_gives _ (plain (leaf Name.Data c)) tt)))
+string_passes : (s : Setting) (cs : List Code) → Passes IsPlain (string_element s cs)
+unfolding line_ending data_code
+string_passes s cs =
+    string_has (Passes IsPlain) tt cs s ((plain_yields escape).at cs) ((plain_yields (reference s.references)).at cs)
+    ((yields_either _ _ _ (then_any _ _ _ λ c. yields_gives _ (plain (leaf Name.LineEnding c)) tt) (then_any _ _ _ λ c. yields_gives _ (plain (leaf Name.Data c)) tt)).at cs)
 
 pub string_are_plain : (s : Setting) (es earlier : List Element) (previous : Option Code) (cs : List Code) → AreElementsFrom (string_choice s) earlier previous cs es → ArePlain es
-string_are_plain s [] earlier previous cs h = tt
-string_are_plain s (e ∷ es) earlier previous cs h =
-    (at_some (string_element s cs) h.1 ((string_yields s).at cs), string_are_plain s es (e ∷ earlier) (code_before cs h.0) h.0 h.2)
-  where
-    at_some : (r : Option (Element × List Code)) → r ≡ Some (e, h.0) → Passes IsPlain r → IsPlain e
-    at_some r k x = subst (λ z. Passes IsPlain z) k x
+string_are_plain s es earlier previous cs h = all_are IsPlain (string_choice s) (λ _ _ ds. string_passes s ds) es earlier previous cs h
 
 -- the row of such elements
 abbrev pub row_of : List Element → Forest

@@ -1,6 +1,5 @@
 -- The elements of a content cover its codes, and each of them covers at least one.
-use Rattle.std.proofs.Common.{◌≡◌, ℕ, Bool, true, false, ◌==◌, List, [], ◌∷◌, ◌++◌, refl, sym, ◌∙◌, ap, Option, Some, None}
-use Rattle.std.specs.List.{list_any}
+use Rattle.std.proofs.Common.{◌≡◌, ℕ, Bool, List, [], ◌∷◌, ◌++◌, refl, sym, ◌∙◌, ap, Option, Some, None}
 use Rattle.markdown_engine.specs.declared.event.Name.{Name}
 use Rattle.markdown_engine.specs.declared.tokenizer.LabelKind.{LabelKind}
 use Rattle.markdown_engine.specs.Codes.{Code}
@@ -8,11 +7,12 @@ use Rattle.markdown_engine.specs.Tree.{Forest, leaf, leaf_codes}
 use Rattle.markdown_model.specs.Grammar.{Reading}
 use Rattle.markdown_model.specs.Setting.{Setting}
 use Rattle.markdown_model.specs.LabelEnd.{Element, plain, starts}
-use Rattle.markdown_model.specs.Element.{as_plain, switched, line_ending, data_code, attention_run, image_start, footnote_start, link_start, code_span, math_span, Tries, tries, tried, first_check, text_element, string_element, Choice, AreElementsFrom, code_before}
+use Rattle.markdown_model.specs.Element.{as_plain, line_ending, data_code, attention_run, image_start, footnote_start, link_start, code_span, math_span, text_element, string_element, Choice, AreElementsFrom, code_before}
 use Rattle.markdown_model.proofs.Leaves.{codes-leaf}
-use Rattle.markdown_model.proofs.Readings.{At, Covers, bind, given, if_passed, one_of, seen_before, takes_one, takes_some, takes_word, covers_escape, covers_hard_break_escape, covers_reference, covers_span_here, covers_autolink, covers_html, covers_task_check}
+use Rattle.markdown_model.proofs.Readings.{At, Covers, bind, given, one_of, seen_before, takes_one, takes_some, takes_word, covers_escape, covers_hard_break_escape, covers_reference, covers_span_here, covers_autolink, covers_html, covers_task_check}
 use Rattle.markdown_model.proofs.Literals.{covers_protocol, covers_www}
 use Rattle.markdown_model.proofs.LabelCodes.{element_codes, elements_codes, unused, covers_label_end}
+use Rattle.markdown_model.proofs.ElementCases.{EachConstruct, string_has, text_has}
 
 -- Single elements, where d starts before are unused.
 
@@ -20,10 +20,6 @@ module _ (d : ℕ) where
   pub covers_plain : (a : Reading Forest) → Covers leaf_codes [] a → Covers (element_codes d) [] (as_plain a)
   unfolding as_plain
   covers_plain a h = bind _ _ _ _ _ h λ tree. given _ _ (plain tree) refl
-
-  pub covers_switched : (on : Bool) (a : Reading Element) → Covers (element_codes d) [] a → Covers (element_codes d) [] (switched on a)
-  unfolding switched
-  covers_switched on a h = if_passed _ _ _ _ h
 
   pub covers_line_ending : Covers (element_codes d) [] line_ending
   unfolding line_ending
@@ -57,85 +53,38 @@ module _ (d : ℕ) where
   unfolding math_span
   covers_math_span single earlier previous = covers_plain _ (covers_span_here _ _ _ _ _)
 
-  -- the readings of all rows cover
-  abbrev EachCovers : Tries → Type 0
-  EachCovers [] = Unit {0}
-  EachCovers (row ∷ rows) = Covers (element_codes d) [] row.1 × EachCovers rows
+pub covers_text_element : (s : Setting) (end : ℕ) (earlier : List Element) (previous : Option Code) → Covers (element_codes (unused earlier)) [] (text_element s end earlier previous)
+covers_text_element s end earlier previous = record { at = λ cs. text_has s end earlier previous (At (element_codes d) [] cs) cs (each cs) ((covers_data_code d).at cs) }
+  where
+    d : ℕ
+    d = unused earlier
 
-  pub covers_tried : (rows : Tries) (v : ℕ) → EachCovers rows → Covers (element_codes d) [] (tried rows v)
-  unfolding tried
-  covers_tried [] v h = record { at = covers_data_code.at }
-  covers_tried (row ∷ rows) v h = record { at = λ cs. by_test cs (list_any (λ n. v == n) row.0) (covers_tried rows v h.1) }
-    where
-      by_test : (cs : List Code) (b : Bool) → Covers (element_codes d) [] (tried rows v) → At (element_codes d) [] cs ((elim b as (λ _. Reading Element) [ true ↦ row.1 | false ↦ tried rows v ]) cs)
-      by_test cs true k = h.0.at cs
-      by_test cs false k = k.at cs
-
-module _ (s : Setting) (end : ℕ) (earlier : List Element) (previous : Option Code) where
-  each_covers : EachCovers (unused earlier) (tries s end earlier previous)
-  unfolding tries
-  each_covers = (
-    covers_line_ending _,
-    (
-      covers_switched _ _ _ (covers_image_start _ _),
-      (
-        covers_switched _ _ _ (covers_math_span _ _ _ _),
-        (
-          covers_switched _ _ _ (covers_code_span _ _ _),
-          (
-            covers_switched _ _ _ (covers_plain _ _ (covers_reference _)),
-            (
-              covers_switched _ _ _ (covers_run _ _),
-              (
-                covers_switched _ _ _ (covers_run _ _),
-                (
-                  covers_switched _ _ _ (covers_run _ _),
-                  (
-                    one_of _ _ _ _ (covers_switched _ _ _ (covers_plain _ _ covers_autolink)) (covers_switched _ _ _ (covers_plain _ _ covers_html)),
-                    (
-                      covers_switched _ _ _ (covers_plain _ _ (covers_protocol _ _ _)),
-                      (
-                        covers_switched _ _ _ (covers_plain _ _ (covers_www _ _ _)),
-                        (
-                          one_of _ _ _ _ (covers_switched _ _ _ (covers_footnote_start _)) (covers_switched _ _ _ (covers_link_start _)),
-                          (
-                            one_of _ _ _ _ (covers_switched _ _ _ (covers_plain _ _ covers_escape)) (covers_switched _ _ _ (covers_plain _ _ covers_hard_break_escape)),
-                            (
-                              covers_switched _ _ _ (covers_label_end s earlier),
-                              tt,
-                            ),
-                          ),
-                        ),
-                      ),
-                    ),
-                  ),
-                ),
-              ),
-            ),
-          ),
-        ),
-      ),
-    ),
-  )
-
-  pub covers_first_check : Covers (element_codes (unused earlier)) [] (first_check s end earlier previous)
-  unfolding first_check
-  covers_first_check = covers_switched _ _ _ (covers_plain _ _ covers_task_check)
-
-  pub covers_text_element : Covers (element_codes (unused earlier)) [] (text_element s end earlier previous)
-  unfolding text_element
-  covers_text_element = record { at = at }
-    where
-      at : (cs : List Code) → At (element_codes (unused earlier)) [] cs (text_element s end earlier previous cs)
-      at [] = tt
-      at (c ∷ cs) = (one_of _ _ _ _ covers_first_check (one_of _ _ _ _ (covers_tried (unused earlier) (tries s end earlier previous) c.value each_covers) (covers_data_code (unused earlier)))).at (c ∷ cs)
+    each : (cs : List Code) → EachConstruct s end earlier previous (At (element_codes d) [] cs) cs
+    each cs = record {
+      none = tt;
+      ending = (covers_line_ending d).at cs;
+      image = λ footnotes. (covers_image_start d footnotes).at cs;
+      math = λ single. (covers_math_span d single earlier previous).at cs;
+      code = (covers_code_span d earlier previous).at cs;
+      referred = (covers_plain d _ (covers_reference s.references)).at cs;
+      stars = λ _. (covers_run d 42).at cs;
+      underscores = λ _. (covers_run d 95).at cs;
+      tildes = λ _. (covers_run d 126).at cs;
+      linked = (covers_plain d _ covers_autolink).at cs;
+      tagged = (covers_plain d _ covers_html).at cs;
+      protocol = (covers_plain d _ (covers_protocol s.bytes end previous)).at cs;
+      www = (covers_plain d _ (covers_www s.bytes end previous)).at cs;
+      footnote = (covers_footnote_start d).at cs;
+      link = (covers_link_start d).at cs;
+      escaped = (covers_plain d _ covers_escape).at cs;
+      broken = (covers_plain d _ covers_hard_break_escape).at cs;
+      ended = (covers_label_end s earlier).at cs;
+      checked = (covers_plain d _ covers_task_check).at cs;
+    }
 
 pub covers_string_element : (s : Setting) (d : ℕ) → Covers (element_codes d) [] (string_element s)
-unfolding string_element
 covers_string_element s d =
-    one_of _ _ _ _ (covers_switched _ _ _ (covers_plain _ _ covers_escape))
-    (one_of _ _ _ _ (covers_switched _ _ _ (covers_plain _ _ (covers_reference _)))
-    (one_of _ _ _ _ (covers_line_ending _) (covers_data_code _)))
+    record { at = λ cs. string_has (At (element_codes d) [] cs) tt cs s ((covers_plain d _ covers_escape).at cs) ((covers_plain d _ (covers_reference s.references)).at cs) ((one_of _ _ _ _ (covers_line_ending d) (covers_data_code d)).at cs) }
 
 -- Whole lists.
 

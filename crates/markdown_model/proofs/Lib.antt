@@ -15,6 +15,7 @@ pub mod UnusedStarts
 pub mod ReadingLaws
 pub mod ReadingSteps
 pub mod LinkFree
+pub mod ElementCases
 pub mod LinkPasses
 pub mod LinkLaws
 pub mod MergeLaws

@@ -1,8 +1,7 @@
 -- A link or a footnote call does not stand inside another.
-use Rattle.std.proofs.Common.{◌≡◌, ℕ, Bool, true, false, ◌==◌, ◌&&◌, ◌||◌, not, List, [], ◌∷◌, ◌++◌, length, drop, map, refl, sym, ◌∙◌, ap, subst, Option, Some, None}
+use Rattle.std.proofs.Common.{◌≡◌, ℕ, Bool, true, false, ◌&&◌, ◌||◌, not, List, [], ◌∷◌, ◌++◌, length, drop, map, refl, sym, ◌∙◌, ap, subst, Option, Some, None}
 use Rattle.std.proofs.Math.Bool.{or-false}
 use Rattle.std.proofs.lemmas.Bool.{not-true}
-use Rattle.std.specs.List.{list_any}
 use Rattle.markdown_engine.specs.declared.event.Name.{Name}
 use Rattle.markdown_engine.specs.declared.tokenizer.LabelKind.{LabelKind}
 use Rattle.markdown_engine.specs.Codes.{Code, stop_of, document_start}
@@ -10,7 +9,7 @@ use Rattle.markdown_engine.specs.Tree.{Forest, leaf, ◌⊕◌, group, text_grou
 use Rattle.markdown_model.specs.Grammar.{Reading, ◌>>=◌, ◌>>◌, gives, provided, either}
 use Rattle.markdown_model.specs.Setting.{Setting}
 use Rattle.markdown_model.specs.LabelEnd.{Element, plain, starts, ends, Label, label_before, is_image, is_footnote, is_barred, makes_link, footnote_call, link_or_image, link_kind, outcome_of, label_end}
-use Rattle.markdown_model.specs.Element.{as_plain, switched, line_ending, data_code, attention_run, image_start, footnote_start, link_start, code_span, math_span, Tries, tries, tried, first_check, text_element, Choice, AreElementsFrom, code_before, text_choice, elements_of}
+use Rattle.markdown_model.specs.Element.{as_plain, line_ending, data_code, attention_run, image_start, footnote_start, link_start, code_span, math_span, text_element, Choice, AreElementsFrom, code_before, text_choice, elements_of}
 use Rattle.markdown_model.specs.Pairs.{pair_list}
 use Rattle.markdown_model.specs.Groups.{paired, nest, nested, onto, after_loose, joined, loose}
 use Rattle.markdown_model.specs.Passes.{Start, End, as_bracket, start_marker, start_tree, label_name, label_group, loose_start, loose_end, labelled, labels_of, merged, trimmed, mailed}
@@ -20,6 +19,7 @@ use Rattle.markdown_model.proofs.ElementLaws.{text_elements}
 use Rattle.markdown_model.proofs.UnusedStarts.{ends_take_the_nearest}
 use Rattle.markdown_model.proofs.LinkFree.{IsFree, Passes, Yields, Free, yields_bind, yields_gives, yields_either, then_any, holds-join, holds-leaf, free-apart, free_escape, free_hard_break_escape, free_reference, free_autolink, free_task_check, free_span_here, free_html, free_protocol, free_www, free_after_label, or_assoc}
 use Rattle.markdown_model.proofs.LinkPasses.{apart-leaf, apart-join, apart-merged, apart-trimmed, apart-mailed, apart-paired, any_holds, AllApart, any_holds-append, all_apart-append, holds-joined, apart-joined, holds-loose}
+use Rattle.markdown_model.proofs.ElementCases.{EachConstruct, text_has}
 
 -- What an element is, where these starts before it are unused: no construct but a label is a link, and
 -- where an end makes one, none ended after its start.
@@ -96,10 +96,6 @@ module _ (us : List UnusedStart) where
   unfolding as_plain
   allowed_plain a h = yields_bind IsFree _ _ _ h λ tree k. yields_gives _ (plain tree) k
 
-  allowed_switched : (on : Bool) (a : Reading Element) → Yields (IsAllowed us) a → Yields (IsAllowed us) (switched on a)
-  unfolding switched
-  allowed_switched on a h = yields_passed_if _ _ _ (λ _. h)
-
   allowed_line_ending : Yields (IsAllowed us) line_ending
   unfolding line_ending
   allowed_line_ending = then_any _ _ _ λ c. yields_gives _ (plain (leaf Name.LineEnding c)) (holds-leaf Name.LineEnding c)
@@ -132,77 +128,34 @@ module _ (us : List UnusedStart) where
   unfolding math_span
   allowed_math_span single earlier previous = allowed_plain _ (free_span_here _ _ _ _ _ refl)
 
-  abbrev EachAllowed : Tries → Type 0
-  EachAllowed [] = Unit {0}
-  EachAllowed (row ∷ rows) = Yields (IsAllowed us) row.1 × EachAllowed rows
+allowed_text_element : (s : Setting) (end : ℕ) (earlier : List Element) (previous : Option Code) → Yields (IsAllowed (unused_starts earlier)) (text_element s end earlier previous)
+allowed_text_element s end earlier previous = record { at = λ cs. text_has s end earlier previous (Passes (IsAllowed us)) cs (each cs) ((allowed_data_code us).at cs) }
+  where
+    us : List UnusedStart
+    us = unused_starts earlier
 
-  allowed_tried : (rows : Tries) (v : ℕ) → EachAllowed rows → Yields (IsAllowed us) (tried rows v)
-  unfolding tried
-  allowed_tried [] v h = record { at = allowed_data_code.at }
-  allowed_tried (row ∷ rows) v h = record { at = λ cs. by_test cs (list_any (λ n. v == n) row.0) (allowed_tried rows v h.1) }
-    where
-      by_test : (cs : List Code) (b : Bool) → Yields (IsAllowed us) (tried rows v) → Passes (IsAllowed us) ((elim b as (λ _. Reading Element) [ true ↦ row.1 | false ↦ tried rows v ]) cs)
-      by_test cs true k = h.0.at cs
-      by_test cs false k = k.at cs
-
-module _ (s : Setting) (end : ℕ) (earlier : List Element) (previous : Option Code) where
-  each_allowed : EachAllowed (unused_starts earlier) (tries s end earlier previous)
-  unfolding tries
-  each_allowed = (
-    allowed_line_ending _,
-    (
-      allowed_switched _ _ _ (allowed_image_start _ _),
-      (
-        allowed_switched _ _ _ (allowed_math_span _ _ _ _),
-        (
-          allowed_switched _ _ _ (allowed_code_span _ _ _),
-          (
-            allowed_switched _ _ _ (allowed_plain _ _ (free_reference _)),
-            (
-              allowed_switched _ _ _ (allowed_run _ _),
-              (
-                allowed_switched _ _ _ (allowed_run _ _),
-                (
-                  allowed_switched _ _ _ (allowed_run _ _),
-                  (
-                    yields_either _ _ _ (allowed_switched _ _ _ (allowed_plain _ _ free_autolink)) (allowed_switched _ _ _ (allowed_plain _ _ free_html)),
-                    (
-                      allowed_switched _ _ _ (allowed_plain _ _ (free_protocol _ _ _)),
-                      (
-                        allowed_switched _ _ _ (allowed_plain _ _ (free_www _ _ _)),
-                        (
-                          yields_either _ _ _ (allowed_switched _ _ _ (allowed_footnote_start _)) (allowed_switched _ _ _ (allowed_link_start _)),
-                          (
-                            yields_either _ _ _ (allowed_switched _ _ _ (allowed_plain _ _ free_escape)) (allowed_switched _ _ _ (allowed_plain _ _ free_hard_break_escape)),
-                            (
-                              allowed_switched _ _ _ (allowed_label_end s earlier),
-                              tt,
-                            ),
-                          ),
-                        ),
-                      ),
-                    ),
-                  ),
-                ),
-              ),
-            ),
-          ),
-        ),
-      ),
-    ),
-  )
-
-  allowed_first_check : Yields (IsAllowed (unused_starts earlier)) (first_check s end earlier previous)
-  unfolding first_check
-  allowed_first_check = allowed_switched _ _ _ (allowed_plain _ _ free_task_check)
-
-  allowed_text_element : Yields (IsAllowed (unused_starts earlier)) (text_element s end earlier previous)
-  unfolding text_element
-  allowed_text_element = record { at = at }
-    where
-      at : (cs : List Code) → Passes (IsAllowed (unused_starts earlier)) (text_element s end earlier previous cs)
-      at [] = tt
-      at (c ∷ cs) = (yields_either _ _ _ allowed_first_check (yields_either _ _ _ (allowed_tried (unused_starts earlier) (tries s end earlier previous) c.value each_allowed) (allowed_data_code (unused_starts earlier)))).at (c ∷ cs)
+    each : (cs : List Code) → EachConstruct s end earlier previous (Passes (IsAllowed us)) cs
+    each cs = record {
+      none = tt;
+      ending = (allowed_line_ending us).at cs;
+      image = λ footnotes. (allowed_image_start us footnotes).at cs;
+      math = λ single. (allowed_math_span us single earlier previous).at cs;
+      code = (allowed_code_span us earlier previous).at cs;
+      referred = (allowed_plain us _ (free_reference s.references)).at cs;
+      stars = λ _. (allowed_run us 42).at cs;
+      underscores = λ _. (allowed_run us 95).at cs;
+      tildes = λ _. (allowed_run us 126).at cs;
+      linked = (allowed_plain us _ free_autolink).at cs;
+      tagged = (allowed_plain us _ free_html).at cs;
+      protocol = (allowed_plain us _ (free_protocol s.bytes end previous)).at cs;
+      www = (allowed_plain us _ (free_www s.bytes end previous)).at cs;
+      footnote = (allowed_footnote_start us).at cs;
+      link = (allowed_link_start us).at cs;
+      escaped = (allowed_plain us _ free_escape).at cs;
+      broken = (allowed_plain us _ free_hard_break_escape).at cs;
+      ended = (allowed_label_end s earlier).at cs;
+      checked = (allowed_plain us _ free_task_check).at cs;
+    }
 
 -- Lists of elements.
 

@@ -1,0 +1,117 @@
+-- What holds where nothing is read, and of what each construct reads at some codes, holds of the element that is read there.
+use Rattle.std.proofs.Common.{◌≡◌, ℕ, Bool, true, false, not, ◌==◌, List, [], ◌∷◌, drop, refl, subst, Option, Some, None}
+use Rattle.std.specs.List.{list_any}
+use Rattle.std.specs.Str.{byte}
+use Rattle.markdown_engine.specs.Codes.{Code}
+use Rattle.markdown_engine.specs.Tree.{Forest, empty}
+use Rattle.markdown_engine.specs.declared.tokenizer.LabelKind.{LabelKind}
+use Rattle.markdown_model.specs.Grammar.{Reading, ◌>>◌, either, provided}
+use Rattle.markdown_model.specs.Leaf.{escape, hard_break_escape, reference, autolink, task_check}
+use Rattle.markdown_model.specs.Html.{html}
+use Rattle.markdown_model.specs.Literal.{protocol_literal, www_literal}
+use Rattle.markdown_model.specs.Setting.{Setting}
+use Rattle.markdown_model.specs.LabelEnd.{Element, Label, is_barred, after_label, footnote_call, link_or_image, outcome_of, label_end}
+use Rattle.markdown_model.specs.Element.{as_plain, switched, line_ending, data_code, attention_run, image_start, footnote_start, link_start, code_span, math_span, Tries, tries, tried, first_check, text_element, string_element, Choice, AreElementsFrom, code_before}
+use Rattle.markdown_model.proofs.LinkFree.{Passes, Yields, yields_bind, yields_gives, yields_passed, yields_either}
+
+module _ (P : Option (Element × List Code) → Type 0) (none : P None) (cs : List Code) where
+  pub either_has : (a b : Reading Element) → P (a cs) → P (b cs) → P (either a b cs)
+  unfolding either
+  either_has a b h k = by_answer (a cs) h
+    where
+      by_answer : (r : Option (Element × List Code)) → P r → P (elim r [ None ↦ b cs | Some x ↦ Some x ])
+      by_answer None x = k
+      by_answer (Some y) x = x
+
+  switched_has : (on : Bool) (a : Reading Element) → (on ≡ true → P (a cs)) → P (switched on a cs)
+  unfolding switched provided ◌>>◌
+  switched_has true a h = h refl
+  switched_has false a h = none
+
+  abbrev EachHas : Tries → Type 0
+  EachHas [] = Unit {0}
+  EachHas (row ∷ rows) = P (row.1 cs) × EachHas rows
+
+  tried_has : (rows : Tries) (v : ℕ) → EachHas rows → P (data_code cs) → P (tried rows v cs)
+  unfolding tried
+  tried_has [] v h k = k
+  tried_has (row ∷ rows) v h k = by_test (list_any (λ n. v == n) row.0) (tried_has rows v h.1 k)
+    where
+      by_test : (b : Bool) → P (tried rows v cs) → P ((elim b as (λ _. Reading Element) [ true ↦ row.1 | false ↦ tried rows v ]) cs)
+      by_test true more = h.0
+      by_test false more = more
+
+  -- in a string
+  pub string_has : (s : Setting) → P (as_plain escape cs) → P (as_plain (reference s.references) cs) → P (either line_ending data_code cs) → P (string_element s cs)
+  unfolding string_element
+  string_has s escaped referred more =
+      either_has _ _ (switched_has _ (as_plain escape) (λ _. escaped)) (either_has _ _ (switched_has _ (as_plain (reference s.references)) (λ _. referred)) more)
+
+-- It holds of what each construct reads there but data, and of runs where they are looked for.
+pub record EachConstruct (s : Setting) (end : ℕ) (earlier : List Element) (previous : Option Code) (P : Option (Element × List Code) → Type 0) (cs : List Code) : Type 0 where
+  pub none : P None
+  pub ending : P (line_ending cs)
+  pub image : (footnotes : Bool) → P (image_start footnotes cs)
+  pub math : (single : Bool) → P (math_span single earlier previous cs)
+  pub code : P (code_span earlier previous cs)
+  pub referred : P (as_plain (reference s.references) cs)
+  pub stars : s.options.constructs.attention ≡ true → P (attention_run (byte "*") cs)
+  pub underscores : s.options.constructs.attention ≡ true → P (attention_run (byte "_") cs)
+  pub tildes : s.options.constructs.gfm_strikethrough ≡ true → P (attention_run (byte "~") cs)
+  pub linked : P (as_plain autolink cs)
+  pub tagged : P (as_plain html cs)
+  pub protocol : P (as_plain (protocol_literal s.bytes end previous) cs)
+  pub www : P (as_plain (www_literal s.bytes end previous) cs)
+  pub footnote : P (footnote_start cs)
+  pub link : P (link_start cs)
+  pub escaped : P (as_plain escape cs)
+  pub broken : P (as_plain hard_break_escape cs)
+  pub ended : P (label_end s earlier cs)
+  pub checked : P (as_plain task_check cs)
+
+module _ (s : Setting) (end : ℕ) (earlier : List Element) (previous : Option Code) (P : Option (Element × List Code) → Type 0) where
+  each_has : (cs : List Code) (h : EachConstruct s end earlier previous P cs) → EachHas P h.none cs (tries s end earlier previous)
+  unfolding tries
+  each_has cs h = (h.ending, (on _ _ (λ _. h.image _), (on _ _ (λ _. h.math _), (on _ _ (λ _. h.code), (on _ _ (λ _. h.referred), (on _ _ h.stars, (on _ _ h.underscores, marks)))))))
+    where
+      on : (b : Bool) (a : Reading Element) → (b ≡ true → P (a cs)) → P (switched b a cs)
+      on = switched_has P h.none cs
+
+      both : (b d : Bool) (a e : Reading Element) → P (a cs) → P (e cs) → P (either (switched b a) (switched d e) cs)
+      both b d a e k l = either_has P h.none cs _ _ (on b a (λ _. k)) (on d e (λ _. l))
+
+      marks : EachHas P h.none cs (drop 7 (tries s end earlier previous))
+      marks = (on _ _ h.tildes, (both _ _ _ _ h.linked h.tagged, (on _ _ (λ _. h.protocol), (on _ _ (λ _. h.www), (both _ _ _ _ h.footnote h.link, (both _ _ _ _ h.escaped h.broken, (on _ _ (λ _. h.ended), tt)))))))
+
+  -- in a text, at a code
+  pub row_has : (v : ℕ) (cs : List Code) → EachConstruct s end earlier previous P cs → P (data_code cs) → P (tried (tries s end earlier previous) v cs)
+  row_has v cs h k = tried_has P h.none cs (tries s end earlier previous) v (each_has cs h) k
+
+  pub check_has : (cs : List Code) → EachConstruct s end earlier previous P cs → P (first_check s end earlier previous cs)
+  unfolding first_check
+  check_has cs h = switched_has P h.none cs _ (as_plain task_check) (λ _. h.checked)
+
+  pub text_has : (cs : List Code) → EachConstruct s end earlier previous P cs → P (data_code cs) → P (text_element s end earlier previous cs)
+  unfolding text_element
+  text_has [] h k = h.none
+  text_has (c ∷ cs) h k = either_has P h.none (c ∷ cs) _ _ (check_has (c ∷ cs) h) (either_has P h.none (c ∷ cs) _ _ (row_has c.value (c ∷ cs) h k) k)
+
+-- Lists of elements.
+
+abbrev pub AllAre : (Element → Type 0) → List Element → Type 0
+AllAre P [] = Unit {0}
+AllAre P (e ∷ es) = P e × AllAre P es
+
+pub all_are : (P : Element → Type 0) (choice : Choice) → ((earlier : List Element) (previous : Option Code) (cs : List Code) → Passes P (choice earlier previous cs))
+    → (es earlier : List Element) (previous : Option Code) (cs : List Code) → AreElementsFrom choice earlier previous cs es → AllAre P es
+all_are P choice h [] earlier previous cs k = tt
+all_are P choice h (e ∷ es) earlier previous cs k = (subst (Passes P) k.1 (h earlier previous cs), all_are P choice h es (e ∷ earlier) (code_before cs k.0) k.0 k.2)
+
+-- What holds of no tree, and of what is read behind a label, holds of the tree of an outcome.
+pub outcome_yields : (Q : Forest → Type 0) → Q empty → (s : Setting) → ((defined : Bool) → Yields Q (after_label s defined)) → (l : Option Label) (back : List Code) → Yields (λ o. Q o.1) (outcome_of s l back)
+unfolding outcome_of footnote_call link_or_image
+outcome_yields Q none s h None back = record { at = λ cs. tt }
+outcome_yields Q none s h (Some l) back = record { at = λ cs. whole.at cs }
+  where
+    whole : Yields (λ (o : LabelKind × Forest). Q o.1) (provided (not (is_barred l)) >> either (footnote_call s l back) (link_or_image s l back))
+    whole = yields_passed _ _ _ (yields_either _ _ _ (yields_passed _ _ _ (yields_gives _ _ none)) (yields_bind Q _ _ _ (h _) λ tail k. yields_gives _ _ k))
