@@ -1,6 +1,5 @@
 -- The proofs of the laws.
 pub mod SliceLaws
-pub mod NameTests
 pub mod EscapedItems
 pub mod EscapeLaws
 pub mod PairGroupLaws

@@ -1,7 +1,7 @@
 -- No email literal stands in a link or an autolink: none stands in the tree before they are found, they are not sought in links, and an autolink holds no data.
 use Rattle.std.proofs.Common.{◌≡◌, ℕ, ◌-◌, zero, suc, Bool, true, false, ◌&&◌, ◌||◌, not, List, [], ◌∷◌, ◌++◌, length, take, drop, reverse, map, sum_by, refl, sym, ap, subst, ◌∙◌, Option, Some, None}
 use Rattle.std.proofs.lemmas.Bool.{and_parts, or_parts, or_from, and_from, not-true}
-use Rattle.markdown_laws.proofs.NameTests.{pair-named, blank-named}
+use Rattle.markdown_model.proofs.NameTests.{pair-named, blank-named}
 use Rattle.markdown_engine.specs.declared.event.Name.{Name}
 use Rattle.markdown_engine.specs.declared.event.Point.{Point}
 use Rattle.markdown_engine.specs.Codes.{Code, is_blank, document_start, stop_of}
@@ -24,7 +24,7 @@ use Rattle.markdown_laws.specs.PairGroups.{is_pair}
 use Rattle.markdown_laws.proofs.EmailLeaves.{AnswerIsEmail, answer-email}
 use Rattle.markdown_laws.proofs.MadeReadings.{is_autolink, is_sealed, is_shut, is_single, reaches, made}
 use Rattle.markdown_laws.proofs.MadeLabels.{made-text-labels, made-string-labels}
-use Rattle.markdown_stretch.proofs.Words.{AllHave, WordHas, joined-has, nested-has, word-append}
+use Rattle.markdown_model.proofs.Words.{AllHave, WordHas, joined-has, nested-has, word-append}
 
 -- Trees without email literals, whose autolinks hold leaves alone, none of them data or a run.
 

@@ -16,7 +16,7 @@ use Rattle.markdown_laws.specs.Emails.{is_email}
 use Rattle.markdown_laws.proofs.MadeReadings.{IsSome, IsMade, is_at, is_single, reaches, made}
 use Rattle.markdown_laws.proofs.MadeLabels.{AllGood, IsGoodEnd}
 use Rattle.markdown_laws.proofs.PlaceRows.{Place, last_of, last-join, Allows, allows-itself, allows-then, allows-join, allows-behind, allows-same, allows-around, allows-between}
-use Rattle.markdown_stretch.proofs.Words.{AllHave, WordHas, all-append, joined-has, nested-has}
+use Rattle.markdown_model.proofs.Words.{AllHave, WordHas, all-append, joined-has, nested-has}
 
 -- where each code begins and ends
 abbrev pub ends_of : List Code → List Place

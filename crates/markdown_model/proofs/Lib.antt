@@ -1,4 +1,8 @@
 pub mod Leaves
+pub mod NameTests
+pub mod Words
+pub mod PairWords
+pub mod PassRows
 pub mod Readings
 pub mod Literals
 pub mod Nesting

@@ -19,7 +19,7 @@ use Rattle.markdown_row.specs.Trees.{HasLines, makes_data}
 use Rattle.markdown_row.proofs.RowJoins.{HasLines-row}
 use Rattle.markdown_stretch.specs.Lined.{IsLine}
 use Rattle.markdown_stretch.proofs.RunWords.{run-has}
-use Rattle.markdown_stretch.proofs.Words.{AllHave, joined-has, WordHas, word-append, nested-has}
+use Rattle.markdown_model.proofs.Words.{AllHave, joined-has, WordHas, word-append, nested-has}
 
 lines-leaf : (name : Name) (cs : List Code) → IsLine cs → HasLines (leaf name cs)
 lines-leaf name [] h = tt

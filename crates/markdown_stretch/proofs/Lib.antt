@@ -1,6 +1,5 @@
 -- The proofs of what is said of leaves on lines.
 pub mod LinedTrees
-pub mod Words
 pub mod LinedLabels
 pub mod RunWords
 pub mod LinedPairs

@@ -14,7 +14,7 @@ use Rattle.markdown_model.proofs.LabelCodes.{codes-label_group, codes-start_tree
 use Rattle.markdown_model.proofs.Leaves.{codes-leaf}
 use Rattle.markdown_stretch.specs.Lined.{IsLine, IsSomeLine, IsIn, IsLined, AtStart, IsBetween, Stands, IsApart, AreLined}
 use Rattle.markdown_stretch.proofs.LinedTrees.{line-both, none-left, lined-weaker, lined-row, lined-leaf, lined-group}
-use Rattle.markdown_stretch.proofs.Words.{AllHave, all-append, joined-has, WordHas, nested-has}
+use Rattle.markdown_model.proofs.Words.{AllHave, all-append, joined-has, WordHas, nested-has}
 
 -- Parts of a list.
 

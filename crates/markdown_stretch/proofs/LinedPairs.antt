@@ -17,7 +17,7 @@ use Rattle.markdown_stretch.specs.Lined.{IsLine, IsSomeLine, IsLined, Stands, Is
 use Rattle.markdown_stretch.proofs.LinedLabels.{apart-in, apart-joined, apart-loose, stands-between}
 use Rattle.markdown_stretch.proofs.LinedTrees.{lined-group, lined-leaf, lined-row}
 use Rattle.markdown_stretch.proofs.RunWords.{run-has}
-use Rattle.markdown_stretch.proofs.Words.{AllHave, WordHas, word-append, nested-has}
+use Rattle.markdown_model.proofs.Words.{AllHave, WordHas, word-append, nested-has}
 
 module _ (B : Point → Point → Type 0) where
   module _ (front : List Code) (inside : List Forest) (back : List Code) (f : IsSomeLine front) (h : AllHave (IsApart B) inside) (b : IsSomeLine back) where

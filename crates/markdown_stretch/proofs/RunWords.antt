@@ -10,7 +10,7 @@ use Rattle.markdown_model.specs.Pairs.{Pair}
 use Rattle.markdown_model.specs.Runs.{Run}
 use Rattle.markdown_stretch.specs.Lined.{IsLine}
 use Rattle.markdown_stretch.proofs.LinedTrees.{line-both}
-use Rattle.markdown_stretch.proofs.Words.{WordHas}
+use Rattle.markdown_model.proofs.Words.{WordHas}
 
 line-parts : (n : ℕ) (cs : List Code) → IsLine cs → IsLine (take n cs) × IsLine (drop n cs)
 line-parts n cs h = line-both (take n cs) (drop n cs) (ap (list_any is_line_ending) (take-append-drop n cs) ∙ h)

@@ -1,9 +1,12 @@
--- What holds of each of the names that a tree may give a pair, or the blank codes before a line ending, holds of those that it gives.
-use Rattle.std.proofs.Common.{◌==◌, ℕ, Bool, true, false, ◌&&◌, nat_le, List, length}
+-- What holds of each of the names that a tree may give a pair, the blank codes before a line ending, or an email literal, holds of those that it gives.
+use Rattle.std.proofs.Common.{◌==◌, ℕ, Bool, true, false, ◌&&◌, nat_le, List, [], ◌∷◌, length, reverse}
+use Rattle.std.specs.Str.{byte}
 use Rattle.std.specs.List.{list_all}
 use Rattle.markdown_engine.specs.declared.event.Name.{Name}
 use Rattle.markdown_engine.specs.Codes.{Code}
-use Rattle.markdown_model.specs.CodeTests.{is_real_space}
+use Rattle.markdown_model.specs.CodeTests.{is_real_space, is_value, is_alphanumeric}
+use Rattle.markdown_model.specs.Email.{email_protocol, is_word}
+use Rattle.markdown_model.specs.Grammar.{span}
 use Rattle.markdown_model.specs.Groups.{pair_names}
 use Rattle.markdown_model.specs.Passes.{blank_name}
 
@@ -27,3 +30,20 @@ blank-named P break blank hard cs = by_test ((hard && nat_le 2 (length cs)) && l
     by_test : (b : Bool) → P (elim b as (λ _. Name) [ true ↦ Name.HardBreakTrailing | false ↦ Name.SpaceOrTab ])
     by_test true = break
     by_test false = blank
+
+-- of an address, and of one behind `mailto:` or `xmpp:`
+pub email-named : (P : Name → Type 0) → P Name.GfmAutolinkLiteralEmail → P Name.GfmAutolinkLiteralMailto → P Name.GfmAutolinkLiteralXmpp → (before : List Code) → P (email_protocol before).0
+unfolding email_protocol
+email-named P bare mailto xmpp [] = bare
+email-named P bare mailto xmpp (c ∷ cs) = by_tests (is_value (byte ":") c && is_word "mailto" (reverse s.0)) (is_value (byte ":") c && is_word "xmpp" (reverse s.0))
+  where
+    s : List Code × List Code
+    s = span is_alphanumeric cs
+
+    by_tests : (a b : Bool) → P (elim a as (λ _. Name × List Code × List Code) [
+      | true ↦ (Name.GfmAutolinkLiteralMailto, c ∷ s.0, s.1)
+      | false ↦ elim b [ true ↦ (Name.GfmAutolinkLiteralXmpp, c ∷ s.0, s.1) | false ↦ (Name.GfmAutolinkLiteralEmail, [], c ∷ cs) ]
+    ]).0
+    by_tests true b = mailto
+    by_tests false true = xmpp
+    by_tests false false = bare
