@@ -13,7 +13,7 @@ use Rattle.markdown_model.specs.Groups.{nested, joined}
 use Rattle.markdown_model.specs.Passes.{Start, End, as_bracket, start_marker, start_tree, label_group, loose_start, loose_end, labelled, labels_of}
 use Rattle.markdown_model.proofs.Leaves.{codes-leaf}
 use Rattle.markdown_model.proofs.Readings.{Covers, codes_laws, bind, given, if_passed, one_of, by_next, where_not, takes_one, covers_resource, covers_label}
-use Rattle.markdown_model.proofs.Nesting.{codes_of_all, codes-joined, codes_of_all-append, codes-nested, word_codes}
+use Rattle.markdown_model.proofs.Nesting.{codes_add, codes_of_all, codes-joined, sum-append, sum-nested, word_sum}
 use Rattle.markdown_model.proofs.Coverage.{codes-loose}
 use Rattle.markdown_engine.proofs.TreeLemmas.{leaf_codes-row}
 
@@ -168,13 +168,13 @@ codes-loose_start start = codes-loose start.1
 
 pub codes-labelled : (start : Start) (inside : List Forest) (end : End) → codes_of_all (labelled start inside end) ≡ opened start ++ (codes_of_all inside ++ closed end)
 codes-labelled start inside (marker, None) =
-    codes_of_all-append (loose_start start) (inside ++ loose_end (marker, None))
-    ∙ (λ i. codes-loose_start start i ++ (codes_of_all-append inside (loose_end (marker, None)) ∙ ap (λ x. codes_of_all inside ++ x) (codes-loose marker)) i)
+    sum-append codes_add (loose_start start) (inside ++ loose_end (marker, None))
+    ∙ (λ i. codes-loose_start start i ++ (sum-append codes_add inside (loose_end (marker, None)) ∙ ap (λ x. codes_of_all inside ++ x) (codes-loose marker)) i)
 codes-labelled start inside (marker, Some outcome) =
     append-nil _ ∙ codes-label_group outcome.0 start.1 (joined inside) marker outcome.1
     ∙ ap (λ x. start.1 ++ (x ++ (marker ++ leaf_codes outcome.1))) (codes-joined inside)
 
-word-element : (d : ℕ) (es : List Element) → word_codes loose_end opened closed d (map as_bracket es) ≡ elements_codes d es
+word-element : (d : ℕ) (es : List Element) → word_sum codes_add loose_end opened closed d (map as_bracket es) ≡ elements_codes d es
 word-element d [] = refl
 word-element d (plain t ∷ es) = ap (λ x. leaf_codes t ++ x) (word-element d es)
 word-element d (starts kind marker ∷ es) = ap (λ x. marker ++ x) (word-element (suc d) es)
@@ -187,5 +187,5 @@ pub codes-labels_of : (es : List Element) → leaf_codes (labels_of es) ≡ elem
 unfolding labels_of
 codes-labels_of es =
     codes-joined (nested labelled loose_start loose_end (map as_bracket es))
-    ∙ codes-nested labelled loose_start loose_end opened closed codes-labelled codes-loose_start (map as_bracket es)
+    ∙ sum-nested codes_add labelled loose_start loose_end opened closed codes-labelled codes-loose_start (map as_bracket es)
     ∙ word-element zero es

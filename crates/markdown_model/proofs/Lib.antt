@@ -6,6 +6,7 @@ pub mod PassRows
 pub mod Readings
 pub mod Literals
 pub mod Nesting
+pub mod PairSums
 pub mod Coverage
 pub mod LabelCodes
 pub mod ElementCodes
