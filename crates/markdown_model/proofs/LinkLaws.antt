@@ -18,7 +18,9 @@ use Rattle.markdown_model.specs.Laws.{UnusedStart, with_link, unused_starts, IsL
 use Rattle.markdown_model.proofs.ElementLaws.{text_elements}
 use Rattle.markdown_model.proofs.UnusedStarts.{ends_take_the_nearest}
 use Rattle.markdown_model.proofs.LinkFree.{IsFree, Passes, Yields, Free, yields_bind, yields_gives, yields_either, then_any, holds-join, holds-leaf, free-apart, free_escape, free_hard_break_escape, free_reference, free_autolink, free_task_check, free_span_here, free_html, free_protocol, free_www, free_after_label, or_assoc}
-use Rattle.markdown_model.proofs.LinkPasses.{apart-leaf, apart-join, apart-merged, apart-trimmed, apart-mailed, apart-paired, any_holds, AllApart, any_holds-append, all_apart-append, holds-joined, apart-joined, holds-loose}
+use Rattle.markdown_model.proofs.LinkPasses.{apart-leaf, apart-join, apart-merged, apart-trimmed, apart-mailed, apart-paired, any_holds, holds_add, apart-joined, holds-loose}
+use Rattle.markdown_model.proofs.Nesting.{sum-append, sum-joined}
+use Rattle.markdown_model.proofs.Words.{AllHave, all-append}
 use Rattle.markdown_model.proofs.ElementCases.{EachConstruct, text_has}
 
 -- What an element is, where these starts before it are unused: no construct but a label is a link, and
@@ -251,27 +253,27 @@ apart-label_group kind marker inside back tail h k a = (
     no : false ≡ true → ⊥
     no e = cc
 
-apart-loose : (cs : List Code) → AllApart (loose cs)
+apart-loose : (cs : List Code) → AllHave AreApart (loose cs)
 apart-loose cs = (apart-leaf Name.Data cs, tt)
 
 holds-labelled : (start : Start) (inside : List Forest) (end : End) → TailFree end → any_holds (labelled start inside end) ≡ (new_link end || any_holds inside)
 holds-labelled start inside (marker, None) h =
-    any_holds-append (loose start.1) (inside ++ loose marker)
-    ∙ (λ i. holds-loose start.1 i || (any_holds-append inside (loose marker) ∙ ap (λ x. any_holds inside || x) (holds-loose marker) ∙ or-false (any_holds inside)) i)
+    sum-append holds_add (loose start.1) (inside ++ loose marker)
+    ∙ (λ i. holds-loose start.1 i || (sum-append holds_add inside (loose marker) ∙ ap (λ x. any_holds inside || x) (holds-loose marker) ∙ or-false (any_holds inside)) i)
 holds-labelled start inside (marker, Some outcome) h =
-    or-false _ ∙ holds-label_group outcome.0 start.1 (joined inside) marker outcome.1 h ∙ ap (λ x. not (is_image outcome.0) || x) (holds-joined inside)
+    or-false _ ∙ holds-label_group outcome.0 start.1 (joined inside) marker outcome.1 h ∙ ap (λ x. not (is_image outcome.0) || x) (sum-joined holds_add inside)
 
-apart-labelled : (start : Start) (inside : List Forest) (end : End) → TailFree end → (new_link end ≡ true → any_holds inside ≡ false) → AllApart inside → AllApart (labelled start inside end)
-apart-labelled start inside (marker, None) h k a = all_apart-append (loose start.1) (inside ++ loose marker) (apart-loose start.1) (all_apart-append inside (loose marker) a (apart-loose marker))
+apart-labelled : (start : Start) (inside : List Forest) (end : End) → TailFree end → (new_link end ≡ true → any_holds inside ≡ false) → AllHave AreApart inside → AllHave AreApart (labelled start inside end)
+apart-labelled start inside (marker, None) h k a = all-append AreApart (loose start.1) (inside ++ loose marker) (apart-loose start.1) (all-append AreApart inside (loose marker) a (apart-loose marker))
 apart-labelled start inside (marker, Some outcome) h k a =
-    (apart-label_group outcome.0 start.1 (joined inside) marker outcome.1 h (λ e. holds-joined inside ∙ k e) (apart-joined inside a), tt)
+    (apart-label_group outcome.0 start.1 (joined inside) marker outcome.1 h (λ e. sum-joined holds_add inside ∙ k e) (apart-joined inside a), tt)
 
 abbrev Frames : Type 0
 Frames = List (End × List Forest)
 
 abbrev FramesApart : Frames → Type 0
 FramesApart [] = Unit {0}
-FramesApart (f ∷ fs) = AllApart f.1 × FramesApart fs
+FramesApart (f ∷ fs) = AllHave AreApart f.1 × FramesApart fs
 
 -- Ends that wait for their starts: where one makes a link, none stands between; `link` says that one
 -- stands before the first of them.
@@ -299,16 +301,16 @@ exchanged false true c = refl
 exchanged false false c = refl
 
 abbrev IsNested : List UnusedStart → List Forest × Frames → Type 0
-IsNested us r = AllApart r.0 × FramesApart r.1 × AreReady (any_holds r.0) us r.1
+IsNested us r = AllHave AreApart r.0 × FramesApart r.1 × AreReady (any_holds r.0) us r.1
 
 nested_start : (us : List UnusedStart) (kind : LabelKind) (marker : List Code) (inside : List Forest) (more : Frames)
     → IsNested (record { kind = kind; marker = marker; before_link = false } ∷ us) (inside, more) → IsNested us (onto labelled loose_start loose_end (kind, marker) inside more)
-nested_start us kind marker inside [] h = (all_apart-append (loose marker) inside (apart-loose marker) h.0, tt, tt)
+nested_start us kind marker inside [] h = (all-append AreApart (loose marker) inside (apart-loose marker) h.0, tt, tt)
 nested_start us kind marker inside (f ∷ fs) h = (
-  all_apart-append (labelled (kind, marker) inside f.0) f.1 (apart-labelled (kind, marker) inside f.0 h.2.0 h.2.1 h.0) h.1.0,
+  all-append AreApart (labelled (kind, marker) inside f.0) f.1 (apart-labelled (kind, marker) inside f.0 h.2.0 h.2.1 h.0) h.1.0,
   h.1.1,
   subst (λ x. AreReady x us fs)
-      (sym (any_holds-append (labelled (kind, marker) inside f.0) f.1 ∙ ap (λ x. x || any_holds f.1) (holds-labelled (kind, marker) inside f.0 h.2.0) ∙ exchanged (new_link f.0) (any_holds inside) (any_holds f.1)))
+      (sym (sum-append holds_add (labelled (kind, marker) inside f.0) f.1 ∙ ap (λ x. x || any_holds f.1) (holds-labelled (kind, marker) inside f.0 h.2.0) ∙ exchanged (new_link f.0) (any_holds inside) (any_holds f.1)))
       h.2.2,
 )
 
@@ -330,17 +332,17 @@ all_nested (u ∷ us) (ends marker (Some outcome) ∷ es) h =
     let r = all_nested (map (with_link (not (is_image outcome.0))) us) es h.1 in
     (tt, (r.0, r.1), (h.0.0, (λ e. or-false u.before_link ∙ h.0.1 e), earlier_link (not (is_image outcome.0)) (any_holds (nest_labels es).0) us (nest_labels es).1 r.2))
 
-apart-after_loose : (fs : Frames) → FramesApart fs → AllApart (after_loose labelled loose_start loose_end fs)
+apart-after_loose : (fs : Frames) → FramesApart fs → AllHave AreApart (after_loose labelled loose_start loose_end fs)
 apart-after_loose [] h = tt
 apart-after_loose (f ∷ fs) h =
-    all_apart-append (loose_end f.0 ++ f.1) (after_loose labelled loose_start loose_end fs) (all_apart-append (loose_end f.0) f.1 (apart-loose f.0.0) h.0) (apart-after_loose fs h.1)
+    all-append AreApart (loose_end f.0 ++ f.1) (after_loose labelled loose_start loose_end fs) (all-append AreApart (loose_end f.0) f.1 (apart-loose f.0.0) h.0) (apart-after_loose fs h.1)
 
 apart-labels_of : (es : List Element) → AllAllowed [] es → AreApart (labels_of es)
 unfolding labels_of
 apart-labels_of es h =
     let r = all_nested [] es h in
     apart-joined (nested labelled loose_start loose_end (map as_bracket es))
-    (all_apart-append (nest_labels es).0 (after_loose labelled loose_start loose_end (nest_labels es).1) r.0 (apart-after_loose (nest_labels es).1 r.1))
+    (all-append AreApart (nest_labels es).0 (after_loose labelled loose_start loose_end (nest_labels es).1) r.0 (apart-after_loose (nest_labels es).1 r.1))
 
 pub links_do_not_nest : LinksDoNotNest
 unfolding text_tree finished_text raw_tree
