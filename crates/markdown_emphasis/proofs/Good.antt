@@ -1,5 +1,5 @@
 -- Rows as the pass of runs wants them, and the groups of labels of such rows.
-use Rattle.std.proofs.Common.{◌≡◌, ℕ, Bool, true, false, ◌&&◌, ◌||◌, List, [], ◌∷◌, ◌++◌, length, drop, map, refl, Option, Some, None}
+use Rattle.std.proofs.Common.{◌≡◌, ℕ, Bool, true, false, ◌&&◌, ◌||◌, List, [], ◌∷◌, length, drop, refl, Option, Some, None}
 use Rattle.markdown_emphasis.proofs.Flat.{unlinked-row}
 use Rattle.std.proofs.lemmas.Bool.{or_parts, both_ways}
 use Rattle.markdown_engine.specs.declared.event.Content.{Content}
@@ -9,8 +9,9 @@ use Rattle.markdown_engine.specs.declared.tokenizer.LabelKind.{LabelKind}
 use Rattle.markdown_engine.specs.Codes.{Code, stop_of, document_start}
 use Rattle.markdown_engine.specs.Tree.{Forest, empty, leaf_then, group_then, leaf, ◌⊕◌, group, text_group, start_of}
 use Rattle.markdown_model.specs.LabelEnd.{Element, plain, starts, ends}
-use Rattle.markdown_model.specs.Groups.{nest, nested, onto, after_loose, joined, loose}
-use Rattle.markdown_model.specs.Passes.{Start, End, as_bracket, start_marker, start_tree, label_name, label_group, loose_start, loose_end, labelled, labels_of}
+use Rattle.markdown_model.specs.Passes.{start_marker, start_tree, label_name, label_group, labels_of}
+use Rattle.markdown_model.proofs.ElementCases.{AllAre}
+use Rattle.markdown_model.proofs.LabelWords.{labels-have}
 use Rattle.markdown_attention.specs.Reading.{is_run, is_text}
 use Rattle.markdown_attention.specs.Rows.{has_run, HasRuns}
 use Rattle.markdown_emphasis.specs.Trees.{HasStripes}
@@ -27,10 +28,6 @@ EachRun P (group_then name enter exit inside rest) = EachRun P inside × EachRun
 -- a row, and all inside it, with no linked leaf of its own
 abbrev pub IsGood : List ℕ → Forest → Type 0
 IsGood bytes t = HasRuns bytes t × (HasStripes t × (IsUnlinkedRow t × EachRun (IsPlaced bytes) t))
-
-abbrev pub AllGood : List ℕ → List Forest → Type 0
-AllGood bytes [] = Unit {0}
-AllGood bytes (f ∷ fs) = IsGood bytes f × AllGood bytes fs
 
 -- Rows without runs.
 
@@ -139,14 +136,6 @@ no-run-join (group_then name from to inside rest) y h k = no-run-join rest y h k
 pub good-join : (bytes : List ℕ) (x y : Forest) → IsGood bytes x → IsGood bytes y → IsGood bytes (x ⊕ y)
 good-join bytes x y h k = (runs-join bytes x y h.0 k.0, (stripes-join x y h.1.0 k.1.0, (unlinked-row x y h.1.1.0 k.1.1.0, each-join (IsPlaced bytes) x y h.1.1.1 k.1.1.1)))
 
-pub good-joined : (bytes : List ℕ) (fs : List Forest) → AllGood bytes fs → IsGood bytes (joined fs)
-good-joined bytes [] h = (tt, (tt, (tt, tt)))
-good-joined bytes (f ∷ fs) h = good-join bytes f (joined fs) h.0 (good-joined bytes fs h.1)
-
-good-append : (bytes : List ℕ) (fs gs : List Forest) → AllGood bytes fs → AllGood bytes gs → AllGood bytes (fs ++ gs)
-good-append bytes [] gs h k = k
-good-append bytes (f ∷ fs) gs h k = (h.0, good-append bytes fs gs h.1 k)
-
 -- Labels.
 
 pub quiet-start_tree : (kind : LabelKind) (cs : List Code) → marks true (start_tree kind cs) ≡ false
@@ -210,55 +199,7 @@ IsSound bytes (starts kind marker) = Unit {0}
 IsSound bytes (ends marker None) = Unit {0}
 IsSound bytes (ends marker (Some outcome)) = IsQuiet false outcome.1
 
-abbrev pub AllSound : List ℕ → List Element → Type 0
-AllSound bytes [] = Unit {0}
-AllSound bytes (e ∷ es) = IsSound bytes e × AllSound bytes es
-
-abbrev QuietTail : End → Type 0
-QuietTail (marker, None) = Unit {0}
-QuietTail (marker, Some outcome) = IsQuiet false outcome.1
-
-abbrev Frames : Type 0
-Frames = List (End × List Forest)
-
-abbrev GoodFrames : List ℕ → Frames → Type 0
-GoodFrames bytes [] = Unit {0}
-GoodFrames bytes (f ∷ fs) = QuietTail f.0 × (AllGood bytes f.1 × GoodFrames bytes fs)
-
-module _ (bytes : List ℕ) where
-  good-loose : (cs : List Code) → AllGood bytes (loose cs)
-  good-loose cs = (good-leaf bytes Name.Data cs refl, tt)
-
-  good-labelled : (start : Start) (inside : List Forest) (end : End) → QuietTail end → AllGood bytes inside → AllGood bytes (labelled start inside end)
-  good-labelled start inside (marker, None) q g =
-      good-append bytes (loose start.1) (inside ++ loose marker) (good-loose start.1) (good-append bytes inside (loose marker) g (good-loose marker))
-  good-labelled start inside (marker, Some outcome) q g = (good-label_group bytes outcome.0 start.1 (joined inside) marker (good-joined bytes inside g) outcome.1 q, tt)
-
-  abbrev nest_labels : List Element → List Forest × Frames
-  nest_labels es = nest labelled loose_start loose_end (map as_bracket es)
-
-  abbrev AreGood : List Forest × Frames → Type 0
-  AreGood r = AllGood bytes r.0 × GoodFrames bytes r.1
-
-  good-onto : (o : Start) (inside : List Forest) (fs : Frames) → AllGood bytes inside → GoodFrames bytes fs → AreGood (onto labelled loose_start loose_end o inside fs)
-  good-onto o inside [] g h = (good-append bytes (loose o.1) inside (good-loose o.1) g, tt)
-  good-onto o inside (f ∷ fs) g h = (good-append bytes (labelled o inside f.0) f.1 (good-labelled o inside f.0 h.0 g) h.1.0, h.1.1)
-
-  good-nest : (es : List Element) → AllSound bytes es → AreGood (nest_labels es)
-  good-nest [] h = (tt, tt)
-  good-nest (plain t ∷ es) h = let r = good-nest es h.1 in ((h.0, r.0), r.1)
-  good-nest (starts kind marker ∷ es) h = let r = good-nest es h.1 in good-onto (kind, marker) (nest_labels es).0 (nest_labels es).1 r.0 r.1
-  good-nest (ends marker None ∷ es) h = let r = good-nest es h.1 in (tt, (tt, (r.0, r.1)))
-  good-nest (ends marker (Some outcome) ∷ es) h = let r = good-nest es h.1 in (tt, (h.0, (r.0, r.1)))
-
-  good-after : (fs : Frames) → GoodFrames bytes fs → AllGood bytes (after_loose labelled loose_start loose_end fs)
-  good-after [] h = tt
-  good-after (f ∷ fs) h =
-      good-append bytes (loose f.0.0 ++ f.1) (after_loose labelled loose_start loose_end fs) (good-append bytes (loose f.0.0) f.1 (good-loose f.0.0) h.1.0) (good-after fs h.1.1)
-
-  pub good-labels : (es : List Element) → AllSound bytes es → IsGood bytes (labels_of es)
-  unfolding labels_of
-  good-labels es h =
-      let r = good-nest es h in
-      good-joined bytes (nested labelled loose_start loose_end (map as_bracket es))
-      (good-append bytes (nest_labels es).0 (after_loose labelled loose_start loose_end (nest_labels es).1) r.0 (good-after (nest_labels es).1 r.1))
+pub good-labels : (bytes : List ℕ) (es : List Element) → AllAre (IsSound bytes) es → IsGood bytes (labels_of es)
+good-labels bytes es h =
+    labels-have (IsGood bytes) (IsSound bytes) (tt, (tt, (tt, tt))) (good-join bytes) (λ t g. g) (λ kind marker g. good-leaf bytes Name.Data marker refl) (λ marker outcome g. good-leaf bytes Name.Data marker refl)
+    (λ kind marker inside back outcome s g q. good-label_group bytes outcome.0 marker inside back g outcome.1 q) es h

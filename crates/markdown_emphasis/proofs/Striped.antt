@@ -1,23 +1,23 @@
 -- The elements of a content are sound, so its tree of labels is striped.
-use Rattle.std.proofs.Common.{◌≡◌, ℕ, ◌==◌, Bool, true, false, not, List, [], ◌∷◌, ◌++◌, refl, sym, subst, Option, Some, None, inl, inr}
-use Rattle.std.specs.List.{list_any}
+use Rattle.std.proofs.Common.{◌≡◌, ℕ, Bool, true, false, List, [], ◌∷◌, ◌++◌, refl, sym, subst, Option, Some, None, inl, inr}
 use Rattle.markdown_engine.specs.declared.event.Name.{Name}
 use Rattle.markdown_engine.specs.declared.tokenizer.LabelKind.{LabelKind}
 use Rattle.markdown_engine.specs.Codes.{Code}
 use Rattle.markdown_engine.specs.Tree.{Forest, leaf}
 use Rattle.markdown_model.specs.CodeTests.{is_value}
-use Rattle.markdown_model.specs.Grammar.{Reading, ◌>>=◌, ◌>>◌, gives, provided, either, some}
+use Rattle.markdown_model.specs.Grammar.{Reading, ◌>>=◌, gives, some}
 use Rattle.markdown_model.specs.Setting.{Setting}
-use Rattle.markdown_model.specs.LabelEnd.{Element, plain, starts, ends, Label, label_before, is_barred, footnote_call, link_or_image, outcome_of, label_end}
-use Rattle.markdown_model.specs.Element.{as_plain, switched, line_ending, data_code, attention_run, image_start, footnote_start, link_start, code_span, math_span, Tries, tries, tried, first_check, text_element, AreElementsFrom, AreElements, code_before, elements_of}
+use Rattle.markdown_model.specs.LabelEnd.{Element, plain, starts, ends, Label, label_before, outcome_of, label_end}
+use Rattle.markdown_model.specs.Element.{as_plain, line_ending, data_code, attention_run, image_start, footnote_start, link_start, code_span, math_span, text_element, AreElementsFrom, AreElements, code_before, elements_of}
 use Rattle.markdown_model.specs.Inline.{label_tree}
+use Rattle.markdown_model.proofs.ElementCases.{AllAre, EachConstruct, outcome_yields, text_has}
 use Rattle.markdown_model.proofs.ElementCodes.{covers_text_element}
 use Rattle.markdown_model.proofs.ElementLaws.{text_elements}
 use Rattle.markdown_model.proofs.LabelCodes.{element_codes, unused}
 use Rattle.markdown_model.proofs.Readings.{At}
-use Rattle.markdown_model.proofs.LinkFree.{Passes, Yields, yields_bind, yields_gives, yields_either, yields_passed, then_any}
+use Rattle.markdown_model.proofs.LinkFree.{Passes, Yields, yields_bind, yields_gives, yields_either, then_any}
 use Rattle.markdown_attention.specs.Open.{IsMarker}
-use Rattle.markdown_emphasis.proofs.Good.{IsGood, IsSound, AllSound, quiet-good, good-run, good-leaf, good-labels}
+use Rattle.markdown_emphasis.proofs.Good.{IsGood, IsSound, quiet-good, good-run, good-leaf, good-labels}
 use Rattle.markdown_emphasis.proofs.Quiet.{IsQuiet, Free, quiet_escape, quiet_hard_break_escape, quiet_reference, quiet_autolink, quiet_task_check, quiet_code, quiet_math, quiet_html, quiet_protocol, quiet_www, quiet_after_label}
 use Rattle.markdown_emphasis.proofs.Singles.{AreSingles, IsRunLeaf, singles-back, run-leaf}
 
@@ -31,34 +31,14 @@ module _ (bytes : List ℕ) where
     on_any : (a : Reading A) → Yields P a → YieldsOn bytes P a
     on_any a h = record { at = λ cs _. h.at cs }
 
-    on_either : (a b : Reading A) → YieldsOn bytes P a → YieldsOn bytes P b → YieldsOn bytes P (either a b)
-    unfolding either
-    on_either a b ha hb = record { at = λ cs k. by_answer cs k (a cs) (ha.at cs k) }
-      where
-        by_answer : (cs : List Code) → AreSingles bytes cs → (r : Option (A × List Code)) → Passes P r → Passes P (elim r [ None ↦ b cs | Some x ↦ Some x ])
-        by_answer cs k None h = hb.at cs k
-        by_answer cs k (Some x) h = h
-
-    on_passed : (test : Bool) (b : Reading A) → YieldsOn bytes P b → YieldsOn bytes P (provided test >> b)
-    unfolding provided ◌>>◌
-    on_passed true b h = record { at = h.at }
-    on_passed false b h = record { at = λ cs _. tt }
-
   -- Single elements.
 
   abbrev Sound : Reading Element → Type 0
   Sound a = YieldsOn bytes (IsSound bytes) a
 
-  either_on : (a b : Reading Element) → Sound a → Sound b → Sound (either a b)
-  either_on a b h k = on_either (IsSound bytes) a b h k
-
   sound_plain : (a : Reading Forest) → Free a → Sound (as_plain a)
   unfolding as_plain
   sound_plain a h = on_any _ _ (yields_bind (IsQuiet true) _ _ _ h λ tree k. yields_gives _ (plain tree) (quiet-good bytes tree k))
-
-  sound_switched : (on : Bool) (a : Reading Element) → Sound a → Sound (switched on a)
-  unfolding switched
-  sound_switched on a h = on_passed _ _ _ h
 
   sound_line_ending : Sound line_ending
   unfolding line_ending
@@ -103,14 +83,7 @@ module _ (bytes : List ℕ) where
   QuietOutcome outcome = IsQuiet false outcome.1
 
   quiet_outcome : (s : Setting) (l : Option Label) (back : List Code) → Yields QuietOutcome (outcome_of s l back)
-  unfolding outcome_of footnote_call link_or_image
-  quiet_outcome s None back = record { at = λ cs. tt }
-  quiet_outcome s (Some l) back = record { at = λ cs. whole.at cs }
-    where
-      whole : Yields QuietOutcome (provided (not (is_barred l)) >> either (footnote_call s l back) (link_or_image s l back))
-      whole = yields_passed _ _ _ (yields_either _ _ _
-          (yields_passed _ _ _ (yields_gives _ _ refl))
-          (yields_bind (IsQuiet false) _ _ _ (quiet_after_label s _) λ tail k. yields_gives _ _ k))
+  quiet_outcome s l back = outcome_yields (IsQuiet false) refl s (quiet_after_label s) l back
 
   sound_label_end : (s : Setting) (earlier : List Element) → Sound (label_end s earlier)
   unfolding label_end
@@ -119,85 +92,38 @@ module _ (bytes : List ℕ) where
       (yields_bind QuietOutcome _ _ _ (quiet_outcome s (label_before earlier) back) λ outcome k. yields_gives _ (ends back (Some outcome)) k)
       (yields_gives _ (ends back None) tt))
 
-  -- The order of tries.
+  -- Elements.
 
-  abbrev EachSound : Tries → Type 0
-  EachSound [] = Unit {0}
-  EachSound (row ∷ rows) = Sound row.1 × EachSound rows
-
-  sound_tried : (rows : Tries) (v : ℕ) → EachSound rows → Sound (tried rows v)
-  unfolding tried
-  sound_tried [] v h = record { at = sound_data_code.at }
-  sound_tried (row ∷ rows) v h = record { at = λ cs k. by_test cs k (list_any (λ n. v == n) row.0) (sound_tried rows v h.1) }
+  sound_text_element : (s : Setting) (end : ℕ) (earlier : List Element) (previous : Option Code) → Sound (text_element s end earlier previous)
+  sound_text_element s end earlier previous = record { at = λ cs k. text_has s end earlier previous (Passes (IsSound bytes)) cs (each cs k) (sound_data_code.at cs k) }
     where
-      by_test : (cs : List Code) → AreSingles bytes cs → (b : Bool) → Sound (tried rows v)
-          → Passes (IsSound bytes) ((elim b as (λ _. Reading Element) [ true ↦ row.1 | false ↦ tried rows v ]) cs)
-      by_test cs k true x = h.0.at cs k
-      by_test cs k false x = x.at cs k
-
-  module _ (s : Setting) (end : ℕ) (earlier : List Element) (previous : Option Code) where
-    each_sound : EachSound (tries s end earlier previous)
-    unfolding tries
-    each_sound = (
-      sound_line_ending,
-      (
-        sound_switched _ _ (sound_image_start _),
-        (
-          sound_switched _ _ (sound_math_span _ _ _),
-          (
-            sound_switched _ _ (sound_code_span _ _),
-            (
-              sound_switched _ _ (sound_plain _ (quiet_reference _)),
-              (
-                sound_switched _ _ (sound_run _ (inl refl)),
-                (
-                  sound_switched _ _ (sound_run _ (inr (inl refl))),
-                  (
-                    sound_switched _ _ (sound_run _ (inr (inr refl))),
-                    (
-                      either_on _ _ (sound_switched _ _ (sound_plain _ quiet_autolink)) (sound_switched _ _ (sound_plain _ quiet_html)),
-                      (
-                        sound_switched _ _ (sound_plain _ (quiet_protocol _ _ _)),
-                        (
-                          sound_switched _ _ (sound_plain _ (quiet_www _ _ _)),
-                          (
-                            either_on _ _ (sound_switched _ _ (sound_footnote_start)) (sound_switched _ _ (sound_link_start)),
-                            (
-                              either_on _ _ (sound_switched _ _ (sound_plain _ quiet_escape)) (sound_switched _ _ (sound_plain _ quiet_hard_break_escape)),
-                              (
-                                sound_switched _ _ (sound_label_end s earlier),
-                                tt,
-                              ),
-                            ),
-                          ),
-                        ),
-                      ),
-                    ),
-                  ),
-                ),
-              ),
-            ),
-          ),
-        ),
-      ),
-    )
-
-    sound_first_check : Sound (first_check s end earlier previous)
-    unfolding first_check
-    sound_first_check = sound_switched _ _ (sound_plain _ quiet_task_check)
-
-    sound_text_element : Sound (text_element s end earlier previous)
-    unfolding text_element
-    sound_text_element = record { at = at_codes }
-      where
-        at_codes : (cs : List Code) → AreSingles bytes cs → Passes (IsSound bytes) (text_element s end earlier previous cs)
-        at_codes [] k = tt
-        at_codes (c ∷ cs) k = (either_on _ _ sound_first_check (either_on _ _ (sound_tried (tries s end earlier previous) c.value each_sound) sound_data_code)).at (c ∷ cs) k
+      each : (cs : List Code) → AreSingles bytes cs → EachConstruct s end earlier previous (Passes (IsSound bytes)) cs
+      each cs k = record {
+        none = tt;
+        ending = sound_line_ending.at cs k;
+        image = λ footnotes. (sound_image_start footnotes).at cs k;
+        math = λ single. (sound_math_span single earlier previous).at cs k;
+        code = (sound_code_span earlier previous).at cs k;
+        referred = (sound_plain _ (quiet_reference s.references)).at cs k;
+        stars = λ _. (sound_run 42 (inl refl)).at cs k;
+        underscores = λ _. (sound_run 95 (inr (inl refl))).at cs k;
+        tildes = λ _. (sound_run 126 (inr (inr refl))).at cs k;
+        linked = (sound_plain _ quiet_autolink).at cs k;
+        tagged = (sound_plain _ quiet_html).at cs k;
+        protocol = (sound_plain _ (quiet_protocol s.bytes end previous)).at cs k;
+        www = (sound_plain _ (quiet_www s.bytes end previous)).at cs k;
+        footnote = sound_footnote_start.at cs k;
+        link = sound_link_start.at cs k;
+        escaped = (sound_plain _ quiet_escape).at cs k;
+        broken = (sound_plain _ quiet_hard_break_escape).at cs k;
+        ended = (sound_label_end s earlier).at cs k;
+        checked = (sound_plain _ quiet_task_check).at cs k;
+      }
 
   -- Lists of elements: what is left after an element is the end of the codes.
 
   all_sound : (s : Setting) (end : ℕ) (es earlier : List Element) (previous : Option Code) (cs : List Code)
-      → AreSingles bytes cs → AreElementsFrom (text_element s end) earlier previous cs es → AllSound bytes es
+      → AreSingles bytes cs → AreElementsFrom (text_element s end) earlier previous cs es → AllAre (IsSound bytes) es
   all_sound s end [] earlier previous cs k h = tt
   all_sound s end (e ∷ es) earlier previous cs k h =
       let d : ℕ = unused earlier in
@@ -211,7 +137,7 @@ module _ (bytes : List ℕ) where
       covered : (r : Option (Element × List Code)) → r ≡ Some (e, h.0) → At (element_codes (unused earlier)) [] cs r → element_codes (unused earlier) e ++ h.0 ≡ cs
       covered r n x = subst (λ z. At (element_codes (unused earlier)) [] cs z) n x
 
-  pub sound-elements : (s : Setting) (cs : List Code) (es : List Element) → AreSingles bytes cs → AreElements s cs es → AllSound bytes es
+  pub sound-elements : (s : Setting) (cs : List Code) (es : List Element) → AreSingles bytes cs → AreElements s cs es → AllAre (IsSound bytes) es
   sound-elements s cs es k h = all_sound s _ es [] None cs k h
 
 -- The tree of labels.

@@ -21,6 +21,7 @@ pub mod ReadingLaws
 pub mod ReadingSteps
 pub mod LinkFree
 pub mod ElementCases
+pub mod LabelWords
 pub mod LinkPasses
 pub mod LinkLaws
 pub mod MergeLaws
