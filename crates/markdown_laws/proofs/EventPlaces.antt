@@ -1,5 +1,5 @@
 -- No event of a content stands before an earlier one: the passes behind pairs keep all places of a tree, and its events stand at some of them.
-use Rattle.std.proofs.Common.{◌≡◌, ℕ, ◌+◌, zero, suc, Bool, true, false, ◌&&◌, ◌||◌, not, cond, filter, List, [], ◌∷◌, ◌++◌, length, reverse, refl, sym, ap, subst, ◌∙◌, arith, append_assoc, Option, Some, None, IsTrue}
+use Rattle.std.proofs.Common.{◌≡◌, ℕ, ◌+◌, Bool, true, false, ◌&&◌, ◌||◌, not, cond, filter, List, [], ◌∷◌, ◌++◌, refl, sym, ap, subst, ◌∙◌, arith, append_assoc, Option, Some, None, IsTrue}
 use Rattle.std.specs.List.{All}
 use Rattle.std.proofs.lemmas.Bool.Decides.{nat_tests}
 use Rattle.std.proofs.lemmas.List.Elements.{All-nil, All-cons}
@@ -9,9 +9,9 @@ use Rattle.markdown_emphasis.proofs.Good.{IsGood}
 use Rattle.markdown_emphasis.proofs.Ready.{flat-row, ready-row}
 use Rattle.markdown_emphasis.proofs.Singles.{singles-content}
 use Rattle.markdown_emphasis.proofs.Striped.{good-tree}
-use Rattle.markdown_engine.specs.Codes.{Code, codes_of, document_start, is_at_or_after, is_blank, place_of, stop_of}
+use Rattle.markdown_engine.specs.Codes.{Code, codes_of, document_start, is_at_or_after, place_of, stop_of}
 use Rattle.markdown_engine.specs.Content.{IsContent, content_of, is_in_piece, piece_codes}
-use Rattle.markdown_engine.specs.Tree.{Forest, empty, leaf_then, group_then, leaf, ◌⊕◌, leaf_codes, event_count, events_from, events_of}
+use Rattle.markdown_engine.specs.Tree.{Forest, empty, leaf_then, group_then, leaf_codes, event_count, events_from, events_of}
 use Rattle.markdown_engine.specs.declared.event.Event.{Event}
 use Rattle.markdown_engine.specs.declared.event.Kind.TheVariants as Kind
 use Rattle.markdown_engine.specs.declared.event.Name.{Name}
@@ -21,13 +21,12 @@ use Rattle.markdown_engine.proofs.Chain.{IsChain}
 use Rattle.markdown_engine.proofs.Order.{is_before, before-asym, at_or_after-is}
 use Rattle.markdown_engine.proofs.Points.{chain-document}
 use Rattle.markdown_model.specs.Element.{elements_of, string_elements_of}
-use Rattle.markdown_model.specs.Email.{email_at, email_leaves, with_emails}
-use Rattle.markdown_model.specs.Grammar.{span}
+use Rattle.markdown_model.specs.Email.{with_emails}
 use Rattle.markdown_model.specs.Groups.{paired}
 use Rattle.markdown_model.specs.Inline.{label_tree, raw_tree, finished_text, finished_string, text_tree, string_tree, text_events, string_events}
 use Rattle.markdown_model.specs.LabelEnd.{Element}
 use Rattle.markdown_model.specs.Pairs.{pair_list}
-use Rattle.markdown_model.specs.Passes.{data_onto, merged, begins_line_ending, is_nothing, blank_name, trimmed_data, trimmed, mailed, labels_of}
+use Rattle.markdown_model.specs.Passes.{data_onto, merged, begins_line_ending, is_nothing, trimmed_data, trimmed, mailed, labels_of}
 use Rattle.markdown_model.specs.Setting.{Setting}
 use Rattle.markdown_model.proofs.Coverage.{codes-trimmed_data}
 use Rattle.markdown_model.proofs.LabelCodes.{codes-labels_of}
@@ -35,33 +34,19 @@ use Rattle.markdown_model.proofs.Literals.{codes-with_emails}
 use Rattle.markdown_model.proofs.TreeLaws.{codes-finished_text, codes-finished_string, leaves_cover}
 use Rattle.markdown_laws.specs.EventOrder.{NeverGoBack, EventsNeverGoBack}
 use Rattle.markdown_laws.specs.Filled.{IsFilled}
-use Rattle.markdown_laws.proofs.EmailLeaves.{AnswerIsEmail, answer-email}
 use Rattle.markdown_laws.proofs.FilledLaws.{trees_are_filled}
 use Rattle.markdown_laws.proofs.MadeLabels.{good-text, good-string}
 use Rattle.markdown_laws.proofs.PairPlaces.{paired-allows}
 use Rattle.markdown_laws.proofs.PlaceRows.{Place, IsOn, on-itself, on-trans, GoOn, last_of, Allows, allows-itself, allows-then, allows-join, allows-behind}
 use Rattle.markdown_laws.proofs.TreePlaces.{ends_of, ends-join, ends-last, places_of, places-join, fit-labels}
 use Rattle.markdown_stretch.proofs.LeafOrder.{Each, NotBefore, Later, content-later}
+use Rattle.markdown_stretch.proofs.LinedTrees.{AreLeaves, leaves-trimmed_data, leaves-with_emails}
 
 -- Rows of leaves.
 
-abbrev AreLeaves : Forest → Type 0
-AreLeaves empty = Unit {0}
-AreLeaves (leaf_then name link cs rest) = AreLeaves rest
-AreLeaves (group_then name enter exit inside rest) = ⊥
-
-leaves-leaf : (name : Name) (cs : List Code) → AreLeaves (leaf name cs)
-leaves-leaf name [] = tt
-leaves-leaf name (c ∷ cs) = tt
-
-leaves-join : (a b : Forest) → AreLeaves a → AreLeaves b → AreLeaves (a ⊕ b)
-leaves-join empty b h k = k
-leaves-join (leaf_then name link cs rest) b h k = leaves-join rest b h k
-leaves-join (group_then name enter exit inside rest) b h k = absurd h
-
 leaves-places : (f : Forest) → AreLeaves f → places_of f ≡ ends_of (leaf_codes f)
 leaves-places empty h = refl
-leaves-places (leaf_then name link cs rest) h = ap (λ x. ends_of cs ++ x) (leaves-places rest h) ∙ sym (ends-join cs (leaf_codes rest))
+leaves-places (leaf_then name link cs rest) h = ap (λ x. ends_of cs ++ x) (leaves-places rest h.1) ∙ sym (ends-join cs (leaf_codes rest))
 leaves-places (group_then name enter exit inside rest) h = absurd h
 
 -- Merging.
@@ -79,17 +64,6 @@ merged-places (group_then name enter exit inside rest) = λ i. place_of enter �
 
 -- Trimming.
 
-leaves-trimmed_data : (front back hard : Bool) (cs : List Code) → AreLeaves (trimmed_data front back hard cs)
-leaves-trimmed_data front back hard cs =
-    leaves-join (leaf Name.SpaceOrTab lead.0) (leaf Name.Data lead.1 ⊕ leaf (blank_name hard (reverse cut.0)) (reverse cut.0)) (leaves-leaf Name.SpaceOrTab lead.0)
-    (leaves-join (leaf Name.Data lead.1) (leaf (blank_name hard (reverse cut.0)) (reverse cut.0)) (leaves-leaf Name.Data lead.1) (leaves-leaf (blank_name hard (reverse cut.0)) (reverse cut.0)))
-  where
-    cut : List Code × List Code
-    cut = elim back [ true ↦ span is_blank (reverse cs) | false ↦ ([], reverse cs) ]
-
-    lead : List Code × List Code
-    lead = elim front [ true ↦ span is_blank (reverse cut.1) | false ↦ ([], reverse cut.1) ]
-
 trimmed_data-places : (front back hard : Bool) (cs : List Code) → places_of (trimmed_data front back hard cs) ≡ ends_of cs
 trimmed_data-places front back hard cs = leaves-places (trimmed_data front back hard cs) (leaves-trimmed_data front back hard cs) ∙ ap ends_of (codes-trimmed_data front back hard cs)
 
@@ -106,20 +80,8 @@ trimmed-places hard front whole (group_then name enter exit inside rest) =
 
 -- Emails.
 
-leaves-emails : (n : ℕ) (before cs : List Code) → AreLeaves (email_leaves n before cs)
-unfolding email_leaves
-leaves-emails n before [] = leaves-leaf Name.Data (reverse before)
-leaves-emails zero before (c ∷ cs) = leaves-leaf Name.Data (reverse before ++ c ∷ cs)
-leaves-emails (suc n) before (c ∷ cs) = by_answer (email_at before c cs) (answer-email before c cs) (leaves-emails n)
-  where
-    by_answer : (r : Option (List Code × Forest × List Code)) → AnswerIsEmail r → ((front ds : List Code) → AreLeaves (email_leaves n front ds))
-        → AreLeaves (elim r as (λ _. Forest) [ None ↦ email_leaves n (c ∷ before) cs | Some x ↦ leaf Name.Data x.0 ⊕ x.1 ⊕ email_leaves n [] x.2 ])
-    by_answer None h more = more (c ∷ before) cs
-    by_answer (Some x) h more = leaves-join (leaf Name.Data x.0) (x.1 ⊕ email_leaves n [] x.2) (leaves-leaf Name.Data x.0) (subst (λ t. AreLeaves (t ⊕ email_leaves n [] x.2)) (sym h.is) (more [] x.2))
-
 emails-places : (cs : List Code) → places_of (with_emails cs) ≡ ends_of cs
-unfolding with_emails
-emails-places cs = leaves-places (email_leaves (length cs) [] cs) (leaves-emails (length cs) [] cs) ∙ ap ends_of (codes-with_emails cs)
+emails-places cs = leaves-places (with_emails cs) (leaves-with_emails cs) ∙ ap ends_of (codes-with_emails cs)
 
 mailed-places : (f : Forest) → places_of (mailed f) ≡ places_of f
 unfolding mailed

@@ -10,6 +10,7 @@ use Rattle.markdown_model.specs.Pairs.{Pair, pair_list}
 use Rattle.markdown_model.specs.Passes.{is_nothing}
 use Rattle.markdown_model.specs.Setting.{Setting}
 use Rattle.markdown_model.proofs.Coverage.{codes-assembled, codes-tokens_of}
+use Rattle.markdown_model.proofs.PassRows.{Walks, walks-row}
 use Rattle.markdown_laws.specs.Emails.{is_email}
 use Rattle.markdown_laws.specs.Filled.{is_label_text, IsFilled}
 use Rattle.markdown_laws.proofs.MadeReadings.{is_at, is_single, reaches, made}
@@ -20,10 +21,17 @@ pub filled-leaf : (name : Name) (cs : List Code) → IsFilled (leaf name cs)
 filled-leaf name [] = tt
 filled-leaf name (c ∷ cs) = (refl, tt)
 
+pub filled : Walks IsFilled (λ name link cs. is_empty cs ≡ false) (λ name a b inside. is_nothing inside ≡ true → is_label_text name ≡ true)
+filled = record {
+  none = tt;
+  leaf_of = λ name link cs rest h. h;
+  leaf_to = λ name link cs rest h k. (h, k);
+  group_of = λ name a b inside rest h. h;
+  group_to = λ name a b inside rest g h k. (g, h, k);
+}
+
 pub filled-join : (a b : Forest) → IsFilled a → IsFilled b → IsFilled (a ⊕ b)
-filled-join empty b h k = k
-filled-join (leaf_then name link cs rest) b h k = (h.0, filled-join rest b h.1 k)
-filled-join (group_then name enter exit inside rest) b h k = (h.0, h.1, filled-join rest b h.2 k)
+filled-join a b h k = walks-row filled a b h k
 
 -- What labels make.
 

@@ -1,7 +1,6 @@
 -- What is made of the elements of a content: each leaf has a code and is no email literal, each group but the text of a label reaches from where its first
 -- tree begins to where its last one ends, none is a pair's, and an autolink holds leaves of its own.
-use Rattle.std.proofs.Common.{◌≡◌, ℕ, Bool, true, false, ◌==◌, ◌&&◌, ◌||◌, not, List, [], ◌∷◌, ◌++◌, length, drop, map, refl, ◌∙◌, subst, Option, Some, None, ap}
-use Rattle.std.specs.List.{list_any}
+use Rattle.std.proofs.Common.{◌≡◌, ℕ, Bool, true, false, ◌&&◌, ◌||◌, not, List, [], ◌∷◌, length, drop, refl, ◌∙◌, Option, Some, None, ap}
 use Rattle.std.proofs.lemmas.Bool.{and_parts}
 use Rattle.std.proofs.Math.Bool.{or-true}
 use Rattle.markdown_engine.specs.declared.event.Name.{Name}
@@ -11,13 +10,14 @@ use Rattle.markdown_engine.specs.Codes.{Code, stop_of, document_start}
 use Rattle.markdown_engine.specs.Tree.{Forest, empty, leaf_then, group_then, leaf, group, text_group, start_of, ◌⊕◌}
 use Rattle.markdown_model.specs.Grammar.{Reading}
 use Rattle.markdown_model.specs.Setting.{Setting}
-use Rattle.markdown_model.specs.LabelEnd.{Element, plain, starts, ends, Label, label_before, outcome_of, footnote_call, link_or_image, label_end}
-use Rattle.markdown_model.specs.Element.{as_plain, switched, line_ending, data_code, attention_run, image_start, footnote_start, link_start, code_span, math_span, Tries, tries, tried, first_check, text_element, string_element, Choice, AreElementsFrom, code_before, text_choice, string_choice, elements_of, string_elements_of}
-use Rattle.markdown_model.specs.Groups.{nest, onto, after_loose, joined, loose}
-use Rattle.markdown_model.specs.Passes.{Start, End, as_bracket, start_marker, start_tree, label_name, label_group, loose_start, loose_end, labelled, labels_of, is_nothing}
+use Rattle.markdown_model.specs.LabelEnd.{Element, plain, starts, ends, Label, label_before, outcome_of, label_end}
+use Rattle.markdown_model.specs.Element.{as_plain, line_ending, data_code, attention_run, image_start, footnote_start, link_start, code_span, math_span, text_element, string_element, text_choice, string_choice, elements_of, string_elements_of}
+use Rattle.markdown_model.specs.Passes.{End, start_marker, start_tree, label_name, label_group, labels_of, is_nothing}
 use Rattle.markdown_model.proofs.Consuming.{text_takes}
+use Rattle.markdown_model.proofs.ElementCases.{AllAre, EachConstruct, all_are, outcome_yields, string_has, text_has}
 use Rattle.markdown_model.proofs.ElementLaws.{text_elements, string_elements}
-use Rattle.markdown_model.proofs.LinkFree.{Passes, Yields, yields_bind, yields_gives, yields_passed, yields_either, yields_before, then_any}
+use Rattle.markdown_model.proofs.LabelWords.{labels-have}
+use Rattle.markdown_model.proofs.LinkFree.{Passes, Yields, yields_bind, yields_gives, yields_either, yields_before, then_any}
 use Rattle.markdown_model.proofs.Readings.{takes_word}
 use Rattle.markdown_model.specs.CodeTests.{is_empty}
 use Rattle.markdown_laws.specs.Emails.{is_email}
@@ -41,10 +41,6 @@ IsGoodOutcome o = IsMade o.1
 good_plain : (a : Reading Forest) → Makes a → Yields IsGood (as_plain a)
 unfolding as_plain
 good_plain a h = yields_bind IsMade _ _ _ h λ tree k. yields_gives _ (plain tree) k
-
-good_switched : (on : Bool) (a : Reading Element) → Yields IsGood a → Yields IsGood (switched on a)
-unfolding switched
-good_switched on a h = yields_passed _ _ _ h
 
 good_line_ending : Yields IsGood line_ending
 unfolding line_ending
@@ -78,108 +74,47 @@ good_math_span : (single : Bool) (earlier : List Element) (previous : Option Cod
 unfolding math_span
 good_math_span single earlier previous = good_plain _ (makes_span_here _ _ _ _ _ (record { whole = λ f. refl; sequence = refl; text = refl }))
 
-good_outcome : (s : Setting) (l : Label) (back : List Code) → Yields IsGoodOutcome (outcome_of s (Some l) back)
-unfolding outcome_of footnote_call link_or_image
-good_outcome s l back = record { at = λ cs. (yields_passed IsGoodOutcome _ _ (yields_either _ _ _ (yields_passed _ _ _ (yields_gives _ _ refl)) (yields_bind IsMade _ _ _ (makes_after_label s _) λ tail h. yields_gives _ _ h))).at cs }
-
-no_outcome : (s : Setting) (back : List Code) → Yields IsGoodOutcome (outcome_of s None back)
-unfolding outcome_of
-no_outcome s back = record { at = λ cs. tt }
+good_outcome : (s : Setting) (l : Option Label) (back : List Code) → Yields IsGoodOutcome (outcome_of s l back)
+good_outcome s l back = outcome_yields IsMade refl s (makes_after_label s) l back
 
 good_label_end : (s : Setting) (earlier : List Element) → Yields IsGood (label_end s earlier)
 unfolding label_end
 good_label_end s earlier =
     yields_bind IsSome _ _ _ (one-gives _) λ back h.
-    yields_either _ _ _ (yields_bind IsGoodOutcome _ _ _ (by_label (label_before earlier) back) λ outcome k. yields_gives _ (ends back (Some outcome)) (h, k)) (yields_gives _ (ends back None) h)
+    yields_either _ _ _ (yields_bind IsGoodOutcome _ _ _ (good_outcome s (label_before earlier) back) λ outcome k. yields_gives _ (ends back (Some outcome)) (h, k)) (yields_gives _ (ends back None) h)
+
+good_text_element : (s : Setting) (end : ℕ) (earlier : List Element) (previous : Option Code) (cs : List Code) → Passes IsGood (text_element s end earlier previous cs)
+good_text_element s end earlier previous cs = text_has s end earlier previous (Passes IsGood) cs each (good_data_code.at cs)
   where
-    by_label : (l : Option Label) (back : List Code) → Yields IsGoodOutcome (outcome_of s l back)
-    by_label None back = no_outcome s back
-    by_label (Some l) back = good_outcome s l back
+    each : EachConstruct s end earlier previous (Passes IsGood) cs
+    each = record {
+      none = tt;
+      ending = good_line_ending.at cs;
+      image = λ footnotes. (good_image_start footnotes).at cs;
+      math = λ single. (good_math_span single earlier previous).at cs;
+      code = (good_code_span earlier previous).at cs;
+      referred = (good_plain _ (makes_reference s.references)).at cs;
+      stars = λ _. (good_run 42).at cs;
+      underscores = λ _. (good_run 95).at cs;
+      tildes = λ _. (good_run 126).at cs;
+      linked = (good_plain _ makes_autolink).at cs;
+      tagged = (good_plain _ makes_html).at cs;
+      protocol = (good_plain _ (makes_protocol s.bytes end previous)).at cs;
+      www = (good_plain _ (makes_www s.bytes end previous)).at cs;
+      footnote = good_footnote_start.at cs;
+      link = good_link_start.at cs;
+      escaped = (good_plain _ makes_escape).at cs;
+      broken = (good_plain _ makes_hard_break_escape).at cs;
+      ended = (good_label_end s earlier).at cs;
+      checked = (good_plain _ makes_task_check).at cs;
+    }
 
-abbrev EachGood : Tries → Type 0
-EachGood [] = Unit {0}
-EachGood (row ∷ rows) = Yields IsGood row.1 × EachGood rows
-
-good_tried : (rows : Tries) (v : ℕ) → EachGood rows → Yields IsGood (tried rows v)
-unfolding tried
-good_tried [] v h = record { at = good_data_code.at }
-good_tried (row ∷ rows) v h = record { at = λ cs. by_test cs (list_any (λ n. v == n) row.0) (good_tried rows v h.1) }
-  where
-    by_test : (cs : List Code) (b : Bool) → Yields IsGood (tried rows v) → Passes IsGood ((elim b as (λ _. Reading Element) [ true ↦ row.1 | false ↦ tried rows v ]) cs)
-    by_test cs true k = h.0.at cs
-    by_test cs false k = k.at cs
-
-module _ (s : Setting) (end : ℕ) (earlier : List Element) (previous : Option Code) where
-  each_good : EachGood (tries s end earlier previous)
-  unfolding tries
-  each_good = (
-    good_line_ending,
-    (
-      good_switched _ _ (good_image_start _),
-      (
-        good_switched _ _ (good_math_span _ _ _),
-        (
-          good_switched _ _ (good_code_span _ _),
-          (
-            good_switched _ _ (good_plain _ (makes_reference _)),
-            (
-              good_switched _ _ (good_run _),
-              (
-                good_switched _ _ (good_run _),
-                (
-                  good_switched _ _ (good_run _),
-                  (
-                    yields_either _ _ _ (good_switched _ _ (good_plain _ makes_autolink)) (good_switched _ _ (good_plain _ makes_html)),
-                    (
-                      good_switched _ _ (good_plain _ (makes_protocol _ _ _)),
-                      (
-                        good_switched _ _ (good_plain _ (makes_www _ _ _)),
-                        (
-                          yields_either _ _ _ (good_switched _ _ good_footnote_start) (good_switched _ _ good_link_start),
-                          (
-                            yields_either _ _ _ (good_switched _ _ (good_plain _ makes_escape)) (good_switched _ _ (good_plain _ makes_hard_break_escape)),
-                            (good_switched _ _ (good_label_end s earlier), tt),
-                          ),
-                        ),
-                      ),
-                    ),
-                  ),
-                ),
-              ),
-            ),
-          ),
-        ),
-      ),
-    ),
-  )
-
-  good_first_check : Yields IsGood (first_check s end earlier previous)
-  unfolding first_check
-  good_first_check = good_switched _ _ (good_plain _ makes_task_check)
-
-  good_text_element : Yields IsGood (text_element s end earlier previous)
-  unfolding text_element
-  good_text_element = record { at = at }
-    where
-      at : (cs : List Code) → Passes IsGood (text_element s end earlier previous cs)
-      at [] = tt
-      at (c ∷ cs) = (yields_either _ _ _ good_first_check (yields_either _ _ _ (good_tried (tries s end earlier previous) c.value each_good) good_data_code)).at (c ∷ cs)
-
-good_string_element : (s : Setting) → Yields IsGood (string_element s)
-unfolding string_element
-good_string_element s =
-    yields_either _ _ _ (good_switched _ _ (good_plain _ makes_escape))
-    (yields_either _ _ _ (good_switched _ _ (good_plain _ (makes_reference _))) (yields_either _ _ _ good_line_ending good_data_code))
+good_string_element : (s : Setting) (cs : List Code) → Passes IsGood (string_element s cs)
+good_string_element s cs =
+    string_has (Passes IsGood) tt cs s ((good_plain _ makes_escape).at cs) ((good_plain _ (makes_reference s.references)).at cs) ((yields_either IsGood _ _ good_line_ending good_data_code).at cs)
 
 abbrev pub AllGood : List Element → Type 0
-AllGood [] = Unit {0}
-AllGood (e ∷ es) = IsGood e × AllGood es
-
-all_good : (choice : Choice) → ((earlier : List Element) (previous : Option Code) → Yields IsGood (choice earlier previous))
-    → (es earlier : List Element) (previous : Option Code) (cs : List Code) → AreElementsFrom choice earlier previous cs es → AllGood es
-all_good choice yields [] earlier previous cs h = tt
-all_good choice yields (e ∷ es) earlier previous cs h =
-    (subst (λ z. Passes IsGood z) h.1 ((yields earlier previous).at cs), all_good choice yields es (e ∷ earlier) (code_before cs h.0) h.0 h.2)
+AllGood es = AllAre IsGood es
 
 -- Groups of labels.
 
@@ -199,23 +134,8 @@ made-labelled-tree (group_then name enter exit inside rest) h =
     let r = and_parts (made false inside) (made false rest) q.1 in
     λ i. (ap (λ b. is_label_text name || b) p.0 ∙ or-true (is_label_text name)) i && (q.0 i && (made-labelled-tree inside r.0 i && made-labelled-tree rest r.1 i))
 
-abbrev AllMade : List Forest → Type 0
-AllMade [] = Unit {0}
-AllMade (f ∷ fs) = IsLabelled f × AllMade fs
-
-made-append : (fs gs : List Forest) → AllMade fs → AllMade gs → AllMade (fs ++ gs)
-made-append [] gs h k = k
-made-append (f ∷ fs) gs h k = (h.0, made-append fs gs h.1 k)
-
 made-both : (a b : Forest) → IsLabelled a → IsLabelled b → IsLabelled (a ⊕ b)
 made-both a b h k = made-join true a b ∙ (λ i. h i && k i)
-
-made-joined : (fs : List Forest) → AllMade fs → IsLabelled (joined fs)
-made-joined [] h = refl
-made-joined (f ∷ fs) h = made-both f (joined fs) h.0 (made-joined fs h.1)
-
-made-loose : (cs : List Code) → AllMade (loose cs)
-made-loose cs = (made-leaf true Name.Data cs, tt)
 
 single-label : (kind : LabelKind) (f : Forest) → is_single (label_name kind) f ≡ true
 single-label LabelKind.Image f = refl
@@ -266,51 +186,19 @@ made-label kind (c ∷ cs) inside back tail h k l m =
         (made-both (text_group Name.LabelText (stop_of document_start front) (start_of back) text) (group Name.LabelEnd (leaf Name.LabelMarker back))
         (made-text (stop_of document_start front) (start_of back) text (made-both (leaf Name.Data (drop (length front) (c ∷ cs))) inside (made-leaf true Name.Data (drop (length front) (c ∷ cs))) k)) (made-end back l))
 
-made-labelled : (start : Start) (inside : List Forest) (end : End) → IsSome start.1 → AllMade inside → IsGoodEnd end → AllMade (labelled start inside end)
-made-labelled start inside (back, None) h k l = made-append (loose start.1) (inside ++ loose back) (made-loose start.1) (made-append inside (loose back) k (made-loose back))
-made-labelled start inside (back, Some outcome) h k l = (made-label outcome.0 start.1 (joined inside) back outcome.1 h (made-joined inside k) l.0 (made-labelled-tree outcome.1 l.1), tt)
-
-abbrev Frames : Type 0
-Frames = List (End × List Forest)
-
-abbrev AreFrames : Frames → Type 0
-AreFrames [] = Unit {0}
-AreFrames (f ∷ fs) = IsGoodEnd f.0 × AllMade f.1 × AreFrames fs
-
-abbrev nest_labels : List Element → List Forest × Frames
-nest_labels es = nest labelled loose_start loose_end (map as_bracket es)
-
-made-onto : (start : Start) (inside : List Forest) (more : Frames) → IsSome start.1 → AllMade inside → AreFrames more →
-    let r : List Forest × Frames = onto labelled loose_start loose_end start inside more in
-    AllMade r.0 × AreFrames r.1
-made-onto start inside [] h k l = (made-append (loose start.1) inside (made-loose start.1) k, tt)
-made-onto start inside (f ∷ fs) h k l = (made-append (labelled start inside f.0) f.1 (made-labelled start inside f.0 h k l.0) l.1, l.2)
-
-made-nest : (es : List Element) → AllGood es → AllMade (nest_labels es).0 × AreFrames (nest_labels es).1
-made-nest [] h = (tt, tt)
-made-nest (plain tree ∷ es) h = let r = made-nest es h.1 in ((made-labelled-tree tree h.0, r.0), r.1)
-made-nest (starts kind marker ∷ es) h = let r = made-nest es h.1 in made-onto (kind, marker) (nest_labels es).0 (nest_labels es).1 h.0 r.0 r.1
-made-nest (ends back outcome ∷ es) h = let r = made-nest es h.1 in (tt, (h.0, r.0, r.1))
-
-made-after : (fs : Frames) → AreFrames fs → AllMade (after_loose labelled loose_start loose_end fs)
-made-after [] h = tt
-made-after (f ∷ fs) h =
-    made-append (loose_end f.0 ++ f.1) (after_loose labelled loose_start loose_end fs) (made-append (loose_end f.0) f.1 (made-loose f.0.0) h.1) (made-after fs h.2)
-
 made-labels : (es : List Element) → AllGood es → IsLabelled (labels_of es)
-unfolding labels_of
 made-labels es h =
-    let r = made-nest es h in
-    made-joined _ (made-append (nest_labels es).0 (after_loose labelled loose_start loose_end (nest_labels es).1) r.0 (made-after (nest_labels es).1 r.1))
+    labels-have IsLabelled IsGood refl made-both made-labelled-tree (λ kind marker _. made-leaf true Name.Data marker) (λ marker outcome _. made-leaf true Name.Data marker)
+    (λ kind marker inside back outcome m i e. made-label outcome.0 marker inside back outcome.1 m i e.0 (made-labelled-tree outcome.1 e.1)) es h
 
 pub good-text : (s : Setting) (cs : List Code) → AllGood (elements_of s cs)
-good-text s cs = all_good (text_choice s cs) (λ earlier previous. good_text_element s _ earlier previous) (elements_of s cs) [] None cs (text_elements s cs)
+good-text s cs = all_are IsGood (text_choice s cs) (λ earlier previous ds. good_text_element s _ earlier previous ds) (elements_of s cs) [] None cs (text_elements s cs)
 
 pub made-text-labels : (s : Setting) (cs : List Code) → IsLabelled (labels_of (elements_of s cs))
 made-text-labels s cs = made-labels (elements_of s cs) (good-text s cs)
 
 pub good-string : (s : Setting) (cs : List Code) → AllGood (string_elements_of s cs)
-good-string s cs = all_good (string_choice s) (λ earlier previous. good_string_element s) (string_elements_of s cs) [] None cs (string_elements s cs)
+good-string s cs = all_are IsGood (string_choice s) (λ earlier previous ds. good_string_element s ds) (string_elements_of s cs) [] None cs (string_elements s cs)
 
 pub made-string-labels : (s : Setting) (cs : List Code) → IsLabelled (labels_of (string_elements_of s cs))
 made-string-labels s cs = made-labels (string_elements_of s cs) (good-string s cs)

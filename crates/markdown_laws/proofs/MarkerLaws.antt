@@ -1,33 +1,33 @@
 -- Each marker of a run is a marker of a pair, data, or part of an email literal.
-use Rattle.std.proofs.Common.{◌≡◌, ℕ, zero, suc, ◌-◌, ◌≤◌, ◌==◌, Bool, true, false, ◌&&◌, ◌||◌, List, [], ◌∷◌, ◌++◌, length, take, drop, reverse, map, sum_by, refl, sym, ap, subst, ◌∙◌, arith, append_assoc, append-nil, Option, Some, None}
+use Rattle.std.proofs.Common.{◌≡◌, ℕ, suc, ◌==◌, Bool, true, false, ◌&&◌, ◌||◌, List, [], ◌∷◌, ◌++◌, length, reverse, map, refl, sym, ap, subst, ◌∙◌, arith, append_assoc, append-nil, None}
 use Rattle.std.specs.List.{list_all}
 use Rattle.std.proofs.lemmas.Bool.{both_ways, and_parts}
 use Rattle.std.proofs.lemmas.Bool.Decides.{nat_tests}
-use Rattle.std.proofs.lemmas.List.{map-append, reverse-append, length-drop, take-append-drop}
+use Rattle.std.proofs.lemmas.List.{map-append, reverse-append}
 use Rattle.std.proofs.lemmas.List.Folds.{list_all-append}
-use Rattle.std.proofs.lemmas.List.Sums.{sum_by-cons}
-use Rattle.markdown_model.proofs.NameTests.{pair-named}
+use Rattle.markdown_model.proofs.NameTests.{pair-named, email-named}
+use Rattle.markdown_model.proofs.Nesting.{Adds, sum_of, sum-joined}
+use Rattle.markdown_model.proofs.PairSums.{token_sum, token-append, sum-assembled, sum-run}
+use Rattle.markdown_model.proofs.PassRows.{with_emails-has}
 use Rattle.markdown_engine.proofs.Chain.{head_same, tail_same}
 use Rattle.markdown_engine.specs.declared.event.Name.{Name}
 use Rattle.markdown_engine.specs.Codes.{Code, is_blank}
 use Rattle.markdown_engine.specs.Tree.{Forest, empty, leaf_then, group_then, leaf, ◌⊕◌, leaf_codes}
 use Rattle.markdown_model.specs.CodeTests.{is_value}
 use Rattle.markdown_model.specs.Grammar.{span}
-use Rattle.markdown_model.specs.Email.{email_at, email_leaves, with_emails}
+use Rattle.markdown_model.specs.Email.{with_emails}
 use Rattle.markdown_model.specs.Setting.{Setting}
 use Rattle.markdown_model.specs.Runs.{Run, run_of, runs_of, marker_of}
 use Rattle.markdown_model.specs.Pairs.{Pair, pair_list}
 use Rattle.markdown_model.specs.Element.{elements_of}
-use Rattle.markdown_model.specs.Groups.{Token, item, opens, closes, nest, onto, after_loose, joined, loose, pair_names, pair_group, closing_sizes, opening_sizes, cut_front, run_tokens, assembled, tokens_of, paired}
+use Rattle.markdown_model.specs.Groups.{Token, pair_names, pair_group, run_tokens, assembled, tokens_of, paired}
 use Rattle.markdown_model.specs.Passes.{data_onto, merged, begins_line_ending, is_nothing, blank_name, trimmed_data, trimmed, mailed, labels_of}
 use Rattle.markdown_model.specs.Inline.{label_tree, raw_tree, finished_text, text_tree}
 use Rattle.markdown_model.specs.Laws.{is_run}
 use Rattle.markdown_model.proofs.Coverage.{codes-trimmed_data, codes-run_of}
 use Rattle.markdown_model.proofs.Literals.{codes-with_emails}
 use Rattle.markdown_model.proofs.ReadingLaws.{span-all}
-use Rattle.markdown_laws.specs.Emails.{is_email}
 use Rattle.markdown_laws.specs.Markers.{by_code, may_hold_marker, AreAlso, EachMarkerIsHeld}
-use Rattle.markdown_laws.proofs.EmailLeaves.{AnswerIsEmail, answer-email}
 use Rattle.markdown_laws.proofs.RunRows.{is_marker, HasApartRuns, apart-text-labels}
 
 -- Codes with a mark.
@@ -119,20 +119,23 @@ marks-held (x ∷ xs) (y ∷ ys) h = ((λ e. (h.0 e).1), marks-held xs ys h.1)
 
 -- Pairs.
 
+abbrev held_add : Adds Marked
+held_add = record {
+  none = [];
+  plus = ◌++◌;
+  of = held;
+  assoc = append_assoc;
+  left = λ a. refl;
+  right = append-nil;
+  nothing = refl;
+  row = by-join may_hold_marker;
+}
+
 abbrev held_all : List Forest → Marked
-held_all [] = []
-held_all (f ∷ fs) = held f ++ held_all fs
+held_all fs = sum_of held_add fs
 
-held_all-append : (fs gs : List Forest) → held_all (fs ++ gs) ≡ held_all fs ++ held_all gs
-held_all-append [] gs = refl
-held_all-append (f ∷ fs) gs = ap (λ x. held f ++ x) (held_all-append fs gs) ∙ sym (append_assoc (held f) (held_all fs) (held_all gs))
-
-held-joined : (fs : List Forest) → held (joined fs) ≡ held_all fs
-held-joined [] = refl
-held-joined (f ∷ fs) = by-join may_hold_marker f (joined fs) ∙ ap (λ x. held f ++ x) (held-joined fs)
-
-held-loose : (cs : List Code) → held_all (loose cs) ≡ marked true cs
-held-loose cs = append-nil (held (leaf Name.Data cs)) ∙ by-leaf may_hold_marker Name.Data cs
+held-data : (cs : List Code) → held (leaf Name.Data cs) ≡ marked true cs
+held-data cs = by-leaf may_hold_marker Name.Data cs
 
 sequence-held : (marker size : ℕ) → may_hold_marker (pair_names marker size).1 ≡ true
 sequence-held = pair-named (λ names. may_hold_marker names.1 ≡ true) refl refl refl
@@ -141,7 +144,7 @@ held-group : (front : List Code) (inside : List Forest) (back : List Code) → h
 held-group front inside back =
     append-nil _ ∙ append-nil _
     ∙ by-join may_hold_marker (leaf name front) _
-    ∙ (λ i. side front i ++ (held-joined inside i ++ side back i))
+    ∙ (λ i. side front i ++ (sum-joined held_add inside i ++ side back i))
   where
     name : Name
     name = (pair_names (marker_of front) (length front)).1
@@ -149,89 +152,14 @@ held-group front inside back =
     side : (cs : List Code) → held (leaf (pair_names (marker_of front) (length front)).1 cs) ≡ marked true cs
     side cs = by-leaf may_hold_marker (pair_names (marker_of front) (length front)).1 cs ∙ ap (λ b. marked b cs) (sequence-held (marker_of front) (length front))
 
-abbrev Frames : Type 0
-Frames = List (List Code × List Forest)
-
-abbrev held_frames : Frames → Marked
-held_frames [] = []
-held_frames (f ∷ fs) = marked true f.0 ++ (held_all f.1 ++ held_frames fs)
-
 abbrev held_word : List Token → Marked
-held_word [] = []
-held_word (item f ∷ w) = held f ++ held_word w
-held_word (opens o ∷ w) = marked true o ++ held_word w
-held_word (closes c ∷ w) = marked true c ++ held_word w
-
-abbrev nest_pairs : List Token → List Forest × Frames
-nest_pairs w = nest pair_group loose loose w
-
-held-onto : (o : List Code) (inside : List Forest) (more : Frames) →
-    let r : List Forest × Frames = onto pair_group loose loose o inside more in
-    held_all r.0 ++ held_frames r.1 ≡ marked true o ++ (held_all inside ++ held_frames more)
-held-onto o inside [] = append-nil _ ∙ held_all-append (loose o) inside ∙ (λ i. held-loose o i ++ sym (append-nil (held_all inside)) i)
-held-onto o inside (c ∷ more) =
-    (λ i. (held_all-append (pair_group o inside c.0) c.1 ∙ (λ j. held-group o inside c.0 j ++ held_all c.1)) i ++ held_frames more)
-    ∙ regroup (marked true o) (held_all inside) (marked true c.0) (held_all c.1) (held_frames more)
-  where
-    regroup : (a b c d e : Marked) → ((a ++ (b ++ c)) ++ d) ++ e ≡ a ++ (b ++ (c ++ (d ++ e)))
-    regroup a b c d e = simp append_assoc
-
-held-nest : (w : List Token) → held_all (nest_pairs w).0 ++ held_frames (nest_pairs w).1 ≡ held_word w
-held-nest [] = refl
-held-nest (item f ∷ w) = append_assoc (held f) (held_all (nest_pairs w).0) (held_frames (nest_pairs w).1) ∙ ap (λ x. held f ++ x) (held-nest w)
-held-nest (opens o ∷ w) = held-onto o (nest_pairs w).0 (nest_pairs w).1 ∙ ap (λ x. marked true o ++ x) (held-nest w)
-held-nest (closes c ∷ w) = ap (λ x. marked true c ++ x) (held-nest w)
-
-held-after : (fs : Frames) → held_all (after_loose pair_group loose loose fs) ≡ held_frames fs
-held-after [] = refl
-held-after (f ∷ fs) =
-    held_all-append (loose f.0 ++ f.1) (after_loose pair_group loose loose fs)
-    ∙ (λ i. (held_all-append (loose f.0) f.1 ∙ (λ j. held-loose f.0 j ++ held_all f.1)) i ++ held-after fs i)
-    ∙ append_assoc (marked true f.0) (held_all f.1) (held_frames fs)
+held_word w = token_sum held_add (marked true) held-data w
 
 held-assembled : (w : List Token) → held (assembled w) ≡ held_word w
-held-assembled w =
-    held-joined ((nest_pairs w).0 ++ after_loose pair_group loose loose (nest_pairs w).1) ∙ held_all-append (nest_pairs w).0 (after_loose pair_group loose loose (nest_pairs w).1) ∙ ap (λ x. held_all (nest_pairs w).0 ++ x) (held-after (nest_pairs w).1) ∙ held-nest w
-
--- The tokens of a run.
-
-word-append : (w v : List Token) → held_word (w ++ v) ≡ held_word w ++ held_word v
-word-append [] v = refl
-word-append (item f ∷ w) v = ap (λ x. held f ++ x) (word-append w v) ∙ sym (append_assoc (held f) (held_word w) (held_word v))
-word-append (opens o ∷ w) v = ap (λ x. marked true o ++ x) (word-append w v) ∙ sym (append_assoc (marked true o) (held_word w) (held_word v))
-word-append (closes c ∷ w) v = ap (λ x. marked true c ++ x) (word-append w v) ∙ sym (append_assoc (marked true c) (held_word w) (held_word v))
-
-split-marked : (n : ℕ) (cs : List Code) → marked true (take n cs) ++ marked true (drop n cs) ≡ marked true cs
-split-marked n cs = sym (marked-append true (take n cs) (drop n cs)) ∙ ap (marked true) (take-append-drop n cs)
-
-cut-closes : (ns : List ℕ) (cs : List Code) → held_word (map closes (cut_front ns cs).0) ++ marked true (cut_front ns cs).1 ≡ marked true cs
-cut-closes [] cs = refl
-cut-closes (n ∷ ns) cs =
-    append_assoc (marked true (take n cs)) (held_word (map closes (cut_front ns (drop n cs)).0)) (marked true (cut_front ns (drop n cs)).1)
-    ∙ ap (λ x. marked true (take n cs) ++ x) (cut-closes ns (drop n cs)) ∙ split-marked n cs
-
--- a cut that leaves nothing
-cut-opens : (ns : List ℕ) (cs : List Code) → length cs ≤ sum_by (λ n. n) ns → held_word (map opens (cut_front ns cs).0) ≡ marked true cs
-cut-opens [] [] h = refl
-cut-opens [] (c ∷ cs) h = absurd (omega arith)
-cut-opens (n ∷ ns) cs h =
-    ap (λ x. marked true (take n cs) ++ x) (cut-opens ns (drop n cs) (omega (arith, h, length-drop n cs, sum_by-cons (λ m. m) n ns))) ∙ split-marked n cs
+held-assembled w = sum-assembled held_add (marked true) held-data held-group w
 
 word-run : (pairs : List Pair) (i : ℕ) (r : Run) → held_word (run_tokens pairs i r) ≡ marked true r.codes
-word-run pairs i r =
-    word-append (map closes front.0) _
-    ∙ ap (λ x. held_word (map closes front.0) ++ x)
-    ((λ j. by-leaf may_hold_marker Name.Data (take kept front.1) j ++ cut-opens sizes (drop kept front.1) (omega (arith, length-drop kept front.1)) j) ∙ split-marked kept front.1)
-    ∙ cut-closes (closing_sizes i pairs) r.codes
-  where
-    front : List (List Code) × List Code
-    front = cut_front (closing_sizes i pairs) r.codes
-
-    sizes : List ℕ
-    sizes = reverse (opening_sizes i pairs)
-
-    kept : ℕ
-    kept = length front.1 - sum_by (λ n. n) sizes
+word-run pairs i r = sum-run held_add (marked true) held-data refl (marked-append true) pairs i r
 
 -- Rows.
 
@@ -260,7 +188,7 @@ module _ (s : Setting) where
   held-words empty m pairs n h = tt
   held-words (leaf_then Name.AttentionSequence link cs rest) m pairs n h =
       subst (λ x. AreHeld (marked true cs ++ runs_marked rest) x)
-      (sym (word-append (run_tokens pairs n (run_of s cs)) (words rest pairs (suc n)) ∙ ap (λ x. x ++ held_word (words rest pairs (suc n))) (word-run pairs n (run_of s cs) ∙ ap (marked true) (codes-run_of s cs))))
+      (sym (token-append held_add (marked true) held-data (run_tokens pairs n (run_of s cs)) (words rest pairs (suc n)) ∙ ap (λ x. x ++ held_word (words rest pairs (suc n))) (word-run pairs n (run_of s cs) ∙ ap (marked true) (codes-run_of s cs))))
       (held-append (marked true cs) (marked true cs) (runs_marked rest) (held_word (words rest pairs (suc n))) (stripe-held (marker_of cs) cs h.0.kind h.0.all) (held-words rest (marker_of cs) pairs (suc n) h.2))
   held-words (leaf_then name link cs rest) m pairs n h =
       held-append (marked false cs) (marked (may_hold_marker name) cs ++ []) (runs_marked rest) (held_word (words rest pairs n))
@@ -379,34 +307,13 @@ kept-trimmed hard front whole (group_then name enter exit inside rest) =
 
 -- Emails.
 
-email-held : (name : Name) → is_email name ≡ true → may_hold_marker name ≡ true
-email-held Name.GfmAutolinkLiteralEmail h = refl
-email-held Name.GfmAutolinkLiteralMailto h = refl
-email-held Name.GfmAutolinkLiteralXmpp h = refl
-email-held name h = cc
-
-either-emails : (n : ℕ) (before cs : List Code) → AreBlankOrMarked (held (email_leaves n before cs))
-unfolding email_leaves
-either-emails n before [] = subst AreBlankOrMarked (sym (by-leaf may_hold_marker Name.Data (reverse before))) (either-marked (reverse before))
-either-emails zero before (c ∷ cs) = subst AreBlankOrMarked (sym (by-leaf may_hold_marker Name.Data (reverse before ++ c ∷ cs))) (either-marked (reverse before ++ c ∷ cs))
-either-emails (suc n) before (c ∷ cs) = by_answer (email_at before c cs) (answer-email before c cs) (either-emails n)
-  where
-    by_answer : (r : Option (List Code × Forest × List Code)) → AnswerIsEmail r → ((front ds : List Code) → AreBlankOrMarked (held (email_leaves n front ds)))
-        → AreBlankOrMarked (held (elim r as (λ _. Forest) [ None ↦ email_leaves n (c ∷ before) cs | Some x ↦ leaf Name.Data x.0 ⊕ x.1 ⊕ email_leaves n [] x.2 ]))
-    by_answer None h more = more (c ∷ before) cs
-    by_answer (Some x) h more =
-        subst AreBlankOrMarked
-        (sym
-        (by-join may_hold_marker (leaf Name.Data x.0) (x.1 ⊕ email_leaves n [] x.2)
-        ∙ (λ i. by-leaf may_hold_marker Name.Data x.0 i ++ by-join may_hold_marker x.1 (email_leaves n [] x.2) i)))
-        (either-append (marked true x.0) (held x.1 ++ held (email_leaves n [] x.2)) (either-marked x.0)
-        (either-append (held x.1) (held (email_leaves n [] x.2))
-        (subst (λ t. AreBlankOrMarked (held t)) (sym h.is) (subst (λ b. AreBlankOrMarked (marked b (h.first ∷ h.more) ++ [])) (sym (email-held h.name h.named)) (either-append (marked true (h.first ∷ h.more)) [] (either-marked (h.first ∷ h.more)) tt)))
-        (more [] x.2)))
+either-leaf : (name : Name) (cs : List Code) → may_hold_marker name ≡ true → AreBlankOrMarked (held (leaf name cs))
+either-leaf name cs h = subst AreBlankOrMarked (sym (by-leaf may_hold_marker name cs ∙ ap (λ b. marked b cs) h)) (either-marked cs)
 
 either-with : (cs : List Code) → AreBlankOrMarked (held (with_emails cs))
-unfolding with_emails
-either-with cs = either-emails (length cs) [] cs
+either-with cs =
+    with_emails-has (λ t. AreBlankOrMarked (held t)) (λ t u h k. subst AreBlankOrMarked (sym (by-join may_hold_marker t u)) (either-append (held t) (held u) h k)) (λ ds. either-leaf Name.Data ds refl)
+    (λ before ds. either-leaf _ ds (email-named (λ name. may_hold_marker name ≡ true) refl refl refl before)) cs
 
 kept-mailed : (f : Forest) → AreKept (held f) (held (mailed f))
 unfolding mailed

@@ -10,9 +10,10 @@ use Rattle.markdown_engine.specs.Tree.{Forest, empty, leaf_then, group_then, lea
 use Rattle.markdown_model.specs.Setting.{Setting}
 use Rattle.markdown_model.specs.Runs.{Run, runs_of, run_of, marker_of, rows_inside, containers_of}
 use Rattle.markdown_model.specs.Pairs.{Pair, pair_list, ArePairsFrom}
-use Rattle.markdown_model.specs.Groups.{Token, item, opens, closes, nest, nested, onto, after_loose, joined, loose, pair_names, pair_group, closing_sizes, opening_sizes, cut_front, run_tokens, assembled, tokens_of, paired}
+use Rattle.markdown_model.specs.Groups.{Token, item, opens, closes, nested, joined, loose, pair_names, pair_group, closing_sizes, opening_sizes, cut_front, run_tokens, assembled, tokens_of, paired}
 use Rattle.markdown_model.specs.Inline.{pair_count}
 use Rattle.markdown_model.proofs.PairLaws.{some_pair_list}
+use Rattle.markdown_model.proofs.Nesting.{Adds, sum_of, sum-joined, sum-nested, word_sum}
 use Rattle.markdown_laws.specs.PairGroups.{is_pair, pair_groups}
 
 -- Groups of rows.
@@ -26,17 +27,20 @@ groups-join empty b = omega arith
 groups-join (leaf_then name link cs rest) b = groups-join rest b
 groups-join (group_then name enter exit inside rest) b = omega (arith, groups-join rest b)
 
+abbrev groups_add : Adds ℕ
+groups_add = record {
+  none = 0;
+  plus = ◌+◌;
+  of = pair_groups;
+  assoc = λ a b c. omega arith;
+  left = λ a. omega arith;
+  right = λ a. omega arith;
+  nothing = refl;
+  row = groups-join;
+}
+
 abbrev all_groups : List Forest → ℕ
-all_groups [] = 0
-all_groups (f ∷ fs) = pair_groups f + all_groups fs
-
-groups-append : (fs gs : List Forest) → all_groups (fs ++ gs) ≡ all_groups fs + all_groups gs
-groups-append [] gs = omega arith
-groups-append (f ∷ fs) gs = omega (arith, groups-append fs gs)
-
-groups-joined : (fs : List Forest) → pair_groups (joined fs) ≡ all_groups fs
-groups-joined [] = refl
-groups-joined (f ∷ fs) = omega (arith, groups-join f (joined fs), groups-joined fs)
+all_groups fs = sum_of groups_add fs
 
 groups-loose : (cs : List Code) → all_groups (loose cs) ≡ 0
 groups-loose cs = omega (arith, groups-leaf Name.Data cs)
@@ -51,7 +55,7 @@ named = pair-named IsNamed (record { whole = refl; text = refl }) (record { whol
 
 groups-pair_group : (front : List Code) (inside : List Forest) (back : List Code) → all_groups (pair_group front inside back) ≡ 1 + all_groups inside
 groups-pair_group front inside back =
-    omega (arith, ap one n.whole, groups-join (leaf names.1 front) (group_then names.2 (stop_of document_start front) (start_of back) (joined inside) empty ⊕ leaf names.1 back), groups-leaf names.1 front, ap one n.text, groups-joined inside, groups-leaf names.1 back)
+    omega (arith, ap one n.whole, groups-join (leaf names.1 front) (group_then names.2 (stop_of document_start front) (start_of back) (joined inside) empty ⊕ leaf names.1 back), groups-leaf names.1 front, ap one n.text, sum-joined groups_add inside, groups-leaf names.1 back)
   where
     names : Name × Name × Name
     names = pair_names (marker_of front) (length front)
@@ -65,44 +69,12 @@ groups-pair_group front inside back =
 -- Bracket words, where so many opening brackets stand before.
 
 abbrev made : ℕ → List Token → ℕ
-made d [] = 0
-made d (item f ∷ w) = pair_groups f + made d w
-made d (opens o ∷ w) = made (suc d) w
-made zero (closes c ∷ w) = made zero w
-made (suc d) (closes c ∷ w) = 1 + made d w
-
-abbrev Frames : Type 0
-Frames = List (List Code × List Forest)
-
-abbrev frames_made : ℕ → Frames → ℕ
-frames_made d [] = 0
-frames_made zero (f ∷ fs) = all_groups f.1 + frames_made zero fs
-frames_made (suc d) (f ∷ fs) = 1 + (all_groups f.1 + frames_made d fs)
-
-abbrev nest_pairs : List Token → List Forest × Frames
-nest_pairs w = nest pair_group loose loose w
-
-made-onto : (d : ℕ) (o : List Code) (inside : List Forest) (more : Frames) →
-    let r : List Forest × Frames = onto pair_group loose loose o inside more in
-    all_groups r.0 + frames_made d r.1 ≡ all_groups inside + frames_made (suc d) more
-made-onto d o inside [] = omega (arith, groups-append (loose o) inside, groups-loose o)
-made-onto d o inside (c ∷ more) = omega (arith, groups-append (pair_group o inside c.0) c.1, groups-pair_group o inside c.0)
-
-made-nest : (d : ℕ) (w : List Token) → all_groups (nest_pairs w).0 + frames_made d (nest_pairs w).1 ≡ made d w
-made-nest d [] = refl
-made-nest d (item f ∷ w) = omega (arith, made-nest d w)
-made-nest zero (closes c ∷ w) = omega (arith, made-nest zero w)
-made-nest (suc d) (closes c ∷ w) = omega (arith, made-nest d w)
-made-nest d (opens o ∷ w) = made-onto d o (nest_pairs w).0 (nest_pairs w).1 ∙ made-nest (suc d) w
-
-made-loose : (fs : Frames) → all_groups (after_loose pair_group loose loose fs) ≡ frames_made zero fs
-made-loose [] = refl
-made-loose (f ∷ fs) =
-    omega (arith, groups-append (loose f.0 ++ f.1) (after_loose pair_group loose loose fs), groups-append (loose f.0) f.1, groups-loose f.0, made-loose fs)
+made d w = word_sum groups_add loose (λ o. 0) (λ c. 1) d w
 
 made-assembled : (w : List Token) → pair_groups (assembled w) ≡ made zero w
 made-assembled w =
-    omega (arith, groups-joined (nested pair_group loose loose w), groups-append (nest_pairs w).0 (after_loose pair_group loose loose (nest_pairs w).1), made-loose (nest_pairs w).1, made-nest zero w)
+    sum-joined groups_add (nested pair_group loose loose w)
+    ∙ sum-nested groups_add pair_group loose loose (λ o. 0) (λ c. 1) (λ front inside back. omega (arith, groups-pair_group front inside back)) groups-loose w
 
 -- The tokens of a run.
 
@@ -119,7 +91,7 @@ made-opens [] d e w h = ap (λ n. made n w) (sym same)
   where
     same : e ≡ d
     same = omega arith
-made-opens (o ∷ os) d e w h = made-opens os (suc d) e w (omega arith)
+made-opens (o ∷ os) d e w h = omega (arith, made-opens os (suc d) e w (omega arith))
 
 cut-length : (ns : List ℕ) (cs : List Code) → length (cut_front ns cs).0 ≡ length ns
 cut-length [] cs = refl

@@ -1,48 +1,41 @@
 -- The places of a tree with its pairs grouped: wherever those of the tree go on, so do these.
-use Rattle.std.proofs.Common.{◌≡◌, ◌≢◌, ℕ, suc, ◌-◌, ◌≤◌, List, [], ◌∷◌, ◌++◌, length, take, drop, reverse, map, sum_by, refl, sym, ap, subst, ◌∙◌, arith, append_assoc, append-nil, inl, inr}
-use Rattle.std.proofs.lemmas.List.{take-append-drop, length-drop}
-use Rattle.std.proofs.lemmas.List.Sums.{sum_by-cons}
+use Rattle.std.proofs.Common.{◌≡◌, ◌≢◌, ℕ, suc, List, [], ◌∷◌, ◌++◌, length, refl, sym, ap, subst, ◌∙◌, append_assoc, append-nil, inl, inr}
 use Rattle.markdown_engine.specs.Codes.{Code, place_of, stop_of}
 use Rattle.markdown_engine.specs.Tree.{Forest, empty, leaf_then, group_then, leaf, group, text_group, ◌⊕◌, enter_of, exit_after}
 use Rattle.markdown_engine.specs.declared.event.Name.{Name}
 use Rattle.markdown_emphasis.specs.Word.{Matches, AreItems, IsFlat, IsReady}
-use Rattle.markdown_model.specs.Groups.{item, opens, closes, nest, nested, onto, after_loose, joined, loose, pair_names, pair_group, Token, assembled, closing_sizes, opening_sizes, cut_front, run_tokens, tokens_of, paired}
-use Rattle.markdown_model.specs.Leaf.{joined_codes}
+use Rattle.markdown_model.specs.Groups.{item, opens, closes, nest, nested, onto, after_loose, joined, loose, pair_names, pair_group, Token, assembled, run_tokens, tokens_of, paired}
 use Rattle.markdown_model.specs.Pairs.{Pair}
 use Rattle.markdown_model.specs.Runs.{Run, marker_of, run_of, runs_of}
 use Rattle.markdown_model.specs.Setting.{Setting}
 use Rattle.markdown_model.proofs.Coverage.{codes-run_of}
+use Rattle.markdown_model.proofs.Nesting.{Adds, sum_of, sum-joined, sum-append}
+use Rattle.markdown_model.proofs.PairSums.{token_sum, token-append, sum-run}
 use Rattle.markdown_laws.proofs.MadeReadings.{IsSome}
 use Rattle.markdown_laws.proofs.PlaceRows.{Place, last_of, Allows, allows-itself, allows-then, allows-join, allows-behind}
 use Rattle.markdown_laws.proofs.TreePlaces.{ends_of, ends-join, ends-last, places_of, places-join, places-leaf, places-around, places-between, EndsAt, begins-leaf}
 
 -- Lists of trees.
 
+abbrev places_add : Adds (List Place)
+places_add = record {
+  none = [];
+  plus = ◌++◌;
+  of = places_of;
+  assoc = append_assoc;
+  left = λ a. refl;
+  right = append-nil;
+  nothing = refl;
+  row = places-join;
+}
+
 abbrev all_places : List Forest → List Place
-all_places [] = []
-all_places (f ∷ fs) = places_of f ++ all_places fs
-
-all-join : (fs gs : List Forest) → all_places (fs ++ gs) ≡ all_places fs ++ all_places gs
-all-join [] gs = refl
-all-join (f ∷ fs) gs = ap (λ x. places_of f ++ x) (all-join fs gs) ∙ sym (append_assoc (places_of f) (all_places fs) (all_places gs))
-
-joined-places : (fs : List Forest) → places_of (joined fs) ≡ all_places fs
-joined-places [] = refl
-joined-places (f ∷ fs) = places-join f (joined fs) ∙ ap (λ x. places_of f ++ x) (joined-places fs)
+all_places fs = sum_of places_add fs
 
 -- Bracket words.
 
 abbrev word_places : List Token → List Place
-word_places [] = []
-word_places (item f ∷ w) = places_of f ++ word_places w
-word_places (opens o ∷ w) = ends_of o ++ word_places w
-word_places (closes c ∷ w) = ends_of c ++ word_places w
-
-word-join : (v w : List Token) → word_places (v ++ w) ≡ word_places v ++ word_places w
-word-join [] w = refl
-word-join (item f ∷ v) w = ap (λ x. places_of f ++ x) (word-join v w) ∙ sym (append_assoc (places_of f) (word_places v) (word_places w))
-word-join (opens o ∷ v) w = ap (λ x. ends_of o ++ x) (word-join v w) ∙ sym (append_assoc (ends_of o) (word_places v) (word_places w))
-word-join (closes c ∷ v) w = ap (λ x. ends_of c ++ x) (word-join v w) ∙ sym (append_assoc (ends_of c) (word_places v) (word_places w))
+word_places w = token_sum places_add ends_of (places-leaf Name.Data) w
 
 -- each bracket has a marker
 abbrev AreSome : List Token → Type 0
@@ -100,7 +93,7 @@ pair-allows (c ∷ cs) inside (d ∷ ds) h k =
     row = leaf names.1 (c ∷ cs) ⊕ text ⊕ leaf names.1 (d ∷ ds)
 
     parts : places_of (leaf names.1 (c ∷ cs)) ++ (places_of (joined inside) ++ places_of (leaf names.1 (d ∷ ds))) ≡ ends_of (c ∷ cs) ++ (all_places inside ++ ends_of (d ∷ ds))
-    parts = λ i. places-leaf names.1 (c ∷ cs) i ++ (joined-places inside i ++ places-leaf names.1 (d ∷ ds) i)
+    parts = λ i. places-leaf names.1 (c ∷ cs) i ++ (sum-joined places_add inside i ++ places-leaf names.1 (d ∷ ds) i)
 
 -- Nesting.
 
@@ -145,7 +138,7 @@ onto-allows o inside (c ∷ more) source h k g = (
     regroup = append_assoc (ends_of o) (all_places inside ++ ends_of c.0) rest ∙ ap (λ x. ends_of o ++ x) (append_assoc (all_places inside) (ends_of c.0) rest)
 
     joins : all_places (pair_group o inside c.0) ++ rest ≡ all_places (pair_group o inside c.0 ++ c.1) ++ frame_places more
-    joins = sym (append_assoc (all_places (pair_group o inside c.0)) (all_places c.1) (frame_places more)) ∙ ap (λ x. x ++ frame_places more) (sym (all-join (pair_group o inside c.0) c.1))
+    joins = sym (append_assoc (all_places (pair_group o inside c.0)) (all_places c.1) (frame_places more)) ∙ ap (λ x. x ++ frame_places more) (sym (sum-append places_add (pair_group o inside c.0) c.1))
 
 nest-allows : (w : List Token) → AreSome w → Allows (word_places w) (nest_places (nest_pairs w)) × AreFrames (nest_pairs w).1
 nest-allows [] h = (allows-itself [], tt)
@@ -158,59 +151,15 @@ nest-allows (opens o ∷ w) h = let r = nest-allows w h.1 in onto-allows o (nest
 after-places : (fs : Frames) → all_places (after_loose pair_group loose loose fs) ≡ frame_places fs
 after-places [] = refl
 after-places (f ∷ fs) =
-    all-join (loose f.0 ++ f.1) (after_loose pair_group loose loose fs)
+    sum-append places_add (loose f.0 ++ f.1) (after_loose pair_group loose loose fs)
     ∙ (λ i. (places-leaf Name.Data f.0 i ++ all_places f.1) ++ after-places fs i)
     ∙ append_assoc (ends_of f.0) (all_places f.1) (frame_places fs)
 
 assembled-allows : (w : List Token) → AreSome w → Allows (word_places w) (places_of (assembled w))
 assembled-allows w h =
     subst (Allows (word_places w))
-    (sym (joined-places (nested pair_group loose loose w) ∙ all-join (nest_pairs w).0 (after_loose pair_group loose loose (nest_pairs w).1) ∙ ap (λ x. all_places (nest_pairs w).0 ++ x) (after-places (nest_pairs w).1)))
+    (sym (sum-joined places_add (nested pair_group loose loose w) ∙ sum-append places_add (nest_pairs w).0 (after_loose pair_group loose loose (nest_pairs w).1) ∙ ap (λ x. all_places (nest_pairs w).0 ++ x) (after-places (nest_pairs w).1)))
     (nest-allows w h).0
-
--- The tokens of a run cover its codes.
-
-closes-places : (cs : List (List Code)) → word_places (map closes cs) ≡ ends_of (joined_codes cs)
-closes-places [] = refl
-closes-places (c ∷ cs) = ap (λ x. ends_of c ++ x) (closes-places cs) ∙ sym (ends-join c (joined_codes cs))
-
-opens-places : (cs : List (List Code)) → word_places (map opens cs) ≡ ends_of (joined_codes cs)
-opens-places [] = refl
-opens-places (c ∷ cs) = ap (λ x. ends_of c ++ x) (opens-places cs) ∙ sym (ends-join c (joined_codes cs))
-
-cut-whole : (ns : List ℕ) (cs : List Code) → joined_codes (cut_front ns cs).0 ++ (cut_front ns cs).1 ≡ cs
-cut-whole [] cs = refl
-cut-whole (n ∷ ns) cs =
-    append_assoc (take n cs) (joined_codes (cut_front ns (drop n cs)).0) (cut_front ns (drop n cs)).1 ∙ ap (λ x. take n cs ++ x) (cut-whole ns (drop n cs)) ∙ take-append-drop n cs
-
-cut-all : (ns : List ℕ) (cs : List Code) → length cs ≤ sum_by (λ n. n) ns → (cut_front ns cs).1 ≡ []
-cut-all [] [] h = refl
-cut-all [] (c ∷ cs) h = absurd (omega arith)
-cut-all (n ∷ ns) cs h = cut-all ns (drop n cs) (omega (arith, length-drop n cs, sum_by-cons (λ m. m) n ns))
-
-run-places : (pairs : List Pair) (i : ℕ) (r : Run) → word_places (run_tokens pairs i r) ≡ ends_of r.codes
-run-places pairs i r =
-    word-join (map closes front.0) (item (leaf Name.Data (take kept front.1)) ∷ map opens back.0)
-    ∙ (λ j. closes-places front.0 j ++ (places-leaf Name.Data (take kept front.1) j ++ (opens-places back.0 ∙ ap ends_of whole) j))
-    ∙ ap (λ x. ends_of (joined_codes front.0) ++ x) (sym (ends-join (take kept front.1) (drop kept front.1)) ∙ ap ends_of (take-append-drop kept front.1))
-    ∙ sym (ends-join (joined_codes front.0) front.1)
-    ∙ ap ends_of (cut-whole (closing_sizes i pairs) r.codes)
-  where
-    front : List (List Code) × List Code
-    front = cut_front (closing_sizes i pairs) r.codes
-
-    sizes : List ℕ
-    sizes = reverse (opening_sizes i pairs)
-
-    kept : ℕ
-    kept = length front.1 - sum_by (λ n. n) sizes
-
-    back : List (List Code) × List Code
-    back = cut_front sizes (drop kept front.1)
-
-    whole : joined_codes back.0 ≡ drop kept front.1
-    whole =
-        sym (append-nil (joined_codes back.0)) ∙ ap (λ x. joined_codes back.0 ++ x) (sym (cut-all sizes (drop kept front.1) (omega (arith, length-drop kept front.1)))) ∙ cut-whole sizes (drop kept front.1)
 
 -- Trees.
 
@@ -219,7 +168,7 @@ module _ (s : Setting) (pairs_of : List Run → List Pair) where
   unfolding tokens_of
   tokens-allow empty pairs n r = allows-itself []
   tokens-allow (leaf_then Name.AttentionSequence link cs rest) pairs n r =
-      subst (Allows (ends_of cs ++ places_of rest)) (sym (word-join (run_tokens pairs n (run_of s cs)) (tokens_of s pairs_of rest pairs (suc n)) ∙ ap (λ x. x ++ word_places (tokens_of s pairs_of rest pairs (suc n))) (run-places pairs n (run_of s cs) ∙ ap ends_of (codes-run_of s cs))))
+      subst (Allows (ends_of cs ++ places_of rest)) (sym (token-append places_add ends_of (places-leaf Name.Data) (run_tokens pairs n (run_of s cs)) (tokens_of s pairs_of rest pairs (suc n)) ∙ ap (λ x. x ++ word_places (tokens_of s pairs_of rest pairs (suc n))) (sum-run places_add ends_of (places-leaf Name.Data) refl ends-join pairs n (run_of s cs) ∙ ap ends_of (codes-run_of s cs))))
       (allows-behind (ends_of cs) (places_of rest) (word_places (tokens_of s pairs_of rest pairs (suc n))) (tokens-allow rest pairs (suc n) r.1))
   tokens-allow (leaf_then name link cs rest) pairs n r =
       subst (λ x. Allows (ends_of cs ++ places_of rest) (x ++ word_places (tokens_of s pairs_of rest pairs n))) (sym (append-nil (ends_of cs)))

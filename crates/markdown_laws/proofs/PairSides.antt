@@ -21,8 +21,10 @@ use Rattle.markdown_model.specs.Passes.{is_nothing}
 use Rattle.markdown_model.proofs.Coverage.{codes-run_of}
 use Rattle.markdown_model.proofs.PairFacts.{pairs_are_sound, within_push}
 use Rattle.markdown_model.proofs.PairLaws.{some_pair_list}
+use Rattle.markdown_model.proofs.PassRows.{Walks, walks-row}
+use Rattle.markdown_model.proofs.Words.{AllHave, all-append, joined-has}
 use Rattle.markdown_laws.specs.Filled.{IsFilled}
-use Rattle.markdown_laws.specs.PairGroups.{is_pair, is_sequence, pair_groups, EachPairHas, IsPart, AreOfPair}
+use Rattle.markdown_laws.specs.PairGroups.{is_pair, is_sequence, pair_groups, HasSides, EachPairHas, IsPart, AreOfPair}
 use Rattle.markdown_laws.proofs.FilledRows.{filled-leaf, filled-join, nothing-assembled}
 use Rattle.markdown_laws.proofs.RunRows.{IsStripe, HasApartRuns}
 
@@ -43,22 +45,23 @@ module _ (P : List Code → List Code → Type 0) where
   right-leaf name [] = (tt, tt)
   right-leaf name (c ∷ cs) = (tt, filled-leaf name (c ∷ cs))
 
+  pub pairs : Walks (EachPairHas P) (λ name link cs. Unit {0}) (λ name a b inside. is_pair name ≡ true → HasSides P inside)
+  pairs = record {
+    none = tt;
+    leaf_of = λ name link cs rest h. (tt, h);
+    leaf_to = λ name link cs rest l h. h;
+    group_of = λ name a b inside rest h. h;
+    group_to = λ name a b inside rest g h k. (g, h, k);
+  }
+
   pub pairs-join : (a b : Forest) → EachPairHas P a → EachPairHas P b → EachPairHas P (a ⊕ b)
-  pairs-join empty b h k = k
-  pairs-join (leaf_then name link cs rest) b h k = pairs-join rest b h k
-  pairs-join (group_then name enter exit inside rest) b h k = (h.0, h.1, pairs-join rest b h.2 k)
+  pairs-join a b h k = walks-row pairs a b h k
 
   abbrev AllRight : List Forest → Type 0
-  AllRight [] = Unit {0}
-  AllRight (f ∷ fs) = IsRight f × AllRight fs
-
-  right-append : (fs gs : List Forest) → AllRight fs → AllRight gs → AllRight (fs ++ gs)
-  right-append [] gs h k = k
-  right-append (f ∷ fs) gs h k = (h.0, right-append fs gs h.1 k)
+  AllRight fs = AllHave IsRight fs
 
   right-joined : (fs : List Forest) → AllRight fs → IsRight (joined fs)
-  right-joined [] h = (tt, tt)
-  right-joined (f ∷ fs) h = let r = right-joined fs h.1 in (pairs-join f (joined fs) h.0.0 r.0, filled-join f (joined fs) h.0.1 r.1)
+  right-joined fs h = joined-has IsRight (tt, tt) (λ a b x y. (pairs-join a b x.0 y.0, filled-join a b x.1 y.1)) fs h
 
   right-group : (front : List Code) (inside : List Forest) (back : List Code) → 0 < length front → 0 < length back → P front back → is_nothing (joined inside) ≡ false → AllRight inside
       → AllRight (pair_group front inside back)
@@ -201,13 +204,13 @@ all-as : (R T : Pair → Type 0) → ((p : Pair) → R p → T p) → (ps : List
 all-as R T f [] h = tt
 all-as R T f (p ∷ ps) h = (f p h.0, all-as R T f ps h.1)
 
-all-append : (R : Pair → Type 0) (ps qs : List Pair) → AllOf R ps → AllOf R qs → AllOf R (ps ++ qs)
-all-append R [] qs h k = k
-all-append R (p ∷ ps) qs h k = (h.0, all-append R ps qs h.1 k)
+pairs-append : (R : Pair → Type 0) (ps qs : List Pair) → AllOf R ps → AllOf R qs → AllOf R (ps ++ qs)
+pairs-append R [] qs h k = k
+pairs-append R (p ∷ ps) qs h k = (h.0, pairs-append R ps qs h.1 k)
 
 all-reverse : (R : Pair → Type 0) (ps : List Pair) → AllOf R ps → AllOf R (reverse ps)
 all-reverse R [] h = tt
-all-reverse R (p ∷ ps) h = subst (AllOf R) (sym (reverse-append (p ∷ []) ps)) (all-append R (reverse ps) (p ∷ []) (all-reverse R ps h.1) (h.0, tt))
+all-reverse R (p ∷ ps) h = subst (AllOf R) (sym (reverse-append (p ∷ []) ps)) (pairs-append R (reverse ps) (p ∷ []) (all-reverse R ps h.1) (h.0, tt))
 
 sizes-append : (ps qs : List Pair) → sizes_of (ps ++ qs) ≡ sizes_of ps ++ sizes_of qs
 sizes-append [] qs = refl
@@ -449,7 +452,7 @@ module _ (s : Setting) (tree : Forest) (runs : List Run) (container : Contains (
       AllRight P r.0 × AreFrames pending r.1
   word-onto o inside [] p pending q h next r k = absurd k
   word-onto o inside (c ∷ more) p pending q h next r k = (
-    right-append P (pair_group o inside c.0) c.1
+    all-append (IsRight P) (pair_group o inside c.0) c.1
         (right-group P o inside c.0 (omega (arith, h.size, h.some)) (omega (arith, k.0.size, k.0.some)) (of-pair p o c.0 q h k.0) (by_test (is_nothing (joined inside)) refl) r) k.1,
     k.2,
   )
@@ -477,7 +480,7 @@ module _ (s : Setting) (tree : Forest) (runs : List Run) (container : Contains (
   word-assembled : (w : List Token) → IsWord [] w → IsRight P (assembled w)
   word-assembled w h =
       let r = word-nest [] w h in
-      right-joined P _ (right-append P (nest_pairs w).0 (after_loose pair_group loose loose (nest_pairs w).1) r.0 (no-frames (nest_pairs w).1 r.1))
+      right-joined P _ (all-append (IsRight P) (nest_pairs w).0 (after_loose pair_group loose loose (nest_pairs w).1) r.0 (no-frames (nest_pairs w).1 r.1))
 
   word-closes : (cs : List (List Code)) (ps pending : List Pair) (w : List Token) → AreSides closed cs ps → IsWord pending w → IsWord (ps ++ pending) (map closes cs ++ w)
   word-closes [] [] pending w h k = k

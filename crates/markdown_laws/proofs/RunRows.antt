@@ -1,8 +1,8 @@
 -- The runs of a tree of labels: the codes of each are one marker, and no two runs of one marker are neighbours.
-use Rattle.std.proofs.Common.{◌≡◌, ℕ, ◌+◌, ◌≤◌, ◌==◌, Bool, true, false, ◌&&◌, ◌||◌, not, List, [], ◌∷◌, ◌++◌, length, drop, map, refl, sym, ap, subst, ◌∙◌, arith, append_assoc, append-nil, Option, Some, None, ◌⊎◌, inl, inr}
+use Rattle.std.proofs.Common.{◌≡◌, ℕ, ◌+◌, ◌≤◌, ◌==◌, Bool, true, false, ◌&&◌, ◌||◌, List, [], ◌∷◌, ◌++◌, length, drop, map, refl, sym, ap, subst, ◌∙◌, arith, append_assoc, append-nil, Option, Some, None, ◌⊎◌, inl, inr}
 use Rattle.markdown_emphasis.proofs.Good.{quiet-start_tree, quiet-label_end}
 use Rattle.std.specs.Str.{byte}
-use Rattle.std.specs.List.{list_any, list_all}
+use Rattle.std.specs.List.{list_all}
 use Rattle.std.proofs.lemmas.Bool.{and_parts, or_parts, both_ways, eqb-true}
 use Rattle.std.proofs.lemmas.Bool.Decides.{nat_tests}
 use Rattle.markdown_engine.specs.declared.event.Name.{Name}
@@ -10,18 +10,19 @@ use Rattle.markdown_engine.specs.declared.tokenizer.LabelKind.{LabelKind}
 use Rattle.markdown_engine.specs.Codes.{Code, stop_of, document_start}
 use Rattle.markdown_engine.specs.Tree.{Forest, empty, leaf_then, group_then, leaf, ◌⊕◌, group, text_group, leaf_codes, start_of}
 use Rattle.markdown_model.specs.CodeTests.{is_value, is_empty, next_is}
-use Rattle.markdown_model.specs.Grammar.{Reading, ◌>>=◌, ◌>>◌, gives, provided, either, some, span}
+use Rattle.markdown_model.specs.Grammar.{Reading, ◌>>=◌, gives, some, span}
 use Rattle.markdown_model.specs.Setting.{Setting}
 use Rattle.markdown_model.specs.Runs.{marker_of}
-use Rattle.markdown_model.specs.LabelEnd.{Element, plain, starts, ends, Label, label_before, is_barred, footnote_call, link_or_image, outcome_of, label_end}
-use Rattle.markdown_model.specs.Element.{as_plain, switched, line_ending, data_code, attention_run, image_start, footnote_start, link_start, code_span, math_span, Tries, tries, tried, first_check, text_element, AreElementsFrom, code_before, elements_of}
+use Rattle.markdown_model.specs.LabelEnd.{Element, plain, starts, ends, Label, label_before, outcome_of, label_end}
+use Rattle.markdown_model.specs.Element.{as_plain, line_ending, data_code, attention_run, image_start, footnote_start, link_start, code_span, math_span, text_element, AreElementsFrom, code_before, elements_of}
 use Rattle.markdown_model.specs.Groups.{nest, onto, after_loose, joined, loose}
 use Rattle.markdown_model.specs.Passes.{Start, End, as_bracket, start_marker, start_tree, label_group, loose_start, loose_end, labelled, labels_of, is_nothing}
 use Rattle.markdown_model.proofs.Consuming.{Left, text_element_takes}
+use Rattle.markdown_model.proofs.ElementCases.{EachConstruct, outcome_yields, text_has}
 use Rattle.markdown_model.proofs.ElementCodes.{covers_text_element}
 use Rattle.markdown_model.proofs.ElementLaws.{text_elements}
 use Rattle.markdown_model.proofs.LabelCodes.{element_codes, unused}
-use Rattle.markdown_model.proofs.LinkFree.{Passes, Yields, yields_bind, yields_gives, yields_either, yields_passed, then_any}
+use Rattle.markdown_model.proofs.LinkFree.{Passes, Yields, yields_bind, yields_gives, yields_either, then_any}
 use Rattle.markdown_model.proofs.Readings.{At}
 use Rattle.markdown_model.proofs.ReadingLaws.{span-all, span-stops}
 use Rattle.markdown_emphasis.proofs.Quiet.{is_mark, is_linked, marks, IsQuiet, Free, quiet_escape, quiet_hard_break_escape, quiet_reference, quiet_autolink, quiet_task_check, quiet_code, quiet_math, quiet_html, quiet_protocol, quiet_www, quiet_after_label}
@@ -150,19 +151,6 @@ fine_always a h = record { at = λ cs. by_answer (a cs) (h.at cs) }
     by_answer None k = tt
     by_answer (Some x) k = k x.1
 
-fine_either : (a b : Reading Element) → Fine a → Fine b → Fine (either a b)
-unfolding either
-fine_either a b h k = record { at = λ cs. by_answer cs (a cs) (h.at cs) }
-  where
-    by_answer : (cs : List Code) (r : Option (Element × List Code)) → AnswersFine r → AnswersFine (elim r [ None ↦ b cs | Some x ↦ Some x ])
-    by_answer cs None l = k.at cs
-    by_answer cs (Some x) l = l
-
-fine_switched : (on : Bool) (a : Reading Element) → Fine a → Fine (switched on a)
-unfolding switched provided ◌>>◌
-fine_switched true a h = record { at = h.at }
-fine_switched false a h = record { at = λ cs. tt }
-
 fine_plain : (a : Reading Forest) → Free a → Fine (as_plain a)
 unfolding as_plain
 fine_plain a h = fine_always _ (yields_bind (IsQuiet true) _ _ _ h λ tree k. yields_gives _ (plain tree) (λ rest. inl k))
@@ -225,12 +213,7 @@ abbrev QuietOutcome : LabelKind × Forest → Type 0
 QuietOutcome outcome = IsQuiet false outcome.1
 
 quiet_outcome : (s : Setting) (l : Option Label) (back : List Code) → Yields QuietOutcome (outcome_of s l back)
-unfolding outcome_of footnote_call link_or_image
-quiet_outcome s None back = record { at = λ cs. tt }
-quiet_outcome s (Some l) back = record { at = λ cs. whole.at cs }
-  where
-    whole : Yields QuietOutcome (provided (not (is_barred l)) >> either (footnote_call s l back) (link_or_image s l back))
-    whole = yields_passed _ _ _ (yields_either _ _ _ (yields_passed _ _ _ (yields_gives _ _ refl)) (yields_bind (IsQuiet false) _ _ _ (quiet_after_label s _) λ tail k. yields_gives _ _ k))
+quiet_outcome s l back = outcome_yields (IsQuiet false) refl s (quiet_after_label s) l back
 
 fine_label_end : (s : Setting) (earlier : List Element) → Fine (label_end s earlier)
 unfolding label_end
@@ -239,69 +222,31 @@ fine_label_end s earlier =
     (yields_bind QuietOutcome _ _ _ (quiet_outcome s (label_before earlier) back) λ outcome k. yields_gives _ (ends back (Some outcome)) (λ rest. k))
     (yields_gives _ (ends back None) (λ rest. tt)))
 
-abbrev EachFine : Tries → Type 0
-EachFine [] = Unit {0}
-EachFine (row ∷ rows) = Fine row.1 × EachFine rows
-
-fine_tried : (rows : Tries) (v : ℕ) → EachFine rows → Fine (tried rows v)
-unfolding tried
-fine_tried [] v h = record { at = fine_data_code.at }
-fine_tried (row ∷ rows) v h = record { at = λ cs. by_test cs (list_any (λ n. v == n) row.0) (fine_tried rows v h.1) }
+fine_text_element : (s : Setting) (end : ℕ) (earlier : List Element) (previous : Option Code) (cs : List Code) → AnswersFine (text_element s end earlier previous cs)
+fine_text_element s end earlier previous cs = text_has s end earlier previous AnswersFine cs each (fine_data_code.at cs)
   where
-    by_test : (cs : List Code) (b : Bool) → Fine (tried rows v) → AnswersFine ((elim b as (λ _. Reading Element) [ true ↦ row.1 | false ↦ tried rows v ]) cs)
-    by_test cs true k = h.0.at cs
-    by_test cs false k = k.at cs
-
-module _ (s : Setting) (end : ℕ) (earlier : List Element) (previous : Option Code) where
-  runs_fine : (m : ℕ) (on : Bool) → is_marker m ≡ true → Fine (switched on (attention_run m))
-  runs_fine m on h = fine_switched on _ (fine_run m h)
-
-  marks_fine : EachFine (drop 5 (tries s end earlier previous))
-  unfolding tries
-  marks_fine = (
-    runs_fine _ _ refl,
-    (
-      runs_fine _ _ refl,
-      (
-        runs_fine _ _ refl,
-        (
-          fine_either _ _ (fine_switched _ _ (fine_plain _ quiet_autolink)) (fine_switched _ _ (fine_plain _ quiet_html)),
-          (
-            fine_switched _ _ (fine_plain _ (quiet_protocol _ _ _)),
-            (
-              fine_switched _ _ (fine_plain _ (quiet_www _ _ _)),
-              (
-                fine_either _ _ (fine_switched _ _ fine_footnote_start) (fine_switched _ _ fine_link_start),
-                (fine_either _ _ (fine_switched _ _ (fine_plain _ quiet_escape)) (fine_switched _ _ (fine_plain _ quiet_hard_break_escape)), (fine_switched _ _ (fine_label_end s earlier), tt)),
-              ),
-            ),
-          ),
-        ),
-      ),
-    ),
-  )
-
-  each_fine : EachFine (tries s end earlier previous)
-  unfolding tries
-  each_fine = (
-    fine_line_ending,
-    (
-      fine_switched _ _ (fine_image_start _),
-      (fine_switched _ _ (fine_math_span _ _ _), (fine_switched _ _ (fine_code_span _ _), (fine_switched _ _ (fine_plain _ (quiet_reference _)), marks_fine))),
-    ),
-  )
-
-  fine_first_check : Fine (first_check s end earlier previous)
-  unfolding first_check
-  fine_first_check = fine_switched _ _ (fine_plain _ quiet_task_check)
-
-  fine_text_element : Fine (text_element s end earlier previous)
-  unfolding text_element
-  fine_text_element = record { at = at }
-    where
-      at : (cs : List Code) → AnswersFine (text_element s end earlier previous cs)
-      at [] = tt
-      at (c ∷ cs) = (fine_either _ _ fine_first_check (fine_either _ _ (fine_tried (tries s end earlier previous) c.value each_fine) fine_data_code)).at (c ∷ cs)
+    each : EachConstruct s end earlier previous AnswersFine cs
+    each = record {
+      none = tt;
+      ending = fine_line_ending.at cs;
+      image = λ footnotes. (fine_image_start footnotes).at cs;
+      math = λ single. (fine_math_span single earlier previous).at cs;
+      code = (fine_code_span earlier previous).at cs;
+      referred = (fine_plain _ (quiet_reference s.references)).at cs;
+      stars = λ _. (fine_run 42 refl).at cs;
+      underscores = λ _. (fine_run 95 refl).at cs;
+      tildes = λ _. (fine_run 126 refl).at cs;
+      linked = (fine_plain _ quiet_autolink).at cs;
+      tagged = (fine_plain _ quiet_html).at cs;
+      protocol = (fine_plain _ (quiet_protocol s.bytes end previous)).at cs;
+      www = (fine_plain _ (quiet_www s.bytes end previous)).at cs;
+      footnote = fine_footnote_start.at cs;
+      link = fine_link_start.at cs;
+      escaped = (fine_plain _ quiet_escape).at cs;
+      broken = (fine_plain _ quiet_hard_break_escape).at cs;
+      ended = (fine_label_end s earlier).at cs;
+      checked = (fine_plain _ quiet_task_check).at cs;
+    }
 
 -- Lists of elements, where p is the marker of a run just before, or zero.
 
@@ -344,7 +289,7 @@ module _ (s : Setting) (end : ℕ) where
   all-apart [] earlier previous cs p k h = tt
   all-apart (e ∷ es) earlier previous cs p k h =
       apart-element e es (unused earlier) p h.0 cs
-      (subst AnswersFine h.1 ((fine_text_element s end earlier previous).at cs))
+      (subst AnswersFine h.1 (fine_text_element s end earlier previous cs))
       (subst (At (element_codes (unused earlier)) [] cs) h.1 ((covers_text_element s end earlier previous).at cs))
       (subst (Left 1 cs) h.1 ((text_element_takes s end earlier previous).at cs)) k
       (λ q l. all-apart es (e ∷ earlier) (code_before cs h.0) h.0 q l h.2)

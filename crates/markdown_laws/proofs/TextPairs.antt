@@ -1,27 +1,26 @@
 -- The groups of pairs in the inline tree of a text.
-use Rattle.std.proofs.Common.{◌≡◌, ℕ, zero, suc, ◌+◌, Bool, true, false, ◌&&◌, ◌||◌, not, List, [], ◌∷◌, ◌++◌, length, reverse, if◌then◌else◌, refl, sym, ap, subst, ◌∙◌, arith, Option, Some, None}
+use Rattle.std.proofs.Common.{◌≡◌, ℕ, ◌+◌, Bool, true, false, ◌&&◌, ◌||◌, not, List, [], ◌∷◌, length, if◌then◌else◌, refl, sym, ap, subst, ◌∙◌, arith, None}
 use Rattle.std.proofs.lemmas.Bool.{and_parts}
 use Rattle.markdown_engine.specs.declared.event.Name.{Name}
 use Rattle.markdown_engine.specs.declared.event.Point.{Point}
-use Rattle.markdown_engine.specs.Codes.{Code, is_blank}
+use Rattle.markdown_engine.specs.Codes.{Code}
 use Rattle.markdown_engine.specs.Tree.{Forest, empty, leaf_then, group_then, leaf, ◌⊕◌}
 use Rattle.markdown_model.specs.CodeTests.{is_empty}
-use Rattle.markdown_model.specs.Grammar.{span}
-use Rattle.markdown_model.specs.Email.{email_at, email_leaves, with_emails}
+use Rattle.markdown_model.specs.Email.{with_emails}
 use Rattle.markdown_model.specs.Element.{elements_of}
 use Rattle.markdown_model.specs.Groups.{paired}
 use Rattle.markdown_model.specs.Pairs.{pair_list}
-use Rattle.markdown_model.specs.Passes.{data_onto, merged, begins_line_ending, is_nothing, blank_name, trimmed_data, trimmed, mailed, labels_of}
+use Rattle.markdown_model.specs.Passes.{data_onto, merged, begins_line_ending, is_nothing, trimmed_data, trimmed, mailed, labels_of}
 use Rattle.markdown_model.specs.Inline.{label_tree, raw_tree, finished_text, text_tree, pair_count}
+use Rattle.markdown_model.proofs.PassRows.{walks-merged, walks-trimmed, walks-mailed, trimmed_data-has, with_emails-has}
 use Rattle.markdown_laws.specs.Emails.{is_email}
 use Rattle.markdown_laws.specs.Filled.{is_label_text}
 use Rattle.markdown_laws.specs.PairGroups.{is_pair, is_sequence, pair_groups, HasSides, EachPairHas, AreOfPair, EachPairIsAGroup, PairsAreEven, PairsTakeTheirMarkers}
-use Rattle.markdown_laws.proofs.EmailLeaves.{AnswerIsEmail, answer-email}
 use Rattle.markdown_laws.proofs.FilledRows.{made-filled}
 use Rattle.markdown_laws.proofs.MadeReadings.{is_shut, is_single, reaches, made}
 use Rattle.markdown_laws.proofs.MadeLabels.{made-text-labels}
 use Rattle.markdown_laws.proofs.PairGroupLaws.{groups-leaf, groups-join, groups-paired}
-use Rattle.markdown_laws.proofs.PairSides.{right-paired, pairs-join}
+use Rattle.markdown_laws.proofs.PairSides.{right-paired, pairs, pairs-join}
 use Rattle.markdown_laws.proofs.RunRows.{apart-text-labels}
 
 -- The passes keep the groups of pairs.
@@ -37,44 +36,31 @@ groups-merged (leaf_then Name.Data None cs rest) = groups-onto cs (merged rest) 
 groups-merged (leaf_then name link cs rest) = groups-merged rest
 groups-merged (group_then name enter exit inside rest) = λ i. (if is_pair name then 1 else 0) + groups-merged inside i + groups-merged rest i
 
-groups-three : (a b c : Name) (xs ys zs : List Code) (f : Forest) → pair_groups ((leaf a xs ⊕ leaf b ys ⊕ leaf c zs) ⊕ f) ≡ pair_groups f
-groups-three a b c xs ys zs f =
-    omega (arith, groups-join (leaf a xs ⊕ leaf b ys ⊕ leaf c zs) f, groups-join (leaf a xs) (leaf b ys ⊕ leaf c zs), groups-join (leaf b ys) (leaf c zs), groups-leaf a xs, groups-leaf b ys, groups-leaf c zs)
+groups-both : (a b : Forest) → pair_groups a ≡ 0 → pair_groups b ≡ 0 → pair_groups (a ⊕ b) ≡ 0
+groups-both a b h k = omega (arith, groups-join a b, h, k)
 
-groups-data : (front back hard : Bool) (cs : List Code) (f : Forest) → pair_groups (trimmed_data front back hard cs ⊕ f) ≡ pair_groups f
-groups-data front back hard cs f = groups-three Name.SpaceOrTab Name.Data (blank_name hard (reverse cut.0)) lead.0 lead.1 (reverse cut.0) f
-  where
-    cut : List Code × List Code
-    cut = elim back [ true ↦ span is_blank (reverse cs) | false ↦ ([], reverse cs) ]
-
-    lead : List Code × List Code
-    lead = elim front [ true ↦ span is_blank (reverse cut.1) | false ↦ ([], reverse cut.1) ]
+groups-data : (front back hard : Bool) (cs : List Code) → pair_groups (trimmed_data front back hard cs) ≡ 0
+groups-data front back hard cs =
+    trimmed_data-has (λ t. pair_groups t ≡ 0) groups-both (groups-leaf Name.Data) (groups-leaf Name.HardBreakTrailing) (groups-leaf Name.SpaceOrTab) front back hard cs
 
 groups-trimmed : (hard front whole : Bool) (f : Forest) → pair_groups (trimmed hard front whole f) ≡ pair_groups f
 unfolding trimmed
 groups-trimmed hard front whole empty = refl
 groups-trimmed hard front whole (leaf_then Name.Data None cs rest) =
-    groups-data front (begins_line_ending rest || (whole && is_nothing rest)) (hard && begins_line_ending rest) cs (trimmed hard false whole rest) ∙ groups-trimmed hard false whole rest
+    let back : Bool = begins_line_ending rest || (whole && is_nothing rest) in
+    let ending : Bool = hard && begins_line_ending rest in
+    omega (arith, groups-join (trimmed_data front back ending cs) (trimmed hard false whole rest), groups-data front back ending cs, groups-trimmed hard false whole rest)
 groups-trimmed hard front whole (leaf_then Name.LineEnding link cs rest) = groups-trimmed hard true whole rest
 groups-trimmed hard front whole (leaf_then name link cs rest) = groups-trimmed hard false whole rest
 groups-trimmed hard front whole (group_then name enter exit inside rest) = λ i. (if is_pair name then 1 else 0) + groups-trimmed hard false false inside i + groups-trimmed hard false whole rest i
 
-groups-emails : (n : ℕ) (before cs : List Code) → pair_groups (email_leaves n before cs) ≡ 0
-unfolding email_leaves
-groups-emails n before [] = groups-leaf Name.Data (reverse before)
-groups-emails zero before (c ∷ cs) = groups-leaf Name.Data (reverse before ++ c ∷ cs)
-groups-emails (suc n) before (c ∷ cs) = by_answer (email_at before c cs) (answer-email before c cs) (groups-emails n)
-  where
-    by_answer : (r : Option (List Code × Forest × List Code)) → AnswerIsEmail r → ((front ds : List Code) → pair_groups (email_leaves n front ds) ≡ 0)
-        → pair_groups (elim r as (λ _. Forest) [ None ↦ email_leaves n (c ∷ before) cs | Some x ↦ leaf Name.Data x.0 ⊕ x.1 ⊕ email_leaves n [] x.2 ]) ≡ 0
-    by_answer None h more = more (c ∷ before) cs
-    by_answer (Some x) h more =
-        omega (arith, groups-join (leaf Name.Data x.0) (x.1 ⊕ email_leaves n [] x.2), groups-leaf Name.Data x.0, groups-join x.1 (email_leaves n [] x.2), ap pair_groups h.is, more [] x.2)
+groups-emails : (cs : List Code) → pair_groups (with_emails cs) ≡ 0
+groups-emails cs = with_emails-has (λ t. pair_groups t ≡ 0) groups-both (groups-leaf Name.Data) (λ before ds. groups-leaf _ ds) cs
 
 groups-mailed : (f : Forest) → pair_groups (mailed f) ≡ pair_groups f
-unfolding mailed with_emails
+unfolding mailed
 groups-mailed empty = refl
-groups-mailed (leaf_then Name.Data None cs rest) = omega (arith, groups-join (email_leaves (length cs) [] cs) (mailed rest), groups-emails (length cs) [] cs, groups-mailed rest)
+groups-mailed (leaf_then Name.Data None cs rest) = omega (arith, groups-join (with_emails cs) (mailed rest), groups-emails cs, groups-mailed rest)
 groups-mailed (leaf_then name link cs rest) = groups-mailed rest
 groups-mailed (group_then Name.Link enter exit inside rest) = ap (λ n. 0 + pair_groups inside + n) (groups-mailed rest)
 groups-mailed (group_then name enter exit inside rest) = λ i. (if is_pair name then 1 else 0) + groups-mailed inside i + groups-mailed rest i
@@ -171,10 +157,6 @@ module _ (P : List Code → List Code → Type 0) where
   pairs-leaf name [] = tt
   pairs-leaf name (c ∷ cs) = tt
 
-  pairs-onto : (cs : List Code) (f : Forest) → EachPairHas P f → EachPairHas P (data_onto cs f)
-  pairs-onto cs (leaf_then Name.Data None more rest) h = h
-  pairs-onto cs rest h = h
-
   merged-keeps : KeepsSides merged
   unfolding merged
   merged-keeps = record { sequence = sequence; group = λ name enter exit inside rest. (merged inside, refl); nothing = refl }
@@ -184,23 +166,7 @@ module _ (P : List Code → List Code → Type 0) where
       sequence name cs rest h = refl
 
   pairs-merged : (f : Forest) → EachPairHas P f → EachPairHas P (merged f)
-  unfolding merged
-  pairs-merged empty h = tt
-  pairs-merged (leaf_then Name.Data None cs rest) h = pairs-onto cs (merged rest) (pairs-merged rest h)
-  pairs-merged (leaf_then name link cs rest) h = pairs-merged rest h
-  pairs-merged (group_then name enter exit inside rest) h = ((λ e. sides-kept merged merged-keeps inside (h.0 e)), pairs-merged inside h.1, pairs-merged rest h.2)
-
-  pairs-data : (front back hard : Bool) (cs : List Code) → EachPairHas P (trimmed_data front back hard cs)
-  pairs-data front back hard cs = three Name.SpaceOrTab Name.Data (blank_name hard (reverse cut.0)) lead.0 lead.1 (reverse cut.0)
-    where
-      cut : List Code × List Code
-      cut = elim back [ true ↦ span is_blank (reverse cs) | false ↦ ([], reverse cs) ]
-
-      lead : List Code × List Code
-      lead = elim front [ true ↦ span is_blank (reverse cut.1) | false ↦ ([], reverse cut.1) ]
-
-      three : (a b c : Name) (xs ys zs : List Code) → EachPairHas P (leaf a xs ⊕ leaf b ys ⊕ leaf c zs)
-      three a b c xs ys zs = pairs-join P (leaf a xs) (leaf b ys ⊕ leaf c zs) (pairs-leaf a xs) (pairs-join P (leaf b ys) (leaf c zs) (pairs-leaf b ys) (pairs-leaf c zs))
+  pairs-merged f h = walks-merged (pairs P) (λ cs ds _ _. tt) (λ name a b inside _ g e. sides-kept merged merged-keeps inside (g e)) f h
 
   -- a pair's own row is trimmed at neither end
   trimmed-keeps : (hard : Bool) → KeepsSides (trimmed hard false false)
@@ -213,27 +179,9 @@ module _ (P : List Code → List Code → Type 0) where
       sequence name cs rest h = refl
 
   pairs-trimmed : (hard front whole : Bool) (f : Forest) → EachPairHas P f → EachPairHas P (trimmed hard front whole f)
-  unfolding trimmed
-  pairs-trimmed hard front whole empty h = tt
-  pairs-trimmed hard front whole (leaf_then Name.Data None cs rest) h =
-      pairs-join P (trimmed_data front (begins_line_ending rest || (whole && is_nothing rest)) (hard && begins_line_ending rest) cs) (trimmed hard false whole rest)
-      (pairs-data front (begins_line_ending rest || (whole && is_nothing rest)) (hard && begins_line_ending rest) cs) (pairs-trimmed hard false whole rest h)
-  pairs-trimmed hard front whole (leaf_then Name.LineEnding link cs rest) h = pairs-trimmed hard true whole rest h
-  pairs-trimmed hard front whole (leaf_then name link cs rest) h = pairs-trimmed hard false whole rest h
-  pairs-trimmed hard front whole (group_then name enter exit inside rest) h =
-      ((λ e. sides-kept (trimmed hard false false) (trimmed-keeps hard) inside (h.0 e)), pairs-trimmed hard false false inside h.1, pairs-trimmed hard false whole rest h.2)
-
-  pairs-emails : (n : ℕ) (before cs : List Code) → EachPairHas P (email_leaves n before cs)
-  unfolding email_leaves
-  pairs-emails n before [] = pairs-leaf Name.Data (reverse before)
-  pairs-emails zero before (c ∷ cs) = pairs-leaf Name.Data (reverse before ++ c ∷ cs)
-  pairs-emails (suc n) before (c ∷ cs) = by_answer (email_at before c cs) (answer-email before c cs) (pairs-emails n)
-    where
-      by_answer : (r : Option (List Code × Forest × List Code)) → AnswerIsEmail r → ((front ds : List Code) → EachPairHas P (email_leaves n front ds))
-          → EachPairHas P (elim r as (λ _. Forest) [ None ↦ email_leaves n (c ∷ before) cs | Some x ↦ leaf Name.Data x.0 ⊕ x.1 ⊕ email_leaves n [] x.2 ])
-      by_answer None h more = more (c ∷ before) cs
-      by_answer (Some x) h more =
-          pairs-join P (leaf Name.Data x.0) (x.1 ⊕ email_leaves n [] x.2) (pairs-leaf Name.Data x.0) (subst (λ t. EachPairHas P (t ⊕ email_leaves n [] x.2)) (sym h.is) (more [] x.2))
+  pairs-trimmed hard front whole f h =
+      walks-trimmed (pairs P) hard (λ x y z cs _. trimmed_data-has (EachPairHas P) (pairs-join P) (pairs-leaf Name.Data) (pairs-leaf Name.HardBreakTrailing) (pairs-leaf Name.SpaceOrTab) x y z cs)
+      (λ name a b inside _ g e. sides-kept (trimmed hard false false) (trimmed-keeps hard) inside (g e)) front whole f h
 
   mailed-keeps : KeepsSides mailed
   unfolding mailed
@@ -248,12 +196,9 @@ module _ (P : List Code → List Code → Type 0) where
       group name enter exit inside rest = (mailed inside, refl)
 
   pairs-mailed : (f : Forest) → EachPairHas P f → EachPairHas P (mailed f)
-  unfolding mailed with_emails
-  pairs-mailed empty h = tt
-  pairs-mailed (leaf_then Name.Data None cs rest) h = pairs-join P (email_leaves (length cs) [] cs) (mailed rest) (pairs-emails (length cs) [] cs) (pairs-mailed rest h)
-  pairs-mailed (leaf_then name link cs rest) h = pairs-mailed rest h
-  pairs-mailed (group_then Name.Link enter exit inside rest) h = (h.0, h.1, pairs-mailed rest h.2)
-  pairs-mailed (group_then name enter exit inside rest) h = ((λ e. sides-kept mailed mailed-keeps inside (h.0 e)), pairs-mailed inside h.1, pairs-mailed rest h.2)
+  pairs-mailed f h =
+      walks-mailed (pairs P) (λ cs _. with_emails-has (EachPairHas P) (pairs-join P) (pairs-leaf Name.Data) (λ before ds. pairs-leaf _ ds) cs)
+      (λ name a b inside _ g e. sides-kept mailed mailed-keeps inside (g e)) f h
 
 pub pairs_take_their_markers : PairsTakeTheirMarkers
 unfolding text_tree finished_text raw_tree label_tree

@@ -1,5 +1,5 @@
 -- The places of trees: wherever the codes that a tree of labels covers stand one after another, so do the places of its groups among them.
-use Rattle.std.proofs.Common.{◌≡◌, ◌==◌, Bool, true, false, ◌&&◌, not, List, [], ◌∷◌, ◌++◌, length, drop, map, refl, sym, ap, subst, ◌∙◌, append_assoc, append-nil, Some, None}
+use Rattle.std.proofs.Common.{◌≡◌, ◌==◌, Bool, true, false, ◌&&◌, not, List, [], ◌∷◌, ◌++◌, length, drop, refl, sym, ap, subst, ◌∙◌, append_assoc, append-nil, None}
 use Rattle.std.proofs.lemmas.Bool.{and_parts, eqb-true, not-true}
 use Rattle.markdown_engine.specs.Codes.{Code, stop_of, document_start, place_of}
 use Rattle.markdown_engine.specs.Tree.{Forest, empty, leaf_then, group_then, leaf, group, text_group, ◌⊕◌, start_of, enter_of, exit_after, leaf_codes}
@@ -8,15 +8,14 @@ use Rattle.markdown_engine.specs.declared.event.Point.{Point}
 use Rattle.markdown_engine.specs.declared.tokenizer.LabelKind.{LabelKind}
 use Rattle.markdown_engine.proofs.TreeLemmas.{leaf_codes-row}
 use Rattle.markdown_model.specs.CodeTests.{is_empty}
-use Rattle.markdown_model.specs.Groups.{nested, joined, loose}
-use Rattle.markdown_model.specs.LabelEnd.{Element, plain, starts, ends}
-use Rattle.markdown_model.specs.Passes.{Start, End, as_bracket, start_marker, start_tree, label_name, label_group, loose_start, loose_end, labelled, labels_of, is_nothing}
+use Rattle.markdown_model.specs.LabelEnd.{Element}
+use Rattle.markdown_model.specs.Passes.{start_marker, start_tree, label_name, label_group, labels_of, is_nothing}
 use Rattle.markdown_model.proofs.Leaves.{codes-leaf}
 use Rattle.markdown_laws.specs.Emails.{is_email}
 use Rattle.markdown_laws.proofs.MadeReadings.{IsSome, IsMade, is_at, is_single, reaches, made}
-use Rattle.markdown_laws.proofs.MadeLabels.{AllGood, IsGoodEnd}
+use Rattle.markdown_laws.proofs.MadeLabels.{AllGood, IsGood}
+use Rattle.markdown_model.proofs.LabelWords.{labels-have}
 use Rattle.markdown_laws.proofs.PlaceRows.{Place, last_of, last-join, Allows, allows-itself, allows-then, allows-join, allows-behind, allows-same, allows-around, allows-between}
-use Rattle.markdown_model.proofs.Words.{AllHave, WordHas, all-append, joined-has, nested-has}
 
 -- where each code begins and ends
 abbrev pub ends_of : List Code → List Place
@@ -244,27 +243,7 @@ fit-label kind marker inside back tail h k l m =
 
 -- The tree of labels.
 
-abbrev IsStart : Start → Type 0
-IsStart o = IsSome o.1
-
-fit-loose : (cs : List Code) → AllHave IsFit (loose cs)
-fit-loose cs = (fit-leaf Name.Data cs, tt)
-
-fit-joined : (fs : List Forest) → AllHave IsFit fs → IsFit (joined fs)
-fit-joined fs h = joined-has IsFit (allows-itself []) (λ t u a b. fit-join t u a b) fs h
-
-fit-labelled : (start : Start) (inside : List Forest) (end : End) → IsStart start → AllHave IsFit inside → IsGoodEnd end → AllHave IsFit (labelled start inside end)
-fit-labelled start inside (back, None) s h e = all-append IsFit (loose start.1) (inside ++ loose back) (fit-loose start.1) (all-append IsFit inside (loose back) h (fit-loose back))
-fit-labelled start inside (back, Some outcome) s h e = (fit-label outcome.0 start.1 (joined inside) back outcome.1 s (fit-joined inside h) e.0 (fit-made outcome.1 e.1), tt)
-
-word-fit : (es : List Element) → AllGood es → WordHas IsFit IsStart IsGoodEnd (map as_bracket es)
-word-fit [] h = tt
-word-fit (plain tree ∷ es) h = (fit-made tree h.0, word-fit es h.1)
-word-fit (starts kind marker ∷ es) h = (h.0, word-fit es h.1)
-word-fit (ends back outcome ∷ es) h = (h.0, word-fit es h.1)
-
 pub fit-labels : (es : List Element) → AllGood es → IsFit (labels_of es)
-unfolding labels_of
 fit-labels es h =
-    fit-joined (nested labelled loose_start loose_end (map as_bracket es))
-    (nested-has IsFit IsStart IsGoodEnd labelled loose_start loose_end fit-labelled (λ o k. fit-loose o.1) (λ c k. fit-loose c.0) (map as_bracket es) (word-fit es h))
+    labels-have IsFit IsGood (allows-itself []) fit-join fit-made (λ kind marker _. fit-leaf Name.Data marker) (λ marker outcome _. fit-leaf Name.Data marker)
+    (λ kind marker inside back outcome m i e. fit-label outcome.0 marker inside back outcome.1 m i e.0 (fit-made outcome.1 e.1)) es h

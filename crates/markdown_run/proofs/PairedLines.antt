@@ -18,7 +18,9 @@ use Rattle.markdown_partial.specs.TrimEvents.{is_ending}
 use Rattle.markdown_row.specs.Trees.{HasLines, makes_data}
 use Rattle.markdown_row.proofs.RowJoins.{HasLines-row}
 use Rattle.markdown_stretch.specs.Lined.{IsLine}
-use Rattle.markdown_stretch.proofs.RunWords.{run-has}
+use Rattle.markdown_stretch.proofs.LinedTrees.{line-parts}
+use Rattle.markdown_model.proofs.NameTests.{pair-named}
+use Rattle.markdown_model.proofs.PairWords.{run-has, assembled-has}
 use Rattle.markdown_model.proofs.Words.{AllHave, joined-has, WordHas, word-append, nested-has}
 
 lines-leaf : (name : Name) (cs : List Code) → IsLine cs → HasLines (leaf name cs)
@@ -34,28 +36,11 @@ abbrev IsGroupName : Name → Type 0
 IsGroupName n = (is_data n ≡ false) × (is_ending n ≡ false)
 
 group-names : (marker size : ℕ) → IsGroupName (pair_names marker size).0 × IsGroupName (pair_names marker size).2
-group-names marker size = by_marker (marker == 126) (size == 2)
-  where
-    by_marker : (a b : Bool)
-        → (let names : Name × Name × Name = elim a [
-          | true ↦ (N.GfmStrikethrough, N.GfmStrikethroughSequence, N.GfmStrikethroughText)
-          | false ↦ elim b [ true ↦ (N.Strong, N.StrongSequence, N.StrongText) | false ↦ (N.Emphasis, N.EmphasisSequence, N.EmphasisText) ]
-        ] in IsGroupName names.0 × IsGroupName names.2)
-    by_marker true b = ((refl, refl), (refl, refl))
-    by_marker false true = ((refl, refl), (refl, refl))
-    by_marker false false = ((refl, refl), (refl, refl))
+group-names = pair-named (λ names. IsGroupName names.0 × IsGroupName names.2) ((refl, refl), (refl, refl)) ((refl, refl), (refl, refl)) ((refl, refl), (refl, refl))
 
-pair-has : (front : List Code) (inside : List Forest) (back : List Code) → IsLine front → AllHave HasLines inside → IsLine back → AllHave HasLines (pair_group front inside back)
-pair-has front inside back f h b =
-    let names = pair_names (marker_of front) (length front) in
-    let named = group-names (marker_of front) (length front) in
-    let text : Forest = group_then names.2 (stop_of document_start front) (start_of back) (joined inside) empty in
-    ((named.0, (HasLines-row (leaf names.1 front) (text ⊕ leaf names.1 back) (lines-leaf names.1 front f) (HasLines-row text (leaf names.1 back) (named.1, (joined-has HasLines tt HasLines-row inside h, tt)) (lines-leaf names.1 back b)), tt)), tt)
-
-assembled-has : (w : List Token) → HasWord w → HasLines (assembled w)
-assembled-has w h =
-    joined-has HasLines tt HasLines-row (nested pair_group loose loose w)
-    (nested-has HasLines IsLine IsLine pair_group loose loose pair-has (λ o k. (lines-leaf N.Data o k, tt)) (λ c k. (lines-leaf N.Data c k, tt)) w h)
+assembled-lines : (w : List Token) → HasWord w → HasLines (assembled w)
+assembled-lines w h =
+    assembled-has HasLines IsLine (lines-leaf N.Data) tt HasLines-row (λ m n cs k. lines-leaf _ cs k) (λ m n a b f k. ((group-names m n).0, (k, tt))) (λ m n a b f k. ((group-names m n).1, (k, tt))) w h
 
 module _ (s : Setting) (pairs_of : List Run → List Pair) where
   -- of a leaf: a run is not linked, and its codes are in lines
@@ -63,7 +48,7 @@ module _ (s : Setting) (pairs_of : List Run → List Pair) where
       → ((m : ℕ) → HasWord (tokens_of s pairs_of rest ps m)) → HasWord (tokens_of s pairs_of (leaf_then name link cs rest) ps n)
   unfolding tokens_of
   leaf-has N.AttentionSequence link cs rest ps n g bare h =
-      word-append HasLines IsLine IsLine (run_tokens ps n (run_of s cs)) (tokens_of s pairs_of rest ps (suc n)) (run-has HasLines (lines-leaf N.Data) ps n (run_of s cs) (ap (list_any is_line_ending) (codes-run_of s cs) ∙ (g refl (bare refl)).1)) (h (suc n))
+      word-append HasLines IsLine IsLine (run_tokens ps n (run_of s cs)) (tokens_of s pairs_of rest ps (suc n)) (run-has HasLines IsLine (lines-leaf N.Data) line-parts ps n (run_of s cs) (ap (list_any is_line_ending) (codes-run_of s cs) ∙ (g refl (bare refl)).1)) (h (suc n))
   leaf-has name link cs rest ps n g bare h = ((g, tt), h n)
 
   tokens-has : (t : Forest) (ps : List Pair) (n : ℕ) → HasLines t → HasStripes t → HasWord (tokens_of s pairs_of t ps n)
@@ -71,8 +56,8 @@ module _ (s : Setting) (pairs_of : List Run → List Pair) where
   tokens-has empty ps n h k = tt
   tokens-has (leaf_then name link cs rest) ps n h k = leaf-has name link cs rest ps n h.0 (λ e. (k.0 e).0) (λ m. tokens-has rest ps m h.1 k.1)
   tokens-has (group_then name a b inside rest) ps n h k =
-      ((h.0, (assembled-has (tokens_of s pairs_of inside (pairs_of (runs_of s inside)) 0) (tokens-has inside (pairs_of (runs_of s inside)) 0 h.1.0 k.1.0), tt)), tokens-has rest ps n h.1.1 k.1.1)
+      ((h.0, (assembled-lines (tokens_of s pairs_of inside (pairs_of (runs_of s inside)) 0) (tokens-has inside (pairs_of (runs_of s inside)) 0 h.1.0 k.1.0), tt)), tokens-has rest ps n h.1.1 k.1.1)
 
   pub HasLines-paired : (t : Forest) → HasLines t → HasStripes t → HasLines (paired s pairs_of t)
   unfolding paired
-  HasLines-paired t h k = assembled-has (tokens_of s pairs_of t (pairs_of (runs_of s t)) 0) (tokens-has t (pairs_of (runs_of s t)) 0 h k)
+  HasLines-paired t h k = assembled-lines (tokens_of s pairs_of t (pairs_of (runs_of s t)) 0) (tokens-has t (pairs_of (runs_of s t)) 0 h k)

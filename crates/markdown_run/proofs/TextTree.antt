@@ -1,6 +1,6 @@
 -- The inline tree of a text: the labels of its elements grouped, paired, merged and trimmed, and its emails set apart.
 use Rattle.std.proofs.Common.{◌≡◌, ℕ, Bool, true, false, ◌==◌, List, [], ◌∷◌, Option, None, Some, refl, sym, ap, subst, ◌∙◌}
-use Rattle.std.specs.List.{list_any}
+use Rattle.std.proofs.lemmas.Bool.{both_ways}
 use Rattle.markdown_engine.specs.Codes.{Code, stop_of, document_start}
 use Rattle.markdown_engine.specs.Tree.{Forest, leaf}
 use Rattle.markdown_engine.specs.declared.event.Name.{Name}
@@ -17,6 +17,7 @@ use Rattle.markdown_model.specs.Pairs.{Pair, pair_list}
 use Rattle.markdown_model.specs.Passes.{labels_of, merged, trimmed, mailed}
 use Rattle.markdown_model.specs.Runs.{Run}
 use Rattle.markdown_model.specs.Setting.{Setting}
+use Rattle.markdown_model.proofs.ElementCases.{AllAre, EachConstruct, all_are, text_has}
 use Rattle.markdown_model.proofs.ElementLaws.{text_elements, same_text_elements}
 use Rattle.markdown_model.proofs.LinkFree.{Passes, Yields, yields_bind, yields_gives, yields_passed, yields_either, then_any}
 use Rattle.markdown_text.specs.Resolve.{mailed_where}
@@ -30,25 +31,13 @@ use Rattle.markdown_model.proofs.ReadingSteps.{switched-off}
 
 -- What is said of the elements of a text.
 
-off_yields : (P : Element → Type 0) (on : Bool) (a : Reading Element) → on ≡ false → Yields P (switched on a)
-unfolding switched
-off_yields P on a e = record { at = λ cs. subst (λ o. Passes P o) (sym (switched-off a on cs e)) tt }
-
-on_yields : (P : Element → Type 0) (on : Bool) (a : Reading Element) → Yields P a → Yields P (switched on a)
-unfolding switched
-on_yields P on a h = yields_passed _ _ _ h
-
-abbrev EachYields : (Element → Type 0) → Tries → Type 0
-EachYields P [] = Unit {0}
-EachYields P (row ∷ rows) = Yields P row.1 × EachYields P rows
-
 -- it holds of the trees of constructs, of codes by themselves, of runs where they are looked for, and of starts and ends of labels
 pub record HoldsOfParts (P : Element → Type 0) (on : Constructs) : Type 0 where
   pub nodes : (t : Forest) → IsNode t → P (plain t)
   pub leaves : (name : Name) (cs : List Code) → is_run name ≡ false → P (plain (leaf name cs))
-  pub stars : Yields P (switched on.attention (attention_run 42))
-  pub underscores : Yields P (switched on.attention (attention_run 95))
-  pub tildes : Yields P (switched on.gfm_strikethrough (attention_run 126))
+  pub stars : on.attention ≡ true → Yields P (attention_run 42)
+  pub underscores : on.attention ≡ true → Yields P (attention_run 95)
+  pub tildes : on.gfm_strikethrough ≡ true → Yields P (attention_run 126)
   pub opens : (kind : LabelKind) (marker : List Code) → P (starts kind marker)
   pub closes : (marker : List Code) (outcome : Option (LabelKind × Forest)) → P (ends marker outcome)
 
@@ -89,85 +78,31 @@ module _ (P : Element → Type 0) (s : Setting) (h : HoldsOfParts P s.options.co
   unfolding label_end
   end_yields earlier = then_any _ _ _ λ back. yields_either _ _ _ (then_any _ _ _ λ outcome. yields_gives _ _ (h.closes back (Some outcome))) (yields_gives _ _ (h.closes back None))
 
-  tried_yields : (rows : Tries) (v : ℕ) → EachYields P rows → Yields P (tried rows v)
-  unfolding tried
-  tried_yields [] v k = record { at = data_yields.at }
-  tried_yields (row ∷ rows) v k = record { at = λ cs. by_test cs (list_any (λ n. v == n) row.0) (tried_yields rows v k.1) }
+  text_passes : (end : ℕ) (earlier : List Element) (previous : Option Code) (cs : List Code) → Passes P (text_element s end earlier previous cs)
+  text_passes end earlier previous cs = text_has s end earlier previous (Passes P) cs each (data_yields.at cs)
     where
-      by_test : (cs : List Code) (b : Bool) → Yields P (tried rows v) → Passes P ((elim b as (λ _. Reading Element) [ true ↦ row.1 | false ↦ tried rows v ]) cs)
-      by_test cs true more = k.0.at cs
-      by_test cs false more = more.at cs
-
-  module _ (end : ℕ) (earlier : List Element) (previous : Option Code) where
-    each_yields : EachYields P (tries s end earlier previous)
-    unfolding tries
-    each_yields = (
-      ending_yields,
-      (
-        on_yields _ _ _ (image_yields _),
-        (
-          on_yields _ _ _ (math_yields _ _ _),
-          (
-            on_yields _ _ _ (code_yields _ _),
-            (
-              on_yields _ _ _ (plain_yields _ (reference_yields _)),
-              (
-                h.stars,
-                (
-                  h.underscores,
-                  (
-                    h.tildes,
-                    (
-                      yields_either _ _ _ (on_yields _ _ _ (plain_yields _ autolink_yields)) (on_yields _ _ _ (plain_yields _ html_yields)),
-                      (
-                        on_yields _ _ _ (plain_yields _ (protocol_yields _ _ _)),
-                        (
-                          on_yields _ _ _ (plain_yields _ (www_yields _ _ _)),
-                          (
-                            yields_either _ _ _ (on_yields _ _ _ footnote_yields) (on_yields _ _ _ link_yields),
-                            (
-                              yields_either _ _ _ (on_yields _ _ _ (plain_yields _ escape_yields)) (on_yields _ _ _ (plain_yields _ break_yields)),
-                              (
-                                on_yields _ _ _ (end_yields _),
-                                tt,
-                              ),
-                            ),
-                          ),
-                        ),
-                      ),
-                    ),
-                  ),
-                ),
-              ),
-            ),
-          ),
-        ),
-      ),
-    )
-
-    first_yields : Yields P (first_check s end earlier previous)
-    unfolding first_check
-    first_yields = on_yields _ _ _ (plain_yields _ check_yields)
-
-    text_yields : Yields P (text_element s end earlier previous)
-    unfolding text_element
-    text_yields = record { at = at }
-      where
-        at : (cs : List Code) → Passes P (text_element s end earlier previous cs)
-        at [] = tt
-        at (c ∷ cs) = (yields_either _ _ _ first_yields (yields_either _ _ _ (tried_yields (tries s end earlier previous) c.value each_yields) data_yields)).at (c ∷ cs)
-
-abbrev AllAre : (Element → Type 0) → List Element → Type 0
-AllAre P [] = Unit {0}
-AllAre P (e ∷ es) = P e × AllAre P es
-
-text-are : (P : Element → Type 0) (s : Setting) (all : List Code) (es earlier : List Element) (previous : Option Code) (cs : List Code) → HoldsOfParts P s.options.constructs
-    → AreElementsFrom (text_choice s all) earlier previous cs es → AllAre P es
-text-are P s all [] earlier previous cs h are = tt
-text-are P s all (e ∷ es) earlier previous cs h are = (
-  subst (λ o. Passes P o) are.1 ((text_yields P s h (stop_of document_start all).index earlier previous).at cs),
-  text-are P s all es (e ∷ earlier) (code_before cs are.0) are.0 h are.2,
-)
+      each : EachConstruct s end earlier previous (Passes P) cs
+      each = record {
+        none = tt;
+        ending = ending_yields.at cs;
+        image = λ footnotes. (image_yields footnotes).at cs;
+        math = λ single. (math_yields single earlier previous).at cs;
+        code = (code_yields earlier previous).at cs;
+        referred = (plain_yields _ (reference_yields s.references)).at cs;
+        stars = λ e. (h.stars e).at cs;
+        underscores = λ e. (h.underscores e).at cs;
+        tildes = λ e. (h.tildes e).at cs;
+        linked = (plain_yields _ autolink_yields).at cs;
+        tagged = (plain_yields _ html_yields).at cs;
+        protocol = (plain_yields _ (protocol_yields s.bytes end previous)).at cs;
+        www = (plain_yields _ (www_yields s.bytes end previous)).at cs;
+        footnote = footnote_yields.at cs;
+        link = link_yields.at cs;
+        escaped = (plain_yields _ escape_yields).at cs;
+        broken = (plain_yields _ break_yields).at cs;
+        ended = (end_yields earlier).at cs;
+        checked = (plain_yields _ check_yields).at cs;
+      }
 
 -- Where no runs are looked for, none stands in them.
 
@@ -175,9 +110,9 @@ parts-still : (on : Constructs) → on.attention ≡ false → on.gfm_strikethro
 parts-still on off none = record {
   nodes = λ t h. quiet-runless t h.quiet;
   leaves = leaf-runless;
-  stars = off_yields _ _ _ off;
-  underscores = off_yields _ _ _ off;
-  tildes = off_yields _ _ _ none;
+  stars = λ e. absurd (both_ways on.attention off e);
+  underscores = λ e. absurd (both_ways on.attention off e);
+  tildes = λ e. absurd (both_ways on.gfm_strikethrough none e);
   opens = λ kind marker. tt;
   closes = λ marker outcome. tt;
 }
@@ -188,7 +123,7 @@ still-row (e ∷ es) h = still-first e (row_of_elements es) h.0 (still-row es h.
 
 -- where runs are not looked for none stands in the row of the elements
 pub text-still : (s : Setting) (cs : List Code) (es : List Element) → AreElements s cs es → s.options.constructs.attention ≡ false → s.options.constructs.gfm_strikethrough ≡ false → row_has_run (row_of_elements es) ≡ false
-text-still s cs es are off none = still-row es (text-are IsStill s cs es [] None cs (parts-still s.options.constructs off none) are)
+text-still s cs es are off none = still-row es (all_are IsStill (text_choice s cs) (text_passes IsStill s (parts-still s.options.constructs off none) (stop_of document_start cs).index) es [] None cs are)
 
 -- The tree of labels.
 

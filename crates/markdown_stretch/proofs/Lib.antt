@@ -1,7 +1,6 @@
 -- The proofs of what is said of leaves on lines.
 pub mod LinedTrees
 pub mod LinedLabels
-pub mod RunWords
 pub mod LinedPairs
 pub mod Parts
 pub mod LinedLeaves

@@ -1,21 +1,22 @@
 -- The elements of a content are on lines.
-use Rattle.std.proofs.Common.{◌≡◌, ℕ, ◌==◌, ◌||◌, not, Bool, true, false, List, [], ◌∷◌, ◌++◌, Option, Some, None, refl, sym, ap, subst, ◌∙◌}
+use Rattle.std.proofs.Common.{◌≡◌, ℕ, ◌==◌, ◌||◌, Bool, true, false, List, [], ◌∷◌, ◌++◌, Option, Some, None, refl, sym, ap, subst, ◌∙◌}
 use Rattle.std.specs.List.{list_any}
 use Rattle.markdown_engine.specs.Codes.{Code, is_line_ending}
 use Rattle.markdown_engine.specs.Tree.{Forest, leaf}
 use Rattle.markdown_engine.specs.declared.event.Name.TheVariants as N
 use Rattle.markdown_engine.specs.declared.tokenizer.LabelKind.{LabelKind}
 use Rattle.markdown_model.specs.CodeTests.{is_value}
-use Rattle.markdown_model.specs.Element.{as_plain, switched, line_ending, data_code, attention_run, image_start, footnote_start, link_start, code_span, math_span, Tries, tries, tried, first_check, text_element, string_element, text_choice, string_choice, Choice, AreElementsFrom, AreElements, AreStringElements, code_before}
-use Rattle.markdown_model.specs.Grammar.{Reading, ◌>>=◌, ◌>>◌, gives, provided, either, one, word}
-use Rattle.markdown_model.specs.LabelEnd.{Element, plain, starts, ends, Label, label_before, is_barred, footnote_call, link_or_image, outcome_of, label_end}
+use Rattle.markdown_model.specs.Element.{as_plain, line_ending, data_code, attention_run, image_start, footnote_start, link_start, code_span, math_span, Tries, tries, tried, first_check, text_element, string_element, text_choice, string_choice, Choice, AreElementsFrom, AreElements, AreStringElements, code_before}
+use Rattle.markdown_model.specs.Grammar.{Reading, ◌>>=◌, gives, either, one, word}
+use Rattle.markdown_model.specs.LabelEnd.{Element, plain, starts, ends, Label, label_before, outcome_of, label_end}
 use Rattle.markdown_model.specs.Leaf.{code_names, math_names}
 use Rattle.markdown_model.specs.Setting.{Setting}
+use Rattle.markdown_model.proofs.ElementCases.{AllAre, EachConstruct, check_has, either_has, outcome_yields, row_has, string_has}
 use Rattle.markdown_model.proofs.ElementCodes.{covers_text_element, covers_string_element}
 use Rattle.markdown_model.proofs.LabelCodes.{element_codes, unused}
-use Rattle.markdown_model.proofs.LinkFree.{Passes, Yields, yields_bind, yields_gives, yields_passed, yields_either, yields_before}
+use Rattle.markdown_model.proofs.LinkFree.{Passes, Yields, yields_bind, yields_gives, yields_either, yields_before}
 use Rattle.markdown_model.proofs.Readings.{At, Covers}
-use Rattle.markdown_stretch.specs.Lined.{IsSomeLine, IsLined, AtStart, IsLinedElement, AreLined}
+use Rattle.markdown_stretch.specs.Lined.{IsSomeLine, IsLined, AtStart, IsLinedElement}
 use Rattle.markdown_stretch.proofs.LinedLiterals.{TreeThere, protocol-tree, www-tree}
 use Rattle.markdown_stretch.proofs.LinedNodes.{Tree, Trees, one-leaf, line-leaf, escape-tree, break-tree, reference-tree, autolink-tree, span-here-tree, html-tree, check-tree, after-tree}
 use Rattle.markdown_stretch.proofs.LineReadings.{IsOne, one-one, one-line, some-line, word-some}
@@ -42,10 +43,6 @@ module _ (s : Setting) where
   unfolding as_plain
   there-literal end a h = yields_bind (TreeThere s.bytes end) _ _ _ h λ tree k. yields_gives _ (plain tree) k
 
-  there-switched : (on : Bool) (a : Reading Element) → There a → There (switched on a)
-  unfolding switched
-  there-switched on a h = yields_passed _ _ _ h
-
   there-ending : There line_ending
   unfolding line_ending
   there-ending = yields_bind IsOne _ _ _ (one-one _) λ c h. yields_gives _ (plain (leaf N.LineEnding c)) (λ _. one-leaf N.LineEnding c refl h)
@@ -70,14 +67,7 @@ module _ (s : Setting) where
   LinedOutcome outcome = IsLined AtStart outcome.1
 
   lined-outcome : (l : Option Label) (back : List Code) → Yields LinedOutcome (outcome_of s l back)
-  unfolding outcome_of footnote_call link_or_image
-  lined-outcome None back = record { at = λ cs. tt }
-  lined-outcome (Some l) back = record { at = λ cs. whole.at cs }
-    where
-      whole : Yields LinedOutcome (provided (not (is_barred l)) >> either (footnote_call s l back) (link_or_image s l back))
-      whole = yields_passed _ _ _ (yields_either _ _ _
-          (yields_passed _ _ _ (yields_gives _ _ tt))
-          (yields_bind Tree _ _ _ (after-tree s _) λ tail k. yields_gives _ _ k))
+  lined-outcome l back = outcome_yields Tree tt s (after-tree s) l back
 
   there-end : (earlier : List Element) → There (label_end s earlier)
   unfolding label_end
@@ -96,14 +86,6 @@ module _ (s : Setting) where
 
   -- At some codes, and at a code.
 
-  pass-either : (cs : List Code) (a b : Reading Element) → Passes IsThere (a cs) → Passes IsThere (b cs) → Passes IsThere (either a b cs)
-  unfolding either
-  pass-either cs a b h k = by_answer (a cs) h
-    where
-      by_answer : (r : Option (Element × List Code)) → Passes IsThere r → Passes IsThere (elim r [ None ↦ b cs | Some x ↦ Some x ])
-      by_answer None x = k
-      by_answer (Some r) x = x
-
   no-data : Passes IsThere (data_code [])
   unfolding data_code one ◌>>=◌
   no-data = tt
@@ -113,7 +95,7 @@ module _ (s : Setting) where
     Here a = Passes IsThere (a (c ∷ cs))
 
     here-either : (a b : Reading Element) → Here a → Here b → Here (either a b)
-    here-either a b h k = pass-either (c ∷ cs) a b h k
+    here-either a b h k = either_has (Passes IsThere) tt (c ∷ cs) a b h k
 
     -- the first, where it holds
     here-first : (a b : Reading Element) (e : Element) (rest : List Code) → a (c ∷ cs) ≡ Some (e, rest) → IsThere e → Here (either a b)
@@ -131,94 +113,52 @@ module _ (s : Setting) where
     ending-there : IsThere (plain (leaf N.LineEnding (c ∷ [])))
     ending-there = λ _. one-leaf N.LineEnding (c ∷ []) refl tt
 
-    abbrev EachHere : Tries → Type 0
-    EachHere [] = Unit {0}
-    EachHere (row ∷ rows) = Here row.1 × EachHere rows
-
-    here-tried : (rows : Tries) (v : ℕ) → EachHere rows → Here data_code → Here (tried rows v)
-    unfolding tried
-    here-tried [] v h k = k
-    here-tried (row ∷ rows) v h k = by_test (list_any (λ n. v == n) row.0) (here-tried rows v h.1 k)
-      where
-        by_test : (b : Bool) → Here (tried rows v) → Passes IsThere ((elim b as (λ _. Reading Element) [ true ↦ row.1 | false ↦ tried rows v ]) (c ∷ cs))
-        by_test true x = h.0
-        by_test false x = x
-
     first-tried : (row : List ℕ × Reading Element) (rows : Tries) (v : ℕ) → list_any (λ n. v == n) row.0 ≡ true → tried (row ∷ rows) v (c ∷ cs) ≡ row.1 (c ∷ cs)
     unfolding tried
     first-tried row rows v h = ap (λ b. (elim b as (λ _. Reading Element) [ true ↦ row.1 | false ↦ tried rows v ]) (c ∷ cs)) h
 
     module _ (end : ℕ) (earlier : List Element) (previous : Option Code) where
-      each-here : EachHere (tries s end earlier previous)
-      unfolding tries
-      each-here = (
-        there-ending.at (c ∷ cs),
-        (
-          (there-switched _ _ (there-image _)).at (c ∷ cs),
-          (
-            (there-switched _ _ (there-math _ _ _)).at (c ∷ cs),
-            (
-              (there-switched _ _ (there-code _ _)).at (c ∷ cs),
-              (
-                (there-switched _ _ (there-plain _ (reference-tree _))).at (c ∷ cs),
-                (
-                  (there-switched _ _ (there-run 42 refl)).at (c ∷ cs),
-                  (
-                    (there-switched _ _ (there-run 95 refl)).at (c ∷ cs),
-                    (
-                      (there-switched _ _ (there-run 126 refl)).at (c ∷ cs),
-                      (
-                        here-either _ _ ((there-switched _ _ (there-plain _ autolink-tree)).at (c ∷ cs)) ((there-switched _ _ (there-plain _ html-tree)).at (c ∷ cs)),
-                        (
-                          (there-switched _ _ (there-literal end _ (protocol-tree s.bytes end previous))).at (c ∷ cs),
-                          (
-                            (there-switched _ _ (there-literal end _ (www-tree s.bytes end previous))).at (c ∷ cs),
-                            (
-                              here-either _ _ ((there-switched _ _ there-footnote).at (c ∷ cs)) ((there-switched _ _ there-link).at (c ∷ cs)),
-                              (
-                                here-either _ _ ((there-switched _ _ (there-plain _ escape-tree)).at (c ∷ cs)) ((there-switched _ _ (there-plain _ break-tree)).at (c ∷ cs)),
-                                (
-                                  (there-switched _ _ (there-end earlier)).at (c ∷ cs),
-                                  tt,
-                                ),
-                              ),
-                            ),
-                          ),
-                        ),
-                      ),
-                    ),
-                  ),
-                ),
-              ),
-            ),
-          ),
-        ),
-      )
+      each-here : EachConstruct s end earlier previous (Passes IsThere) (c ∷ cs)
+      each-here = record {
+        none = tt;
+        ending = there-ending.at (c ∷ cs);
+        image = λ footnotes. (there-image footnotes).at (c ∷ cs);
+        math = λ single. (there-math single earlier previous).at (c ∷ cs);
+        code = (there-code earlier previous).at (c ∷ cs);
+        referred = (there-plain _ (reference-tree s.references)).at (c ∷ cs);
+        stars = λ _. (there-run 42 refl).at (c ∷ cs);
+        underscores = λ _. (there-run 95 refl).at (c ∷ cs);
+        tildes = λ _. (there-run 126 refl).at (c ∷ cs);
+        linked = (there-plain _ autolink-tree).at (c ∷ cs);
+        tagged = (there-plain _ html-tree).at (c ∷ cs);
+        protocol = (there-literal end _ (protocol-tree s.bytes end previous)).at (c ∷ cs);
+        www = (there-literal end _ (www-tree s.bytes end previous)).at (c ∷ cs);
+        footnote = there-footnote.at (c ∷ cs);
+        link = there-link.at (c ∷ cs);
+        escaped = (there-plain _ escape-tree).at (c ∷ cs);
+        broken = (there-plain _ break-tree).at (c ∷ cs);
+        ended = (there-end earlier).at (c ∷ cs);
+        checked = (there-plain _ check-tree).at (c ∷ cs);
+      }
 
       tried-ending : is_line_ending c ≡ true → tried (tries s end earlier previous) c.value (c ∷ cs) ≡ line_ending (c ∷ cs)
       unfolding tries
       tried-ending h = first-tried _ _ c.value (ap (λ b. b || false) h)
 
-      here-check : Here (first_check s end earlier previous)
-      unfolding first_check
-      here-check = (there-switched _ _ (there-plain _ check-tree)).at (c ∷ cs)
-
       here-row : (b : Bool) → is_line_ending c ≡ b → Here (either (tried (tries s end earlier previous) c.value) data_code)
       here-row true h = here-first (tried (tries s end earlier previous) c.value) data_code (plain (leaf N.LineEnding (c ∷ []))) cs (tried-ending h ∙ ending-read h) ending-there
-      here-row false h = here-either (tried (tries s end earlier previous) c.value) data_code (here-tried (tries s end earlier previous) c.value each-here (here-data h)) (here-data h)
+      here-row false h = here-either (tried (tries s end earlier previous) c.value) data_code (row_has s end earlier previous (Passes IsThere) c.value (c ∷ cs) each-here (here-data h)) (here-data h)
 
       here-text : Here (text_element s end earlier previous)
       unfolding text_element
-      here-text = here-either (first_check s end earlier previous) (either (tried (tries s end earlier previous) c.value) data_code) here-check (here-row (is_line_ending c) refl)
+      here-text = here-either (first_check s end earlier previous) (either (tried (tries s end earlier previous) c.value) data_code) (check_has s end earlier previous (Passes IsThere) (c ∷ cs) each-here) (here-row (is_line_ending c) refl)
 
     here-plain : (b : Bool) → is_line_ending c ≡ b → Here (either line_ending data_code)
     here-plain true h = here-first line_ending data_code (plain (leaf N.LineEnding (c ∷ []))) cs (ending-read h) ending-there
     here-plain false h = here-either line_ending data_code (there-ending.at (c ∷ cs)) (here-data h)
 
     here-string : Here (string_element s)
-    unfolding string_element
-    here-string =
-        here-either _ _ ((there-switched _ _ (there-plain _ escape-tree)).at (c ∷ cs)) (here-either _ _ ((there-switched _ _ (there-plain _ (reference-tree _))).at (c ∷ cs)) (here-plain (is_line_ending c) refl))
+    here-string = string_has (Passes IsThere) tt (c ∷ cs) s ((there-plain _ escape-tree).at (c ∷ cs)) ((there-plain _ (reference-tree s.references)).at (c ∷ cs)) (here-plain (is_line_ending c) refl)
 
   -- Lists of elements.
 
@@ -231,7 +171,7 @@ module _ (s : Setting) where
   -- where each choice covers its codes, and is on lines at any code
   lined-elements : (choice : Choice) → ((earlier : List Element) (previous : Option Code) → Covers (element_codes (unused earlier)) [] (choice earlier previous))
       → ((earlier : List Element) (previous : Option Code) (cs : List Code) → Passes IsThere (choice earlier previous cs))
-      → (es earlier : List Element) (previous : Option Code) (cs : List Code) → AreSpaced s.bytes cs → AreElementsFrom choice earlier previous cs es → AreLined es
+      → (es earlier : List Element) (previous : Option Code) (cs : List Code) → AreSpaced s.bytes cs → AreElementsFrom choice earlier previous cs es → AllAre IsLinedElement es
   lined-elements choice covers there [] earlier previous cs k h = tt
   lined-elements choice covers there (e ∷ es) earlier previous cs k h =
       let d : ℕ = unused earlier in
@@ -245,16 +185,15 @@ module _ (s : Setting) where
   text-there end earlier previous (c ∷ cs) = here-text c cs end earlier previous
 
   string-none : Passes IsThere (string_element s [])
-  unfolding string_element
   string-none =
-      pass-either [] _ _ ((there-switched _ _ (there-plain _ escape-tree)).at []) (pass-either [] _ _ ((there-switched _ _ (there-plain _ (reference-tree _))).at []) (pass-either [] line_ending data_code (there-ending.at []) no-data))
+      string_has (Passes IsThere) tt [] s ((there-plain _ escape-tree).at []) ((there-plain _ (reference-tree s.references)).at []) (either_has (Passes IsThere) tt [] line_ending data_code (there-ending.at []) no-data)
 
   string-there : (earlier : List Element) (previous : Option Code) (cs : List Code) → Passes IsThere (string_choice s earlier previous cs)
   string-there earlier previous [] = string-none
   string-there earlier previous (c ∷ cs) = here-string c cs
 
-  pub text-lined : (cs : List Code) (es : List Element) → AreSpaced s.bytes cs → AreElements s cs es → AreLined es
+  pub text-lined : (cs : List Code) (es : List Element) → AreSpaced s.bytes cs → AreElements s cs es → AllAre IsLinedElement es
   text-lined cs es k h = lined-elements (text_choice s cs) (λ earlier previous. covers_text_element s _ earlier previous) (λ earlier previous ds. text-there _ earlier previous ds) es [] None cs k h
 
-  pub string-lined : (cs : List Code) (es : List Element) → AreSpaced s.bytes cs → AreStringElements s cs es → AreLined es
+  pub string-lined : (cs : List Code) (es : List Element) → AreSpaced s.bytes cs → AreStringElements s cs es → AllAre IsLinedElement es
   string-lined cs es k h = lined-elements (string_choice s) (λ earlier previous. covers_string_element s (unused earlier)) string-there es [] None cs k h

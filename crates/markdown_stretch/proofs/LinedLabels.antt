@@ -1,5 +1,5 @@
 -- The tree of labels of elements on lines: the text of a label without a code stands between its markers.
-use Rattle.std.proofs.Common.{◌≡◌, ◌≢◌, List, [], ◌∷◌, ◌++◌, length, drop, map, Some, None, inl, inr, refl, sym, ap, ◌∙◌, append-nil, append_assoc}
+use Rattle.std.proofs.Common.{◌≡◌, ◌≢◌, List, [], ◌∷◌, ◌++◌, length, drop, Option, Some, None, inl, inr, refl, sym, ap, ◌∙◌, append-nil, append_assoc}
 use Rattle.std.specs.List.{list_any}
 use Rattle.markdown_engine.specs.Codes.{Code, document_start, is_line_ending, stop_of}
 use Rattle.markdown_engine.specs.Tree.{Forest, empty, leaf, leaf_codes, ◌⊕◌, group, text_group, start_of}
@@ -7,14 +7,16 @@ use Rattle.markdown_engine.specs.declared.event.Name.TheVariants as N
 use Rattle.markdown_engine.specs.declared.event.Point.{Point}
 use Rattle.markdown_engine.specs.declared.tokenizer.LabelKind.{LabelKind}
 use Rattle.markdown_engine.proofs.TreeLemmas.{leaf_codes-row}
-use Rattle.markdown_model.specs.Groups.{nested, joined, loose}
-use Rattle.markdown_model.specs.LabelEnd.{Element, plain, starts, ends}
-use Rattle.markdown_model.specs.Passes.{Start, End, as_bracket, start_marker, start_tree, label_group, loose_start, loose_end, labelled, labels_of}
+use Rattle.markdown_model.specs.Groups.{joined, loose}
+use Rattle.markdown_model.specs.LabelEnd.{Element, ends}
+use Rattle.markdown_model.specs.Passes.{start_marker, start_tree, label_group, labels_of}
+use Rattle.markdown_model.proofs.ElementCases.{AllAre}
+use Rattle.markdown_model.proofs.LabelWords.{labels-have}
 use Rattle.markdown_model.proofs.LabelCodes.{codes-label_group, codes-start_tree, whole_marker}
 use Rattle.markdown_model.proofs.Leaves.{codes-leaf}
-use Rattle.markdown_stretch.specs.Lined.{IsLine, IsSomeLine, IsIn, IsLined, AtStart, IsBetween, Stands, IsApart, AreLined}
+use Rattle.markdown_stretch.specs.Lined.{IsLine, IsSomeLine, IsIn, IsLined, AtStart, IsBetween, Stands, IsApart, IsLinedElement}
 use Rattle.markdown_stretch.proofs.LinedTrees.{line-both, none-left, lined-weaker, lined-row, lined-leaf, lined-group}
-use Rattle.markdown_model.proofs.Words.{AllHave, all-append, joined-has, WordHas, nested-has}
+use Rattle.markdown_model.proofs.Words.{AllHave, joined-has}
 
 -- Parts of a list.
 
@@ -138,30 +140,12 @@ module _ (kind : LabelKind) (marker : List Code) (inside : Forest) (back : List 
 
 -- The tree of labels.
 
-abbrev IsStart : Start → Type 0
-IsStart o = IsSomeLine o.1
+end-line : (marker : List Code) (outcome : Option (LabelKind × Forest)) → IsLinedElement (ends marker outcome) → IsLine marker
+end-line marker None e = e.1
+end-line marker (Some outcome) e = e.0.1
 
-abbrev IsEnd : End → Type 0
-IsEnd (marker, None) = IsSomeLine marker
-IsEnd (marker, Some outcome) = IsSomeLine marker × IsLined AtStart outcome.1
-
-labelled-has : (start : Start) (inside : List Forest) (end : End) → IsStart start → AllHave (IsApart AtStart) inside → IsEnd end → AllHave (IsApart AtStart) (labelled start inside end)
-labelled-has start inside (marker, None) s h e = all-append (IsApart AtStart) (loose start.1) (inside ++ loose marker) (apart-loose AtStart start.1 s.1) (all-append (IsApart AtStart) inside (loose marker) h (apart-loose AtStart marker e.1))
-labelled-has start inside (marker, Some outcome) s h e = (apart-label outcome.0 start.1 (joined inside) marker outcome.1 s (apart-joined AtStart inside h) e.0 e.1, tt)
-
-end-has : (end : End) → IsEnd end → AllHave (IsApart AtStart) (loose_end end)
-end-has (marker, None) e = apart-loose AtStart marker e.1
-end-has (marker, Some outcome) e = apart-loose AtStart marker e.0.1
-
-word-has : (es : List Element) → AreLined es → WordHas (IsApart AtStart) IsStart IsEnd (map as_bracket es)
-word-has [] h = tt
-word-has (plain t ∷ es) h = (lined-weaker AtStart (Stands AtStart (leaf_codes t)) (λ a b k. inl k) t h.0, word-has es h.1)
-word-has (starts kind marker ∷ es) h = (h.0, word-has es h.1)
-word-has (ends marker None ∷ es) h = (h.0, word-has es h.1)
-word-has (ends marker (Some outcome) ∷ es) h = (h.0, word-has es h.1)
-
-pub apart-labels : (es : List Element) → AreLined es → IsApart AtStart (labels_of es)
-unfolding labels_of
+pub apart-labels : (es : List Element) → AllAre IsLinedElement es → IsApart AtStart (labels_of es)
 apart-labels es h =
-    apart-joined AtStart (nested labelled loose_start loose_end (map as_bracket es))
-    (nested-has (IsApart AtStart) IsStart IsEnd labelled loose_start loose_end labelled-has (λ o k. apart-loose AtStart o.1 k.1) end-has (map as_bracket es) (word-has es h))
+    labels-have (IsApart AtStart) IsLinedElement tt (apart-row AtStart) (λ t k. lined-weaker AtStart (Stands AtStart (leaf_codes t)) (λ a b l. inl l) t k)
+    (λ kind marker k. (apart-loose AtStart marker k.1).0) (λ marker outcome k. (apart-loose AtStart marker (end-line marker outcome k)).0)
+    (λ kind marker inside back outcome m i e. apart-label outcome.0 marker inside back outcome.1 m i e.0 e.1) es h

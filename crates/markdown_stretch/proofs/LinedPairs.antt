@@ -15,8 +15,8 @@ use Rattle.markdown_model.proofs.Coverage.{codes-pair_group, codes-assembled, co
 use Rattle.markdown_model.proofs.Nesting.{codes-joined}
 use Rattle.markdown_stretch.specs.Lined.{IsLine, IsSomeLine, IsLined, Stands, IsApart}
 use Rattle.markdown_stretch.proofs.LinedLabels.{apart-in, apart-joined, apart-loose, stands-between}
-use Rattle.markdown_stretch.proofs.LinedTrees.{lined-group, lined-leaf, lined-row}
-use Rattle.markdown_stretch.proofs.RunWords.{run-has}
+use Rattle.markdown_stretch.proofs.LinedTrees.{line-parts, lined-group, lined-leaf, lined-row}
+use Rattle.markdown_model.proofs.PairWords.{run-has}
 use Rattle.markdown_model.proofs.Words.{AllHave, WordHas, word-append, nested-has}
 
 module _ (B : Point → Point → Type 0) where
@@ -81,7 +81,7 @@ module _ (B : Point → Point → Type 0) where
     tokens-has empty ps n r h = tt
     tokens-has (leaf_then N.AttentionSequence link cs rest) ps n r h =
         word-append (IsApart B) IsLine IsLine (run_tokens ps n (run_of s cs)) (tokens_of s pairs_of rest ps (suc n))
-        (run-has (IsApart B) data-has ps n (run_of s cs) (ap (list_any is_line_ending) (codes-run_of s cs) ∙ h.0.1 refl)) (tokens-has rest ps (suc n) r.1 h.1)
+        (run-has (IsApart B) IsLine data-has line-parts ps n (run_of s cs) (ap (list_any is_line_ending) (codes-run_of s cs) ∙ h.0.1 refl)) (tokens-has rest ps (suc n) r.1 h.1)
     tokens-has (leaf_then name link cs rest) ps n r h = ((h.0, tt), tokens-has rest ps n r.1 h.1)
     tokens-has (group_then name a b inside rest) ps n r h =
         let w : List Token = tokens_of s pairs_of inside (pairs_of (runs_of s inside)) 0 in

@@ -1,18 +1,19 @@
 -- Trees on lines: rows of them, and what merging, trimming and finding emails leave of them.
-use Rattle.std.proofs.Common.{◌≡◌, ◌≢◌, ℕ, zero, suc, Bool, true, false, ◌&&◌, ◌||◌, List, [], ◌∷◌, ◌++◌, length, reverse, Option, Some, None, refl, sym, ap, ◌∙◌}
+use Rattle.std.proofs.Common.{◌≡◌, ◌≢◌, ℕ, Bool, true, false, List, [], ◌∷◌, ◌++◌, take, drop, refl, sym, ap, ◌∙◌}
 use Rattle.std.specs.List.{list_any}
 use Rattle.std.proofs.lemmas.Bool.{or_parts, both_ways, or_from}
+use Rattle.std.proofs.lemmas.List.{take-append-drop}
 use Rattle.std.proofs.lemmas.List.Folds.{list_any-append}
-use Rattle.markdown_engine.specs.Codes.{Code, is_blank, is_line_ending}
+use Rattle.markdown_engine.specs.Codes.{Code, is_line_ending}
 use Rattle.markdown_engine.specs.Tree.{Forest, empty, leaf_then, group_then, leaf, leaf_codes, ◌⊕◌}
 use Rattle.markdown_engine.specs.declared.event.Name.{Name}
 use Rattle.markdown_engine.specs.declared.event.Name.TheVariants as N
 use Rattle.markdown_engine.specs.declared.event.Point.{Point}
-use Rattle.markdown_model.specs.Email.{email_at, email_leaves, with_emails, is_local, is_xmpp, email_protocol, email_domain}
-use Rattle.markdown_model.specs.Grammar.{span}
-use Rattle.markdown_model.specs.Passes.{data_onto, merged, begins_line_ending, is_nothing, blank_name, trimmed_data, trimmed, mailed}
+use Rattle.markdown_model.specs.Email.{with_emails}
+use Rattle.markdown_model.specs.Passes.{merged, trimmed_data, trimmed, mailed}
 use Rattle.markdown_model.proofs.Coverage.{codes-merged, codes-trimmed_data, codes-trimmed, codes-mailed}
 use Rattle.markdown_model.proofs.Literals.{codes-with_emails}
+use Rattle.markdown_model.proofs.PassRows.{Walks, walks-row, walks-merged, walks-trimmed, walks-mailed, trimmed_data-has, with_emails-has}
 use Rattle.markdown_row.specs.Trees.{makes_data}
 use Rattle.markdown_stretch.specs.Lined.{IsLine, IsSomeLine, IsOnLine, IsLined}
 
@@ -40,6 +41,9 @@ pub none-left : (xs ys : List Code) → xs ++ ys ≡ [] → (xs ≡ []) × (ys �
 none-left [] ys e = (refl, e)
 none-left (x ∷ xs) ys e = absurd (filled x (xs ++ ys) e)
 
+pub line-parts : (n : ℕ) (cs : List Code) → IsLine cs → IsLine (take n cs) × IsLine (drop n cs)
+line-parts n cs h = line-both (take n cs) (drop n cs) (ap (list_any is_line_ending) (take-append-drop n cs) ∙ h)
+
 -- Rows of leaves.
 
 abbrev pub AreLeaves : Forest → Type 0
@@ -56,47 +60,11 @@ leaves-row empty u h k = k
 leaves-row (leaf_then name link cs rest) u h k = (h.0, leaves-row rest u h.1 k)
 leaves-row (group_then name a b inside rest) u h k = absurd h
 
-leaves-trimmed_data : (front back hard : Bool) (cs : List Code) → AreLeaves (trimmed_data front back hard cs)
-leaves-trimmed_data front back hard cs =
-    leaves-row (leaf N.SpaceOrTab lead.0) (leaf N.Data lead.1 ⊕ leaf (blank_name hard (reverse cut.0)) (reverse cut.0)) (leaves-leaf N.SpaceOrTab lead.0)
-    (leaves-row (leaf N.Data lead.1) (leaf (blank_name hard (reverse cut.0)) (reverse cut.0)) (leaves-leaf N.Data lead.1) (leaves-leaf (blank_name hard (reverse cut.0)) (reverse cut.0)))
-  where
-    cut : List Code × List Code
-    cut = elim back [ true ↦ span is_blank (reverse cs) | false ↦ ([], reverse cs) ]
+pub leaves-trimmed_data : (front back hard : Bool) (cs : List Code) → AreLeaves (trimmed_data front back hard cs)
+leaves-trimmed_data front back hard cs = trimmed_data-has AreLeaves leaves-row (leaves-leaf N.Data) (leaves-leaf N.HardBreakTrailing) (leaves-leaf N.SpaceOrTab) front back hard cs
 
-    lead : List Code × List Code
-    lead = elim front [ true ↦ span is_blank (reverse cut.1) | false ↦ ([], reverse cut.1) ]
-
-abbrev AnswersLeaves : Option (List Code × Forest × List Code) → Type 0
-AnswersLeaves None = Unit {0}
-AnswersLeaves (Some r) = AreLeaves r.1
-
-leaves-email_at : (before : List Code) (at : Code) (after : List Code) → AnswersLeaves (email_at before at after)
-unfolding email_at
-leaves-email_at before at after = by_test _
-  where
-    by_test : (b : Bool) →
-        let local : List Code × List Code = span is_local before in
-        let protocol : Name × List Code × List Code = email_protocol local.1 in
-        let domain : List Code × List Code = email_domain (is_xmpp protocol.0) after in
-        AnswersLeaves (elim b [ true ↦ Some (reverse protocol.2, leaf protocol.0 (reverse (local.0 ++ protocol.1) ++ at ∷ domain.0), domain.1) | false ↦ None ])
-    by_test true = leaves-leaf _ _
-    by_test false = tt
-
-leaves-email_leaves : (n : ℕ) (before cs : List Code) → AreLeaves (email_leaves n before cs)
-unfolding email_leaves
-leaves-email_leaves n before [] = leaves-leaf N.Data (reverse before)
-leaves-email_leaves zero before (c ∷ cs) = leaves-leaf N.Data (reverse before ++ c ∷ cs)
-leaves-email_leaves (suc n) before (c ∷ cs) = by_answer (email_at before c cs) (leaves-email_at before c cs) (leaves-email_leaves n)
-  where
-    by_answer : (r : Option (List Code × Forest × List Code)) → AnswersLeaves r → ((front ds : List Code) → AreLeaves (email_leaves n front ds))
-        → AreLeaves (elim r [ None ↦ email_leaves n (c ∷ before) cs | Some x ↦ leaf N.Data x.0 ⊕ x.1 ⊕ email_leaves n [] x.2 ])
-    by_answer None h more = more (c ∷ before) cs
-    by_answer (Some x) h more = leaves-row _ _ (leaves-leaf N.Data x.0) (leaves-row x.1 _ h (more [] x.2))
-
-leaves-with_emails : (cs : List Code) → AreLeaves (with_emails cs)
-unfolding with_emails
-leaves-with_emails cs = leaves-email_leaves (length cs) [] cs
+pub leaves-with_emails : (cs : List Code) → AreLeaves (with_emails cs)
+leaves-with_emails cs = with_emails-has AreLeaves leaves-row (leaves-leaf N.Data) (λ before ds. leaves-leaf _ ds) cs
 
 -- Rows.
 
@@ -107,10 +75,17 @@ lined-weaker E F w (leaf_then name link cs rest) h = (h.0, lined-weaker E F w re
 lined-weaker E F w (group_then name a b inside rest) h = (λ e. w a b (h.0 e), (lined-weaker E F w inside h.1.0, lined-weaker E F w rest h.1.1))
 
 module _ (E : Point → Point → Type 0) where
+  lined : Walks (IsLined E) (λ name link cs. IsOnLine cs × (makes_data name ≡ true → IsLine cs)) (λ name a b inside. leaf_codes inside ≡ [] → E a b)
+  lined = record {
+    none = tt;
+    leaf_of = λ name link cs rest h. h;
+    leaf_to = λ name link cs rest h k. (h, k);
+    group_of = λ name a b inside rest h. (h.0, h.1.0, h.1.1);
+    group_to = λ name a b inside rest g h k. (g, (h, k));
+  }
+
   pub lined-row : (t u : Forest) → IsLined E t → IsLined E u → IsLined E (t ⊕ u)
-  lined-row empty u h k = k
-  lined-row (leaf_then name link cs rest) u h k = (h.0, lined-row rest u h.1 k)
-  lined-row (group_then name a b inside rest) u h k = (h.0, (h.1.0, lined-row rest u h.1.1 k))
+  lined-row t u h k = walks-row lined t u h k
 
   -- leaves of one line
   pub lined-leaves : (t : Forest) → AreLeaves t → IsLine (leaf_codes t) → IsLined E t
@@ -133,44 +108,19 @@ module _ (E : Point → Point → Type 0) where
   lined-group name a b n [] more some h = absurd (some refl)
   lined-group name a b n (c ∷ cs) more some h = (λ e. absurd (filled c (cs ++ leaf_codes more) e), (h, tt))
 
-  -- Merging.
+  -- The passes.
 
-  lined-onto : (cs : List Code) (f : Forest) → IsSomeLine cs → IsLined E f → IsLined E (data_onto cs f)
-  lined-onto cs (leaf_then N.Data None more rest) l h =
-      let both : IsLine (cs ++ more) = line-join cs more l.1 (h.0.1 refl) in
-      ((on-line (cs ++ more) ((λ e. l.0 (none-left cs more e).0), both), λ e. both), h.1)
-  lined-onto cs rest l h = ((on-line cs l, λ e. l.1), h)
+  lined-both : (cs ds : List Code) → IsOnLine cs → IsLine cs → IsLine ds → IsOnLine (cs ++ ds) × (true ≡ true → IsLine (cs ++ ds))
+  lined-both cs ds some h k = let both : IsLine (cs ++ ds) = line-join cs ds h k in (on-line (cs ++ ds) ((λ e. on-some cs some (none-left cs ds e).0), both), λ e. both)
 
   pub lined-merged : (t : Forest) → IsLined E t → IsLined E (merged t)
-  unfolding merged
-  lined-merged empty h = tt
-  lined-merged (leaf_then N.Data None cs rest) h = lined-onto cs (merged rest) (on-some cs h.0.0, h.0.1 refl) (lined-merged rest h.1)
-  lined-merged (leaf_then name link cs rest) h = (h.0, lined-merged rest h.1)
-  lined-merged (group_then name a b inside rest) h = (λ e. h.0 (sym (codes-merged inside) ∙ e), (lined-merged inside h.1.0, lined-merged rest h.1.1))
-
-  -- Trimming.
+  lined-merged t h = walks-merged lined (λ cs ds k l. lined-both cs ds k.0 (k.1 refl) (l.1 refl)) (λ name a b inside _ g e. g (sym (codes-merged inside) ∙ e)) t h
 
   pub lined-trimmed : (hard front whole : Bool) (t : Forest) → IsLined E t → IsLined E (trimmed hard front whole t)
-  unfolding trimmed
-  lined-trimmed hard front whole empty h = tt
-  lined-trimmed hard front whole (leaf_then N.Data None cs rest) h =
-      let D : Forest = trimmed_data front (begins_line_ending rest || (whole && is_nothing rest)) (hard && begins_line_ending rest) cs in
-      let same : leaf_codes D ≡ cs = codes-trimmed_data front (begins_line_ending rest || (whole && is_nothing rest)) (hard && begins_line_ending rest) cs in
-      lined-row D (trimmed hard false whole rest)
-      (lined-leaves D (leaves-trimmed_data front (begins_line_ending rest || (whole && is_nothing rest)) (hard && begins_line_ending rest) cs) (ap (list_any is_line_ending) same ∙ h.0.1 refl))
-      (lined-trimmed hard false whole rest h.1)
-  lined-trimmed hard front whole (leaf_then N.LineEnding link cs rest) h = (h.0, lined-trimmed hard true whole rest h.1)
-  lined-trimmed hard front whole (leaf_then name link cs rest) h = (h.0, lined-trimmed hard false whole rest h.1)
-  lined-trimmed hard front whole (group_then name a b inside rest) h =
-      (λ e. h.0 (sym (codes-trimmed hard false false inside) ∙ e), (lined-trimmed hard false false inside h.1.0, lined-trimmed hard false whole rest h.1.1))
-
-  -- Emails.
+  lined-trimmed hard front whole t h =
+      walks-trimmed lined hard (λ x y z cs k. lined-leaves (trimmed_data x y z cs) (leaves-trimmed_data x y z cs) (ap (list_any is_line_ending) (codes-trimmed_data x y z cs) ∙ k.1 refl))
+      (λ name a b inside _ g e. g (sym (codes-trimmed hard false false inside) ∙ e)) front whole t h
 
   pub lined-mailed : (t : Forest) → IsLined E t → IsLined E (mailed t)
-  unfolding mailed
-  lined-mailed empty h = tt
-  lined-mailed (leaf_then N.Data None cs rest) h =
-      lined-row (with_emails cs) (mailed rest) (lined-leaves (with_emails cs) (leaves-with_emails cs) (ap (list_any is_line_ending) (codes-with_emails cs) ∙ h.0.1 refl)) (lined-mailed rest h.1)
-  lined-mailed (leaf_then name link cs rest) h = (h.0, lined-mailed rest h.1)
-  lined-mailed (group_then N.Link a b inside rest) h = (h.0, (h.1.0, lined-mailed rest h.1.1))
-  lined-mailed (group_then name a b inside rest) h = (λ e. h.0 (sym (codes-mailed inside) ∙ e), (lined-mailed inside h.1.0, lined-mailed rest h.1.1))
+  lined-mailed t h =
+      walks-mailed lined (λ cs k. lined-leaves (with_emails cs) (leaves-with_emails cs) (ap (list_any is_line_ending) (codes-with_emails cs) ∙ k.1 refl)) (λ name a b inside _ g e. g (sym (codes-mailed inside) ∙ e)) t h

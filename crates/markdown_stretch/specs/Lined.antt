@@ -58,7 +58,3 @@ IsLinedElement (plain t) = IsLined AtStart t
 IsLinedElement (starts kind marker) = IsSomeLine marker
 IsLinedElement (ends marker None) = IsSomeLine marker
 IsLinedElement (ends marker (Some outcome)) = IsSomeLine marker × IsLined AtStart outcome.1
-
-abbrev pub AreLined : List Element → Type 0
-AreLined [] = Unit {0}
-AreLined (e ∷ es) = IsLinedElement e × AreLined es
