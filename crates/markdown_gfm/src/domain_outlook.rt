@@ -75,10 +75,8 @@ fn closes(place: &Cursor) -> bool
     requires { IsSome (code_at place.now) }
     ensures { result ≡ ends_bracket (code_at (moved place.now)) }
 {
-    let mut behind = place.save();
-    behind.consume();
     matches!(
-        behind.current(),
+        place.next(),
         None | Some(b' ' | b'\t' | b'\n' | b'(' | b'[')
     )
 }
