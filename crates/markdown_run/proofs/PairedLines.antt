@@ -1,16 +1,16 @@
 -- Pairing keeps what is said of the lines of a tree: no data that it makes is empty or holds a line ending.
-use Rattle.std.proofs.Common.{◌≡◌, ◌≢◌, ℕ, suc, Bool, true, false, ◌==◌, Option, List, [], ◌∷◌, length, None, refl, ap, ◌∙◌}
+use Rattle.std.proofs.Common.{◌≡◌, ◌≢◌, ℕ, suc, true, false, Option, List, [], ◌∷◌, None, refl, ap, ◌∙◌}
 use Rattle.std.specs.List.{list_any}
-use Rattle.markdown_engine.specs.Codes.{Code, is_line_ending, stop_of, document_start}
-use Rattle.markdown_engine.specs.Tree.{Forest, empty, leaf_then, group_then, leaf, ◌⊕◌, start_of}
+use Rattle.markdown_engine.specs.Codes.{Code, is_line_ending}
+use Rattle.markdown_engine.specs.Tree.{Forest, empty, leaf_then, group_then, leaf}
 use Rattle.markdown_engine.specs.declared.event.Content.{Content}
 use Rattle.markdown_engine.specs.declared.event.Name.{Name}
 use Rattle.markdown_engine.specs.declared.event.Name.TheVariants as N
 use Rattle.markdown_attention.specs.Reading.{is_run}
 use Rattle.markdown_emphasis.specs.Trees.{HasStripes}
-use Rattle.markdown_model.specs.Groups.{nested, joined, loose, pair_names, pair_group, Token, run_tokens, assembled, tokens_of, paired}
+use Rattle.markdown_model.specs.Groups.{pair_names, Token, run_tokens, assembled, tokens_of, paired}
 use Rattle.markdown_model.specs.Pairs.{Pair}
-use Rattle.markdown_model.specs.Runs.{Run, marker_of, run_of, runs_of}
+use Rattle.markdown_model.specs.Runs.{Run, run_of, runs_of}
 use Rattle.markdown_model.specs.Setting.{Setting}
 use Rattle.markdown_model.proofs.Coverage.{codes-run_of}
 use Rattle.markdown_partial.specs.Merge.{is_data}
@@ -21,7 +21,7 @@ use Rattle.markdown_stretch.specs.Lined.{IsLine}
 use Rattle.markdown_stretch.proofs.LinedTrees.{line-parts}
 use Rattle.markdown_model.proofs.NameTests.{pair-named}
 use Rattle.markdown_model.proofs.PairWords.{run-has, assembled-has}
-use Rattle.markdown_model.proofs.Words.{AllHave, joined-has, WordHas, word-append, nested-has}
+use Rattle.markdown_model.proofs.Words.{WordHas, word-append}
 
 lines-leaf : (name : Name) (cs : List Code) → IsLine cs → HasLines (leaf name cs)
 lines-leaf name [] h = tt

@@ -1,5 +1,5 @@
 -- The inline tree of a text: the labels of its elements grouped, paired, merged and trimmed, and its emails set apart.
-use Rattle.std.proofs.Common.{◌≡◌, ℕ, Bool, true, false, ◌==◌, List, [], ◌∷◌, Option, None, Some, refl, sym, ap, subst, ◌∙◌}
+use Rattle.std.proofs.Common.{◌≡◌, ℕ, Bool, true, false, List, [], ◌∷◌, Option, None, Some, refl, ap, ◌∙◌}
 use Rattle.std.proofs.lemmas.Bool.{both_ways}
 use Rattle.markdown_engine.specs.Codes.{Code, stop_of, document_start}
 use Rattle.markdown_engine.specs.Tree.{Forest, leaf}
@@ -7,7 +7,7 @@ use Rattle.markdown_engine.specs.declared.event.Name.{Name}
 use Rattle.markdown_engine.specs.declared.event.Name.TheVariants as N
 use Rattle.markdown_engine.specs.declared.configuration.Constructs.{Constructs}
 use Rattle.markdown_engine.specs.declared.tokenizer.LabelKind.{LabelKind}
-use Rattle.markdown_model.specs.Element.{attention_run, as_plain, switched, line_ending, data_code, code_span, math_span, Tries, tries, tried, first_check, text_element, image_start, footnote_start, link_start, AreElementsFrom, text_choice, code_before, AreElements, elements_of}
+use Rattle.markdown_model.specs.Element.{attention_run, as_plain, line_ending, data_code, code_span, math_span, text_element, image_start, footnote_start, link_start, text_choice, AreElements, elements_of}
 use Rattle.markdown_model.specs.Grammar.{Reading}
 use Rattle.markdown_model.specs.Groups.{paired}
 use Rattle.markdown_model.specs.Inline.{label_tree, raw_tree, finished_text, text_tree}
@@ -19,7 +19,7 @@ use Rattle.markdown_model.specs.Runs.{Run}
 use Rattle.markdown_model.specs.Setting.{Setting}
 use Rattle.markdown_model.proofs.ElementCases.{AllAre, EachConstruct, all_are, text_has}
 use Rattle.markdown_model.proofs.ElementLaws.{text_elements, same_text_elements}
-use Rattle.markdown_model.proofs.LinkFree.{Passes, Yields, yields_bind, yields_gives, yields_passed, yields_either, then_any}
+use Rattle.markdown_model.proofs.LinkFree.{Passes, Yields, yields_bind, yields_gives, yields_either, then_any}
 use Rattle.markdown_text.specs.Resolve.{mailed_where}
 use Rattle.markdown_attention.specs.Reading.{is_run}
 use Rattle.markdown_row.specs.Trees.{IsNode}
@@ -27,7 +27,6 @@ use Rattle.markdown_row.specs.Row.{row_has_run, row_of_elements}
 use Rattle.markdown_run.proofs.StillRows.{IsStill, still-first}
 use Rattle.markdown_row.proofs.TreePasts.{quiet-runless, leaf-runless}
 use Rattle.markdown_row.proofs.NodeLemmas.{check_yields, html_yields, escape_yields, reference_yields, break_yields, autolink_yields, protocol_yields, www_yields, span_here_yields, code_quiet, math_quiet}
-use Rattle.markdown_model.proofs.ReadingSteps.{switched-off}
 
 -- What is said of the elements of a text.
 
