@@ -1,5 +1,5 @@
 -- Rows as the pass of runs wants them, and the groups of labels of such rows.
-use Rattle.std.proofs.Common.{◌≡◌, ℕ, Bool, true, false, ◌&&◌, ◌||◌, List, [], ◌∷◌, length, drop, refl, Option, Some, None}
+use Rattle.std.proofs.Common.{◌≡◌, ℕ, Bool, true, false, ◌&&◌, ◌||◌, List, [], ◌∷◌, length, drop, refl, sym, ◌∙◌, Option, Some, None}
 use Rattle.markdown_emphasis.proofs.Flat.{unlinked-row}
 use Rattle.std.proofs.lemmas.Bool.{or_parts, both_ways}
 use Rattle.markdown_engine.specs.declared.event.Content.{Content}
@@ -16,7 +16,10 @@ use Rattle.markdown_attention.specs.Reading.{is_run, is_text}
 use Rattle.markdown_attention.specs.Rows.{has_run, HasRuns}
 use Rattle.markdown_emphasis.specs.Trees.{HasStripes}
 use Rattle.markdown_emphasis.specs.Word.{IsUnlinkedRow}
-use Rattle.markdown_emphasis.proofs.Quiet.{is_mark, is_linked, marks, IsQuiet, mark_laws}
+use Rattle.markdown_model.specs.Laws
+use Rattle.markdown_model.specs.Laws.{is_link}
+use Rattle.markdown_model.proofs.Quiet
+use Rattle.markdown_model.proofs.Quiet.{is_mark, is_linked, marks, IsQuiet, mark_laws}
 use Rattle.markdown_emphasis.proofs.Singles.{IsRunLeaf, IsPlaced}
 
 -- each run of a row and inside it is a leaf that passes
@@ -31,8 +34,19 @@ IsGood bytes t = HasRuns bytes t × (HasStripes t × (IsUnlinkedRow t × EachRun
 
 -- Rows without runs.
 
-quiet-run : (name : Name) → is_mark name ≡ false → (is_run name ≡ false) × (is_text name ≡ false)
-quiet-run name h = let p = or_parts (is_run name) (is_text name) h in (p.0, p.1)
+same-run : (name : Name) → Laws.is_run name ≡ is_run name
+same-run Name.AttentionSequence = refl
+same-run name = refl
+
+same-text : (name : Name) → Quiet.is_text name ≡ is_text name
+same-text Name.LabelText = refl
+same-text name = refl
+
+pub quiet-run : (name : Name) → is_mark name ≡ false → (is_run name ≡ false) × (is_text name ≡ false)
+quiet-run name h =
+    let p = or_parts (Laws.is_run name || Quiet.is_text name) (is_link name) h in
+    let q = or_parts (Laws.is_run name) (Quiet.is_text name) p.0 in
+    (sym (same-run name) ∙ q.0, sym (same-text name) ∙ q.1)
 
 some-linked : {A : Type 0} → (c : Content) → (is_linked (Some c) && true) ≡ false → A
 some-linked c e = cc
@@ -144,11 +158,11 @@ quiet-start_tree LabelKind.GfmFootnote cs = simp mark_laws
 quiet-start_tree LabelKind.Link cs = simp mark_laws
 quiet-start_tree LabelKind.GfmUndefinedFootnote cs = simp mark_laws
 
-label-name : (kind : LabelKind) → is_mark (label_name kind) ≡ false
-label-name LabelKind.Image = refl
-label-name LabelKind.GfmFootnote = refl
-label-name LabelKind.Link = refl
-label-name LabelKind.GfmUndefinedFootnote = refl
+label-name : (kind : LabelKind) → (is_run (label_name kind) ≡ false) × (is_text (label_name kind) ≡ false)
+label-name LabelKind.Image = (refl, refl)
+label-name LabelKind.GfmFootnote = (refl, refl)
+label-name LabelKind.Link = (refl, refl)
+label-name LabelKind.GfmUndefinedFootnote = (refl, refl)
 
 pub quiet-label_end : (back : List Code) → marks true (group Name.LabelEnd (leaf Name.LabelMarker back)) ≡ false
 quiet-label_end back = simp mark_laws
@@ -183,7 +197,7 @@ module _ (bytes : List ℕ) (kind : LabelKind) (marker : List Code) (inside : Fo
 
   good-label_group : (tail : Forest) → IsQuiet false tail → IsGood bytes (label_group kind marker inside back tail)
   good-label_group tail q =
-      let name = quiet-run (label_name kind) (label-name kind) in
+      let name = label-name kind in
       let none : has_run tail ≡ false = quiet-none false tail q in (
         ((name.0, λ e. none), (((refl, λ e. no-run-row), (good-row.0, quiet-runs false bytes tail q)), tt)),
         (

@@ -14,7 +14,6 @@ pub mod BracketSteps
 pub mod SizeSteps
 pub mod SizeLists
 pub mod Singles
-pub mod Quiet
 pub mod Good
 pub mod Striped
 pub mod Placed

@@ -18,7 +18,7 @@ use Rattle.markdown_model.proofs.Readings.{At}
 use Rattle.markdown_model.proofs.LinkFree.{Passes, Yields, yields_bind, yields_gives, yields_either, then_any}
 use Rattle.markdown_attention.specs.Open.{IsMarker}
 use Rattle.markdown_emphasis.proofs.Good.{IsGood, IsSound, quiet-good, good-run, good-leaf, good-labels}
-use Rattle.markdown_emphasis.proofs.Quiet.{IsQuiet, Free, quiet_escape, quiet_hard_break_escape, quiet_reference, quiet_autolink, quiet_task_check, quiet_code, quiet_math, quiet_html, quiet_protocol, quiet_www, quiet_after_label}
+use Rattle.markdown_model.proofs.Quiet.{IsQuiet, Free, quiet_escape, quiet_hard_break_escape, quiet_reference, quiet_autolink, quiet_task_check, quiet_code, quiet_math, quiet_html, quiet_protocol, quiet_www, quiet_after_label}
 use Rattle.markdown_emphasis.proofs.Singles.{AreSingles, IsRunLeaf, singles-back, run-leaf}
 
 -- Readings whose values all pass, at codes of a content.

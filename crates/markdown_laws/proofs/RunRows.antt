@@ -25,7 +25,7 @@ use Rattle.markdown_model.proofs.LabelCodes.{element_codes, unused}
 use Rattle.markdown_model.proofs.LinkFree.{Passes, Yields, yields_bind, yields_gives, yields_either, then_any}
 use Rattle.markdown_model.proofs.Readings.{At}
 use Rattle.markdown_model.proofs.ReadingLaws.{span-all, span-stops}
-use Rattle.markdown_emphasis.proofs.Quiet.{is_mark, is_linked, marks, IsQuiet, Free, quiet_escape, quiet_hard_break_escape, quiet_reference, quiet_autolink, quiet_task_check, quiet_code, quiet_math, quiet_html, quiet_protocol, quiet_www, quiet_after_label}
+use Rattle.markdown_model.proofs.Quiet.{is_mark, is_linked, marks, IsQuiet, Free, quiet_escape, quiet_hard_break_escape, quiet_reference, quiet_autolink, quiet_task_check, quiet_code, quiet_math, quiet_html, quiet_protocol, quiet_www, quiet_after_label}
 use Rattle.markdown_laws.proofs.MadeReadings.{IsSome}
 use Rattle.markdown_laws.proofs.MadeLabels.{AllGood, good-text}
 

@@ -20,6 +20,7 @@ pub mod UnusedStarts
 pub mod ReadingLaws
 pub mod ReadingSteps
 pub mod LinkFree
+pub mod Quiet
 pub mod ElementCases
 pub mod LabelWords
 pub mod LinkPasses

@@ -17,7 +17,8 @@ use Rattle.markdown_model.specs.Inline.{raw_tree, finished_text, text_tree}
 use Rattle.markdown_model.specs.Laws.{UnusedStart, with_link, unused_starts, IsLabelOf, is_link, holds_link, AreApart, LinksDoNotNest}
 use Rattle.markdown_model.proofs.ElementLaws.{text_elements}
 use Rattle.markdown_model.proofs.UnusedStarts.{ends_take_the_nearest}
-use Rattle.markdown_model.proofs.LinkFree.{IsFree, Passes, Yields, Free, yields_bind, yields_gives, yields_either, then_any, holds-join, holds-leaf, free-apart, free_escape, free_hard_break_escape, free_reference, free_autolink, free_task_check, free_span_here, free_html, free_protocol, free_www, free_after_label, or_assoc}
+use Rattle.markdown_model.proofs.LinkFree.{IsFree, Passes, Yields, yields_bind, yields_gives, yields_either, then_any, holds-join, holds-leaf, free-apart, or_assoc}
+use Rattle.markdown_model.proofs.Quiet.{IsQuiet, Free, quiet-free, quiet_escape, quiet_hard_break_escape, quiet_reference, quiet_autolink, quiet_task_check, quiet_code, quiet_math, quiet_html, quiet_protocol, quiet_www, quiet_after_label}
 use Rattle.markdown_model.proofs.LinkPasses.{apart-leaf, apart-join, apart-merged, apart-trimmed, apart-mailed, apart-paired, any_holds, holds_add, apart-joined, holds-loose}
 use Rattle.markdown_model.proofs.Nesting.{sum-append, sum-joined}
 use Rattle.markdown_model.proofs.Words.{AllHave, all-append}
@@ -72,7 +73,7 @@ allowed_outcome s u l back same barred = record { at = λ cs. whole.at cs }
     whole : Yields (IsAllowedOutcome u) (provided (not (is_barred l)) >> either (footnote_call s l back) (link_or_image s l back))
     whole = yields_passed_if _ _ _ λ h. yields_either _ _ _
         (yields_passed_if _ _ _ λ k. yields_gives _ _ (refl, λ _. free_start h (footnote_image l.kind _ k)))
-        (yields_bind IsFree _ _ _ (free_after_label s _) λ tail k. yields_gives _ _ (k, λ e. free_start h (ap not (sym (image_kind l.kind)) ∙ e)))
+        (yields_bind (IsQuiet false) _ _ _ (quiet_after_label s _) λ tail k. yields_gives _ _ (quiet-free false tail k, λ e. free_start h (ap not (sym (image_kind l.kind)) ∙ e)))
 
 allowed_ended : (s : Setting) (us : List UnusedStart) (l : Option Label) (back : List Code) → IsLabelOf us l
     → Yields (IsAllowed us) (outcome_of s l back >>= λ outcome. gives (ends back (Some outcome)))
@@ -96,7 +97,7 @@ allowed_label_end s earlier =
 module _ (us : List UnusedStart) where
   allowed_plain : (a : Reading Forest) → Free a → Yields (IsAllowed us) (as_plain a)
   unfolding as_plain
-  allowed_plain a h = yields_bind IsFree _ _ _ h λ tree k. yields_gives _ (plain tree) k
+  allowed_plain a h = yields_bind (IsQuiet true) _ _ _ h λ tree k. yields_gives _ (plain tree) (quiet-free true tree k)
 
   allowed_line_ending : Yields (IsAllowed us) line_ending
   unfolding line_ending
@@ -124,11 +125,11 @@ module _ (us : List UnusedStart) where
 
   allowed_code_span : (earlier : List Element) (previous : Option Code) → Yields (IsAllowed us) (code_span earlier previous)
   unfolding code_span
-  allowed_code_span earlier previous = allowed_plain _ (free_span_here _ _ _ _ _ refl)
+  allowed_code_span earlier previous = allowed_plain _ (quiet_code _ _ _ _)
 
   allowed_math_span : (single : Bool) (earlier : List Element) (previous : Option Code) → Yields (IsAllowed us) (math_span single earlier previous)
   unfolding math_span
-  allowed_math_span single earlier previous = allowed_plain _ (free_span_here _ _ _ _ _ refl)
+  allowed_math_span single earlier previous = allowed_plain _ (quiet_math _ _ _ _)
 
 allowed_text_element : (s : Setting) (end : ℕ) (earlier : List Element) (previous : Option Code) → Yields (IsAllowed (unused_starts earlier)) (text_element s end earlier previous)
 allowed_text_element s end earlier previous = record { at = λ cs. text_has s end earlier previous (Passes (IsAllowed us)) cs (each cs) ((allowed_data_code us).at cs) }
@@ -143,20 +144,20 @@ allowed_text_element s end earlier previous = record { at = λ cs. text_has s en
       image = λ footnotes. (allowed_image_start us footnotes).at cs;
       math = λ single. (allowed_math_span us single earlier previous).at cs;
       code = (allowed_code_span us earlier previous).at cs;
-      referred = (allowed_plain us _ (free_reference s.references)).at cs;
+      referred = (allowed_plain us _ (quiet_reference s.references)).at cs;
       stars = λ _. (allowed_run us 42).at cs;
       underscores = λ _. (allowed_run us 95).at cs;
       tildes = λ _. (allowed_run us 126).at cs;
-      linked = (allowed_plain us _ free_autolink).at cs;
-      tagged = (allowed_plain us _ free_html).at cs;
-      protocol = (allowed_plain us _ (free_protocol s.bytes end previous)).at cs;
-      www = (allowed_plain us _ (free_www s.bytes end previous)).at cs;
+      linked = (allowed_plain us _ quiet_autolink).at cs;
+      tagged = (allowed_plain us _ quiet_html).at cs;
+      protocol = (allowed_plain us _ (quiet_protocol s.bytes end previous)).at cs;
+      www = (allowed_plain us _ (quiet_www s.bytes end previous)).at cs;
       footnote = (allowed_footnote_start us).at cs;
       link = (allowed_link_start us).at cs;
-      escaped = (allowed_plain us _ free_escape).at cs;
-      broken = (allowed_plain us _ free_hard_break_escape).at cs;
+      escaped = (allowed_plain us _ quiet_escape).at cs;
+      broken = (allowed_plain us _ quiet_hard_break_escape).at cs;
       ended = (allowed_label_end s earlier).at cs;
-      checked = (allowed_plain us _ free_task_check).at cs;
+      checked = (allowed_plain us _ quiet_task_check).at cs;
     }
 
 -- Lists of elements.

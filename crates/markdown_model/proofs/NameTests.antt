@@ -1,4 +1,4 @@
--- What holds of each of the names that a tree may give a pair, the blank codes before a line ending, or an email literal, holds of those that it gives.
+-- What holds of each of the names that a tree may give a pair, blank codes before a line ending, or an email literal, holds of those that it gives.
 use Rattle.std.proofs.Common.{◌==◌, ℕ, Bool, true, false, ◌&&◌, nat_le, List, [], ◌∷◌, length, reverse}
 use Rattle.std.specs.Str.{byte}
 use Rattle.std.specs.List.{list_all}

@@ -11,7 +11,8 @@ use Rattle.markdown_engine.specs.declared.tokenizer.LabelStart as Kept
 use Rattle.markdown_engine.specs.declared.tokenizer.Tokenizer.{Tokenizer}
 use Rattle.markdown_engine.proofs.TreeLemmas.{ops-past, ahead-past}
 use Rattle.markdown_attention.specs.Reading.{is_run}
-use Rattle.markdown_emphasis.proofs.Quiet.{is_mark, marks, IsQuiet, quiet_after_label}
+use Rattle.markdown_emphasis.proofs.Good.{quiet-run}
+use Rattle.markdown_model.proofs.Quiet.{is_mark, marks, IsQuiet, quiet_after_label}
 use Rattle.markdown_label.specs.Fields.{bars}
 use Rattle.markdown_label.specs.LabelEnd.{outcome_by, end_reading, is_on}
 use Rattle.markdown_model.specs.Single.{outcome}
@@ -84,7 +85,7 @@ runless-quiet empty h = tt
 runless-quiet (leaf_then name link cs rest) h =
     let p = or_parts _ (marks false rest) h in
     let q = or_parts (is_mark name) _ p.0 in
-    ((or_parts (is_run name) _ q.0).0, runless-quiet rest p.1)
+    ((quiet-run name q.0).0, runless-quiet rest p.1)
 runless-quiet (group_then name enter exit inside rest) h =
     let p = or_parts (is_mark name) _ h in
     let q = or_parts (marks false inside) (marks false rest) p.1 in
