@@ -7,9 +7,9 @@ ghost use Rattle.markdown_engine.specs.Resolves.{MayResolve, Resolves, unregiste
 ghost use Rattle.markdown_engine.specs.declared.state.State.TheVariants.{Retry};
 
 use crate::layer::Layer;
-use markdown_lists::seq::{Seq, Stack};
 use crate::state::{State, StateName};
 use crate::tokenizer::{Attempt, Tokenizer};
+use markdown_lists::seq::{Seq, Stack};
 use std::alloc::AllocError;
 use std::mem;
 

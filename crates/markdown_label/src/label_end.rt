@@ -18,9 +18,9 @@ ghost use Rattle.markdown_label.specs.LabelEnd.{LabelIsAround, ReferenceIsAround
 use crate::identifier::{is_call, is_defined_between, is_link, name_between};
 use markdown_engine::event::Name;
 use markdown_engine::resolve::ResolveName;
-use markdown_lists::seq::Stack;
 use markdown_engine::state::{State, StateName};
 use markdown_engine::tokenizer::{Label, LabelKind, LabelStart, TokenizeState, Tokenizer};
+use markdown_lists::seq::Stack;
 pub use markdown_resource::resource::{
     resource_before, resource_between, resource_destination_after, resource_destination_missing,
     resource_end, resource_open, resource_start, resource_title_after,

@@ -16,10 +16,10 @@ ghost use Rattle.markdown_label_pass.specs.Handover.{HasBrackets, MayGroup, star
 
 use markdown_engine::event::{Event, Kind, Name, Point};
 use markdown_engine::events::Events;
-use markdown_lists::seq::Stack;
 use markdown_engine::subtokenize::Subresult;
 use markdown_engine::tokenizer::{Label, LabelKind, LabelStart, TokenizeState, Tokenizer};
 use markdown_engine::util::edit_map::EditMap;
+use markdown_lists::seq::Stack;
 use std::alloc::AllocError;
 
 // Where an event stands.

@@ -9,13 +9,13 @@ use crate::runs::{piece, state_of};
 use crate::single::refused;
 use markdown_engine::parser::{ParseState, Piece};
 use markdown_engine::resolve::ResolveName;
-use markdown_lists::seq::Seq;
 use markdown_engine::state::StateName;
 use markdown_engine::tokenizer::Tokenizer;
 use markdown_inline::attention::runs::Runs;
 use markdown_inline::resolve;
 use markdown_inline::run::is_text;
 use markdown_inline::state::Inline;
+use markdown_lists::seq::Seq;
 use std::alloc::{AllocError, Global};
 use std::mem;
 

@@ -8,12 +8,12 @@ use crate::rows::{GROUPS, LEAVES, Row, STRINGS};
 use crate::runs::{are, piece, state_of};
 use crate::single::refused;
 use markdown_engine::parser::{ParseState, Piece};
-use markdown_lists::seq::Seq;
 use markdown_engine::state::StateName;
 use markdown_engine::tokenizer::Tokenizer;
 use markdown_inline::resolve;
 use markdown_inline::run::{is_content, is_text};
 use markdown_inline::state::Inline;
+use markdown_lists::seq::Seq;
 use std::alloc::{AllocError, Global};
 use std::mem;
 
