@@ -7,90 +7,101 @@ use markdown_engine::event::{Content, Event, Kind, Link, Name, Point};
 use std::alloc::{AllocError, Global};
 use std::marker::Model;
 
-fn name_text(name: Name) -> &'static str
-    ensures { result.now ≡ name_text name }
-{
-    match name {
-        Name::AttentionSequence => "AttentionSequence",
-        Name::Autolink => "Autolink",
-        Name::AutolinkEmail => "AutolinkEmail",
-        Name::AutolinkMarker => "AutolinkMarker",
-        Name::AutolinkProtocol => "AutolinkProtocol",
-        Name::CharacterEscape => "CharacterEscape",
-        Name::CharacterEscapeMarker => "CharacterEscapeMarker",
-        Name::CharacterEscapeValue => "CharacterEscapeValue",
-        Name::CharacterReference => "CharacterReference",
-        Name::CharacterReferenceMarker => "CharacterReferenceMarker",
-        Name::CharacterReferenceMarkerHexadecimal => "CharacterReferenceMarkerHexadecimal",
-        Name::CharacterReferenceMarkerNumeric => "CharacterReferenceMarkerNumeric",
-        Name::CharacterReferenceMarkerSemi => "CharacterReferenceMarkerSemi",
-        Name::CharacterReferenceValue => "CharacterReferenceValue",
-        Name::CodeText => "CodeText",
-        Name::CodeTextData => "CodeTextData",
-        Name::CodeTextSequence => "CodeTextSequence",
-        Name::Data => "Data",
-        Name::Emphasis => "Emphasis",
-        Name::EmphasisSequence => "EmphasisSequence",
-        Name::EmphasisText => "EmphasisText",
-        Name::GfmAutolinkLiteralEmail => "GfmAutolinkLiteralEmail",
-        Name::GfmAutolinkLiteralMailto => "GfmAutolinkLiteralMailto",
-        Name::GfmAutolinkLiteralProtocol => "GfmAutolinkLiteralProtocol",
-        Name::GfmAutolinkLiteralWww => "GfmAutolinkLiteralWww",
-        Name::GfmAutolinkLiteralXmpp => "GfmAutolinkLiteralXmpp",
-        Name::GfmFootnoteCall => "GfmFootnoteCall",
-        Name::GfmFootnoteCallLabel => "GfmFootnoteCallLabel",
-        Name::GfmFootnoteCallMarker => "GfmFootnoteCallMarker",
-        Name::GfmStrikethrough => "GfmStrikethrough",
-        Name::GfmStrikethroughSequence => "GfmStrikethroughSequence",
-        Name::GfmStrikethroughText => "GfmStrikethroughText",
-        Name::GfmTaskListItemCheck => "GfmTaskListItemCheck",
-        Name::GfmTaskListItemMarker => "GfmTaskListItemMarker",
-        Name::GfmTaskListItemValueChecked => "GfmTaskListItemValueChecked",
-        Name::GfmTaskListItemValueUnchecked => "GfmTaskListItemValueUnchecked",
-        Name::HardBreakEscape => "HardBreakEscape",
-        Name::HardBreakTrailing => "HardBreakTrailing",
-        Name::HtmlText => "HtmlText",
-        Name::HtmlTextData => "HtmlTextData",
-        Name::Image => "Image",
-        Name::Label => "Label",
-        Name::LabelEnd => "LabelEnd",
-        Name::LabelImage => "LabelImage",
-        Name::LabelImageMarker => "LabelImageMarker",
-        Name::LabelLink => "LabelLink",
-        Name::LabelMarker => "LabelMarker",
-        Name::LabelText => "LabelText",
-        Name::LineEnding => "LineEnding",
-        Name::Link => "Link",
-        Name::MathText => "MathText",
-        Name::MathTextData => "MathTextData",
-        Name::MathTextSequence => "MathTextSequence",
-        Name::Reference => "Reference",
-        Name::ReferenceMarker => "ReferenceMarker",
-        Name::ReferenceString => "ReferenceString",
-        Name::Resource => "Resource",
-        Name::ResourceDestination => "ResourceDestination",
-        Name::ResourceDestinationLiteral => "ResourceDestinationLiteral",
-        Name::ResourceDestinationLiteralMarker => "ResourceDestinationLiteralMarker",
-        Name::ResourceDestinationRaw => "ResourceDestinationRaw",
-        Name::ResourceDestinationString => "ResourceDestinationString",
-        Name::ResourceMarker => "ResourceMarker",
-        Name::ResourceTitle => "ResourceTitle",
-        Name::ResourceTitleMarker => "ResourceTitleMarker",
-        Name::ResourceTitleString => "ResourceTitleString",
-        Name::SpaceOrTab => "SpaceOrTab",
-        Name::Strong => "Strong",
-        Name::StrongSequence => "StrongSequence",
-        Name::StrongText => "StrongText",
-    }
+// The names of all events, handed to the macro that is named, behind the words that come after its name.
+macro_rules! all_names {
+    ($of_names:ident $($more:tt)*) => {
+        $of_names! {
+            $($more)*
+            AttentionSequence
+            Autolink
+            AutolinkEmail
+            AutolinkMarker
+            AutolinkProtocol
+            CharacterEscape
+            CharacterEscapeMarker
+            CharacterEscapeValue
+            CharacterReference
+            CharacterReferenceMarker
+            CharacterReferenceMarkerHexadecimal
+            CharacterReferenceMarkerNumeric
+            CharacterReferenceMarkerSemi
+            CharacterReferenceValue
+            CodeText
+            CodeTextData
+            CodeTextSequence
+            Data
+            Emphasis
+            EmphasisSequence
+            EmphasisText
+            GfmAutolinkLiteralEmail
+            GfmAutolinkLiteralMailto
+            GfmAutolinkLiteralProtocol
+            GfmAutolinkLiteralWww
+            GfmAutolinkLiteralXmpp
+            GfmFootnoteCall
+            GfmFootnoteCallLabel
+            GfmFootnoteCallMarker
+            GfmStrikethrough
+            GfmStrikethroughSequence
+            GfmStrikethroughText
+            GfmTaskListItemCheck
+            GfmTaskListItemMarker
+            GfmTaskListItemValueChecked
+            GfmTaskListItemValueUnchecked
+            HardBreakEscape
+            HardBreakTrailing
+            HtmlText
+            HtmlTextData
+            Image
+            Label
+            LabelEnd
+            LabelImage
+            LabelImageMarker
+            LabelLink
+            LabelMarker
+            LabelText
+            LineEnding
+            Link
+            MathText
+            MathTextData
+            MathTextSequence
+            Reference
+            ReferenceMarker
+            ReferenceString
+            Resource
+            ResourceDestination
+            ResourceDestinationLiteral
+            ResourceDestinationLiteralMarker
+            ResourceDestinationRaw
+            ResourceDestinationString
+            ResourceMarker
+            ResourceTitle
+            ResourceTitleMarker
+            ResourceTitleString
+            SpaceOrTab
+            Strong
+            StrongSequence
+            StrongText
+        }
+    };
 }
 
-// Whether an event begins or ends, and a space.
-fn kind_word(kind: Kind) -> &'static str
-    ensures { result.now ≡ kind_text kind ++ codes " " }
+// The words of each name, the first of which says whether an event begins or ends.
+macro_rules! words_of {
+    ($kind:literal $name:ident $($of_all:ident)*) => {
+        match $name {
+            $(Name::$of_all => concat!($kind, " ", stringify!($of_all)),)*
+        }
+    };
+}
+
+// Whether an event begins or ends, and its name.
+fn words_of(kind: Kind, name: Name) -> &'static str
+    ensures { result.now ≡ kind_text kind ++ codes " " ++ name_text name }
 {
     match kind {
-        Kind::Enter => "Enter ",
-        Kind::Exit => "Exit ",
+        Kind::Enter => all_names!(words_of "Enter" name),
+        Kind::Exit => all_names!(words_of "Exit" name),
     }
 }
 
@@ -220,8 +231,7 @@ fn push_rest(text: &mut Vec<u8>, place: &Printed, link: Option<Link>) -> Result<
 fn push_event(text: &mut Vec<u8>, event: &Event, place: &mut Printed) -> Result<(), AllocError>
     ensures { IfOk result (λ _. text.new.items ≡ text.old.items ++ line_of event.now) }
 {
-    text.extend_from_slice(kind_word(event.kind).as_bytes())?;
-    text.extend_from_slice(name_text(event.name).as_bytes())?;
+    text.extend_from_slice(words_of(event.kind, event.name).as_bytes())?;
     place.turn_to(event.point);
     push_rest(text, place, event.link)
 }
