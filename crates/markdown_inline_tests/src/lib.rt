@@ -1,4 +1,5 @@
-//! Tests of `markdown_inline`, in a crate of their own, so that `markdown_inline` is proved once.
+//! Tests of `markdown_inline`, in a crate of their own, so that `markdown_inline` is proved once. Those of labels, and those of documents that are
+//! drawn, are crates by themselves, so that they are proved side by side.
 #![tactic(auto)]
 
 #[cfg(test)]
@@ -6,11 +7,7 @@ mod attention;
 #[cfg(test)]
 mod constructs;
 #[cfg(test)]
-mod drawn;
-#[cfg(test)]
 mod fixtures;
-#[cfg(test)]
-mod labels;
 #[cfg(test)]
 mod leaves;
 #[cfg(test)]
