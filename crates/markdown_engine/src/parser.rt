@@ -19,8 +19,8 @@ pub struct ParseState<'a> {
     pub bytes: &'a [u8],
     /// What is looked for.
     pub options: &'a ParseOptions,
-    /// The normalized identifiers of the definitions.
+    /// The identifiers of the definitions, normalized by `normalize_identifier`; they are compared as they are given.
     pub definitions: Vec<String>,
-    /// The normalized identifiers of the footnote definitions.
+    /// Those of the footnote definitions, normalized alike.
     pub gfm_footnote_definitions: Vec<String>,
 }

@@ -44,6 +44,8 @@ fn found(tokenizer: Tokenizer) -> Run
 
 /// The events of the inline tree of a content that is read as a string: of its escapes, character references and data.
 ///
+/// The pieces have to be a content, which `is_content` answers.
+///
 /// What `leaves` lends for them from the document's bytes covers the content's codes one after another, each once.
 ///
 /// The error comes only where memory is refused.
@@ -62,6 +64,8 @@ pub fn string(alloc: Global, parse_state: &ParseState, pieces: &[Piece]) -> Resu
 
 /// The events of the inline tree of a content that is read as text: of the inside of a paragraph, a heading or a table's cell. `first_of_item`
 /// says that it is the first paragraph of a list item, where the check of a task may stand.
+///
+/// The pieces have to be a text content, which `is_text` answers: no line of it is blank, and it does not end with a line ending.
 ///
 /// What `leaves` lends for them from the document's bytes covers the content's codes one after another, each once.
 ///
