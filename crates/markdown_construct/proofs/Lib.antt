@@ -11,3 +11,4 @@ pub mod ContentTexts
 pub mod ContentEnds
 pub mod TextPasses
 pub mod TextPlaces
+pub mod ValueLemmas

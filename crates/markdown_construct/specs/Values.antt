@@ -1,5 +1,5 @@
 -- Tests on the value of a code.
-use Rattle.std.specs.Prelude.{ℕ, Bool, ◌||◌, ◌==◌, List}
+use Rattle.std.specs.Prelude.{ℕ, zero, suc, ◌+◌, Bool, ◌||◌, ◌==◌, List, [], ◌∷◌}
 use Rattle.std.specs.List.{list_any}
 use Rattle.std.specs.Str.{byte}
 use Rattle.markdown_model.specs.CodeTests.{is_between}
@@ -15,3 +15,12 @@ alphanumeric_value v = letter_value v || is_between (byte "0") (byte "9") v
 -- one of these
 abbrev pub among_values : List ℕ → ℕ → Bool
 among_values ns v = list_any (λ n. v == n) ns
+
+-- so many numbers, one after the other
+abbrev pub numbers : ℕ → ℕ → List ℕ
+numbers first zero = []
+numbers first (suc n) = first ∷ numbers (first + 1) n
+
+-- the ASCII control characters (CommonMark 2.1) other than NUL
+abbrev pub controls : List ℕ
+controls = 127 ∷ numbers 1 31

@@ -1,5 +1,5 @@
 -- The lines that the program prints, one for each event: whether it begins or ends, its name, its place, and its link if it has one.
-use Rattle.std.specs.Prelude.{◌≡◌, ℕ, ◌≤◌, List, [], ◌++◌, codes, decimal, drop, length, Option, Some, None}
+use Rattle.std.specs.Prelude.{◌≡◌, ℕ, ◌≤◌, List, [], ◌++◌, codes, decimal, length, Option, Some, None}
 use Rattle.std.specs.List.{flat_map}
 use Rattle.markdown_engine.specs.declared.event.Content.{Content}
 use Rattle.markdown_engine.specs.declared.event.Event.{Event}
@@ -84,6 +84,10 @@ abbrev pub kind_text : Kind → List ℕ
 kind_text Kind.Enter = codes "Enter"
 kind_text Kind.Exit = codes "Exit"
 
+-- whether an event begins or ends, and its name
+abbrev pub words_text : Kind → Name → List ℕ
+words_text kind name = kind_text kind ++ codes " " ++ name_text name
+
 abbrev pub content_text : Content → List ℕ
 content_text Content.String = codes "String"
 content_text Content.Text = codes "Text"
@@ -93,15 +97,20 @@ abbrev pub number_text : Option ℕ → List ℕ
 number_text None = codes "-"
 number_text (Some n) = decimal n
 
--- a space and a number, for each of line, column, byte, and the codes of a tab before the place
-abbrev pub point_text : Point → List ℕ
-point_text p = codes " " ++ decimal p.line ++ codes " " ++ decimal p.column ++ codes " " ++ decimal p.index ++ codes " " ++ decimal p.vs
+-- a space and a number, for each of column, byte, and the codes of a tab before the place
+abbrev pub rest_text : Point → List ℕ
+rest_text p = codes " " ++ decimal p.column ++ codes " " ++ decimal p.index ++ codes " " ++ decimal p.vs
 
--- the place is printed from s on to the end of the buffer, with a line ending behind it
-pub record IsPrinted (p : Point) (buffer : List ℕ) (s : ℕ) : Type 0 where
-  pub before : s ≤ 84
-  pub size : length buffer ≡ 85
-  pub text : drop s buffer ≡ point_text p ++ codes "\n"
+-- the same of the line, and of these
+abbrev pub point_text : Point → List ℕ
+point_text p = codes " " ++ decimal p.line ++ rest_text p
+
+-- the place is printed in two parts, each number at most 20 digits long
+pub record IsPrinted (p : Point) (first rest : List ℕ) : Type 0 where
+  pub line : first ≡ codes " " ++ decimal p.line
+  pub others : rest ≡ rest_text p
+  pub line_fits : length first ≤ 21
+  pub others_fit : length rest ≤ 63
 
 -- the content of the link, and the events before and after on its chain
 abbrev pub link_text : Option Link → List ℕ
@@ -109,7 +118,7 @@ link_text None = []
 link_text (Some l) = codes " link " ++ content_text l.content ++ codes " " ++ number_text l.previous ++ codes " " ++ number_text l.next
 
 unfoldable pub line_of : Event → List ℕ
-line_of e = kind_text e.kind ++ codes " " ++ name_text e.name ++ point_text e.point ++ link_text e.link ++ codes "\n"
+line_of e = words_text e.kind e.name ++ point_text e.point ++ link_text e.link ++ codes "\n"
 
 unfoldable pub lines_of : List Event → List ℕ
 lines_of es = flat_map line_of es

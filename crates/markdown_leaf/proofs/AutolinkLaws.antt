@@ -1,11 +1,15 @@
 -- The laws of the states of an autolink.
 use Rattle.std.proofs.Common.{◌≡◌, ℕ, ◌+◌, ◌<◌, ◌≤◌, ◌==◌, ◌&&◌, ◌||◌, nat_lt, Bool, true, false, Option, Some, None, List, [], ◌∷◌, length, drop, refl, sym, ap, subst, ◌∙◌, arith}
 use Rattle.std.proofs.Math.Bool.{and-false}
-use Rattle.std.proofs.lemmas.Bool.{eqb-true, or_left, ltb-true, ltb-false}
+use Rattle.std.proofs.lemmas.Bool.{eqb-true, or_left, or_parts, ltb-true, ltb-false}
+use Rattle.std.specs.List.{list_any}
 use Rattle.markdown_engine.specs.Codes.{Code}
 use Rattle.markdown_engine.specs.Lists.{rest_of}
-use Rattle.markdown_engine.specs.Ops.{Op, Consume, current_of, ahead, applied, done, scratched}
+use Rattle.markdown_engine.specs.Ops.{Op, Consume, current_of, ahead, applied, consumed, done, scratched}
 use Rattle.markdown_engine.specs.Runs.{Stepped, stepped}
+use Rattle.markdown_engine.specs.Stretch.{is_free}
+use Rattle.markdown_engine.proofs.SteadyLemmas.{steady-at}
+use Rattle.markdown_construct.proofs.ValueLemmas.{no-control}
 use Rattle.markdown_engine.specs.Weights.{weight_at}
 use Rattle.markdown_engine.specs.declared.event.Name.{Name}
 use Rattle.markdown_engine.specs.declared.event.Name.TheVariants as N
@@ -20,7 +24,7 @@ use Rattle.markdown_model.specs.CodeTests.{is_value, is_alphanumeric, is_letter,
 use Rattle.markdown_model.specs.Grammar.{any_number}
 use Rattle.markdown_model.specs.Leaf.{uri, email_address, is_scheme_code, is_uri_code, is_local_code}
 use Rattle.markdown_construct.specs.Values.{letter_value, alphanumeric_value}
-use Rattle.markdown_leaf.specs.Autolink.{scheme_value, local_value, uri_value, is_on, opening, ending, start_at, start_step, open_at, scheme_or_at, scheme_inside_at, url_inside_at, email_atext_at, email_at_sign_or_dot_at, in_label_at, email_label_at, InsideReady, LabelReady, link_here, start_ends, ended, up_to_bracket, or_else, scheme_rest, local_rest, domains, is_label_code, label_rest, open_naming, scheme_naming, open_ends, scheme_or_ends, scheme_inside_ends, url_inside_ends, email_atext_ends, email_at_sign_or_dot_ends, email_label_ends, states, email_at_sign_or_dot_words, email_atext_words, email_label_words, email_value_words, open_words, scheme_inside_words, scheme_or_words, start_words, url_inside_words}
+use Rattle.markdown_leaf.specs.Autolink.{scheme_value, local_value, uri_value, is_on, opening, ending, start_at, start_step, open_at, scheme_or_at, scheme_inside_at, url_inside_at, url_inside_step, uri_stops, email_atext_at, email_at_sign_or_dot_at, in_label_at, email_label_at, InsideReady, LabelReady, link_here, start_ends, ended, up_to_bracket, or_else, scheme_rest, local_rest, domains, is_label_code, label_rest, open_naming, scheme_naming, open_ends, scheme_or_ends, scheme_inside_ends, url_inside_ends, email_atext_ends, email_at_sign_or_dot_ends, email_label_ends, states, email_at_sign_or_dot_words, email_atext_words, email_label_words, email_value_words, open_words, scheme_inside_words, scheme_or_words, start_words, url_inside_words}
 use Rattle.markdown_construct.specs.Plan.{Plan, preceded, plan_of, DoesAs, KeepsAs}
 use Rattle.markdown_construct.specs.Scratch.{with_size}
 use Rattle.markdown_construct.specs.Renaming.{Naming, NamesAs, renamed, preceded_by, opening_of}
@@ -322,3 +326,16 @@ module _ (W : Words) (within : Within states W) where
       if-step P (is_on T && (c == 60)) _ _
       (λ h. link-opened T (some-codes T c e) alone k (ap p b.whole ∙ link-here (is_on T) b.code (rest_of (ahead T)) (and-left (is_on T) _ h) (ap (λ v. v == 60) b.value ∙ and-right (is_on T) _ h)))
       (λ h. Goes-no W 3 0 p T alone (ap p b.whole ∙ no-link (is_on T) (b.code ∷ rest_of (ahead T)) (ap (λ v. is_on T && (v == 60)) b.value ∙ h)))))
+
+-- over a code that is none of those at which a URI ends, a call does no more than pass it
+pub uri-steady : (T : Tokenizer) (set : List ℕ) → Some uri_stops ≡ Some set → is_free set (current_of T) ≡ true → url_inside_step T ≡ stepped (Next AutolinkUrlInside) (consumed T)
+uri-steady T set known free =
+    steady-at set T url_inside_at (stepped (Next AutolinkUrlInside) (consumed T)) free (λ v a b.
+    let same : set ≡ uri_stops = cc in
+    let none : list_any (λ n. v == n) uri_stops ≡ false = ap (λ (ns : List ℕ). list_any (λ n. v == n) ns) (sym same) ∙ b in
+    let nul = or_parts (v == 0) _ none in
+    let space = or_parts (v == 32) _ nul.1 in
+    let less = or_parts (v == 60) _ space.1 in
+    let greater = or_parts (v == 62) _ less.1 in
+    let control = no-control v greater.1 in
+    rw (greater.0, nul.0, space.0, less.0, control.0, control.1) refl)

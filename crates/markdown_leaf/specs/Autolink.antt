@@ -11,7 +11,7 @@ use Rattle.markdown_model.specs.Leaf.{uri, email_address, domain_label, is_schem
 use Rattle.markdown_model.specs.Single.{autolink_here}
 use Rattle.markdown_construct.specs.Readings.{after}
 use Rattle.markdown_construct.specs.Scratch.{AreOpen, with_size}
-use Rattle.markdown_construct.specs.Values.{letter_value, alphanumeric_value, among_values}
+use Rattle.markdown_construct.specs.Values.{letter_value, alphanumeric_value, among_values, controls}
 use Rattle.markdown_construct.specs.Renaming.{Naming, NamesAs, renamed, HasEvent}
 use Rattle.markdown_engine.specs.declared.event.Name.{Name}
 use Rattle.markdown_engine.specs.declared.event.Name.TheVariants as N
@@ -36,6 +36,10 @@ uri_value v = not (among_values (codes "\0 <>") v || (is_between 1 31 v || v == 
 
 abbrev pub is_on : Tokenizer → Bool
 is_on T = T.parse_state.now.options.now.constructs.autolink
+
+-- at these bytes alone a URI does other than go on, line endings aside: a space, an angle bracket and the controls
+abbrev pub uri_stops : List ℕ
+uri_stops = codes "\0 <>" ++ controls
 
 -- What the states do.
 

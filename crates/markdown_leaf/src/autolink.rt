@@ -10,10 +10,12 @@ ghost use Rattle.std.specs.Prelude.{◌≡◌, IfOk, OnErr, IsTrue};
 ghost use Rattle.markdown_engine.specs.Ops.{HasCode, current_of};
 ghost use Rattle.markdown_engine.specs.declared.event.Name.TheVariants.{Autolink};
 ghost use Rattle.markdown_construct.specs.Scratch.{AreOpen};
-ghost use Rattle.markdown_leaf.specs.Autolink.{scheme_value, local_value, uri_value, refused, finished, start_step, open_step, scheme_or_step, scheme_inside_step, url_inside_step, email_atext_step, email_at_sign_or_dot_step, in_label_at, email_value_step, email_label_step, InsideReady, SchemeReady, LabelReady};
+ghost use Rattle.markdown_leaf.specs.Autolink.{scheme_value, local_value, uri_stops, uri_value, refused, finished, start_step, open_step, scheme_or_step, scheme_inside_step, url_inside_step, email_atext_step, email_at_sign_or_dot_step, in_label_at, email_value_step, email_label_step, InsideReady, SchemeReady, LabelReady};
 
 use crate::renaming::rename_entered;
 use markdown_construct::bytes::{is_alphanumeric, is_letter};
+use markdown_engine::byte_set;
+use markdown_engine::bytes::ByteSet;
 use markdown_engine::event::Name;
 use markdown_engine::state::{State, StateName};
 use markdown_engine::tokenizer::Tokenizer;
@@ -146,6 +148,16 @@ pub fn url_inside(tokenizer: &mut Tokenizer) -> Result<State, AllocError>
         }
         _ => Ok(refuse(tokenizer)),
     }
+}
+
+/// The bytes at which alone a URI does other than go on, line endings aside: a space, an angle bracket and the controls. Takes no memory.
+pub fn uri_stops() -> ByteSet
+    ensures { result ≡ uri_stops }
+{
+    byte_set!(
+        0, b' ', b'<', b'>', 127, 1, 2, 3, 4, 5, 6, 7, 8, 9, 10, 11, 12, 13, 14, 15, 16, 17, 18,
+        19, 20, 21, 22, 23, 24, 25, 26, 27, 28, 29, 30, 31
+    )
 }
 
 /// In an address before its `@`.

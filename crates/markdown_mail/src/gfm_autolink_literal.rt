@@ -19,16 +19,18 @@ use markdown_engine::util::edit_map::EditMap;
 use markdown_partial::partial_data::opens_data;
 use std::alloc::{AllocError, Global};
 
-// How many links are open behind an event, where so many are open before it.
+// How many links are open behind an event, where so many are open before it. The name is looked at first, since most events have another.
 fn links_after(links: usize, event: &Event) -> usize
     requires { links + 1 < 2 ^ 64 }
     ensures after { result ≡ links_after links event.now }
     ensures few { result ≤ links + 1 }
 {
-    match (event.kind, event.name) {
-        (Kind::Enter, Name::Link) => links + 1,
-        (Kind::Exit, Name::Link) => links.saturating_sub(1),
-        _ => links,
+    if !matches!(event.name, Name::Link) {
+        return links;
+    }
+    match event.kind {
+        Kind::Enter => links + 1,
+        Kind::Exit => links.saturating_sub(1),
     }
 }
 
@@ -48,7 +50,7 @@ fn mail_first(
     ensures { OnOk result (map.new ≡ map.old ++ mail_first bytes.now index links (drop index events.now)) }
 {
     let enter = events.bare_at(index);
-    if links == 0 && opens_data(&enter) {
+    if opens_data(&enter) && links == 0 {
         let exit = events.bare_at(index + 1);
         if has_sign(bytes, enter.point, exit.point) {
             let mailed = mailed_data(alloc, bytes, enter.point, exit.point)?;

@@ -228,6 +228,11 @@ fn stop_bytes(name: StateName, fields: &TokenizeState) -> Option<ByteSet>
         | StateName::HtmlTextDeclaration
         | StateName::HtmlTextInstruction
         | StateName::HtmlTextTagOpenAttributeValueQuoted => html_text::stop_bytes(name, fields),
+        StateName::AutolinkUrlInside => Some(autolink::uri_stops()),
+        StateName::DestinationEnclosed | StateName::DestinationRaw => {
+            partial_destination::stop_bytes(name)
+        }
+        StateName::TitleInside => partial_title::inside_stops(fields),
         _ => None,
     }
 }

@@ -11,3 +11,4 @@ pub mod TitleReadings
 pub mod TitleLaws
 pub mod LabelReadings
 pub mod LabelLaws
+pub mod SteadyLaws

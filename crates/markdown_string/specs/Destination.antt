@@ -18,6 +18,7 @@ use Rattle.markdown_model.specs.Grammar.{escaped_from}
 use Rattle.markdown_model.specs.Resource.{DestinationNames, destination, raw_from}
 use Rattle.markdown_construct.specs.Plan.{Plan, preceded, DoesAs, KeepsAs}
 use Rattle.markdown_construct.specs.Scratch.{AreOpen, with_size}
+use Rattle.markdown_construct.specs.Values.{controls}
 use Rattle.markdown_engine.specs.StateWords.{StateWords}
 use Rattle.markdown_engine.specs.declared.state.StateName.{StateName}
 use Rattle.std.specs.Str.{byte}
@@ -148,6 +149,22 @@ raw_escape_at (Some c) T =
 
 abbrev pub raw_escape_step : Tokenizer → Stepped
 raw_escape_step T = raw_escape_at (current_of T) T
+
+-- Over which codes they go on.
+
+-- at these bytes alone, line endings aside, the text between the brackets does other than go on
+abbrev pub enclosed_stops : List ℕ
+enclosed_stops = codes "<>\\"
+
+-- and elsewhere at these: a space, a parenthesis, a backslash and the controls
+abbrev pub raw_stops : List ℕ
+raw_stops = codes " ()\\" ++ controls
+
+-- these of a state that passes code after code
+abbrev pub stops_in : StateName → Option (List ℕ)
+stops_in DestinationEnclosed = Some enclosed_stops
+stops_in DestinationRaw = Some raw_stops
+stops_in _ = None
 
 -- When they may be called.
 

@@ -6,7 +6,6 @@ use Rattle.markdown_engine.specs.Ops.{Op, Enter, Exit, Consume, done, scratched}
 use Rattle.markdown_engine.specs.TreeOps.{consumes}
 use Rattle.markdown_engine.specs.Weights.{codes_left}
 use Rattle.markdown_engine.specs.declared.event.Content.{Content}
-use Rattle.markdown_engine.specs.declared.event.Content.TheVariants as Content
 use Rattle.markdown_engine.specs.declared.event.Event.{Event}
 use Rattle.markdown_engine.specs.declared.event.Name.TheVariants as N
 use Rattle.markdown_engine.specs.declared.tokenizer.TokenizeState.{TokenizeState}

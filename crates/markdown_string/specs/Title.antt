@@ -1,5 +1,5 @@
 -- What the states of a title do, and how runs from them end.
-use Rattle.std.specs.Prelude.{◌≡◌, ℕ, Bool, true, false, ◌||◌, ◌==◌, if◌then◌else◌, Option, Some, None, List, [], ◌∷◌, drop}
+use Rattle.std.specs.Prelude.{◌≡◌, ℕ, Bool, true, false, ◌||◌, ◌==◌, if◌then◌else◌, codes, Option, Some, None, List, [], ◌∷◌, drop}
 use Rattle.markdown_engine.specs.Codes.{Code}
 use Rattle.markdown_engine.specs.Ops.{Op, Enter, Exit, Consume, IsOpen, LinkedBefore, attempted, done, current_of, scratched}
 use Rattle.markdown_engine.specs.Past.{EndsAs}
@@ -107,6 +107,14 @@ escape_at (Some c) T =
 
 abbrev pub escape_step : Tokenizer → Stepped
 escape_step T = escape_at (current_of T) T
+
+-- the bytes at which alone the text does other than go on, line endings aside: the marker and a backslash
+abbrev pub inside_stops : TokenizeState → Option (List ℕ)
+inside_stops s =
+    if s.marker == byte "\"" then Some (codes "\"\\")
+    else (if s.marker == byte "'" then Some (codes "'\\")
+    else (if s.marker == byte ")" then Some (codes ")\\")
+    else None))
 
 -- When they may be called.
 

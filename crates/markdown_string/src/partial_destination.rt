@@ -8,8 +8,10 @@
 
 ghost use Rattle.std.specs.Prelude.{◌≡◌, IfOk, OnErr, IsTrue};
 ghost use Rattle.markdown_engine.specs.Ops.{HasCode};
-ghost use Rattle.markdown_string.specs.Destination.{start_step, enclosed_before_step, enclosed_step, enclosed_escape_step, raw_step, raw_escape_step, closed, refused, finished, BeforeReady, EnclosedReady, RawReady};
+ghost use Rattle.markdown_string.specs.Destination.{start_step, enclosed_before_step, enclosed_step, enclosed_escape_step, raw_step, raw_escape_step, closed, refused, finished, stops_in, BeforeReady, EnclosedReady, RawReady};
 
+use markdown_engine::byte_set;
+use markdown_engine::bytes::ByteSet;
 use markdown_engine::event::{Content, Link, Name};
 use markdown_engine::state::{State, StateName};
 use markdown_engine::tokenizer::Tokenizer;
@@ -21,6 +23,20 @@ const STRING: Link = Link {
     next: None,
     content: Content::String,
 };
+
+/// The bytes at which a state that passes code after code stops, line endings aside; none for the other states. Takes no memory.
+pub fn stop_bytes(name: StateName) -> Option<ByteSet>
+    ensures { result ≡ stops_in name }
+{
+    match name {
+        StateName::DestinationEnclosed => Some(byte_set!(b'<', b'>', b'\\')),
+        StateName::DestinationRaw => Some(byte_set!(
+            b' ', b'(', b')', b'\\', 127, 1, 2, 3, 4, 5, 6, 7, 8, 9, 10, 11, 12, 13, 14, 15, 16,
+            17, 18, 19, 20, 21, 22, 23, 24, 25, 26, 27, 28, 29, 30, 31
+        )),
+        _ => None,
+    }
+}
 
 /// At the start of a destination: a bracket, or its first code.
 ///

@@ -8,12 +8,14 @@
 
 ghost use Rattle.std.specs.Prelude.{◌≡◌, IfOk, OnErr, IsTrue, true};
 ghost use Rattle.markdown_engine.specs.Ops.{HasCode, IsOpen, LinkedBefore, current_of};
-ghost use Rattle.markdown_string.specs.Title.{opened, start_step, closed, begin_step, at_break_step, after_eol_step, nok_step, passing, inside_step, escape_step, BreakReady, InsideReady};
+ghost use Rattle.markdown_string.specs.Title.{opened, start_step, closed, begin_step, at_break_step, after_eol_step, nok_step, passing, inside_step, inside_stops, escape_step, BreakReady, InsideReady};
 
 use crate::linked_text::{ask_for_ending, enter_text};
+use markdown_engine::byte_set;
+use markdown_engine::bytes::ByteSet;
 use markdown_engine::event::Name;
 use markdown_engine::state::{State, StateName};
-use markdown_engine::tokenizer::Tokenizer;
+use markdown_engine::tokenizer::{TokenizeState, Tokenizer};
 use std::alloc::AllocError;
 
 // Passes the opening marker of a title that this code ends.
@@ -149,6 +151,18 @@ pub fn nok(tokenizer: &mut Tokenizer) -> Result<State, AllocError>
     tokenizer.tokenize_state.marker = 0;
     tokenizer.tokenize_state.connect = false;
     Ok(State::Nok)
+}
+
+/// The bytes at which alone a stretch of the text does other than go on, line endings aside; none where none is read. Takes no memory.
+pub fn inside_stops(fields: &TokenizeState) -> Option<ByteSet>
+    ensures { result ≡ inside_stops fields.now }
+{
+    match fields.marker {
+        b'"' => Some(byte_set!(b'"', b'\\')),
+        b'\'' => Some(byte_set!(b'\'', b'\\')),
+        b')' => Some(byte_set!(b')', b'\\')),
+        _ => None,
+    }
 }
 
 /// In a stretch of the text, which ends before the closing marker, a line ending or the end.

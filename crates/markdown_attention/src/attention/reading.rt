@@ -135,14 +135,14 @@ fn read_event(
     tildes: bool,
     events: &Events,
     index: usize,
-    container: Option<Text>,
+    place: &Where,
     list: &mut Vec<Sequence>,
 ) -> Result<(), AllocError>
     requires utf8 { IsUtf8 bytes.now }
     requires within { index < length events.now }
     requires counted { length events.now < 2 ^ 64 }
     requires places { FirstHasPlaces bytes.now (drop index events.now) }
-    ensures { OnOk result (list.new.items ≡ list.old.items ++ first_run tildes bytes.now (length list.old.items) index container (drop index events.now)) }
+    ensures { OnOk result (list.new.items ≡ list.old.items ++ first_run tildes bytes.now (length list.old.items) index place.now.container (drop index events.now)) }
 {
     let enter = events.bare_at(index);
     if opens_run(enter) {
@@ -153,7 +153,7 @@ fn read_event(
             bytes,
             number,
             index,
-            container,
+            place.container,
             enter.point,
             exit.point,
         );
@@ -189,7 +189,7 @@ pub(crate) fn read(
         texts: 0,
     };
     for index in 0..events.len() {
-        read_event(bytes, tildes, events, index, place.container, &mut list)?;
+        read_event(bytes, tildes, events, index, &place, &mut list)?;
         place.pass(index, events.bare_at(index))?;
     }
     Ok(Found {

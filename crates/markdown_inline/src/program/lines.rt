@@ -1,11 +1,20 @@
 //! The printed lines of events.
-ghost use Rattle.std.specs.Prelude.{◌≡◌, ◌++◌, ◌+◌, ◌<◌, ◌≤◌, codes, decimal, drop, length, IfOk, Some};
-ghost use Rattle.markdown_inline.specs.Lines.{name_text, kind_text, content_text, number_text, point_text, link_text, line_of, lines_of};
+ghost use Rattle.std.specs.Prelude.{◌≡◌, [], ◌++◌, ◌+◌, ◌<◌, ◌≤◌, codes, decimal, drop, length, take, IfOk, Some};
+ghost use Rattle.markdown_inline.specs.Lines.{words_text, content_text, number_text, point_text, rest_text, link_text, line_of, lines_of};
 
 use itoa::{Buffer, write_digits};
 use markdown_engine::event::{Content, Event, Kind, Link, Name, Point};
 use std::alloc::{AllocError, Global};
 use std::marker::Model;
+
+// The most bytes of the words of an event: as many are copied of all. A line has 84 more of its place, 54 of its link, and its line ending.
+const WORDS: usize = 48;
+
+// The most bytes of a line.
+const LINE: usize = WORDS + 84 + 54 + 1;
+
+// How many bytes of lines are collected before they are added to the output.
+const COLLECTED: usize = 4096;
 
 // The names of all events, handed to the macro that is named, behind the words that come after its name.
 macro_rules! all_names {
@@ -86,22 +95,45 @@ macro_rules! all_names {
     };
 }
 
-// The words of each name, the first of which says whether an event begins or ends.
+// The words of each name, the first of which says whether an event begins or ends. Spaces stand behind them, so that all are as long as what a
+// line copies.
 macro_rules! words_of {
     ($kind:literal $name:ident $($of_all:ident)*) => {
         match $name {
-            $(Name::$of_all => concat!($kind, " ", stringify!($of_all)),)*
+            $(Name::$of_all => concat!($kind, " ", stringify!($of_all), "                                                "),)*
         }
     };
 }
 
-// Whether an event begins or ends, and its name.
+// Whether an event begins or ends, its name, and spaces: at least 48 bytes.
 fn words_of(kind: Kind, name: Name) -> &'static str
-    ensures { result.now ≡ kind_text kind ++ codes " " ++ name_text name }
+    ensures long { 48 ≤ length result.now }
+    ensures words { take (length (words_text kind name)) result.now ≡ words_text kind name }
 {
     match kind {
         Kind::Enter => all_names!(words_of "Enter" name),
         Kind::Exit => all_names!(words_of "Exit" name),
+    }
+}
+
+// How long each name is.
+macro_rules! length_of {
+    ($name:ident $($of_all:ident)*) => {
+        match $name {
+            $(Name::$of_all => stringify!($of_all).len(),)*
+        }
+    };
+}
+
+// How many bytes the words of an event are, without the spaces behind them.
+fn length_of(kind: Kind, name: Name) -> usize
+    ensures short { result ≤ 48 }
+    ensures words { result ≡ length (words_text kind name) }
+{
+    let name = all_names!(length_of name);
+    match kind {
+        Kind::Enter => name + 6,
+        Kind::Exit => name + 5,
     }
 }
 
@@ -114,70 +146,129 @@ fn content_text(content: Content) -> &'static str
     }
 }
 
-// Writes a space and a number, so that they end at an index of the buffer, and answers where they begin.
-fn write_number(number: usize, buffer: &mut [u8], end: usize) -> usize
-    requires { (20 < end) × (end ≤ length buffer.old) }
-    ensures short { (result ≤ end) × (end ≤ result + 21) }
-    ensures length { length buffer.new ≡ length buffer.old }
-    ensures written { drop result buffer.new ≡ codes " " ++ decimal number ++ drop end buffer.old }
+// Writes bytes at an index of the lines, and answers where those end that count, the first n. The rest is written over later.
+#[inline(always)]
+fn write_bytes(bytes: &[u8], n: usize, lines: &mut [u8], at: usize) -> usize
+    requires { (n ≤ length bytes.now) × (at + length bytes.now ≤ length lines.old) }
+    ensures end { result ≡ at + n }
+    ensures length { length lines.new ≡ length lines.old }
+    ensures written { take result lines.new ≡ take at lines.old ++ take n bytes.now }
 {
-    let at = write_digits(number as u64, buffer, end) - 1;
-    buffer[at] = b' ';
-    at
+    lines[at..at + bytes.len()].copy_from_slice(bytes);
+    at + n
 }
 
-// Writes a place, so that it ends at an index of the buffer, and answers where it begins: line, column, byte, and the codes of a tab
-// before it.
-fn write_point(point: Point, buffer: &mut [u8], end: usize) -> usize
-    requires { (83 < end) × (end ≤ length buffer.old) }
-    ensures before { result ≤ end }
-    ensures length { length buffer.new ≡ length buffer.old }
-    ensures written { drop result buffer.new ≡ point_text point ++ drop end buffer.old }
+// Writes all bytes.
+fn write_all(bytes: &[u8], lines: &mut [u8], at: usize) -> usize
+    requires { at + length bytes.now ≤ length lines.old }
+    ensures end { result ≡ at + length bytes.now }
+    ensures length { length lines.new ≡ length lines.old }
+    ensures written { take result lines.new ≡ take at lines.old ++ bytes.now }
 {
-    let at = write_number(point.vs, buffer, end);
-    let at = write_number(point.index, buffer, at);
-    let at = write_number(point.column, buffer, at);
-    write_number(point.line, buffer, at)
+    write_bytes(bytes, bytes.len(), lines, at)
 }
 
-// Adds a number.
-fn push_number(text: &mut Vec<u8>, number: usize) -> Result<(), AllocError>
-    ensures { IfOk result (λ _. text.new.items ≡ text.old.items ++ decimal number) }
-{
-    let mut digits = Buffer::new();
-    text.extend_from_slice(digits.format(number).as_bytes())
-}
-
-// Adds the number of an event, or `-` where there is none.
-fn push_event_number(text: &mut Vec<u8>, number: Option<usize>) -> Result<(), AllocError>
-    ensures { IfOk result (λ _. text.new.items ≡ text.old.items ++ number_text number) }
+// Writes the number of an event, or `-` where there is none.
+fn write_event_number(number: Option<usize>, lines: &mut [u8], at: usize) -> usize
+    requires { at + 20 ≤ length lines.old }
+    ensures short { result ≤ at + 20 }
+    ensures length { length lines.new ≡ length lines.old }
+    ensures written { take result lines.new ≡ take at lines.old ++ number_text number }
 {
     match number {
-        Some(number) => push_number(text, number),
-        None => text.extend_from_slice(b"-"),
+        Some(number) => write_all(Buffer::new().format(number).as_bytes(), lines, at),
+        None => write_all(b"-", lines, at),
     }
 }
 
-// Adds the content of a link, and the numbers of the events before and after.
-fn push_link(text: &mut Vec<u8>, link: Link) -> Result<(), AllocError>
-    ensures { IfOk result (λ _. text.new.items ≡ text.old.items ++ link_text (Some link)) }
+// Writes the content of a link, and the numbers of the events before and after.
+fn write_link(link: &Link, lines: &mut [u8], at: usize) -> usize
+    requires { at + 54 ≤ length lines.old }
+    ensures short { result ≤ at + 54 }
+    ensures length { length lines.new ≡ length lines.old }
+    ensures written { take result lines.new ≡ take at lines.old ++ link_text (Some link.now) }
 {
-    text.extend_from_slice(b" link ")?;
-    text.extend_from_slice(content_text(link.content).as_bytes())?;
-    text.extend_from_slice(b" ")?;
-    push_event_number(text, link.previous)?;
-    text.extend_from_slice(b" ")?;
-    push_event_number(text, link.next)
+    let at = write_all(b" link ", lines, at);
+    let at = write_all(content_text(link.content).as_bytes(), lines, at);
+    let at = write_all(b" ", lines, at);
+    let at = write_event_number(link.previous, lines, at);
+    let at = write_all(b" ", lines, at);
+    write_event_number(link.next, lines, at)
 }
 
-// A place as it is printed, with a line ending behind it. Contracts see the place alone.
+// Numbers as they are printed, each behind a space. Contracts see these bytes alone.
+#[derive(Drop)]
+struct Numbers {
+    // They end at 64. As many bytes stand behind them, so that from where they begin there are always as many as a line copies.
+    bytes: [u8; 128],
+    // Where they begin.
+    start: usize,
+}
+
+impl Model for Numbers {
+    ghost use Rattle.std.specs.Prelude.{List, ℕ, ◌-◌, ◌≤◌, drop, take};
+
+    ghost Value = { List ℕ };
+
+    ghost view = { λ s. take (64 - s.start) (drop s.start s.bytes) };
+
+    ghost invariant = { λ s. s.start ≤ 64 };
+}
+
+impl Numbers {
+    // None yet.
+    fn new() -> Numbers
+        ensures { result ≡ [] }
+    {
+        Numbers {
+            bytes: [b' '; 128],
+            start: 64,
+        }
+    }
+
+    // Drops them.
+    fn clear(&mut self)
+        ensures { self.new ≡ [] }
+    {
+        self.start = 64;
+    }
+
+    // Puts a number before the others.
+    fn push_first(&mut self, number: usize)
+        requires { length self.old + 21 ≤ 64 }
+        ensures short { length self.new ≤ length self.old + 21 }
+        ensures first { self.new ≡ codes " " ++ decimal number ++ self.old }
+    {
+        let at = write_digits(number as u64, &mut self.bytes, self.start) - 1;
+        self.bytes[at] = b' ';
+        self.start = at;
+    }
+
+    // Writes them, of which there are at most so many bytes.
+    #[inline(always)]
+    fn write(&self, most: usize, lines: &mut [u8], at: usize) -> usize
+        requires { (length self.now ≤ most) × (most ≤ 64) × (at + most ≤ length lines.old) }
+        ensures end { result ≡ at + length self.now }
+        ensures length { length lines.new ≡ length lines.old }
+        ensures written { take result lines.new ≡ take at lines.old ++ self.now }
+    {
+        write_bytes(
+            &self.bytes[self.start..self.start + most],
+            64 - self.start,
+            lines,
+            at,
+        )
+    }
+}
+
+// A place as it is printed. Contracts see the place alone.
 #[derive(Drop)]
 struct Printed {
     point: Point,
-    // What is printed stands at its end: four numbers of at most 20 digits, each behind a space, and the line ending.
-    buffer: [u8; 85],
-    // Where that begins.
-    start: usize,
+    // The line, which often is that of the place before.
+    line: Numbers,
+    // Column, byte, and the codes of a tab before it.
+    rest: Numbers,
 }
 
 impl Model for Printed {
@@ -188,7 +279,7 @@ impl Model for Printed {
 
     ghost view = { λ s. s.point };
 
-    ghost invariant = { λ s. IsPrinted s.point s.buffer s.start };
+    ghost invariant = { λ s. IsPrinted s.point s.line s.rest };
 }
 
 impl Printed {
@@ -196,53 +287,114 @@ impl Printed {
     fn new(point: Point) -> Printed
         ensures { result ≡ point }
     {
-        let mut buffer = [b'\n'; 85];
-        let start = write_point(point, &mut buffer, 84);
-        Printed {
-            point,
-            buffer,
-            start,
-        }
+        let mut line = Numbers::new();
+        line.push_first(point.line);
+        let mut rest = Numbers::new();
+        push_rest(&mut rest, point);
+        Printed { point, line, rest }
     }
 
     // Prints another place, where it is another.
+    #[inline(always)]
     fn turn_to(&mut self, point: Point)
         ensures { self.new ≡ point }
     {
-        if self.point != point {
-            *self = Printed::new(point);
+        if self.point == point {
+            return;
         }
+        if self.point.line != point.line {
+            self.line.clear();
+            self.line.push_first(point.line);
+        }
+        self.rest.clear();
+        push_rest(&mut self.rest, point);
+        self.point = point;
+    }
+
+    // Writes the place.
+    #[inline(always)]
+    fn write(&self, lines: &mut [u8], at: usize) -> usize
+        requires { at + 85 ≤ length lines.old }
+        ensures short { result ≤ at + 84 }
+        ensures length { length lines.new ≡ length lines.old }
+        ensures written { take result lines.new ≡ take at lines.old ++ point_text self.now }
+    {
+        let at = self.line.write(32, lines, at);
+        self.rest.write(64, lines, at)
     }
 }
 
-// Adds a place, the link if there is one, and a line ending.
-fn push_rest(text: &mut Vec<u8>, place: &Printed, link: Option<Link>) -> Result<(), AllocError>
-    ensures { IfOk result (λ _. text.new.items ≡ text.old.items ++ (point_text place.now ++ link_text link ++ codes "\n")) }
+// Puts what stands behind the line of a place: column, byte, and the codes of a tab before it.
+#[inline(always)]
+fn push_rest(rest: &mut Numbers, point: Point)
+    requires { rest.old ≡ [] }
+    ensures short { length rest.new ≤ 63 }
+    ensures rest { rest.new ≡ rest_text point }
 {
-    let Some(link) = link else {
-        return text.extend_from_slice(&place.buffer[place.start..]);
-    };
-    text.extend_from_slice(&place.buffer[place.start..84])?;
-    push_link(text, link)?;
-    text.extend_from_slice(b"\n")
+    rest.push_first(point.vs);
+    rest.push_first(point.index);
+    rest.push_first(point.column);
 }
 
-// Adds an event, in a line of its own. The place is the one that was printed last.
-fn push_event(text: &mut Vec<u8>, event: &Event, place: &mut Printed) -> Result<(), AllocError>
-    ensures { IfOk result (λ _. text.new.items ≡ text.old.items ++ line_of event.now) }
+// Writes a link, if there is one.
+#[inline(always)]
+fn write_link_of(event: &Event, lines: &mut [u8], at: usize) -> usize
+    requires { at + 54 ≤ length lines.old }
+    ensures short { result ≤ at + 54 }
+    ensures length { length lines.new ≡ length lines.old }
+    ensures written { take result lines.new ≡ take at lines.old ++ link_text event.now.link }
 {
-    text.extend_from_slice(words_of(event.kind, event.name).as_bytes())?;
+    match &event.link {
+        Some(link) => write_link(link, lines, at),
+        None => at,
+    }
+}
+
+// Writes an event, in a line of its own. The place is the one that was printed last.
+#[inline(always)]
+fn write_event(event: &Event, place: &mut Printed, lines: &mut [u8], at: usize) -> usize
+    requires { at + 187 ≤ length lines.old }
+    ensures short { result ≤ at + 187 }
+    ensures length { length lines.new ≡ length lines.old }
+    ensures written { take result lines.new ≡ take at lines.old ++ line_of event.now }
+{
+    let words = words_of(event.kind, event.name);
+    let at = write_bytes(
+        &words.as_bytes()[..WORDS],
+        length_of(event.kind, event.name),
+        lines,
+        at,
+    );
     place.turn_to(event.point);
-    push_rest(text, place, event.link)
+    let at = place.write(lines, at);
+    let at = write_link_of(event, lines, at);
+    write_all(b"\n", lines, at)
+}
+
+// Adds the lines that are collected to the output where another might not fit behind them, and answers where the next one begins.
+#[inline(always)]
+fn make_room(text: &mut Vec<u8>, lines: &[u8], at: usize) -> Result<usize, AllocError>
+    requires { at ≤ length lines.now }
+    ensures room { IfOk result (λ end. (end ≤ 3909) × (end ≤ at)) }
+    ensures kept { IfOk result (λ end. text.new.items ++ take end lines.now ≡ text.old.items ++ take at lines.now) }
+{
+    if at <= COLLECTED - LINE {
+        return Ok(at);
+    }
+    text.extend_from_slice(&lines[..at])?;
+    Ok(0)
 }
 
 /// The lines of all events, in order. The only error is that memory was refused.
 ///
-/// Events often stand where the one before them does, so the place that was printed last is kept.
+/// Lines are collected, and added to the output many at a time. Events often stand where the one before them does, so the place that was
+/// printed last is kept.
 pub(crate) fn lines_of(alloc: Global, events: &[Event]) -> Result<Vec<u8>, AllocError>
     ensures { IfOk result (λ text. text.items ≡ lines_of events.now) }
 {
     let mut text = Vec::new(alloc);
+    let mut lines = [0; COLLECTED];
+    let mut at = 0;
     let mut place = Printed::new(Point {
         line: 1,
         column: 1,
@@ -250,7 +402,9 @@ pub(crate) fn lines_of(alloc: Global, events: &[Event]) -> Result<Vec<u8>, Alloc
         vs: 0,
     });
     for event in events {
-        push_event(&mut text, event, &mut place)?;
+        at = make_room(&mut text, &lines, at)?;
+        at = write_event(event, &mut place, &mut lines, at);
     }
+    text.extend_from_slice(&lines[..at])?;
     Ok(text)
 }

@@ -1,10 +1,12 @@
 -- The states that pass code after code do no more than that up to their stop bytes.
 use Rattle.std.proofs.Common.{◌≡◌, ℕ, List, None, Some}
 use Rattle.markdown_engine.specs.Steady.{IsSteady}
-use Rattle.markdown_engine.specs.declared.state.StateName.TheVariants.{DataInside, RawTextData, HtmlTextComment, HtmlTextCdata, HtmlTextDeclaration, HtmlTextInstruction, HtmlTextTagOpenAttributeValueQuoted}
+use Rattle.markdown_engine.specs.declared.state.StateName.TheVariants.{AutolinkUrlInside, DataInside, DestinationEnclosed, DestinationRaw, TitleInside, RawTextData, HtmlTextComment, HtmlTextCdata, HtmlTextDeclaration, HtmlTextInstruction, HtmlTextTagOpenAttributeValueQuoted}
 use Rattle.markdown_html.proofs.SteadyLaws as SteadyLaws
+use Rattle.markdown_leaf.proofs.AutolinkLaws as AutolinkLaws
 use Rattle.markdown_leaf.proofs.RawTextLaws as RawTextLaws
 use Rattle.markdown_partial.proofs.DataLaws as DataLaws
+use Rattle.markdown_string.proofs.SteadyLaws as StringSteady
 use Rattle.markdown_run.specs.Layer.{ready_of, step_of, stops_of}
 
 no-bytes : (set : List ℕ) → None ≡ Some set → ⊥
@@ -18,4 +20,8 @@ steady_of HtmlTextCdata T set alone r known free = SteadyLaws.cdata-steady T set
 steady_of HtmlTextDeclaration T set alone r known free = SteadyLaws.declaration-steady T set known free
 steady_of HtmlTextInstruction T set alone r known free = SteadyLaws.instruction-steady T set known free
 steady_of HtmlTextTagOpenAttributeValueQuoted T set alone r known free = SteadyLaws.quoted-steady T set known free
+steady_of AutolinkUrlInside T set alone r known free = AutolinkLaws.uri-steady T set known free
+steady_of DestinationEnclosed T set alone r known free = StringSteady.enclosed-steady T set known free
+steady_of DestinationRaw T set alone r known free = StringSteady.raw-steady T set known free
+steady_of TitleInside T set alone r known free = StringSteady.title-steady T set known free
 steady_of _ T set alone r known free = absurd (no-bytes set known)

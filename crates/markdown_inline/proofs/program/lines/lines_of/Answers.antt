@@ -1,14 +1,14 @@
-use Rattle.std.proofs.Common.{◌≡◌, ◌∙◌, sym, ap, ℕ, ◌+◌, ◌<◌, List, [], ◌∷◌, ◌++◌, append-nil, get_or, length, take}
+use Rattle.std.proofs.Common.{◌≡◌, ◌∙◌, sym, ap, ℕ, ◌+◌, ◌<◌, List, [], ◌∷◌, ◌++◌, append-nil, append_assoc, get_or, length, take, arith}
 use Rattle.std.proofs.lemmas.Grind.{flat_map-append}
 use Rattle.std.proofs.lemmas.List.{take_more, take_all}
 use Rattle.markdown_engine.specs.declared.event.Event.{Event}
 use Rattle.markdown_inline.specs.Lines.{line_of, lines_of}
 use Rattle.markdown_inline.proofs.program.lines.lines_of.Goals as goal
 
-one-more : (es : List Event) (i : ℕ) (d : Event) (old new : List ℕ) → i < length es → new ≡ old ++ line_of (get_or es i d) → old ≡ lines_of (take i es) → new ≡ lines_of (take (i + 1) es)
+one-more : (es : List Event) (i : ℕ) (d : Event) (old : List ℕ) → i < length es → old ≡ lines_of (take i es) → old ++ line_of (get_or es i d) ≡ lines_of (take (i + 1) es)
 unfolding lines_of
-one-more es i d old new h pushed so_far =
-    pushed ∙ ap (λ bs. bs ++ line_of (get_or es i d)) so_far ∙ sym (
+one-more es i d old h so_far =
+    ap (λ bs. bs ++ line_of (get_or es i d)) so_far ∙ sym (
     ap lines_of (take_more es i d h)
     ∙ flat_map-append line_of (take i es) (get_or es i d ∷ [])
     ∙ ap (λ bs. lines_of (take i es) ++ bs) (append-nil (line_of (get_or es i d)))
@@ -16,11 +16,22 @@ one-more es i d old new h pushed so_far =
 
 pub loop-event-init : goal.loop-event-init
 unfolding lines_of
-loop-event-init c = c.new-text.ensures.items
+loop-event-init c = record { fits = omega arith; so_far = append-nil c.new-text.result.items ∙ c.new-text.ensures.items }
 
 pub loop-event-preserved : goal.loop-event-preserved
 loop-event-preserved c =
-    one-more c.args.events.now c.loop-event.event-index _ _ _ c.loop-event-test.true c.in_ok-push_event.ensures c.loop-event.invariant
+    let kept = c.in_ok-at.ensures in
+    let written = c.write_event-at.ensures in
+    let text = c.make_room.new.text.items in
+    record {
+      fits = omega (arith, written.short, kept.room.0);
+      so_far =
+          ap (λ bs. text ++ bs) written.written
+          ∙ sym (append_assoc text (take c.in_ok-at.at c.loop-event.lines) _)
+          ∙ one-more c.args.events.now c.loop-event.event-index _ _ c.loop-event-test.true (kept.kept ∙ c.loop-event.invariant.so_far);
+    }
 
 pub returns : goal.returns
-returns c = c.loop-event.invariant ∙ ap lines_of (take_all c.loop-event.event-index c.args.events.now c.loop-event-test.false)
+returns c =
+    c.in_ok-extend_from_slice.ensures.items ∙ c.loop-event.invariant.so_far
+    ∙ ap lines_of (take_all c.loop-event.event-index c.args.events.now c.loop-event-test.false)

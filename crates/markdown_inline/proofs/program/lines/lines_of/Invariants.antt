@@ -1,7 +1,12 @@
-use Rattle.std.proofs.Common.{◌≡◌, take}
+use Rattle.std.proofs.Common.{◌≡◌, ℕ, ◌≤◌, List, ◌++◌, take}
+use Rattle.markdown_engine.specs.declared.event.Event.{Event}
 use Rattle.markdown_inline.specs.Lines.{lines_of}
 use Rattle.markdown_inline.proofs.program.lines.lines_of.Given as goal
 
--- the lines of the events so far
+-- the lines of these events, the last of which, up to at, are not added to the output yet
+pub record IsWritten (text lines : List ℕ) (at : ℕ) (events : List Event) : Type 0 where
+  pub fits : at ≤ 4096
+  pub so_far : text ++ take at lines ≡ lines_of events
+
 abbrev pub invariant-loop-event : goal.invariant-loop-event
-invariant-loop-event l = l.text.items ≡ lines_of (take l.event-index l.events)
+invariant-loop-event l = IsWritten l.text.items l.lines l.at (take l.event-index l.events)
