@@ -234,6 +234,7 @@ impl Numbers {
     }
 
     // Puts a number before the others.
+    #[inline(always)]
     fn push_first(&mut self, number: usize)
         requires { length self.old + 21 ≤ 64 }
         ensures short { length self.new ≤ length self.old + 21 }
