@@ -1,5 +1,5 @@
 -- The states of inline content by name: when they may be called, what they do, how runs from them end, and a number that falls.
-use Rattle.std.specs.Prelude.{ℕ, Bool, List, Option, None}
+use Rattle.std.specs.Prelude.{ℕ, Bool, List, Option, None, Some}
 use Rattle.markdown_engine.specs.Runs.{Stepped}
 use Rattle.markdown_engine.specs.Weights.{weight_at}
 use Rattle.markdown_engine.specs.StateWords.{StateWords, Words}
