@@ -13,6 +13,9 @@ const WORDS: usize = 48;
 // The most bytes of a line.
 const LINE: usize = WORDS + 84 + 54 + 1;
 
+// Most lines are a little shorter: room for the output is asked for at once, so many bytes for each event.
+const MOSTLY: usize = 40;
+
 // How many bytes of lines are collected before they are added to the output.
 const COLLECTED: usize = 4096;
 
@@ -388,12 +391,12 @@ fn make_room(text: &mut Vec<u8>, lines: &[u8], at: usize) -> Result<usize, Alloc
 
 /// The lines of all events, in order. The only error is that memory was refused.
 ///
-/// Lines are collected, and added to the output many at a time. Events often stand where the one before them does, so the place that was
-/// printed last is kept.
+/// Lines are collected, and added to the output many at a time. Room for it is asked for at once, and more only where lines are long. Events
+/// often stand where the one before them does, so the place that was printed last is kept.
 pub(crate) fn lines_of(alloc: Global, events: &[Event]) -> Result<Vec<u8>, AllocError>
     ensures { IfOk result (λ text. text.items ≡ lines_of events.now) }
 {
-    let mut text = Vec::new(alloc);
+    let mut text = Vec::with_capacity(alloc, events.len().saturating_mul(MOSTLY))?;
     let mut lines = [0; COLLECTED];
     let mut at = 0;
     let mut place = Printed::new(Point {

@@ -16,7 +16,7 @@ one-more es i d old h so_far =
 
 pub loop-event-init : goal.loop-event-init
 unfolding lines_of
-loop-event-init c = record { fits = omega arith; so_far = append-nil c.new-text.result.items ∙ c.new-text.ensures.items }
+loop-event-init c = record { fits = omega arith; so_far = append-nil c.in_ok-text.text.items ∙ c.in_ok-text.ensures.items }
 
 pub loop-event-preserved : goal.loop-event-preserved
 loop-event-preserved c =
