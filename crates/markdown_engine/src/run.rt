@@ -1,5 +1,5 @@
 // Runs of a layer's states, and of its passes. Each answers the error where a growth is refused; then `failed` is true.
-ghost use Rattle.std.specs.Prelude.{◌≡◌, ◌++◌, [], IfOk, OnOk, OnErr, IsTrue};
+ghost use Rattle.std.specs.Prelude.{◌≡◌, ◌++◌, [], length, IfOk, OnOk, OnErr, IsTrue};
 ghost use Rattle.markdown_engine.specs.Runs.{going_state, going_in, settled, ends_state, ready_state};
 ghost use Rattle.markdown_engine.specs.Reach.{Reaches};
 ghost use Rattle.markdown_engine.specs.Steady.{Onward};
@@ -38,14 +38,33 @@ pub fn resume<'a>(tokenizer: &mut Tokenizer<'a>, attempt: Attempt<'a>, ok: bool)
     if ok { if_ok } else { if_nok }
 }
 
-// Passes the codes at the place over which this state goes on by itself.
-fn pass_stretch<L: Layer>(name: StateName, tokenizer: &mut Tokenizer)
+// Passes the codes at the place over which this state goes on by itself, where it comes to the place as the next one. A state that is called
+// again where another was called is not asked: few of those go on by themselves, and they do so from their second call.
+fn pass_stretch<L: Layer>(is_next: bool, name: StateName, tokenizer: &mut Tokenizer)
     requires ready { L.ready name tokenizer.old }
     requires alone { tokenizer.old.attempts ≡ [] }
     ensures { Onward L.ready L.step L.ends L.weight name tokenizer.old tokenizer.new }
 {
+    if !is_next {
+        return;
+    }
     if let Some(stops) = L::stop_bytes(name, &tokenizer.tokenize_state) {
         tokenizer.cursor.consume_stretch(&stops);
+    }
+}
+
+// Puts the only attempt that a call opened on top of those that wait.
+fn hand_one<'a>(
+    waiting: &mut Stack<Attempt<'a>>,
+    attempts: &mut Stack<Attempt<'a>>,
+) -> Result<(), AllocError>
+    requires { length attempts.old ≡ 1 }
+    ensures waits { OnOk result (waiting.new ≡ attempts.old ++ waiting.old) }
+    ensures none { attempts.new ≡ [] }
+{
+    match attempts.pop() {
+        Some(attempt) => waiting.push(attempt),
+        None => Ok(()),
     }
 }
 
@@ -59,7 +78,11 @@ fn hand_over<'a>(
     ensures left { OnOk result (tokenizer.new ≡ settled tokenizer.old) }
     ensures err { OnErr result (IsTrue tokenizer.new.failed) }
 {
-    let moved = waiting.append(&mut tokenizer.attempts);
+    let attempts = &mut tokenizer.attempts;
+    let moved = match attempts.len() {
+        1 => hand_one(waiting, attempts),
+        _ => waiting.append(attempts),
+    };
     if moved.is_err() {
         tokenizer.fail();
     }
@@ -80,7 +103,7 @@ fn run_from<L: Layer>(start: State, tokenizer: &mut Tokenizer) -> Result<bool, A
     loop {
         let ok = match state {
             State::Next(name) | State::Retry(name) => {
-                pass_stretch::<L>(name, tokenizer);
+                pass_stretch::<L>(matches!(state, State::Next(_)), name, tokenizer);
                 state = L::call(name, tokenizer)?;
                 hand_over(&mut waiting, tokenizer)?;
                 continue;
