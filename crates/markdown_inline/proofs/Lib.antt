@@ -1,2 +1,3 @@
+pub mod NumberLemmas
 pub mod WholeDocument
 pub mod WordLemmas

@@ -1,6 +1,7 @@
 -- The proofs of the starts and ends of labels.
 pub mod TextBetween
 pub mod Fronts
+pub mod Letters
 pub mod ListedNames
 pub mod BracketRules
 pub mod AfterSteps

@@ -12,6 +12,7 @@ ghost use Rattle.markdown_label.specs.Settings.{setting_in, IsListed};
 use crate::identifier::{identifier_of, is_footnote, link_identifier};
 use markdown_engine::name_index::Names;
 use markdown_engine::tokenizer::{LabelKind, Tokenizer};
+use markdown_engine::util::slice::Slice;
 use std::alloc::AllocError;
 
 // The first front of a label that is looked at has two to this power bytes.
@@ -122,11 +123,45 @@ fn brackets_rule_out(tokenizer: &Tokenizer, kind: LabelKind, start: usize, end: 
     }
 }
 
+// Where the lowercase ASCII letters end that a part of a text begins with. They are their own identifier.
+fn letters_end(bytes: &[u8], start: usize, end: usize) -> usize
+    requires { AreCuts bytes.now start end }
+    ensures before { result ≤ end }
+    ensures cuts { AreCuts bytes.now start result }
+    ensures identifier { identifier_of (slice_range bytes.now start result) ≡ slice_range bytes.now start result }
+{
+    for at in start..end {
+        if !bytes[at].is_ascii_lowercase() {
+            return at;
+        }
+    }
+    end
+}
+
+// Whether the lowercase letters that a label begins with, from an index of the document to another, show that nothing is defined that it
+// may stand for. They are compared where they stand, and take no memory, but of a footnote's label.
+fn letters_rule_out(
+    tokenizer: &Tokenizer,
+    kind: LabelKind,
+    start: usize,
+    end: usize,
+) -> Result<bool, AllocError>
+    requires cuts { AreCuts (bytes_of tokenizer.now) start end }
+    requires listed { IsListed tokenizer.now }
+    ensures { IfOk result (λ out. IsTrue out → IsUnknown (setting_in tokenizer.now) kind (identifier_of (slice_range (bytes_of tokenizer.now) start end))) }
+{
+    let bytes = tokenizer.parse_state.bytes;
+    let middle = letters_end(bytes, start, end);
+    let front = Slice::from_indices(bytes, start, middle);
+    let begins = begins_defined(tokenizer, kind, front.as_str())?;
+    Ok(!begins)
+}
+
 // Whether the brackets or the front of a label, from an index of the document to another, show that nothing is defined that it may stand
 // for.
 //
-// Labels with as many brackets as one another do not nest. Each front is twice as long as the one before, so a long label is read at most
-// about twice as far as it begins like a definition.
+// Labels with as many brackets as one another do not nest. Of most labels nothing is defined that begins with the letters of their first
+// word. Each front behind is twice as long as the one before, so a long label is read at most about twice as far as it begins like a definition.
 pub(crate) fn is_ruled_out(
     tokenizer: &Tokenizer,
     kind: LabelKind,
@@ -141,6 +176,9 @@ pub(crate) fn is_ruled_out(
         return Ok(true);
     }
     if brackets_rule_out(tokenizer, kind, start, end) {
+        return Ok(true);
+    }
+    if letters_rule_out(tokenizer, kind, start, end)? {
         return Ok(true);
     }
     for bits in FIRST_BITS..usize::BITS {

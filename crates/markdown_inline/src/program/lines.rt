@@ -1,5 +1,5 @@
 //! The printed lines of events.
-ghost use Rattle.std.specs.Prelude.{◌≡◌, [], ◌++◌, ◌+◌, ◌<◌, ◌≤◌, codes, decimal, drop, length, take, IfOk, Some};
+ghost use Rattle.std.specs.Prelude.{◌≡◌, [], ◌++◌, ◌+◌, ◌-◌, ◌<◌, ◌≤◌, codes, decimal, drop, length, take, IfOk, Some};
 ghost use Rattle.markdown_inline.specs.Lines.{words_text, content_text, number_text, point_text, rest_text, link_text, line_of, lines_of};
 
 use itoa::{Buffer, write_digits};
@@ -19,7 +19,7 @@ const MOSTLY: usize = 40;
 // How many bytes of lines are collected before they are added to the output.
 const COLLECTED: usize = 4096;
 
-// The names of all events, handed to the macro that is named, behind the words that come after its name.
+// The names of all events in the order of their numbers, handed to the macro that is named, behind the words that come after its name.
 macro_rules! all_names {
     ($of_names:ident $($more:tt)*) => {
         $of_names! {
@@ -98,45 +98,31 @@ macro_rules! all_names {
     };
 }
 
-// The words of each name, the first of which says whether an event begins or ends. Spaces stand behind them, so that all are as long as what a
-// line copies.
+// The words of the events of one kind, by the numbers of their names, and how long they are. Spaces stand behind them, so that all are as long
+// as what a line copies.
 macro_rules! words_of {
-    ($kind:literal $name:ident $($of_all:ident)*) => {
-        match $name {
-            $(Name::$of_all => concat!($kind, " ", stringify!($of_all), "                                                "),)*
-        }
+    ($kind:literal $($of_all:ident)*) => {
+        [$((
+            concat!($kind, " ", stringify!($of_all), "                                                "),
+            concat!($kind, " ", stringify!($of_all)).len(),
+        ),)*]
     };
 }
 
-// Whether an event begins or ends, its name, and spaces: at least 48 bytes.
-fn words_of(kind: Kind, name: Name) -> &'static str
-    ensures long { 48 ≤ length result.now }
-    ensures words { take (length (words_text kind name)) result.now ≡ words_text kind name }
+static ENTERS: [(&str, usize); 70] = all_names!(words_of "Enter");
+
+static EXITS: [(&str, usize); 70] = all_names!(words_of "Exit");
+
+// Whether an event begins or ends, its name, and spaces, at least 48 bytes; and how many bytes the words are, without the spaces behind them.
+fn words_of(kind: Kind, name: Name) -> (&'static str, usize)
+    ensures long { 48 ≤ length result.0.now }
+    ensures short { result.1 ≤ 48 }
+    ensures length { result.1 ≡ length (words_text kind name) }
+    ensures words { take (length (words_text kind name)) result.0.now ≡ words_text kind name }
 {
     match kind {
-        Kind::Enter => all_names!(words_of "Enter" name),
-        Kind::Exit => all_names!(words_of "Exit" name),
-    }
-}
-
-// How long each name is.
-macro_rules! length_of {
-    ($name:ident $($of_all:ident)*) => {
-        match $name {
-            $(Name::$of_all => stringify!($of_all).len(),)*
-        }
-    };
-}
-
-// How many bytes the words of an event are, without the spaces behind them.
-fn length_of(kind: Kind, name: Name) -> usize
-    ensures short { result ≤ 48 }
-    ensures words { result ≡ length (words_text kind name) }
-{
-    let name = all_names!(length_of name);
-    match kind {
-        Kind::Enter => name + 6,
-        Kind::Exit => name + 5,
+        Kind::Enter => ENTERS[name as usize],
+        Kind::Exit => EXITS[name as usize],
     }
 }
 
@@ -236,6 +222,15 @@ impl Numbers {
         self.start = 64;
     }
 
+    // Drops all but the last n bytes.
+    #[inline(always)]
+    fn keep_last(&mut self, n: usize)
+        requires { (n ≤ 64) × (n ≤ length self.old) }
+        ensures { self.new ≡ drop (length self.old - n) self.old }
+    {
+        self.start = 64 - n;
+    }
+
     // Puts a number before the others.
     #[inline(always)]
     fn push_first(&mut self, number: usize)
@@ -294,7 +289,8 @@ impl Printed {
         let mut line = Numbers::new();
         line.push_first(point.line);
         let mut rest = Numbers::new();
-        push_rest(&mut rest, point);
+        rest.push_first(point.vs);
+        push_place(&mut rest, point);
         Printed { point, line, rest }
     }
 
@@ -310,8 +306,8 @@ impl Printed {
             self.line.clear();
             self.line.push_first(point.line);
         }
-        self.rest.clear();
-        push_rest(&mut self.rest, point);
+        turn_codes(&mut self.rest, self.point, point.vs);
+        push_place(&mut self.rest, point);
         self.point = point;
     }
 
@@ -328,14 +324,29 @@ impl Printed {
     }
 }
 
-// Puts what stands behind the line of a place: column, byte, and the codes of a tab before it.
+// Leaves the codes of a tab alone, where those of another place stand behind its column and byte. As a rule there are none, at both places.
 #[inline(always)]
-fn push_rest(rest: &mut Numbers, point: Point)
-    requires { rest.old ≡ [] }
+fn turn_codes(rest: &mut Numbers, other: Point, vs: usize)
+    requires { rest.old ≡ rest_text other }
+    ensures short { length rest.new ≤ 21 }
+    ensures codes { rest.new ≡ codes " " ++ decimal vs }
+{
+    if other.vs == 0 && vs == 0 {
+        rest.keep_last(2);
+        return;
+    }
+    rest.clear();
+    rest.push_first(vs);
+}
+
+// Puts column and byte of a place before the codes of a tab before it.
+#[inline(always)]
+fn push_place(rest: &mut Numbers, point: Point)
+    requires short { length rest.old ≤ 21 }
+    requires codes { rest.old ≡ codes " " ++ decimal point.vs }
     ensures short { length rest.new ≤ 63 }
     ensures rest { rest.new ≡ rest_text point }
 {
-    rest.push_first(point.vs);
     rest.push_first(point.index);
     rest.push_first(point.column);
 }
@@ -362,13 +373,8 @@ fn write_event(event: &Event, place: &mut Printed, lines: &mut [u8], at: usize) 
     ensures length { length lines.new ≡ length lines.old }
     ensures written { take result lines.new ≡ take at lines.old ++ line_of event.now }
 {
-    let words = words_of(event.kind, event.name);
-    let at = write_bytes(
-        &words.as_bytes()[..WORDS],
-        length_of(event.kind, event.name),
-        lines,
-        at,
-    );
+    let (words, length) = words_of(event.kind, event.name);
+    let at = write_bytes(&words.as_bytes()[..WORDS], length, lines, at);
     place.turn_to(event.point);
     let at = place.write(lines, at);
     let at = write_link_of(event, lines, at);

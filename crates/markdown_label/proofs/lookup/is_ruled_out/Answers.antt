@@ -14,6 +14,9 @@ returns-then-defines_nothing c = λ _. unknown-nothing (setting_in c.args.tokeni
 pub returns-then-brackets_rule_out : goal.returns-then-brackets_rule_out
 returns-then-brackets_rule_out c = λ _. c.brackets_rule_out.ensures c.if-brackets_rule_out.true
 
+pub returns-then-branch : goal.returns-then-branch
+returns-then-branch c = λ _. c.in_ok-letters_rule_out.ensures c.if-branch.true
+
 pub returns-then-not-branch : goal.returns-then-not-branch
 returns-then-not-branch c = λ _.
     unknown-from (setting_in c.args.tokenizer.now) c.args.kind (bytes_of c.args.tokenizer.now) c.as_str.result.now c.args.start c.boundary-middle.result c.args.end

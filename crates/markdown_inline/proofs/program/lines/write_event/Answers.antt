@@ -16,20 +16,20 @@ long : (n : ℕ) (bytes words : List ℕ) → bytes ≡ words → n ≤ length w
 long n bytes words e h = length-take-le n bytes (subst (λ bs. n ≤ length bs) (sym e) h)
 
 pub slice_bounds-write_bytes-end : goal.slice_bounds-write_bytes-end
-slice_bounds-write_bytes-end c = sym (long 48 _ _ c.as_bytes.ensures.value c.words_of-words.ensures.long)
+slice_bounds-write_bytes-end c = sym (long 48 _ _ c.as_bytes.ensures.value c.words_of-length.ensures.long)
 
 pub write_bytes-at-requires : goal.write_bytes-at-requires
 write_bytes-at-requires c =
-    let all = long 48 _ _ c.as_bytes.ensures.value c.words_of-words.ensures.long in
-    (omega (arith, all, c.length_of.ensures.short), omega (arith, all, c.requires))
+    let all = long 48 _ _ c.as_bytes.ensures.value c.words_of-length.ensures.long in
+    (omega (arith, all, c.words_of-length.ensures.short), omega (arith, all, c.requires))
 
 pub returns-clause-written : goal.returns-clause-written
 unfolding line_of
 returns-clause-written c =
     let event = c.args.event.now in
     joined _ _ _ _ (take c.args.at c.args.lines.now) c.as_bytes.result.now (words_text event.kind event.name) (point_text event.point) (link_text event.link) (codes "\n")
-    c.length_of.result 48 c.length_of.ensures.short c.length_of.ensures.words
-    (ap (take (length (words_text event.kind event.name))) c.as_bytes.ensures.value ∙ c.words_of-words.ensures.words)
+    c.words_of-length.result.1 48 c.words_of-length.ensures.short c.words_of-length.ensures.length
+    (ap (take (length (words_text event.kind event.name))) c.as_bytes.ensures.value ∙ c.words_of-length.ensures.words)
     c.write_bytes-at.ensures.written
     (c.write-at.ensures.written ∙ ap (λ p. take c.write_bytes-at.result c.write_bytes-at.new.lines ++ point_text p) c.turn_to.ensures)
     c.write_link_of-at.ensures.written

@@ -1,13 +1,10 @@
-use Rattle.std.proofs.Common.{◌≡◌, ◌∙◌, refl, sym, ap, ℕ, ◌+◌, ◌-◌, ◌≤◌, List, ◌∷◌, ◌++◌, decimal, drop, take, length, set, arith}
+use Rattle.std.proofs.Common.{◌≡◌, ◌∙◌, refl, ap, ℕ, ◌+◌, ◌-◌, ◌≤◌, List, ◌∷◌, ◌++◌, decimal, drop, take, length, set, arith}
 use Rattle.std.proofs.Math.Seq.{take-append-add}
 use Rattle.std.proofs.lemmas.Fmt.{length-decimal-le}
 use Rattle.std.proofs.lemmas.Grind.{drop-set_at}
-use Rattle.std.proofs.lemmas.List.{length-append, length-drop, length-take-le}
+use Rattle.std.proofs.lemmas.List.{length-append}
+use Rattle.markdown_inline.proofs.NumberLemmas.{length-kept}
 use Rattle.markdown_inline.proofs.program.lines.Numbers.push_first.Goals as goal
-
--- what ends at 64 is as long as the way there
-length-kept : (s : ℕ) (bytes kept : List ℕ) → s ≤ 64 → length bytes ≡ 128 → take (64 - s) (drop s bytes) ≡ kept → length kept ≡ 64 - s
-length-kept s bytes kept h l e = sym (ap length e) ∙ length-take-le (64 - s) (drop s bytes) (omega (arith, length-drop s bytes, l, h))
 
 -- a space and digits, written before it
 pushed : (s r : ℕ) (bytes new digits kept : List ℕ)
