@@ -15,7 +15,7 @@ use markdown_engine::tokenizer::{LabelKind, Tokenizer};
 use markdown_engine::util::slice::Slice;
 use std::alloc::AllocError;
 
-// The first front of a label that is looked at has two to this power bytes.
+// The first front of a label that an identifier is made for has two to this power bytes.
 const FIRST_BITS: u32 = 6;
 
 // Where a text may be cut that may be cut at `end`: where the next character begins at or after an index, or at `end`.
