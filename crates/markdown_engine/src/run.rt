@@ -1,5 +1,5 @@
 // Runs of a layer's states, and of its passes. Each answers the error where a growth is refused; then `failed` is true.
-ghost use Rattle.std.specs.Prelude.{◌≡◌, ◌++◌, [], length, IfOk, OnOk, OnErr, IsTrue};
+ghost use Rattle.std.specs.Prelude.{◌≡◌, ◌++◌, [], IfOk, OnOk, OnErr, IsTrue};
 ghost use Rattle.markdown_engine.specs.Runs.{going_state, going_in, settled, ends_state, ready_state};
 ghost use Rattle.markdown_engine.specs.Reach.{Reaches};
 ghost use Rattle.markdown_engine.specs.Steady.{Onward};
@@ -15,60 +15,32 @@ use std::mem;
 
 /// Goes on with an attempt, after an Ok or a Nok.
 #[tactic(auto, unfolding(crate::specs::Runs::restored))]
-pub fn resume<'a>(tokenizer: &mut Tokenizer<'a>, attempt: Attempt<'a>, ok: bool) -> State
-    ensures state { result ≡ going_state attempt.entry ok }
-    ensures left { tokenizer.new ≡ going_in attempt.entry ok tokenizer.old }
+pub fn resume<'a>(tokenizer: &mut Tokenizer<'a>, attempt: &Attempt<'a>, ok: bool) -> State
+    ensures state { result ≡ going_state attempt.now ok }
+    ensures left { tokenizer.new ≡ going_in attempt.now ok tokenizer.old }
 {
-    let Attempt {
-        ok: if_ok,
-        nok: if_nok,
-        events_len,
-        map_len,
-        restores,
-        stack_len,
-        cursor,
-    } = attempt;
-    if ok && !restores {
-        return if_ok;
+    if ok && !attempt.restores {
+        return attempt.ok;
     }
-    tokenizer.events.truncate(events_len);
-    tokenizer.map.truncate(map_len);
-    tokenizer.stack.truncate(stack_len);
-    tokenizer.cursor = cursor;
-    if ok { if_ok } else { if_nok }
+    tokenizer.events.truncate(attempt.events_len);
+    tokenizer.map.truncate(attempt.map_len);
+    tokenizer.stack.truncate(attempt.stack_len);
+    tokenizer.cursor = attempt.cursor.save();
+    if ok { attempt.ok } else { attempt.nok }
 }
 
-// Passes the codes at the place over which this state goes on by itself, where it comes to the place as the next one. A state that is called
-// again where another was called is not asked: few of those go on by themselves, and they do so from their second call.
-fn pass_stretch<L: Layer>(is_next: bool, name: StateName, tokenizer: &mut Tokenizer)
+// Passes the codes at the place over which this state goes on by itself.
+fn pass_stretch<L: Layer>(name: StateName, tokenizer: &mut Tokenizer)
     requires ready { L.ready name tokenizer.old }
     requires alone { tokenizer.old.attempts ≡ [] }
     ensures { Onward L.ready L.step L.ends L.weight name tokenizer.old tokenizer.new }
 {
-    if !is_next {
-        return;
-    }
     if let Some(stops) = L::stop_bytes(name, &tokenizer.tokenize_state) {
         tokenizer.cursor.consume_stretch(&stops);
     }
 }
 
-// Puts the only attempt that a call opened on top of those that wait.
-fn hand_one<'a>(
-    waiting: &mut Stack<Attempt<'a>>,
-    attempts: &mut Stack<Attempt<'a>>,
-) -> Result<(), AllocError>
-    requires { length attempts.old ≡ 1 }
-    ensures waits { OnOk result (waiting.new ≡ attempts.old ++ waiting.old) }
-    ensures none { attempts.new ≡ [] }
-{
-    match attempts.pop() {
-        Some(attempt) => waiting.push(attempt),
-        None => Ok(()),
-    }
-}
-
-// Puts the attempts that a call opened on top of those that wait.
+// Puts the attempts that a call opened on top of those that wait. As a rule none was opened or none waits, and nothing is moved.
 #[tactic(auto, unfolding(crate::specs::Runs::settled))]
 fn hand_over<'a>(
     waiting: &mut Stack<Attempt<'a>>,
@@ -78,11 +50,14 @@ fn hand_over<'a>(
     ensures left { OnOk result (tokenizer.new ≡ settled tokenizer.old) }
     ensures err { OnErr result (IsTrue tokenizer.new.failed) }
 {
-    let attempts = &mut tokenizer.attempts;
-    let moved = match attempts.len() {
-        1 => hand_one(waiting, attempts),
-        _ => waiting.append(attempts),
-    };
+    if tokenizer.attempts.is_empty() {
+        return Ok(());
+    }
+    if waiting.is_empty() {
+        mem::swap(waiting, &mut tokenizer.attempts);
+        return Ok(());
+    }
+    let moved = waiting.append(&mut tokenizer.attempts);
     if moved.is_err() {
         tokenizer.fail();
     }
@@ -103,7 +78,7 @@ fn run_from<L: Layer>(start: State, tokenizer: &mut Tokenizer) -> Result<bool, A
     loop {
         let ok = match state {
             State::Next(name) | State::Retry(name) => {
-                pass_stretch::<L>(matches!(state, State::Next(_)), name, tokenizer);
+                pass_stretch::<L>(name, tokenizer);
                 state = L::call(name, tokenizer)?;
                 hand_over(&mut waiting, tokenizer)?;
                 continue;
@@ -111,10 +86,11 @@ fn run_from<L: Layer>(start: State, tokenizer: &mut Tokenizer) -> Result<bool, A
             State::Ok => true,
             State::Nok => false,
         };
-        let Some(attempt) = waiting.pop() else {
+        let Some(attempt) = waiting.top() else {
             return Ok(ok);
         };
         state = resume(tokenizer, attempt, ok);
+        let _ = waiting.pop();
     }
 }
 

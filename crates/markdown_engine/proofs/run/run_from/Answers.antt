@@ -1,4 +1,4 @@
-use Rattle.std.proofs.Common.{◌≡◌, Bool, suc, sym, ap, ◌∙◌}
+use Rattle.std.proofs.Common.{◌≡◌, Bool, suc, sym, ap, ◌∙◌, ◌∷◌}
 use Rattle.markdown_engine.specs.Runs.{ends_state, weight_state}
 use Rattle.markdown_engine.proofs.ReachLemmas.{answer}
 use Rattle.markdown_engine.proofs.RunLemmas.{settled-alone, going_in-alone, ready-next}
@@ -33,14 +33,14 @@ loop-state-preserved-in-Next g c =
       calls = λ ok U k. c.loop-state.invariant.calls ok U (turn.calls ok U k);
     }
 
-pub loop-state-preserved : goal.loop-state-preserved
-loop-state-preserved g c =
+pub loop-state-preserved-in-Some : goal.loop-state-preserved-in-Some
+loop-state-preserved-in-Some g c =
     let law = g.L.Layer in
-    let f = c.in-Some.attempt in
+    let f = c.in-Some.attempt.now in
     let ok : Bool = c.match-state.ok in
     let now = c.resume-state.ensures in
     let before = c.loop-state.invariant in
-    let waits = c.in-Some.ensures.cases in
+    let waits = c.in-Some.ensures ∙ ap (λ fs. f ∷ fs) (sym c.pop.ensures.rest) in
     let is : c.loop-state.state ≡ answer ok = elim c.match-state.branch [ in-Ok w ↦ w.in-Ok.is ∙ ap answer (sym w.ok-is) | in-Nok w ↦ w.in-Nok.is ∙ ap answer (sym w.ok-is) ] in
     let turn = turned-out law.ready law.step law.ends law.weight (suc (weight_state law.weight c.args.start c.args.tokenizer.now)) (ends_state law.ends c.args.start c.args.tokenizer.now) f c.pop.new.self ok c.loop-state.tokenizer before.alone (rw (waits, is) at before.goes) in
     record {
