@@ -80,10 +80,10 @@ fn fail_both(rt: &impl Abort, tokenizer: &mut Tokenizer) -> Result<(), AllocErro
     pass_connected(rt, tokenizer)?;
     let inner = checked(rt, tokenizer, StateName::DataInside)?;
     tokenizer.enter(Name::LineEnding)?;
-    let after_inner = resume(tokenizer, inner, false);
+    let after_inner = resume(tokenizer, &inner, false);
     assert_eq!(rt; after_inner, State::Next(StateName::DataInside));
     assert_eq!(rt; first_link(rt, tokenizer.events.as_slice()), (4, Some(2)));
-    let after_outer = resume(tokenizer, outer, false);
+    let after_outer = resume(tokenizer, &outer, false);
     assert_eq!(rt; after_outer, State::Next(StateName::DataStart));
     assert_eq!(rt; first_link(rt, tokenizer.events.as_slice()), (2, None));
     let place = (tokenizer.current(), tokenizer.previous());
