@@ -87,27 +87,36 @@ impl ByteSet {
     }
 }
 
-/// The set of these bytes, as in `byte_set!(b'"', b'\'')`.
+/// The set of these bytes, all of them ASCII, as in `byte_set!(b'"', b'\'')`. With `controls` behind them, as in `byte_set!(b' '; controls)`, the
+/// ASCII control characters other than NUL are of the set too.
 #[macro_export]
 macro_rules! byte_set {
-    (@plain $byte:literal, ($($of_set:literal)*)) => { ($byte > 13) $(& ($byte != $of_set))* };
+    // The more comparisons a table has, the longer its proof takes. So one of them leaves out all controls, and a byte beyond ASCII has none.
+    (@plain $byte:literal, ($above:literal $(, $of_set:literal)*)) => { ($byte > $above) $(& ($byte != $of_set))* };
+    (@beyond $byte:literal) => { true };
     (@is_word $byte:literal) => {
         (($byte == 32) | (($byte >= 65) & ($byte <= 90)) | (($byte >= 97) & ($byte <= 122)) | ($byte >= 128))
     };
-    (@table $set:tt, $($byte:literal)*) => { [$($crate::byte_set!(@plain $byte, $set)),*] };
-    ($($of_set:literal),*) => {
-        $crate::bytes::ByteSet::new(&[$($of_set),*], &$crate::byte_set!(@table ($($of_set)*),
+    (@table $stops:tt, $($byte:literal)*) => {
+        [$($crate::byte_set!(@plain $byte, $stops),)* $($crate::byte_set!(@beyond $byte)),*]
+    };
+    (@new $bytes:expr, $stops:tt, $words_are_plain:expr) => {
+        $crate::bytes::ByteSet::new($bytes, &$crate::byte_set!(@table $stops,
             0 1 2 3 4 5 6 7 8 9 10 11 12 13 14 15 16 17 18 19 20 21 22 23 24 25 26 27 28 29 30 31 32
             33 34 35 36 37 38 39 40 41 42 43 44 45 46 47 48 49 50 51 52 53 54 55 56 57 58 59 60 61
             62 63 64 65 66 67 68 69 70 71 72 73 74 75 76 77 78 79 80 81 82 83 84 85 86 87 88 89 90
             91 92 93 94 95 96 97 98 99 100 101 102 103 104 105 106 107 108 109 110 111 112 113 114
-            115 116 117 118 119 120 121 122 123 124 125 126 127 128 129 130 131 132 133 134 135 136
-            137 138 139 140 141 142 143 144 145 146 147 148 149 150 151 152 153 154 155 156 157 158
-            159 160 161 162 163 164 165 166 167 168 169 170 171 172 173 174 175 176 177 178 179 180
-            181 182 183 184 185 186 187 188 189 190 191 192 193 194 195 196 197 198 199 200 201 202
-            203 204 205 206 207 208 209 210 211 212 213 214 215 216 217 218 219 220 221 222 223 224
-            225 226 227 228 229 230 231 232 233 234 235 236 237 238 239 240 241 242 243 244 245 246
-            247 248 249 250 251 252 253 254 255),
+            115 116 117 118 119 120 121 122 123 124 125 126 127),
+            $words_are_plain)
+    };
+    ($($of_set:literal),*; controls) => {
+        $crate::byte_set!(@new
+            &[$($of_set,)* 127, 1, 2, 3, 4, 5, 6, 7, 8, 9, 10, 11, 12, 13, 14, 15, 16, 17, 18, 19, 20, 21, 22, 23, 24, 25, 26,
+                27, 28, 29, 30, 31],
+            (31, 127 $(, $of_set)*),
             true $(& !$crate::byte_set!(@is_word $of_set))*)
+    };
+    ($($of_set:literal),*) => {
+        $crate::byte_set!(@new &[$($of_set),*], (13 $(, $of_set)*), true $(& !$crate::byte_set!(@is_word $of_set))*)
     };
 }

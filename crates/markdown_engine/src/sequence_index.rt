@@ -12,7 +12,7 @@ use crate::cursor::Cursor;
 use std::marker::Model;
 
 /// A sequence of bytes without which some construct does not stand: one that ends it, or that it holds.
-#[derive(Clone, Copy, Debug, PartialEq, Eq)]
+#[derive(Clone, Copy)]
 pub enum Sequence {
     /// `-->`: a comment ends.
     CommentEnd,
@@ -33,7 +33,7 @@ pub enum Sequence {
 }
 
 /// For each sequence, how many codes stand before the last place where it begins; `None` where there is no such place.
-#[derive(Clone, Copy, Debug, PartialEq, Eq)]
+#[derive(Clone, Copy)]
 pub struct LastBegins {
     /// Of `-->`.
     pub comment_end: Option<usize>,

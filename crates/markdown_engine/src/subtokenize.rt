@@ -5,7 +5,7 @@ ghost use Rattle.markdown_engine.specs.Chain.{changed_at, with_previous, previou
 use crate::events::Events;
 
 /// What a resolver may answer that leaves definitions behind. No resolver of the inline layer does.
-#[derive(Clone, Debug, PartialEq, Eq, Drop)]
+#[derive(Drop)]
 pub struct Subresult {
     /// Whether all content was read.
     pub done: bool,

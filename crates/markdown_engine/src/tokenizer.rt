@@ -29,7 +29,7 @@ use std::marker::Model;
 use std::mem;
 
 /// What kind of label a start begins.
-#[derive(Clone, Copy, Debug, PartialEq, Eq)]
+#[derive(Clone, Copy)]
 pub enum LabelKind {
     /// `![`: an image.
     Image,
@@ -42,7 +42,7 @@ pub enum LabelKind {
 }
 
 /// The start of a label. Events are named by their numbers in the list.
-#[derive(Clone, Copy, Debug, PartialEq, Eq)]
+#[derive(Clone, Copy)]
 pub struct LabelStart {
     /// What it may begin.
     pub kind: LabelKind,
@@ -53,7 +53,7 @@ pub struct LabelStart {
 }
 
 /// A label: its start and its end. Events are named by their numbers in the list.
-#[derive(Clone, Copy, Debug, PartialEq, Eq)]
+#[derive(Clone, Copy)]
 pub struct Label {
     /// What it is.
     pub kind: LabelKind,

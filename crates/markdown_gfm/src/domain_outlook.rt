@@ -26,7 +26,7 @@ use markdown_util::util::char::{Kind, kind_after_index};
 use std::alloc::{AllocError, Global};
 
 /// What a look for trailing punctuation comes to at a code.
-#[derive(Clone, Copy, Debug, PartialEq, Eq)]
+#[derive(Clone, Copy)]
 enum Look {
     // It goes on behind the code: with `Some` behind a `&`, and whether letters stand between.
     GoesOn(Option<bool>),
@@ -35,7 +35,7 @@ enum Look {
 }
 
 /// What is known of the domain over a place.
-#[derive(Clone, Copy, Debug, PartialEq, Eq)]
+#[derive(Clone, Copy)]
 struct Outlook {
     // How many codes stand before its end.
     end: usize,

@@ -154,10 +154,7 @@ pub fn url_inside(tokenizer: &mut Tokenizer) -> Result<State, AllocError>
 pub fn uri_stops() -> ByteSet
     ensures { result ≡ uri_stops }
 {
-    byte_set!(
-        0, b' ', b'<', b'>', 127, 1, 2, 3, 4, 5, 6, 7, 8, 9, 10, 11, 12, 13, 14, 15, 16, 17, 18,
-        19, 20, 21, 22, 23, 24, 25, 26, 27, 28, 29, 30, 31
-    )
+    byte_set!(0, b' ', b'<', b'>'; controls)
 }
 
 /// In an address before its `@`.

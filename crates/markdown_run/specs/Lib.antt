@@ -1,3 +1,4 @@
 pub mod Layer
 pub mod Laws
 pub mod Construct
+pub mod Whole

@@ -2,7 +2,8 @@
 ghost use Rattle.std.specs.Prelude.{◌≡◌, ◌-◌, false, [], take, drop, map, length, IfOk, IsErr, OnErr, IsTrue};
 ghost use Rattle.std.specs.List.{All};
 ghost use Rattle.markdown_run.specs.Construct.{IsConstruct, ConstructEnds};
-ghost use Rattle.markdown_engine.specs.Chain.{chained};
+ghost use Rattle.markdown_run.specs.Layer.{ready_of};
+ghost use Rattle.markdown_run.specs.Whole.{MayPass, IsFoundFrom};
 ghost use Rattle.markdown_engine.specs.Content.{IsContent, IsTextContent, content_of};
 ghost use Rattle.markdown_text.specs.Settings.{setting_of, text_setting_of};
 ghost use Rattle.markdown_emphasis.specs.Pass.{IsProbed};
@@ -13,6 +14,7 @@ use crate::state::Inline;
 pub use markdown_engine::content::{is_content, is_text};
 use markdown_engine::cursor::Cursor;
 use markdown_engine::event::Event;
+use markdown_engine::events::Events;
 use markdown_engine::parser::ParseState;
 pub use markdown_engine::parser::Piece;
 use markdown_engine::state::StateName;
@@ -20,6 +22,7 @@ use markdown_engine::tokenizer::Tokenizer;
 pub use markdown_leaves::leaf::{Leaf, Leaves};
 pub use markdown_leaves::leaves;
 use std::alloc::{AllocError, Global};
+use std::mem;
 
 /// What a run finds.
 #[derive(Debug, Drop)]
@@ -30,16 +33,20 @@ pub struct Run {
     pub probes: u128,
 }
 
-// What a tokenizer has found: its events, with the numbers that links go on to, and its probes.
-fn found(tokenizer: Tokenizer) -> Run
-    ensures events { result.events.items ≡ chained tokenizer.entry.events }
-    ensures probes { result.probes ≡ tokenizer.entry.tokenize_state.probes }
+// Runs the states from this one and then the passes that they registered, and takes what is found out of the tokenizer.
+fn run_through(name: StateName, tokenizer: &mut Tokenizer) -> Result<Run, AllocError>
+    requires ready { ready_of name tokenizer.old }
+    requires alone { tokenizer.old.attempts ≡ [] }
+    requires passes { MayPass name tokenizer.old }
+    ensures { IfOk result (λ run. IsFoundFrom name tokenizer.old run) }
 {
-    let probes = tokenizer.tokenize_state.probes;
-    Run {
-        events: tokenizer.events.into_vec(),
-        probes,
-    }
+    let _ = tokenizer.run_state::<Inline>(name)?;
+    tokenizer.resolve_all::<Inline>()?;
+    let events = mem::replace(&mut tokenizer.events, Events::new(tokenizer.alloc));
+    Ok(Run {
+        events: events.into_vec(),
+        probes: tokenizer.tokenize_state.probes,
+    })
 }
 
 /// The events of the inline tree of a content that is read as a string: of its escapes, character references and data.
@@ -57,9 +64,7 @@ pub fn string(alloc: Global, parse_state: &ParseState, pieces: &[Piece]) -> Resu
     ensures probes { IfOk result (λ run. run.probes ≡ 0) }
 {
     let mut tokenizer = Tokenizer::new(alloc, parse_state, pieces);
-    let _ = tokenizer.run_state::<Inline>(StateName::StringStart)?;
-    tokenizer.resolve_all::<Inline>()?;
-    Ok(found(tokenizer))
+    run_through(StateName::StringStart, &mut tokenizer)
 }
 
 /// The events of the inline tree of a content that is read as text: of the inside of a paragraph, a heading or a table's cell. `first_of_item`
@@ -90,9 +95,7 @@ pub fn text(
     tokenizer
         .tokenize_state
         .document_at_first_paragraph_of_list_item = first_of_item;
-    let _ = tokenizer.run_state::<Inline>(StateName::TextStart)?;
-    tokenizer.resolve_all::<Inline>()?;
-    Ok(found(tokenizer))
+    run_through(StateName::TextStart, &mut tokenizer)
 }
 
 // Puts back events, edits, open names and place.

@@ -30,10 +30,7 @@ pub fn stop_bytes(name: StateName) -> Option<ByteSet>
 {
     match name {
         StateName::DestinationEnclosed => Some(byte_set!(b'<', b'>', b'\\')),
-        StateName::DestinationRaw => Some(byte_set!(
-            b' ', b'(', b')', b'\\', 127, 1, 2, 3, 4, 5, 6, 7, 8, 9, 10, 11, 12, 13, 14, 15, 16,
-            17, 18, 19, 20, 21, 22, 23, 24, 25, 26, 27, 28, 29, 30, 31
-        )),
+        StateName::DestinationRaw => Some(byte_set!(b' ', b'(', b')', b'\\'; controls)),
         _ => None,
     }
 }

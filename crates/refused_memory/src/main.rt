@@ -17,7 +17,7 @@ mod values;
 use std::process::ExitCode;
 
 // What came of a row, or of all rows so far: the more serious stands behind the others.
-#[derive(Clone, Copy, Debug, PartialEq, Eq)]
+#[derive(Clone, Copy, PartialEq, Eq)]
 pub(crate) enum Came {
     // The answer that is wanted.
     Answer,

@@ -15,7 +15,7 @@ struct Given {
 }
 
 // How a content is read.
-#[derive(Clone, Copy, Debug, PartialEq, Eq)]
+#[derive(Clone, Copy, PartialEq, Eq)]
 enum Mode {
     Text,
     String,

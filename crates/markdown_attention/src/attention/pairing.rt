@@ -15,7 +15,7 @@ use markdown_engine::configuration::ParseOptions;
 use std::alloc::{AllocError, Global};
 
 /// An opener and a closer by their numbers, and how many markers the pair takes of each.
-#[derive(Clone, Copy, Debug, PartialEq, Eq)]
+#[derive(Clone, Copy)]
 pub struct Pair {
     /// The number of the opener.
     pub opener: usize,

@@ -17,7 +17,7 @@ use std::alloc::AllocError;
 use std::marker::Model;
 
 /// A run of equal markers as it stands.
-#[derive(Clone, Copy, Debug, PartialEq, Eq)]
+#[derive(Clone, Copy)]
 pub struct Sequence {
     /// Its number: runs are counted from 0, in order of place.
     pub number: usize,
