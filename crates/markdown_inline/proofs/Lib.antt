@@ -1,3 +1,2 @@
-pub mod NumberLemmas
 pub mod WholeDocument
 pub mod WordLemmas

@@ -6,7 +6,7 @@ use Rattle.markdown_engine.specs.declared.event.Event.{Event}
 use Rattle.markdown_model.specs.Inline.{string_events, text_events}
 use Rattle.markdown_model.specs.Setting.{Setting}
 use Rattle.markdown_util.specs.Reference.{html_5_rows}
-use Rattle.markdown_inline.specs.Lines.{lines_of}
+use Rattle.markdown_inline_lines.specs.Lines.{lines_of}
 use Rattle.markdown_inline.specs.Words.{reads_text, has_word, options_of, defined_by, whole_piece, without_line_ending}
 
 -- the setting that the words ask for

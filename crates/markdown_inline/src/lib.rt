@@ -4,6 +4,7 @@
 pub mod laws;
 pub mod options;
 pub mod program;
+pub mod util;
 
 pub use markdown_gfm::gfm_task_list_item_check;
 pub use markdown_html::html_text;
@@ -17,4 +18,3 @@ pub use markdown_partial::{
 pub use markdown_run::{attention, gfm_autolink_literal, label_end, resolve, run, state};
 pub use markdown_string::{partial_destination, partial_label, partial_title};
 pub use markdown_text::{string, text};
-pub use markdown_util::util;

@@ -10,19 +10,17 @@ ghost use Rattle.markdown_inline.specs.Words.{is_option, is_mode, are_known, rea
 ghost use Rattle.markdown_inline.specs.Output.{found_events, printed};
 ghost use Rattle.std.specs.Io.KnownBytes.{Appends};
 
-use crate::program::lines::lines_of;
 use markdown_engine::configuration::{Constructs, ParseOptions};
 use markdown_engine::content::DOCUMENT_LIMIT;
 use markdown_engine::parser::{ParseState, Piece};
+use markdown_inline_lines::lines::lines_of;
 use markdown_run::run::{self, Run};
 use markdown_util::util::normalize_identifier::normalize_identifier;
 use std::alloc::{AllocError, Global};
 use std::io::{self, ErrorKind, Read, Write};
 
-mod lines;
-
 /// Why a run of the program ends without its output, or without all of it.
-#[derive(Clone, Copy, Debug, PartialEq, Eq)]
+#[derive(Clone, Copy)]
 enum Fault {
     /// The first word is missing, or a word is not known.
     Usage,

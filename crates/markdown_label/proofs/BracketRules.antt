@@ -14,7 +14,7 @@ use Rattle.markdown_engine.specs.declared.tokenizer.Tokenizer.{Tokenizer}
 use Rattle.markdown_engine.proofs.BracketIndexLemmas.{count-first, counted-is}
 use Rattle.markdown_construct.specs.Characters.{bytes_of}
 use Rattle.markdown_util.specs.Identifier.{identifier_of}
-use Rattle.markdown_util.proofs.BracketCounts.{of-identifier}
+use Rattle.markdown_label.proofs.BracketCounts.{of-identifier}
 use Rattle.markdown_model.specs.LabelEnd.{is_footnote, link_identifier}
 use Rattle.markdown_model.specs.Setting.{Setting, is_defined}
 use Rattle.markdown_label.specs.Lookup.{AreCuts, IsUnknown, lacks_count}

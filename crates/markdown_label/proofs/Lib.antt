@@ -3,6 +3,7 @@ pub mod TextBetween
 pub mod Fronts
 pub mod Letters
 pub mod ListedNames
+pub mod BracketCounts
 pub mod BracketRules
 pub mod AfterSteps
 pub mod StartStack

@@ -1,6 +1,5 @@
 pub mod AsciiClass
 pub mod AsciiFold
-pub mod BracketCounts
 pub mod FirstByte
 pub mod Joining
 pub mod LastChar

@@ -24,10 +24,6 @@ pub const LINK_REFERENCE_SIZE_MAX: usize = 999;
 /// The fewest spaces before a line ending that make a hard break.
 pub const HARD_BREAK_PREFIX_SIZE_MIN: usize = 2;
 
-// The longest document, in bytes, and the distance between two tab stops, in columns: the engine asks for both.
-pub use markdown_engine::content::DOCUMENT_LIMIT;
-pub use markdown_engine::walk::TAB_SIZE;
-
 /// What follows `<![` in the opening of a CDATA section.
 pub const HTML_CDATA_PREFIX: [u8; 6] = *b"CDATA[";
 

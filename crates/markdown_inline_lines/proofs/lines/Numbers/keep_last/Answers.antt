@@ -1,5 +1,5 @@
-use Rattle.markdown_inline.proofs.NumberLemmas.{last-kept}
-use Rattle.markdown_inline.proofs.program.lines.Numbers.keep_last.Goals as goal
+use Rattle.markdown_inline_lines.proofs.NumberLemmas.{last-kept}
+use Rattle.markdown_inline_lines.proofs.lines.Numbers.keep_last.Goals as goal
 
 pub returns : goal.returns
 returns c =

@@ -2,7 +2,7 @@ use Rattle.std.proofs.Common.{◌≡◌, ◌∙◌, sym, ap, ℕ, ◌+◌, ◌-�
 use Rattle.std.proofs.Math.Seq.{take-append-add}
 use Rattle.std.proofs.lemmas.List.{length-take-le, take-take}
 use Rattle.std.proofs.lemmas.Slice.{take-put_mid}
-use Rattle.markdown_inline.proofs.program.lines.write_bytes.Goals as goal
+use Rattle.markdown_inline_lines.proofs.lines.write_bytes.Goals as goal
 
 -- the first bytes of those that were written
 part-written : (at n : ℕ) (old bytes new : List ℕ)

@@ -2,8 +2,8 @@ use Rattle.std.proofs.Common.{◌≡◌, ◌∙◌, sym, ap, ℕ, ◌+◌, ◌<�
 use Rattle.std.proofs.lemmas.Grind.{flat_map-append}
 use Rattle.std.proofs.lemmas.List.{take_more, take_all}
 use Rattle.markdown_engine.specs.declared.event.Event.{Event}
-use Rattle.markdown_inline.specs.Lines.{line_of, lines_of}
-use Rattle.markdown_inline.proofs.program.lines.lines_of.Goals as goal
+use Rattle.markdown_inline_lines.specs.Lines.{line_of, lines_of}
+use Rattle.markdown_inline_lines.proofs.lines.lines_of.Goals as goal
 
 one-more : (es : List Event) (i : ℕ) (d : Event) (old : List ℕ) → i < length es → old ≡ lines_of (take i es) → old ++ line_of (get_or es i d) ≡ lines_of (take (i + 1) es)
 unfolding lines_of

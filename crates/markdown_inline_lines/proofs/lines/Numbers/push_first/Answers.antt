@@ -3,8 +3,8 @@ use Rattle.std.proofs.Math.Seq.{take-append-add}
 use Rattle.std.proofs.lemmas.Fmt.{length-decimal-le}
 use Rattle.std.proofs.lemmas.Grind.{drop-set_at}
 use Rattle.std.proofs.lemmas.List.{length-append}
-use Rattle.markdown_inline.proofs.NumberLemmas.{length-kept}
-use Rattle.markdown_inline.proofs.program.lines.Numbers.push_first.Goals as goal
+use Rattle.markdown_inline_lines.proofs.NumberLemmas.{length-kept}
+use Rattle.markdown_inline_lines.proofs.lines.Numbers.push_first.Goals as goal
 
 -- a space and digits, written before it
 pushed : (s r : ℕ) (bytes new digits kept : List ℕ)

@@ -1,6 +1,6 @@
-//! The printed lines of events.
+//! Each event on a line: whether it begins or ends, its name, its place, and its link if it has one.
 ghost use Rattle.std.specs.Prelude.{◌≡◌, [], ◌++◌, ◌+◌, ◌-◌, ◌<◌, ◌≤◌, codes, decimal, drop, length, take, IfOk, Some};
-ghost use Rattle.markdown_inline.specs.Lines.{words_text, content_text, number_text, point_text, rest_text, link_text, line_of, lines_of};
+ghost use Rattle.markdown_inline_lines.specs.Lines.{words_text, content_text, number_text, point_text, rest_text, link_text, line_of, lines_of};
 
 use itoa::{Buffer, write_digits};
 use markdown_engine::event::{Content, Event, Kind, Link, Name, Point};
@@ -272,7 +272,7 @@ struct Printed {
 
 impl Model for Printed {
     ghost use Rattle.markdown_engine.specs.declared.event.Point.{Point};
-    ghost use Rattle.markdown_inline.specs.Lines.{IsPrinted};
+    ghost use Rattle.markdown_inline_lines.specs.Lines.{IsPrinted};
 
     ghost Value = { Point };
 
@@ -399,7 +399,7 @@ fn make_room(text: &mut Vec<u8>, lines: &[u8], at: usize) -> Result<usize, Alloc
 ///
 /// Lines are collected, and added to the output many at a time. Room for it is asked for at once, and more only where lines are long. Events
 /// often stand where the one before them does, so the place that was printed last is kept.
-pub(crate) fn lines_of(alloc: Global, events: &[Event]) -> Result<Vec<u8>, AllocError>
+pub fn lines_of(alloc: Global, events: &[Event]) -> Result<Vec<u8>, AllocError>
     ensures { IfOk result (λ text. text.items ≡ lines_of events.now) }
 {
     let mut text = Vec::with_capacity(alloc, events.len().saturating_mul(MOSTLY))?;

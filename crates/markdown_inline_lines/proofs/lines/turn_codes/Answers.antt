@@ -1,9 +1,9 @@
 use Rattle.std.proofs.Common.{◌≡◌, ◌∙◌, sym, ap, ℕ, ◌-◌, List, ◌++◌, codes, decimal, drop, length, append_assoc, arith}
 use Rattle.std.proofs.lemmas.Fmt.{decimal_digit}
-use Rattle.markdown_inline.specs.Lines.{rest_text}
+use Rattle.markdown_inline_lines.specs.Lines.{rest_text}
 use Rattle.markdown_engine.specs.declared.event.Point.{Point}
-use Rattle.markdown_inline.proofs.NumberLemmas.{last-of}
-use Rattle.markdown_inline.proofs.program.lines.turn_codes.Goals as goal
+use Rattle.markdown_inline_lines.proofs.NumberLemmas.{last-of}
+use Rattle.markdown_inline_lines.proofs.lines.turn_codes.Goals as goal
 
 -- where there are no such codes, these are the last two bytes
 none-last : (p : Point) (rest : List ℕ) → rest ≡ rest_text p → p.vs ≡ 0 → drop (length rest - 2) rest ≡ codes " " ++ decimal 0

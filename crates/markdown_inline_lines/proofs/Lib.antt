@@ -1,0 +1,2 @@
+-- The proofs of printed lines.
+pub mod NumberLemmas

@@ -1,0 +1,4 @@
+//! The printed lines of events.
+#![tactic(auto)]
+
+pub mod lines;
