@@ -110,23 +110,16 @@ def literal(data):
     return listed([str(b) for b in data])
 
 
-def statement(line):
+def divided(line):
+    """The parts of a row: how it is read, its words, the document, the pieces and the answer."""
     kind, words, document, pieces, answer = re.fullmatch(r'([a-z]+) ?(.*?)«(.*)»(.*?):(.*)', line).groups()
-    data = plain(document).encode()
-    if kind in READINGS:
-        link = 'linked' in words.split()
-        wanted = 'None' if answer == ' no' else 'Some (%s)' % listed(events(parsed(answer), points(data), 0, link))
-        given = dict(word.split('=', 1) for word in words.split() if '=' in word)
-        before = ''
-        if kind in ('spacing', 'bounded'):
-            before = ' (Some Content.String)' if link else ' None'
-        if kind == 'bounded':
-            before += ' %s %s' % (given.get('min', 0), given.get('max', 2 ** 64 - 1))
-        if kind == 'data':
-            before = ' (%s)' % literal(plain(given['upto']).encode())
-        return '%s_answer%s (%s) ≡ %s' % (kind, before, literal(data), wanted)
+    return kind, words.split(), document, pieces.split(), answer
+
+
+def settings(words):
+    """The fields that the words set, the identifiers that they define, and whether the outermost events are asked for."""
     fields, definitions, footnotes, outer = [], [], [], False
-    for word in words.split():
+    for word in words:
         if word == 'outer':
             outer = True
         elif word.startswith('definition='):
@@ -135,28 +128,59 @@ def statement(line):
             footnotes.append(plain(word[9:]).encode())
         elif word[:3] == 'no-' and word[3:] in SWITCHES:
             fields = [f for f in fields if not f.startswith(word[3:] + ' ')] + ['%s = false' % word[3:]]
+        elif word in SWITCHES:
+            fields.append('%s = true' % word)
         else:
             fields += WORDS[word]
+    return fields, definitions, footnotes, outer
+
+
+def ends_of(pieces, data):
+    """Where the pieces start and end: without one the content is the whole document."""
+    return [tuple(map(place, p.split('-'))) for p in pieces] or [((0, 0), (len(data), 0))]
+
+
+def statement(line):
+    kind, words, document, pieces, answer = divided(line)
+    data = plain(document).encode()
+    if kind in READINGS:
+        link = 'linked' in words
+        wanted = 'None' if answer == ' no' else 'Some (%s)' % listed(events(parsed(answer), points(data), 0, link))
+        given = dict(word.split('=', 1) for word in words if '=' in word)
+        before = ''
+        if kind in ('spacing', 'bounded'):
+            before = ' (Some Content.String)' if link else ' None'
+        if kind == 'bounded':
+            before += ' %s %s' % (given.get('min', 0), given.get('max', 2 ** 64 - 1))
+        if kind == 'data':
+            before = ' (%s)' % literal(plain(given['upto']).encode())
+        return '%s_answer%s (%s) ≡ %s' % (kind, before, literal(data), wanted)
+    fields, definitions, footnotes, outer = settings(words)
     for field, names in (('definitions', definitions), ('footnotes', footnotes)):
         if names:
             fields.append('%s = %s' % (field, listed(['(%s)' % literal(n) for n in names])))
     row = 'record default { %s }' % '; '.join(fields) if fields else 'default'
-    ends = [tuple(map(place, p.split('-'))) for p in pieces.split()] or [((0, 0), (len(data), 0))]
-    content = listed(['piece %d %d %d %d' % (a + b) for a, b in ends])
+    content = listed(['piece %d %d %d %d' % (a + b) for a, b in ends_of(pieces, data)])
     if kind in ('counts', 'looks'):
         return '%s_answer (%s) (%s) (%s) ≡ (%s)' % (kind, row, literal(data), content, ' ∷ '.join(answer.split() + ['[]']))
     function = kind + ('_outline' if outer else '_answer')
     return '%s (%s) (%s) (%s) ≡ (%s)' % (function, row, literal(data), content, listed(events(parsed(answer), points(data))))
 
 
-def main():
+def groups_of(path):
+    """The rows of a list, by the names of its groups."""
     groups, name = {}, None
-    for line in open(HERE + '/tools/rows.txt', encoding='utf-8').read().split('\n'):
+    for line in open(path, encoding='utf-8').read().split('\n'):
         if line.startswith('== '):
             name = line[3:]
             groups[name] = []
         elif name and line and not line.startswith('#'):
             groups[name].append(line)
+    return groups
+
+
+def main():
+    groups = groups_of(HERE + '/tools/rows.txt')
     for name, lines in groups.items():
         spec = ['', 'abbrev pub Rows : Type 0', 'Rows =']
         for number, line in enumerate(lines, 1):

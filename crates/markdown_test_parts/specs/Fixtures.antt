@@ -1,0 +1,11 @@
+-- What the events of the cases have.
+use Rattle.std.specs.Prelude.{ℕ, List}
+use Rattle.markdown_engine.specs.declared.event.Event.{Event}
+use Rattle.markdown_attention.specs.Reading.{HaveRunPlaces}
+use Rattle.markdown_emphasis.specs.RunEdits.{HaveRunEnds, HaveRunRoom}
+
+-- the runs of these events are such as the edits of the pass ask for
+pub record HaveRuns (bytes : List ℕ) (es : List Event) : Type 0 where
+  pub places : HaveRunPlaces bytes es
+  pub ends : HaveRunEnds es
+  pub room : HaveRunRoom es

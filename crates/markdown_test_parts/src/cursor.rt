@@ -1,0 +1,116 @@
+// What a cursor reads.
+//
+//     read PIECE.. | DOCUMENT          a line for each code and for the end: the code, where it begins, the column and index where an event
+//                                      ends that ends before it, the code before it, and the code as a saved cursor has it
+//     stretch PIECE.. | DOCUMENT       the index where the content ends, and a line for each stretch without `-`: how many codes are passed,
+//                                      the column, the code before, and the code that the stretch stops at, which is passed then
+//     holds SET TIMES PIECE.. | DOCUMENT   whether so many codes of the content are in the set, `]` or `abc`, asked behind the first code
+//     restart PIECE.. | DOCUMENT       how many codes are passed at the end, how many at the start again, and the code there
+//
+// A place is printed as its line, column, index and codes of the tab there.
+ghost use Rattle.std.specs.Prelude.{◌≡◌, ◌≤◌, codes};
+
+use crate::case::Case;
+use crate::content::push_place;
+use markdown_engine::byte_set;
+use markdown_engine::content::is_content;
+use markdown_engine::cursor::Cursor;
+use std::alloc::{AllocError, Global};
+
+// Appends what a case answers.
+pub(crate) fn answer(alloc: Global, case: &Case, out: &mut String) -> Result<(), AllocError> {
+    let pieces = case.pieces(alloc)?;
+    if !is_content(&case.text, &pieces) {
+        return out.push_str(" no content");
+    }
+    let mut cursor = Cursor::new(&case.text, &pieces);
+    match case.call {
+        "read" => read(&mut cursor, out),
+        "stretch" => stretch(&mut cursor, out),
+        "holds" => holds(&mut cursor, case.word(0), case.number(1), out),
+        "restart" => restart(&mut cursor, out),
+        _ => out.push_str(" no such call"),
+    }
+}
+
+// A code as a character.
+fn shown(code: Option<u8>) -> Option<char> {
+    code.map(char::from)
+}
+
+// Passes a code, if there is one.
+fn pass(cursor: &mut Cursor) {
+    if cursor.current().is_some() {
+        cursor.consume();
+    }
+}
+
+// No content that ends here has more codes: four for each byte, and for the tab that it may end in.
+fn most_codes(cursor: &Cursor) -> usize {
+    cursor.end_index().saturating_add(1).saturating_mul(4)
+}
+
+// Appends what is known at a place.
+fn push_row(cursor: &Cursor, out: &mut String) -> Result<(), AllocError> {
+    let end = cursor.exit_point();
+    write!(out, "\n    {:?}", shown(cursor.current()))?;
+    push_place(out, cursor.point())?;
+    write!(
+        out,
+        ", {} {}, {:?} {:?}",
+        end.column,
+        end.index,
+        shown(cursor.previous()),
+        shown(cursor.save().current())
+    )
+}
+
+// Reads a content, a line for each code.
+fn read(cursor: &mut Cursor, out: &mut String) -> Result<(), AllocError> {
+    for _ in 0..most_codes(cursor) {
+        if cursor.current().is_none() {
+            break;
+        }
+        push_row(cursor, out)?;
+        pass(cursor);
+    }
+    push_row(cursor, out)
+}
+
+// Reads a content, a line for each stretch.
+fn stretch(cursor: &mut Cursor, out: &mut String) -> Result<(), AllocError> {
+    let stops = byte_set!(b'-');
+    write!(out, " {}", cursor.end_index())?;
+    for _ in 0..most_codes(cursor) {
+        cursor.consume_stretch(&stops);
+        let (passed, column) = (cursor.passed(), cursor.point().column);
+        let (before, code) = (shown(cursor.previous()), shown(cursor.current()));
+        write!(out, "\n    {passed} {column} {before:?} {code:?}")?;
+        if code.is_none() {
+            break;
+        }
+        pass(cursor);
+    }
+    Ok(())
+}
+
+// Counts codes in a set.
+fn holds(cursor: &mut Cursor, set: &str, times: usize, out: &mut String) -> Result<(), AllocError> {
+    pass(cursor);
+    let holds = match set {
+        "]" => cursor.holds(&byte_set!(b']'), times),
+        "abc" => cursor.holds(&byte_set!(b'a', b'b', b'c'), times),
+        _ => return out.push_str(" no such set"),
+    };
+    write!(out, " {holds}")
+}
+
+// Passes all codes, and starts over.
+fn restart(cursor: &mut Cursor, out: &mut String) -> Result<(), AllocError> {
+    for _ in 0..most_codes(cursor) {
+        pass(cursor);
+    }
+    let again = cursor.restart();
+    let first = shown(again.current());
+    write!(out, " {} {} {first:?}", cursor.passed(), again.passed())
+}

@@ -1,0 +1,281 @@
+// The pass over small texts: each run of markers a leaf, all else data. Strikethrough is on.
+//
+//     pass LENGTHS PAIRS BOUND | TEXT   what the pass leaves of the text, called by itself and then by its name, and whether its looks at
+//                                       earlier runs are as many as the pairs at least and as many as the bound at most. LENGTHS is `first`
+//                                       where the rule of three reads whole lengths, or `last`. An event is printed as `(Data 0 1)`, with
+//                                       the indices where it begins and ends
+//     none LENGTHS PAIRS BOUND | TEXT   whether the pass leaves no emphasis and no strikethrough, and the same of its looks
+//     run | TEXT                        the state that follows the start and each of three steps, each of which finds a run open; the
+//                                       registered passes, and the events
+ghost use Rattle.std.specs.Prelude.{◌≡◌, ◌<◌, ◌≤◌, ◌+◌, ◌^◌, length, slice_index_or, IsTrue, IsUtf8, OnOk, true, []};
+ghost use Rattle.std.specs.Str.{IsAscii};
+ghost use Rattle.markdown_attention.specs.Open.{IsMarker};
+ghost use Rattle.markdown_attention.specs.Reading.{is_run};
+ghost use Rattle.markdown_engine.specs.Content.{IsContent};
+ghost use Rattle.markdown_engine.specs.Ops.{IsOpen};
+ghost use Rattle.markdown_engine.specs.declared.event.Name.TheVariants.{AttentionSequence};
+ghost use Rattle.markdown_emphasis.specs.Pass.{IsSmall};
+ghost use Rattle.markdown_test_parts.specs.Fixtures.{HaveRuns};
+
+use crate::attempts::document;
+use crate::case::{Case, whole};
+use markdown_attention::attention::runs::{Runs, Sequence};
+use markdown_attention::attention::{inside, start};
+use markdown_emphasis::attention::{resolve, resolve_counted};
+use markdown_engine::configuration::{Constructs, ParseOptions};
+use markdown_engine::content::is_content;
+use markdown_engine::event::{Event, Kind, Name, Point};
+use markdown_engine::events::Events;
+use markdown_engine::tokenizer::Tokenizer;
+use std::alloc::{AllocError, Global};
+
+// Appends what a case answers.
+pub(crate) fn answer(alloc: Global, case: &Case, out: &mut String) -> Result<(), AllocError> {
+    match case.call {
+        "pass" => {
+            pass(alloc, case, false, out)?;
+            pass(alloc, case, true, out)
+        }
+        "none" => find_none(alloc, case, out),
+        "run" => read_run(alloc, &case.text, out),
+        _ => out.push_str(" no such call"),
+    }
+}
+
+// With strikethrough; the rule of three reads whole lengths where it is asked to.
+fn options(attention_first_lengths: bool) -> ParseOptions {
+    ParseOptions {
+        constructs: Constructs {
+            gfm_strikethrough: true,
+            ..Constructs::default()
+        },
+        attention_first_lengths,
+        ..ParseOptions::default()
+    }
+}
+
+// The place before the byte at an index of a text of one line.
+fn place(index: usize) -> Point
+    requires { index + 1 < 2 ^ 64 }
+    ensures { result ≡ record { line = 1; column = index + 1; index = index; vs = 0 } }
+{
+    Point {
+        line: 1,
+        column: index + 1,
+        index,
+        vs: 0,
+    }
+}
+
+// Appends the events of a leaf.
+fn push_leaf(
+    events: &mut Events,
+    bytes: &[u8],
+    name: Name,
+    from: usize,
+    to: usize,
+) -> Result<(), AllocError>
+    requires ascii { IsAscii bytes.now }
+    requires forward { from < to }
+    requires within { to ≤ length bytes.now }
+    requires fits { to + 1 < 2 ^ 64 }
+    requires marker { is_run name ≡ true → IsMarker (slice_index_or bytes.now from 0) }
+    requires runs { HaveRuns bytes.now events.old }
+    ensures { OnOk result (HaveRuns bytes.now events.new) }
+{
+    events.push(Event {
+        kind: Kind::Enter,
+        name,
+        point: place(from),
+        link: None,
+    })?;
+    events.push(Event {
+        kind: Kind::Exit,
+        name,
+        point: place(to),
+        link: None,
+    })
+}
+
+// Whether a run may repeat this byte.
+fn is_marker(byte: u8) -> bool
+    ensures { IsTrue result → IsMarker byte }
+{
+    matches!(byte, b'*' | b'_' | b'~')
+}
+
+// Whether a leaf that this byte begins goes on with another byte.
+fn goes_on(first: u8, byte: u8) -> bool {
+    if is_marker(first) {
+        byte == first
+    } else {
+        !is_marker(byte)
+    }
+}
+
+// Where the leaf ends that begins at an index.
+fn leaf_end(bytes: &[u8], from: usize) -> usize
+    requires { from < length bytes.now }
+    ensures forward { from < result }
+    ensures within { result ≤ length bytes.now }
+{
+    let mut end = from + 1;
+    while end < bytes.len() && goes_on(bytes[from], bytes[end]) {
+        end += 1;
+    }
+    end
+}
+
+// Appends the leaves of a text.
+fn push_leaves(events: &mut Events, bytes: &[u8]) -> Result<(), AllocError>
+    requires ascii { IsAscii bytes.now }
+    requires fits { length bytes.now + 1 < 2 ^ 64 }
+    requires runs { HaveRuns bytes.now events.old }
+    ensures { OnOk result (HaveRuns bytes.now events.new) }
+{
+    let mut from = 0;
+    while from < bytes.len() {
+        let end = leaf_end(bytes, from);
+        let name = if is_marker(bytes[from]) {
+            Name::AttentionSequence
+        } else {
+            Name::Data
+        };
+        push_leaf(events, bytes, name, from, end)?;
+        from = end;
+    }
+    Ok(())
+}
+
+// Whether the sizes of the runs can be added.
+fn are_small(list: &[Sequence]) -> bool
+    ensures { IsTrue result → IsSmall list.now }
+{
+    let mut markers = 0usize;
+    for run in list {
+        match markers.checked_add(run.remaining) {
+            Some(sum) => markers = sum,
+            None => return false,
+        }
+    }
+    markers < 1 << 62 && list.len() < 1 << 62
+}
+
+// Appends events, each with its name and the index of its place, as `(Data 0 1)`.
+fn push_events(out: &mut String, events: &[Event]) -> Result<(), AllocError> {
+    for event in events {
+        let index = event.point.index;
+        match event.kind {
+            Kind::Enter => write!(out, "({:?} {index}", event.name)?,
+            Kind::Exit => write!(out, " {index})")?,
+        }
+    }
+    Ok(())
+}
+
+// Appends the leaves of the text, and calls the pass, by itself or by its name. Answers the number of looks, and none where there are too many runs.
+fn pair(tokenizer: &mut Tokenizer, by_name: bool) -> Result<Option<u128>, AllocError>
+    requires ascii { IsAscii tokenizer.old.parse_state.now.bytes.now }
+    requires utf8 { IsUtf8 tokenizer.old.parse_state.now.bytes.now }
+    requires fits { length tokenizer.old.parse_state.now.bytes.now + 1 < 2 ^ 64 }
+    requires runs { HaveRuns tokenizer.old.parse_state.now.bytes.now tokenizer.old.events }
+    requires map { tokenizer.old.map ≡ [] }
+{
+    let bytes = tokenizer.parse_state.bytes;
+    push_leaves(&mut tokenizer.events, bytes)?;
+    let runs = Runs::new(tokenizer)?.finish();
+    if !are_small(&runs) {
+        return Ok(None);
+    }
+    if by_name {
+        resolve(tokenizer)?;
+        return Ok(Some(tokenizer.tokenize_state.probes));
+    }
+    let mut probes = 0;
+    resolve_counted(tokenizer, &mut probes)?;
+    Ok(Some(probes))
+}
+
+// Appends what the pass leaves of a text. Answers the number of looks, and none where the text is not in ASCII, or has too many runs.
+fn group(
+    alloc: Global,
+    bytes: &[u8],
+    first_lengths: bool,
+    by_name: bool,
+    out: &mut String,
+) -> Result<Option<u128>, AllocError> {
+    let pieces = whole(bytes);
+    if !is_content(bytes, &pieces) || !bytes.is_ascii() {
+        return Ok(None);
+    }
+    let options = options(first_lengths);
+    let parse_state = document(alloc, bytes, &options);
+    let mut tokenizer = Tokenizer::new(alloc, &parse_state, &pieces);
+    let probes = pair(&mut tokenizer, by_name)?;
+    push_events(out, tokenizer.events.as_slice())?;
+    Ok(probes)
+}
+
+// Whether there are as many looks as pairs at least, and no more than the bound.
+fn is_within(probes: Option<u128>, case: &Case) -> bool {
+    let (pairs, bound) = (case.number(1) as u128, case.number(2) as u128);
+    probes.is_some_and(|probes| pairs <= probes && probes <= bound)
+}
+
+// What the pass leaves of a text, by itself or by its name, on a line of its own.
+fn pass(alloc: Global, case: &Case, by_name: bool, out: &mut String) -> Result<(), AllocError> {
+    out.push_str("\n    ")?;
+    let probes = group(alloc, &case.text, case.word(0) == "first", by_name, out)?;
+    write!(out, " {}", is_within(probes, case))
+}
+
+// Whether the pass leaves no group in a text.
+fn find_none(alloc: Global, case: &Case, out: &mut String) -> Result<(), AllocError> {
+    let mut events = String::new(alloc);
+    let probes = group(
+        alloc,
+        &case.text,
+        case.word(0) == "first",
+        false,
+        &mut events,
+    )?;
+    let has_group = events.contains("Emphasis") || events.contains("Strikethrough");
+    write!(out, " {} {}", !has_group, is_within(probes, case))
+}
+
+// Whether the innermost open event is a run.
+fn is_in_run(tokenizer: &Tokenizer) -> bool
+    ensures { IsTrue result → IsOpen AttentionSequence tokenizer.now }
+{
+    match tokenizer.stack.top() {
+        Some(name) => *name == Name::AttentionSequence,
+        None => false,
+    }
+}
+
+// Calls the states of a run over two markers and a letter.
+fn pass_run(tokenizer: &mut Tokenizer, out: &mut String) -> Result<(), AllocError> {
+    let started = start(tokenizer)?;
+    write!(out, " {started:?}")?;
+    for _ in 0..3 {
+        if !is_in_run(tokenizer) {
+            return out.push_str(" no run");
+        }
+        let state = inside(tokenizer)?;
+        write!(out, " {state:?}")?;
+    }
+    write!(out, " {:?} ", tokenizer.resolvers.as_slice())?;
+    push_events(out, tokenizer.events.as_slice())
+}
+
+// What the states of a run leave of a text.
+fn read_run(alloc: Global, bytes: &[u8], out: &mut String) -> Result<(), AllocError> {
+    let pieces = whole(bytes);
+    if !is_content(bytes, &pieces) {
+        return out.push_str(" no content");
+    }
+    let options = options(false);
+    let parse_state = document(alloc, bytes, &options);
+    let mut tokenizer = Tokenizer::new(alloc, &parse_state, &pieces);
+    pass_run(&mut tokenizer, out)
+}

@@ -1,0 +1,190 @@
+// Lists of events and what is found in them, by calls that are always the same.
+//
+//     to_back     the nearest event of a label or a resource, from two places
+//     own_enter   the columns where two emphases begin and end, one in the other
+//     truncate    a chain of three events, and what is left of it twice
+//     linked      an event that comes with its link back, where an event of another chain stands between
+//     edits       edits at one place between two linked events, applied at once, and whether none is left
+//
+// An event is printed on a line of its own: `Enter` or `Exit`, its name, line, column, index and codes of the tab there; of linked content
+// `link`, the kind of content, and the numbers of the events before and after it on its chain.
+ghost use Rattle.std.specs.Prelude.{◌≡◌, [], Some, None};
+ghost use Rattle.markdown_engine.specs.declared.event.Kind.TheVariants as Kind;
+
+use crate::case::Case;
+use crate::content::{DOCUMENT_START, push_place};
+use markdown_engine::event::{Content, Event, Kind, Link, Name, Point};
+use markdown_engine::events::Events;
+use markdown_engine::subtokenize::link;
+use markdown_engine::util::edit_map::EditMap;
+use markdown_engine::util::skip::to_back;
+use markdown_engine::util::slice::Position;
+use std::alloc::{AllocError, Global};
+
+// Appends what a case answers.
+pub(crate) fn answer(alloc: Global, case: &Case, out: &mut String) -> Result<(), AllocError> {
+    match case.call {
+        "to_back" => find_names(out),
+        "own_enter" => find_enters(out),
+        "truncate" => truncate(alloc, out),
+        "linked" => push_linked(alloc, out),
+        "edits" => edit(alloc, out),
+        _ => out.push_str(" no such call"),
+    }
+}
+
+// Appends events, a line each.
+fn push_events(out: &mut String, events: &[Event]) -> Result<(), AllocError> {
+    for event in events {
+        write!(out, "\n    {:?} {:?}", event.kind, event.name)?;
+        push_place(out, event.point)?;
+        if let Some(link) = event.link {
+            write!(
+                out,
+                " link {:?} {:?} {:?}",
+                link.content, link.previous, link.next
+            )?;
+        }
+    }
+    Ok(())
+}
+
+// An event without a link.
+fn plain(kind: Kind, name: Name) -> Event
+    ensures { result ≡ record { kind = kind; name = name; point = DOCUMENT_START; link = None } }
+{
+    Event {
+        kind,
+        name,
+        point: DOCUMENT_START,
+        link: None,
+    }
+}
+
+// An Enter of linked content.
+fn linked(name: Name, previous: Option<usize>, content: Content) -> Event
+    ensures { result ≡ record {
+      kind = Kind.Enter;
+      name = name;
+      point = DOCUMENT_START;
+      link = Some (record { previous = previous; next = None; content = content });
+    } }
+{
+    Event {
+        kind: Kind::Enter,
+        name,
+        point: DOCUMENT_START,
+        link: Some(Link {
+            previous,
+            next: None,
+            content,
+        }),
+    }
+}
+
+// An emphasis begins or ends at a column.
+fn at(column: usize, kind: Kind) -> Event
+    ensures { result ≡ record {
+      kind = kind;
+      name = Name.Emphasis;
+      point = record { line = 1; column = column; index = 0; vs = 0 };
+      link = None;
+    } }
+{
+    Event {
+        kind,
+        name: Name::Emphasis,
+        point: Point {
+            line: 1,
+            column,
+            index: 0,
+            vs: 0,
+        },
+        link: None,
+    }
+}
+
+fn find_names(out: &mut String) -> Result<(), AllocError> {
+    let events = [
+        plain(Kind::Enter, Name::Label),
+        plain(Kind::Enter, Name::Data),
+        plain(Kind::Enter, Name::Resource),
+        plain(Kind::Enter, Name::Data),
+    ];
+    let names = [Name::Label, Name::Resource];
+    let nearest = to_back(events.as_slice(), 3, names.as_slice());
+    let other = to_back(events.as_slice(), 1, names.as_slice());
+    write!(out, " {nearest} {other}")
+}
+
+// An emphasis in an emphasis, and one beside it.
+fn find_enters(out: &mut String) -> Result<(), AllocError> {
+    let events = [
+        at(1, Kind::Enter),
+        at(2, Kind::Enter),
+        at(3, Kind::Exit),
+        at(4, Kind::Enter),
+        at(5, Kind::Exit),
+        at(6, Kind::Exit),
+    ];
+    let outer = Position::from_exit_event(events.as_slice(), 5);
+    write!(out, " {} {}", outer.start.column, outer.end.column)?;
+    let second = Position::from_exit_event(events.as_slice(), 4);
+    write!(out, ", {} {}", second.start.column, second.end.column)
+}
+
+// The link on to an event goes with it.
+fn truncate(alloc: Global, out: &mut String) -> Result<(), AllocError> {
+    let mut events = Events::new(alloc);
+    events.push(linked(Name::Data, None, Content::Text))?;
+    events.push(plain(Kind::Exit, Name::Data))?;
+    events.push(linked(Name::Data, None, Content::Text))?;
+    events.push(plain(Kind::Exit, Name::Data))?;
+    events.push(linked(Name::Data, None, Content::Text))?;
+    link(&mut events, 2);
+    link(&mut events, 4);
+    push_events(out, events.as_slice())?;
+    events.truncate(4);
+    out.push_str("\n    of 4:")?;
+    push_events(out, events.as_slice())?;
+    events.truncate(1);
+    out.push_str("\n    of 1:")?;
+    push_events(out, events.into_vec().as_slice())
+}
+
+// An event that comes with its link back; an event of another chain stands between.
+fn push_linked(alloc: Global, out: &mut String) -> Result<(), AllocError> {
+    let mut events = Events::new(alloc);
+    events.push(linked(Name::Data, None, Content::Text))?;
+    events.push(linked(Name::Data, None, Content::Text))?;
+    events.push_linked(linked(Name::Data, Some(0), Content::Text))?;
+    push_events(out, events.as_slice())
+}
+
+// Two linked leaves and whitespace between them, which gives way to other events.
+fn edit_one_place(alloc: Global, events: &mut Events, map: &mut EditMap) -> Result<(), AllocError>
+    requires events { events.old ≡ [] }
+    requires map { map.old ≡ [] }
+{
+    events.push(linked(Name::Data, None, Content::String))?;
+    events.push(plain(Kind::Exit, Name::Data))?;
+    events.push(plain(Kind::Enter, Name::SpaceOrTab))?;
+    events.push(plain(Kind::Exit, Name::SpaceOrTab))?;
+    events.push(linked(Name::LineEnding, None, Content::String))?;
+    events.push(plain(Kind::Exit, Name::LineEnding))?;
+    events.connect(0, 4);
+    map.add(2, 1, vec![in alloc; plain(Kind::Enter, Name::Emphasis)]?)?;
+    map.add(2, 1, vec![in alloc; plain(Kind::Exit, Name::Emphasis)]?)?;
+    map.add_before(2, 0, vec![in alloc; plain(Kind::Exit, Name::Strong)]?)?;
+    map.add_before(0, 0, vec![in alloc; plain(Kind::Enter, Name::Strong)]?)?;
+    map.add_slice(6, 0, &[plain(Kind::Enter, Name::Data)])?;
+    map.consume(events)
+}
+
+fn edit(alloc: Global, out: &mut String) -> Result<(), AllocError> {
+    let mut events = Events::new(alloc);
+    let mut map = EditMap::new(alloc);
+    edit_one_place(alloc, &mut events, &mut map)?;
+    write!(out, " {}", map.is_empty())?;
+    push_events(out, events.as_slice())
+}

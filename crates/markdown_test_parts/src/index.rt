@@ -1,0 +1,189 @@
+// Indices over a content or over names, and sets of bytes. A content is the whole text.
+//
+//     runs HOW BYTE SIZE AT | TEXT       whether runs of this byte and size are ruled out from this place on. HOW is `over` the text, `new`,
+//                                        or `without` any
+//     sequence HOW NAME AT | TEXT        whether the sequence is ruled out from this place on. HOW is `over` the text, or `new`
+//     title FROM TO .. | TEXT            the places, from one to another, from which on a title that ends the resource is not ruled out
+//     brackets START END FROM TO | TEXT  how many opening brackets stand between two indices, as the index from START to END knows it
+//     names NAME.. | FRONT               whether one of the names is the text, and whether one begins so
+//     names_with COUNT NAME..            whether one of the names has so many opening brackets
+//     names_of DEFINITION NOTE | TEXT    how many opening brackets the text has, and for each kind of names whether each name is one of them
+//     places AT PLACE..                  whether the place is one of these
+//     bytes BYTE                         the set of `-` and the tab, whether the byte, given by its number, is in it, and whether it is plain
+ghost use Rattle.std.specs.Prelude.{◌≡◌};
+
+use crate::case::{Case, number_of, whole};
+use markdown_engine::bracket_index::BracketIndex;
+use markdown_engine::byte_set;
+use markdown_engine::content::is_content;
+use markdown_engine::cursor::Cursor;
+use markdown_engine::name_index::{NameIndex, Names};
+use markdown_engine::run_index::RunIndex;
+use markdown_engine::sequence_index::{Sequence, SequenceIndex};
+use markdown_engine::title_index::TitleIndex;
+use markdown_lists::place_index::PlaceIndex;
+use std::alloc::{AllocError, Global};
+
+// Appends what a case answers.
+pub(crate) fn answer(alloc: Global, case: &Case, out: &mut String) -> Result<(), AllocError> {
+    match case.call {
+        "brackets" => brackets(alloc, case, out),
+        "names" => names(alloc, case, out),
+        "names_with" => names_with(alloc, case, out),
+        "names_of" => names_of(alloc, case, out),
+        "places" => places(alloc, case, out),
+        "bytes" => bytes(case, out),
+        _ => answer_over(alloc, case, out),
+    }
+}
+
+// Appends what an index over a content answers.
+fn answer_over(alloc: Global, case: &Case, out: &mut String) -> Result<(), AllocError> {
+    let pieces = whole(&case.text);
+    if !is_content(&case.text, &pieces) {
+        return out.push_str(" no content");
+    }
+    let cursor = Cursor::new(&case.text, &pieces);
+    match case.call {
+        "runs" => runs(alloc, &cursor, case, out),
+        "sequence" => sequence(&cursor, case, out),
+        "title" => title(alloc, &cursor, case, out),
+        _ => out.push_str(" no such call"),
+    }
+}
+
+// The last run of each size.
+fn runs(alloc: Global, cursor: &Cursor, case: &Case, out: &mut String) -> Result<(), AllocError> {
+    let runs = match case.word(0) {
+        "over" => RunIndex::over(alloc, cursor, byte_set!(b'`', b'$'))?,
+        "without" => RunIndex::without(alloc, byte_set!(b'`')),
+        _ => RunIndex::new(alloc),
+    };
+    let byte = case.word(1).bytes().next().unwrap_or(0);
+    let ruled_out = runs.rules_out(byte, case.number(2), case.number(3));
+    write!(out, " {ruled_out}")
+}
+
+// The sequence of a name.
+fn sequence_of(name: &str) -> Sequence {
+    match name {
+        "CommentEnd" => Sequence::CommentEnd,
+        "SectionEnd" => Sequence::SectionEnd,
+        "InstructionEnd" => Sequence::InstructionEnd,
+        "DeclarationEnd" => Sequence::DeclarationEnd,
+        "ResourceEnd" => Sequence::ResourceEnd,
+        "ProtocolSlash" => Sequence::ProtocolSlash,
+        "WwwDot" => Sequence::WwwDot,
+        _ => Sequence::SpanMark,
+    }
+}
+
+// Where the last of each sequence begins.
+fn sequence(cursor: &Cursor, case: &Case, out: &mut String) -> Result<(), AllocError> {
+    let index = if case.word(0) == "over" {
+        SequenceIndex::over(cursor)
+    } else {
+        SequenceIndex::new()
+    };
+    let ruled_out = index.rules_out(sequence_of(case.word(1)), case.number(2));
+    write!(out, " {ruled_out}")
+}
+
+// Where titles in parentheses may end, and resources behind them.
+fn title(alloc: Global, cursor: &Cursor, case: &Case, out: &mut String) -> Result<(), AllocError> {
+    let index = TitleIndex::over(alloc, cursor)?;
+    for word in case.words(0, alloc)? {
+        let (from, to) = word.split_once('-').unwrap_or((word, word));
+        push_kept(&index, number_of(from), number_of(to), out)?;
+    }
+    Ok(())
+}
+
+// The places from one to another that are not ruled out.
+fn push_kept(
+    index: &TitleIndex,
+    from: usize,
+    to: usize,
+    out: &mut String,
+) -> Result<(), AllocError> {
+    for at in from..=to {
+        if !index.rules_out(at) {
+            write!(out, " {at}")?;
+        }
+    }
+    Ok(())
+}
+
+// Where opening brackets stand.
+fn brackets(alloc: Global, case: &Case, out: &mut String) -> Result<(), AllocError> {
+    let index = BracketIndex::over(alloc, &case.text, case.number(0), case.number(1))?;
+    let count = index.between(case.number(2), case.number(3));
+    write!(out, " {count:?}")
+}
+
+// The words from this number on, as names.
+fn names_from(alloc: Global, case: &Case, from: usize) -> Result<NameIndex, AllocError> {
+    let mut names = Vec::new(alloc);
+    for word in case.words(from, alloc)? {
+        names.push(String::from_str(alloc, word)?)?;
+    }
+    NameIndex::over(alloc, names.as_slice())
+}
+
+// Names in the order of their bytes.
+fn names(alloc: Global, case: &Case, out: &mut String) -> Result<(), AllocError> {
+    let index = names_from(alloc, case, 0)?;
+    let front = case.characters();
+    write!(out, " {} {}", index.has(front), index.begins(front))
+}
+
+// How many brackets names have.
+fn names_with(alloc: Global, case: &Case, out: &mut String) -> Result<(), AllocError> {
+    let index = names_from(alloc, case, 1)?;
+    write!(out, " {}", index.has_brackets(case.number(0)))
+}
+
+// A word, as the only name.
+fn only(alloc: Global, word: &str) -> Result<Vec<String>, AllocError> {
+    let mut names = Vec::new(alloc);
+    names.push(String::from_str(alloc, word)?)?;
+    Ok(names)
+}
+
+// The names of definitions and of footnotes, and the brackets of a text.
+fn names_of(alloc: Global, case: &Case, out: &mut String) -> Result<(), AllocError> {
+    let (definition, note) = (case.word(0), case.word(1));
+    let length = case.text.len();
+    let brackets = BracketIndex::over(alloc, &case.text, 0, length)?;
+    let definitions = only(alloc, definition)?;
+    let notes = only(alloc, note)?;
+    let names = Names::over(alloc, definitions.as_slice(), notes.as_slice(), brackets)?;
+    write!(out, " {:?}", names.brackets.between(0, length))?;
+    let of_definitions = (
+        names.definitions.has(definition),
+        names.definitions.has(note),
+    );
+    let of_notes = (names.footnotes.has(definition), names.footnotes.has(note));
+    write!(out, " {of_definitions:?} {of_notes:?}")
+}
+
+// Some places of a content.
+fn places(alloc: Global, case: &Case, out: &mut String) -> Result<(), AllocError> {
+    let mut places = Vec::new(alloc);
+    for word in case.words(1, alloc)? {
+        places.push(number_of(word))?;
+    }
+    places.sort_unstable();
+    let index = PlaceIndex::new(places);
+    write!(out, " {}", index.holds(case.number(0)))
+}
+
+// A set of bytes.
+fn bytes(case: &Case, out: &mut String) -> Result<(), AllocError> {
+    let set = byte_set!(b'-', b'\t');
+    let Ok(byte) = u8::try_from(case.number(0)) else {
+        return out.push_str(" no byte");
+    };
+    let plain = set.again().is_plain(byte);
+    write!(out, " {:?} {} {plain}", set.as_slice(), set.contains(byte))
+}

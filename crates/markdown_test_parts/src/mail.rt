@@ -1,0 +1,173 @@
+// Email literals in a document that is one data, and what is lent for innermost events.
+//
+//     find GROUP | DOCUMENT   the innermost events that the pass leaves of the data in a group, each with the indices where it begins and ends.
+//                             GROUP is `Emphasis`, `Image`, `Link`, or `Title`, whose data is linked content
+//     leaves | DOCUMENT       of each innermost event the name, the columns of a tab before it, the indices where it begins and ends, and the
+//                             columns of a tab behind it. The document is a byte, a tab and a byte; an emphasis over it has data, the empty
+//                             text of a label and data, where the text stands behind the second code of the tab
+ghost use Rattle.std.specs.Prelude.{◌≡◌, ◌∷◌, [], false, length, IfOk, None};
+ghost use Rattle.std.specs.Option.{option_map};
+ghost use Rattle.markdown_engine.specs.Content.{IsContent};
+ghost use Rattle.markdown_engine.specs.Ops.{link_back};
+ghost use Rattle.markdown_engine.specs.Tree.{event};
+ghost use Rattle.markdown_engine.specs.declared.event.Kind.{Kind};
+ghost use Rattle.markdown_partial.specs.Merge.{is_data};
+ghost use Rattle.markdown_partial.specs.TrimEvents.{HasPlaces};
+
+use crate::attempts::document;
+use crate::case::Case;
+use crate::content::DOCUMENT_START;
+use markdown_engine::configuration::ParseOptions;
+use markdown_engine::content::is_content;
+use markdown_engine::event::{Content, Event, Kind, Link, Name, Point};
+use markdown_engine::events::Events;
+use markdown_engine::parser::Piece;
+use markdown_engine::tokenizer::Tokenizer;
+use markdown_engine::walk::walk_to;
+use markdown_leaves::leaves;
+use markdown_mail::gfm_autolink_literal::resolve;
+use std::alloc::{AllocError, Global};
+
+// Appends what a case answers.
+pub(crate) fn answer(alloc: Global, case: &Case, out: &mut String) -> Result<(), AllocError> {
+    match case.call {
+        "find" => match case.word(0) {
+            "Emphasis" => find(alloc, &case.text, Name::Emphasis, None, out),
+            "Image" => find(alloc, &case.text, Name::Image, None, out),
+            "Link" => find(alloc, &case.text, Name::Link, None, out),
+            _ => {
+                let content = Some(Content::String);
+                find(alloc, &case.text, Name::ResourceTitleString, content, out)
+            }
+        },
+        "leaves" => lend_leaves(&case.text, out),
+        _ => out.push_str(" no such call"),
+    }
+}
+
+// An Enter that may carry a link.
+fn enter(name: Name, point: Point, content: Option<Content>) -> Event
+    ensures { result ≡ record { kind = Kind.Enter; name = name; point = point; link = option_map (link_back None) content } }
+{
+    let link = match content {
+        None => None,
+        Some(content) => Some(Link {
+            previous: None,
+            next: None,
+            content,
+        }),
+    };
+    Event {
+        kind: Kind::Enter,
+        name,
+        point,
+        link,
+    }
+}
+
+// An Exit.
+fn exit(name: Name, point: Point) -> Event
+    ensures { result ≡ event Kind.Exit name point }
+{
+    Event {
+        kind: Kind::Exit,
+        name,
+        point,
+        link: None,
+    }
+}
+
+// The events of a group around data that is the whole document.
+#[tactic(auto, using(markdown_engine::proofs::Points::point_start))]
+fn data_in(
+    alloc: Global,
+    bytes: &[u8],
+    group: Name,
+    content: Option<Content>,
+) -> Result<Events, AllocError>
+    requires content { IsContent bytes.now ((record { start = (0, 0); end = (length bytes.now, 0) }) ∷ []) }
+    requires group { is_data group ≡ false }
+    ensures { IfOk result (HasPlaces bytes.now) }
+{
+    let end = walk_to(bytes, DOCUMENT_START, (bytes.len(), 0));
+    let mut events = Events::new(alloc);
+    events.push(enter(group, DOCUMENT_START, None))?;
+    events.push(enter(Name::Data, DOCUMENT_START, content))?;
+    events.push(exit(Name::Data, end))?;
+    events.push(exit(group, end))?;
+    Ok(events)
+}
+
+// Appends the innermost events.
+fn push_innermost(out: &mut String, events: &[Event]) -> Result<(), AllocError> {
+    for index in 1..events.len() {
+        let (enter, exit) = (&events[index - 1], &events[index]);
+        if matches!((enter.kind, exit.kind), (Kind::Enter, Kind::Exit)) {
+            let (from, to) = (enter.point.index, exit.point.index);
+            write!(out, " {:?} {from}-{to}", enter.name)?;
+        }
+    }
+    Ok(())
+}
+
+// What the pass leaves of data that is the whole document, in such a group.
+fn find(
+    alloc: Global,
+    bytes: &[u8],
+    group: Name,
+    content: Option<Content>,
+    out: &mut String,
+) -> Result<(), AllocError>
+    requires { is_data group ≡ false }
+{
+    let pieces = [Piece {
+        start: (0, 0),
+        end: (bytes.len(), 0),
+    }];
+    if !is_content(bytes, &pieces) {
+        return out.push_str(" no content");
+    }
+    let options = ParseOptions::default();
+    let parse_state = document(alloc, bytes, &options);
+    let mut tokenizer = Tokenizer::new(alloc, &parse_state, &pieces);
+    tokenizer.events = data_in(alloc, bytes, group, content)?;
+    resolve(&mut tokenizer)?;
+    push_innermost(out, tokenizer.events.as_slice())
+}
+
+// What is lent for the events of an emphasis, where data is on both sides of the empty text of a label.
+#[tactic(auto, using(markdown_engine::proofs::Points::point_start))]
+fn lend_leaves(bytes: &[u8], out: &mut String) -> Result<(), AllocError> {
+    let pieces = [Piece {
+        start: (0, 0),
+        end: (1, 2),
+    }];
+    let rest = [Piece {
+        start: (1, 2),
+        end: (3, 0),
+    }];
+    if !is_content(bytes, &pieces) || !is_content(bytes, &rest) {
+        return out.push_str(" no content");
+    }
+    let inside = walk_to(bytes, DOCUMENT_START, (1, 2));
+    let end = walk_to(bytes, inside, (3, 0));
+    let events = [
+        enter(Name::Emphasis, DOCUMENT_START, None),
+        enter(Name::Data, DOCUMENT_START, None),
+        exit(Name::Data, inside),
+        enter(Name::LabelText, inside, None),
+        exit(Name::LabelText, inside),
+        enter(Name::Data, inside, None),
+        exit(Name::Data, end),
+        exit(Name::Emphasis, end),
+    ];
+    for leaf in leaves(bytes, &events) {
+        let slice = leaf.slice;
+        write!(
+            out,
+            " {:?} {} {}-{} {},",
+            leaf.name, slice.before, leaf.start.index, leaf.end.index, slice.after
+        )?;
+    }
+    Ok(())
+}

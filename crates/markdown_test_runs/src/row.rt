@@ -1,0 +1,188 @@
+// Rows: a content, and what it is read with.
+use markdown_engine::configuration::{Constructs, ParseOptions};
+use markdown_inline::run::Piece;
+use std::alloc::{AllocError, Global};
+
+/// A content, what it is read with, and what is asked of it.
+#[derive(Drop)]
+pub(crate) struct Row {
+    pub(crate) options: ParseOptions,
+    pub(crate) definitions: Vec<String>,
+    pub(crate) footnotes: Vec<String>,
+    pub(crate) document: String,
+    pub(crate) pieces: Vec<Piece>,
+    /// The words of a run of the whole program.
+    pub(crate) words: Vec<String>,
+    pub(crate) asked: Asked,
+    times: usize,
+}
+
+/// What is asked of a row.
+#[derive(Clone, Copy)]
+pub(crate) struct Asked {
+    /// Whether the text is the first of a list item.
+    pub(crate) first_of_item: bool,
+    /// Whether the innermost events are asked for.
+    pub(crate) leaves: bool,
+    /// In fewer than so many others an event lies that is printed.
+    pub(crate) depth: usize,
+    /// The bounds on the probes, if they are asked for.
+    pub(crate) least: usize,
+    pub(crate) most: Option<usize>,
+}
+
+impl Row {
+    /// An empty document, with CommonMark's constructs.
+    pub(crate) fn new(alloc: Global) -> Row {
+        Row {
+            options: ParseOptions::default(),
+            definitions: Vec::new(alloc),
+            footnotes: Vec::new(alloc),
+            document: String::new(alloc),
+            pieces: Vec::new(alloc),
+            words: Vec::new(alloc),
+            asked: Asked {
+                first_of_item: false,
+                leaves: false,
+                depth: usize::MAX,
+                least: 0,
+                most: None,
+            },
+            times: 1,
+        }
+    }
+
+    /// Reads a field, and answers whether it is understood.
+    pub(crate) fn read_field(&mut self, alloc: Global, field: &str) -> Result<bool, AllocError> {
+        if let Some(name) = field.strip_prefix("+") {
+            return Ok(self.switch(name, true));
+        }
+        if let Some(name) = field.strip_prefix("-") {
+            return Ok(self.switch(name, false));
+        }
+        match field.split_once('=') {
+            Some(("piece", value)) => self.add_piece(value),
+            Some(("document", value)) => self.append(unescaped(alloc, value)?.as_str()),
+            Some(("definition", value)) => push(&mut self.definitions, unescaped(alloc, value)?),
+            Some(("footnote", value)) => push(&mut self.footnotes, unescaped(alloc, value)?),
+            Some(("word", value)) => push(&mut self.words, unescaped(alloc, value)?),
+            Some((name, value)) => Ok(self.set_number(name, value)),
+            None => Ok(false),
+        }
+    }
+
+    // Turns a construct or an option on or off.
+    fn switch(&mut self, name: &str, on: bool) -> bool {
+        if switch_construct(&mut self.options.constructs, name, on) {
+            return true;
+        }
+        match name {
+            "single_tilde" => self.options.gfm_strikethrough_single_tilde = on,
+            "single_dollar" => self.options.math_text_single_dollar = on,
+            "lengths" => self.options.attention_first_lengths = on,
+            "shortcut" => self.options.label_shortcut_before_bracket = on,
+            "first_of_item" => self.asked.first_of_item = on,
+            "leaves" => self.asked.leaves = on,
+            _ => return false,
+        }
+        true
+    }
+
+    // Sets a number.
+    fn set_number(&mut self, name: &str, value: &str) -> bool {
+        let Ok(number) = value.parse::<usize>() else {
+            return false;
+        };
+        match name {
+            "times" => self.times = number,
+            "depth" => self.asked.depth = number,
+            "least" => self.asked.least = number,
+            "most" => self.asked.most = Some(number),
+            _ => return false,
+        }
+        true
+    }
+
+    // Appends a text to the document, as often as was said.
+    fn append(&mut self, text: &str) -> Result<bool, AllocError> {
+        for _ in 0..self.times {
+            self.document.push_str(text)?;
+        }
+        self.times = 1;
+        Ok(true)
+    }
+
+    // Adds a piece of the content.
+    fn add_piece(&mut self, text: &str) -> Result<bool, AllocError> {
+        let Some((start, end)) = text.split_once('-') else {
+            return Ok(false);
+        };
+        let (Some(start), Some(end)) = (place(start), place(end)) else {
+            return Ok(false);
+        };
+        self.pieces.push(Piece { start, end })?;
+        Ok(true)
+    }
+}
+
+// Turns a construct on or off, and answers whether there is one of this name.
+fn switch_construct(constructs: &mut Constructs, name: &str, on: bool) -> bool {
+    match name {
+        "attention" => constructs.attention = on,
+        "autolink" => constructs.autolink = on,
+        "character_escape" => constructs.character_escape = on,
+        "character_reference" => constructs.character_reference = on,
+        "code_text" => constructs.code_text = on,
+        "gfm_autolink_literal" => constructs.gfm_autolink_literal = on,
+        "gfm_label_start_footnote" => constructs.gfm_label_start_footnote = on,
+        "gfm_strikethrough" => constructs.gfm_strikethrough = on,
+        "gfm_task_list_item" => constructs.gfm_task_list_item = on,
+        "hard_break_escape" => constructs.hard_break_escape = on,
+        "hard_break_trailing" => constructs.hard_break_trailing = on,
+        "html_text" => constructs.html_text = on,
+        "label_start_image" => constructs.label_start_image = on,
+        "label_start_link" => constructs.label_start_link = on,
+        "label_end" => constructs.label_end = on,
+        "math_text" => constructs.math_text = on,
+        _ => return false,
+    }
+    true
+}
+
+// A byte, and the codes of its tab before the place.
+fn place(text: &str) -> Option<(usize, usize)> {
+    let (index, inside) = text.split_once('.').unwrap_or((text, "0"));
+    Some((index.parse().ok()?, inside.parse().ok()?))
+}
+
+// Adds an identifier or a word.
+fn push(texts: &mut Vec<String>, text: String) -> Result<bool, AllocError> {
+    texts.push(text)?;
+    Ok(true)
+}
+
+// What a character stands for behind a backslash.
+fn meant(c: char) -> char {
+    match c {
+        'n' => '\n',
+        'r' => '\r',
+        't' => '\t',
+        '0' => '\0',
+        _ => c,
+    }
+}
+
+// A text without the backslashes that stand before others.
+fn unescaped(alloc: Global, text: &str) -> Result<String, AllocError> {
+    let mut out = String::new(alloc);
+    let mut escaped = false;
+    for c in text.chars() {
+        if c == '\\' && !escaped {
+            escaped = true;
+        } else {
+            out.push(if escaped { meant(c) } else { c })?;
+            escaped = false;
+        }
+    }
+    Ok(out)
+}

@@ -1,5 +1,0 @@
-// Email literals in small documents, and what is lent for the innermost events.
-
-mod fixtures;
-mod leaves;
-mod literals;
