@@ -9,9 +9,9 @@ import tempfile
 
 HERE = os.path.dirname(os.path.dirname(os.path.abspath(__file__)))
 MDINLINE = os.path.join(HERE, 'crates', 'mdinline', 'out', 'mdinline')
-COUNT = os.path.join(HERE, 'crates', 'inline_count', 'out', 'inline_count')
-# The function of `inline_count` that a run is called in.
-COUNTED = 'inline_count::count'
+COUNT = os.path.join(HERE, 'crates', 'mdinline_count', 'out', 'mdinline_count')
+# The function of `mdinline_count` that a run is called in.
+COUNTED = 'mdinline_count::count'
 TIME = '/usr/bin/time'
 
 
@@ -43,7 +43,7 @@ def say(text):
 
 def build():
     """Proves and builds our two programs, where that is not done yet."""
-    for command, folder in ((['./mdinline', 'string'], HERE), (['rt', 'run'], os.path.join(HERE, 'crates', 'inline_count'))):
+    for command, folder in ((['./mdinline', 'string'], HERE), (['rt', 'run'], os.path.join(HERE, 'crates', 'mdinline_count'))):
         done = subprocess.run(command, cwd=folder, stdin=subprocess.DEVNULL, stdout=subprocess.PIPE, stderr=subprocess.PIPE)
         if done.returncode != 0:
             sys.exit(done.stderr.decode() + 'the programs were not built')

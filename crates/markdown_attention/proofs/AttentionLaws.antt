@@ -1,36 +1,36 @@
 -- The laws of the states of a run of markers.
 use Rattle.std.proofs.Common.{◌≡◌, ℕ, ◌+◌, ◌==◌, Bool, true, false, Option, Some, None, List, [], ◌∷◌, ◌++◌, refl, sym, ap, subst, ◌∙◌, arith, append-nil}
 use Rattle.std.proofs.lemmas.Bool.{eq-eqb}
-use Rattle.markdown_engine.specs.Codes.{Code}
-use Rattle.markdown_engine.specs.Lists.{rest_of}
-use Rattle.markdown_engine.specs.Ops.{Enter, Exit, Consume, ahead, applied, current_of, done, entered, exited, registered, scratched}
-use Rattle.markdown_engine.specs.Past.{past, passed}
-use Rattle.markdown_engine.specs.Runs.{Stepped}
+use Rattle.markdown_engine_content.specs.Codes.{Code}
+use Rattle.markdown_engine_content.specs.ListFunctions.{rest_of}
+use Rattle.markdown_engine.specs.Operations.{Enter, Exit, Consume, ahead, applied, current_of, done, entered, exited, registered, scratched}
+use Rattle.markdown_engine.specs.PastTree.{past, passed}
+use Rattle.markdown_engine.specs.StateRuns.{Stepped}
 use Rattle.markdown_engine.specs.StateWords.{Words, GoesIn, Law}
-use Rattle.markdown_engine.specs.Tree.{Forest, leaf, leaf_codes}
+use Rattle.markdown_engine_content.specs.Tree.{Forest, leaf, leaf_codes}
 use Rattle.markdown_engine.specs.Weights.{codes_left, weight_at}
 use Rattle.markdown_model.specs.CodeTests.{is_empty, is_value}
-use Rattle.markdown_model.specs.Element.{attention_run, switched}
+use Rattle.markdown_model.specs.Elements.{attention_run, switched}
 use Rattle.markdown_model.specs.Grammar.{◌>>◌, ◌>>=◌, provided, gives, some, span}
 use Rattle.markdown_model.specs.LabelEnd.{Element, plain}
 use Rattle.markdown_attention.specs.Attention.{switches_of, with_marker, start_at, left_run, leaving, inside_at, StartReady, InsideReady, run_tree, ReadsRun, start_ends, markers_ahead, inside_ends, start_words, inside_words, states}
-use Rattle.markdown_model.specs.Single.{begins_run, plain_tree}
-use Rattle.markdown_engine.specs.declared.event.Name.TheVariants as N
+use Rattle.markdown_model.specs.SingleConstructs.{begins_run, plain_tree}
+use Rattle.markdown_engine_content.specs.declared.event.Name.TheVariants as N
 use Rattle.markdown_engine.specs.declared.resolve.ResolveName.TheVariants as R
 use Rattle.markdown_engine.specs.declared.state.State.TheVariants.{Next, Retry}
 use Rattle.markdown_engine.specs.declared.state.StateName.TheVariants.{AttentionInside}
 use Rattle.markdown_engine.specs.declared.tokenizer.TokenizeState.{TokenizeState}
 use Rattle.markdown_engine.specs.declared.tokenizer.Tokenizer.{Tokenizer}
-use Rattle.markdown_engine.proofs.EndsLemmas.{Refuses-done}
-use Rattle.markdown_engine.proofs.Laws.{if-step, code-step}
-use Rattle.markdown_engine.proofs.OpRules.{Begins, ahead-none, ahead-some, attempts-applied, attempts-scratched, attempts-registered, some-codes}
-use Rattle.markdown_engine.proofs.OpsLemmas.{ahead-done, left-done}
-use Rattle.markdown_engine.proofs.TreeLemmas.{leaf-past, ahead-past}
-use Rattle.markdown_construct.specs.Within.{Within}
-use Rattle.markdown_construct.proofs.PassedLemmas.{passed-none, passed-one}
-use Rattle.markdown_construct.proofs.PlanLemmas.{ahead-scratched}
-use Rattle.markdown_construct.proofs.StateLaws.{Goes-plain, Goes-end, Goes-ops}
-use Rattle.markdown_model.proofs.ReadingSteps.{span-takes, span-none}
+use Rattle.markdown_engine.proofs.ReadingSequences.{Refuses-done}
+use Rattle.markdown_engine.proofs.LawSteps.{if-step, code-step}
+use Rattle.markdown_engine.proofs.OperationFields.{Begins, ahead-none, ahead-some, attempts-applied, attempts-scratched, attempts-registered, some-codes}
+use Rattle.markdown_engine.proofs.OperationLemmas.{ahead-done, left-done}
+use Rattle.markdown_engine.proofs.TreeEvents.{leaf-past, ahead-past}
+use Rattle.markdown_plan.specs.LayerEquation.{Within}
+use Rattle.markdown_plan.proofs.PassedCodes.{passed-none, passed-one}
+use Rattle.markdown_plan.proofs.PlanSteps.{ahead-scratched}
+use Rattle.markdown_plan.proofs.LawStepsOfLayer.{Goes-plain, Goes-end, Goes-ops}
+use Rattle.markdown_model.proofs.GrammarSteps.{span-takes, span-none}
 
 -- The reading.
 

@@ -1,15 +1,15 @@
 -- What the states of a run of markers do, and how runs from them end.
 use Rattle.std.specs.Prelude.{◌≡◌, ℕ, Bool, true, false, ◌==◌, if◌then◌else◌, Option, Some, None, List, [], ◌∷◌}
-use Rattle.markdown_engine.specs.Codes.{Code}
-use Rattle.markdown_engine.specs.Ops.{Enter, Consume, IsOpen, ahead, current_of, done, exited, registered, scratched}
-use Rattle.markdown_engine.specs.Past.{Reads, Refuses, TreeReading, passed}
-use Rattle.markdown_engine.specs.Runs.{Stepped, stepped}
+use Rattle.markdown_engine_content.specs.Codes.{Code}
+use Rattle.markdown_engine.specs.Operations.{Enter, Consume, IsOpen, ahead, current_of, done, exited, registered, scratched}
+use Rattle.markdown_engine.specs.PastTree.{Reads, Refuses, TreeReading, passed}
+use Rattle.markdown_engine.specs.StateRuns.{Stepped, stepped}
 use Rattle.markdown_engine.specs.StateWords.{StateWords}
 use Rattle.markdown_model.specs.CodeTests.{is_value}
 use Rattle.markdown_model.specs.Grammar.{span}
-use Rattle.markdown_model.specs.Single.{begins_run, run_here}
-use Rattle.markdown_engine.specs.declared.configuration.Constructs.{Constructs}
-use Rattle.markdown_engine.specs.declared.event.Name.TheVariants as N
+use Rattle.markdown_model.specs.SingleConstructs.{begins_run, attention_here}
+use Rattle.markdown_engine_content.specs.declared.configuration.Constructs.{Constructs}
+use Rattle.markdown_engine_content.specs.declared.event.Name.TheVariants as N
 use Rattle.markdown_engine.specs.declared.resolve.ResolveName.TheVariants as R
 use Rattle.markdown_engine.specs.declared.state.State.TheVariants.{Next, Retry, Nok}
 use Rattle.markdown_engine.specs.declared.state.State.TheVariants as State
@@ -64,7 +64,7 @@ InsideReady T = IsOpen N.AttentionSequence T
 
 -- the codes at hand read as a run
 abbrev pub run_tree : Tokenizer → TreeReading
-run_tree T = run_here T.parse_state.now.options.now
+run_tree T = attention_here T.parse_state.now.options.now
 
 -- the codes at hand read as a run: U is past its tree, with the pass registered
 pub record ReadsRun (T U : Tokenizer) : Type 0 where

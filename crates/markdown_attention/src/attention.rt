@@ -4,24 +4,29 @@
 //! has them as they stand, and `pairing` finds the pairs.
 //!
 //! Each state answers the error where a growth is refused; then `failed` is true.
-#![tactic(auto, using(markdown_engine::proofs::OpRules::law_rules), unfolding(markdown_engine::specs::Ops::scratched))]
+#![tactic(auto, using(markdown_engine::proofs::OperationFields::law_rules), unfolding(markdown_engine::specs::Operations::scratched))]
 
+mod brackets;
+mod edits;
+mod grouping;
 mod newest;
 pub mod pairing;
 mod reading;
 pub mod runs;
+mod sizes;
 
 ghost use Rattle.std.specs.Prelude.{◌≡◌, IfOk, OnErr, IsTrue};
 ghost use Rattle.markdown_attention.specs.Attention.{start_step, inside_step, leaving};
-ghost use Rattle.markdown_model.specs.Single.{begins_run};
-ghost use Rattle.markdown_engine.specs.Ops.{IsOpen, scratched};
-ghost use Rattle.markdown_engine.specs.declared.event.Name.TheVariants.{AttentionSequence};
+ghost use Rattle.markdown_model.specs.SingleConstructs.{begins_run};
+ghost use Rattle.markdown_engine.specs.Operations.{IsOpen, scratched};
+ghost use Rattle.markdown_engine_content.specs.declared.event.Name.TheVariants.{AttentionSequence};
 
-use markdown_engine::configuration::Constructs;
-use markdown_engine::event::Name;
+pub use crate::attention::grouping::{resolve, resolve_counted};
 use markdown_engine::resolve::ResolveName;
 use markdown_engine::state::{State, StateName};
 use markdown_engine::tokenizer::Tokenizer;
+use markdown_engine_content::configuration::Constructs;
+use markdown_engine_content::event::Name;
 use std::alloc::AllocError;
 
 // Whether a run may begin with this byte.

@@ -2,23 +2,23 @@
 use Rattle.std.proofs.Common.{◌≡◌, ℕ, ◌==◌, Bool, true, false, if◌then◌else◌, List, [], ◌∷◌, ◌++◌, ◌+◌, Option, Some, None, refl, sym, ap, subst, arith, ◌∙◌}
 use Rattle.std.specs.List.{list_any}
 use Rattle.std.proofs.lemmas.Bool.{both_ways, not-true, eqb-true, or_parts}
-use Rattle.markdown_engine.specs.Codes.{Code, line_feed}
-use Rattle.markdown_engine.specs.Ops.{current_of, ahead, applied, consumed}
-use Rattle.markdown_engine.specs.Place.{Place, ahead_at, moved}
-use Rattle.markdown_engine.specs.Reach.{Reaches}
-use Rattle.markdown_engine.specs.Runs.{Stepped, stepped, settled, MayGo, GoesOn, ends_state, Lawful}
+use Rattle.markdown_engine_content.specs.Codes.{Code, line_feed}
+use Rattle.markdown_engine.specs.Operations.{current_of, ahead, applied, consumed}
+use Rattle.markdown_engine_content.specs.Place.{Place, ahead_at, moved}
+use Rattle.markdown_engine.specs.CallsWithAttempts.{Reaches}
+use Rattle.markdown_engine.specs.StateRuns.{Stepped, stepped, settled, MayGo, GoesOn, ends_state, Lawful}
 use Rattle.markdown_engine.specs.Steady.{IsSteady, Onward, alone_among}
-use Rattle.markdown_engine.specs.Stretch.{stops, is_free, past_stretch}
+use Rattle.markdown_engine_content.specs.Stretch.{stops, is_free, past_stretch}
 use Rattle.markdown_engine.specs.declared.state.State.TheVariants.{Next}
 use Rattle.markdown_engine.specs.declared.state.StateName.{StateName}
 use Rattle.markdown_engine.specs.declared.tokenizer.TokenizeState.{TokenizeState}
 use Rattle.markdown_engine.specs.declared.tokenizer.Tokenizer.{Tokenizer}
-use Rattle.markdown_engine.proofs.PlaceRules.{ahead_moved, code_at_end}
-use Rattle.markdown_engine.proofs.ReachLemmas.{Reaches-call}
-use Rattle.markdown_engine.proofs.RunLemmas.{goes-alone, settled-same}
-use Rattle.markdown_engine.proofs.Stretches.{past-none, past-one}
-use Rattle.markdown_engine.proofs.Turns.{later-none, later-more, ran-call}
-use Rattle.markdown_engine.specs.Turns.{later, ran, runs_out}
+use Rattle.markdown_engine_content.proofs.PlaceRules.{ahead_moved, code_at_end}
+use Rattle.markdown_engine.proofs.CallsWithAttemptsLemmas.{Reaches-call}
+use Rattle.markdown_engine.proofs.AttemptLemmas.{goes-alone, settled-same}
+use Rattle.markdown_engine_content.proofs.StretchLemmas.{past-none, past-one}
+use Rattle.markdown_engine.proofs.TurnLemmas.{later-none, later-more, ran-call}
+use Rattle.markdown_engine.specs.TurnCount.{later, ran, runs_out}
 use Rattle.markdown_engine.specs.declared.tokenizer.Attempt.{Attempt}
 
 -- at this place

@@ -1,10 +1,10 @@
 -- States that go on by themselves.
 use Rattle.std.specs.Prelude.{◌≡◌, ℕ, ◌<◌, ◌≤◌, ◌==◌, Bool, true, List, [], ◌∷◌, Option, Some, None, if◌then◌else◌}
-use Rattle.markdown_engine.specs.Ops.{current_of, consumed}
-use Rattle.markdown_engine.specs.Reach.{Reaches}
-use Rattle.markdown_engine.specs.Runs.{Stepped, stepped}
-use Rattle.markdown_engine.specs.Stretch.{is_free}
-use Rattle.markdown_engine.specs.Turns.{later, ran}
+use Rattle.markdown_engine.specs.Operations.{current_of, consumed}
+use Rattle.markdown_engine.specs.CallsWithAttempts.{Reaches}
+use Rattle.markdown_engine.specs.StateRuns.{Stepped, stepped}
+use Rattle.markdown_engine_content.specs.Stretch.{is_free}
+use Rattle.markdown_engine.specs.TurnCount.{later, ran}
 use Rattle.markdown_engine.specs.declared.tokenizer.Attempt.{Attempt}
 use Rattle.markdown_engine.specs.declared.state.State.TheVariants.{Next}
 use Rattle.markdown_engine.specs.declared.state.StateName.{StateName}

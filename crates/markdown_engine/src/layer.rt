@@ -4,14 +4,14 @@ ghost use Rattle.markdown_engine.specs.declared.resolve.ResolveName.{ResolveName
 ghost use Rattle.markdown_engine.specs.declared.state.StateName.{StateName};
 ghost use Rattle.markdown_engine.specs.declared.tokenizer.TokenizeState.{TokenizeState};
 ghost use Rattle.markdown_engine.specs.declared.tokenizer.Tokenizer.{Tokenizer};
-ghost use Rattle.markdown_engine.specs.Runs.{Stepped, Lawful};
+ghost use Rattle.markdown_engine.specs.StateRuns.{Stepped, Lawful};
 ghost use Rattle.markdown_engine.specs.Steady.{IsSteady};
 
-use crate::bytes::ByteSet;
 use crate::resolve::ResolveName;
 use crate::state::{State, StateName};
-use crate::subtokenize::Subresult;
 use crate::tokenizer::{TokenizeState, Tokenizer};
+use markdown_engine_content::bytes::ByteSet;
+use markdown_engine_events::subtokenize::Subresult;
 use std::alloc::AllocError;
 
 /// What the engine runs: states by their names, and passes by theirs.

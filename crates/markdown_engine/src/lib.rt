@@ -1,24 +1,15 @@
-//! The engine of the inline layer: codes, events, places, attempts, and the loop that runs a layer's states.
+//! The engine of the inline layer: the tokenizer, attempts, and the loop that runs a layer's states. What it stands on is reached through it too.
 #![tactic(auto)]
 
-pub mod bracket_index;
-pub mod bytes;
-pub mod configuration;
-pub mod content;
-pub mod cursor;
-pub mod event;
-pub mod events;
-mod lanes;
 pub mod layer;
-pub mod name_index;
-pub mod parser;
 pub mod resolve;
 pub mod run;
-pub mod run_index;
-pub mod sequence_index;
 pub mod state;
-pub mod subtokenize;
-pub mod title_index;
 pub mod tokenizer;
 pub mod util;
-pub mod walk;
+
+pub use markdown_engine_content::{bytes, configuration, content, cursor, event, parser, walk};
+pub use markdown_engine_events::{events, subtokenize};
+pub use markdown_engine_index::{
+    bracket_index, name_index, run_index, sequence_index, title_index,
+};

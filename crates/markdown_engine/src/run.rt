@@ -1,9 +1,9 @@
 // Runs of a layer's states, and of its passes. Each answers the error where a growth is refused; then `failed` is true.
 ghost use Rattle.std.specs.Prelude.{◌≡◌, ◌++◌, [], IfOk, OnOk, OnErr, IsTrue};
-ghost use Rattle.markdown_engine.specs.Runs.{going_state, going_in, settled, ends_state, ready_state};
-ghost use Rattle.markdown_engine.specs.Reach.{Reaches};
+ghost use Rattle.markdown_engine.specs.StateRuns.{going_state, going_in, settled, ends_state, ready_state};
+ghost use Rattle.markdown_engine.specs.CallsWithAttempts.{Reaches};
 ghost use Rattle.markdown_engine.specs.Steady.{Onward};
-ghost use Rattle.markdown_engine.specs.Resolves.{MayResolve, Resolves, unregistered};
+ghost use Rattle.markdown_engine.specs.PassesInOrder.{MayResolve, Resolves, unregistered};
 ghost use Rattle.markdown_engine.specs.declared.state.State.TheVariants.{Retry};
 
 use crate::layer::Layer;
@@ -14,7 +14,7 @@ use std::alloc::AllocError;
 use std::mem;
 
 /// Goes on with an attempt, after an Ok or a Nok.
-#[tactic(auto, unfolding(crate::specs::Runs::restored))]
+#[tactic(auto, unfolding(crate::specs::StateRuns::restored))]
 pub fn resume<'a>(tokenizer: &mut Tokenizer<'a>, attempt: &Attempt<'a>, ok: bool) -> State
     ensures state { result ≡ going_state attempt.now ok }
     ensures left { tokenizer.new ≡ going_in attempt.now ok tokenizer.old }
@@ -41,7 +41,7 @@ fn pass_stretch<L: Layer>(name: StateName, tokenizer: &mut Tokenizer)
 }
 
 // Puts the attempts that a call opened on top of those that wait. As a rule none was opened or none waits, and nothing is moved.
-#[tactic(auto, unfolding(crate::specs::Runs::settled))]
+#[tactic(auto, unfolding(crate::specs::StateRuns::settled))]
 fn hand_over<'a>(
     waiting: &mut Stack<Attempt<'a>>,
     tokenizer: &mut Tokenizer<'a>,
@@ -108,7 +108,7 @@ impl<'a> Tokenizer<'a> {
     }
 
     /// Runs the registered passes in order, after which none is registered.
-    #[tactic(auto, unfolding(crate::specs::Resolves::unregistered))]
+    #[tactic(auto, unfolding(crate::specs::PassesInOrder::unregistered))]
     pub fn resolve_all<L: Layer>(&mut self) -> Result<(), AllocError>
         requires { MayResolve L.may_resolve L.resolves self.old.resolvers (unregistered self.old) }
         ensures ok { OnOk result (Resolves L.resolves self.old.resolvers (unregistered self.old) self.new) }

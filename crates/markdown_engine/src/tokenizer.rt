@@ -2,44 +2,32 @@
 //
 // Each operation that may grow a list answers the error where the growth is refused; then `failed` is true.
 ghost use Rattle.std.specs.Prelude.{◌≡◌, ◌++◌, ◌∷◌, [], OnOk, OnErr, IsTrue, MatchOption, true, false, Some, None};
-ghost use Rattle.markdown_engine.specs.Ops.{applied, Enter, Exit, EnterLink, EnterConnected, Consume, attempted, registered, registered_before, is_registered, refused, current_of, previous_of, IsOpen, HasCode, link_back, enter_event, LinkedBefore};
-ghost use Rattle.markdown_engine.specs.Content.{IsContent};
-ghost use Rattle.markdown_engine.specs.Place.{point_of};
-ghost use Rattle.markdown_engine.specs.Chain.{IsFresh};
-ghost use Rattle.markdown_engine.specs.Begun.{begun};
-ghost use Rattle.markdown_engine.specs.Rest.{at_rest};
+ghost use Rattle.markdown_engine.specs.Operations.{applied, Enter, Exit, EnterLink, EnterConnected, Consume, attempted, registered, registered_before, is_registered, refused, current_of, previous_of, IsOpen, HasCode, link_back, enter_event, LinkedBefore};
+ghost use Rattle.markdown_engine_content.specs.Content.{IsContent};
+ghost use Rattle.markdown_engine_content.specs.Place.{point_of};
+ghost use Rattle.markdown_engine_events.specs.EventChains.{IsFresh};
+ghost use Rattle.markdown_engine.specs.RunStart.{begun};
+ghost use Rattle.markdown_engine.specs.RestingFields.{at_rest};
 
-use crate::byte_set;
-use crate::bytes::ByteSet;
-use crate::cursor::Cursor;
-use crate::event::{Content, Event, Kind, Link, Name, Point};
-use crate::events::Events;
-use crate::name_index::Names;
-use crate::parser::{ParseState, Piece};
 use crate::resolve::ResolveName;
-use crate::run_index::RunIndex;
-use crate::sequence_index::SequenceIndex;
 use crate::state::State;
-use crate::title_index::TitleIndex;
-use crate::util::edit_map::EditMap;
+use markdown_engine_content::byte_set;
+use markdown_engine_content::bytes::ByteSet;
+use markdown_engine_content::cursor::Cursor;
+use markdown_engine_content::event::{Content, Event, Kind, Link, Name, Point};
+pub use markdown_engine_content::label_kind::LabelKind;
+use markdown_engine_content::parser::{ParseState, Piece};
+use markdown_engine_events::events::Events;
+use markdown_engine_events::util::edit_map::EditMap;
+use markdown_engine_index::name_index::Names;
+use markdown_engine_index::run_index::RunIndex;
+use markdown_engine_index::sequence_index::SequenceIndex;
+use markdown_engine_index::title_index::TitleIndex;
 use markdown_lists::place_index::PlaceIndex;
 use markdown_lists::seq::{Seq, Stack};
 use std::alloc::{AllocError, Global};
 use std::marker::Model;
 use std::mem;
-
-/// What kind of label a start begins.
-#[derive(Clone, Copy)]
-pub enum LabelKind {
-    /// `![`: an image.
-    Image,
-    /// `[`: a link.
-    Link,
-    /// `[^`: a footnote call.
-    GfmFootnote,
-    /// `[^` where no such footnote is defined: a link whose text begins with the caret.
-    GfmUndefinedFootnote,
-}
 
 /// The start of a label. Events are named by their numbers in the list.
 #[derive(Clone, Copy)]
@@ -348,7 +336,7 @@ impl<'a> Tokenizer<'a> {
     }
 
     /// Appends an Enter at the place.
-    #[tactic(auto, unfolding(crate::specs::Ops::applied))]
+    #[tactic(auto, unfolding(crate::specs::Operations::applied))]
     pub fn enter(&mut self, name: Name) -> Result<(), AllocError>
         ensures ok { OnOk result (self.new ≡ applied (Enter name) self.old) }
         ensures err { OnErr result (IsTrue self.new.failed) }
@@ -359,7 +347,7 @@ impl<'a> Tokenizer<'a> {
     }
 
     /// Appends an Enter of linked content at the place, the first of a chain.
-    #[tactic(auto, unfolding(crate::specs::Ops::applied))]
+    #[tactic(auto, unfolding(crate::specs::Operations::applied))]
     pub fn enter_link(&mut self, name: Name, link: Link) -> Result<(), AllocError>
         requires { link ≡ link_back None link.content }
         ensures ok { OnOk result (self.new ≡ applied (EnterLink name link.content) self.old) }
@@ -371,7 +359,7 @@ impl<'a> Tokenizer<'a> {
     }
 
     /// Appends an Enter of linked content at the place, linked to the linked event just before.
-    #[tactic(auto, using(crate::proofs::ConnectLemmas::connect_rules), unfolding(crate::specs::Ops::applied))]
+    #[tactic(auto, using(crate::proofs::LinkLemmas::connect_rules), unfolding(crate::specs::Operations::applied))]
     pub fn enter_connected(&mut self, name: Name, content: Content) -> Result<(), AllocError>
         requires { LinkedBefore self.old }
         ensures ok { OnOk result (self.new ≡ applied (EnterConnected name content) self.old) }
@@ -392,7 +380,7 @@ impl<'a> Tokenizer<'a> {
     }
 
     /// Appends an Exit of the innermost open event at the place, or at the start of the line after a line ending.
-    #[tactic(auto, unfolding(crate::specs::Ops::applied))]
+    #[tactic(auto, unfolding(crate::specs::Operations::applied))]
     pub fn exit(&mut self, name: Name) -> Result<(), AllocError>
         requires { IsOpen name self.old }
         ensures ok { OnOk result (self.new ≡ applied (Exit name) self.old) }
@@ -409,7 +397,7 @@ impl<'a> Tokenizer<'a> {
     }
 
     /// Moves past the code at the place, and past bytes that are left out if it was a line ending.
-    #[tactic(auto, unfolding(crate::specs::Ops::applied))]
+    #[tactic(auto, unfolding(crate::specs::Operations::applied))]
     pub fn consume(&mut self)
         requires { HasCode self.old }
         ensures { self.new ≡ applied Consume self.old }
@@ -418,7 +406,7 @@ impl<'a> Tokenizer<'a> {
     }
 
     // Opens an attempt; a refused growth is kept in mind.
-    #[tactic(auto, unfolding(crate::specs::Ops::attempted, crate::specs::Ops::frame_of))]
+    #[tactic(auto, unfolding(crate::specs::Operations::attempted, crate::specs::Operations::frame_of))]
     fn try_with(&mut self, restores: bool, ok: State, nok: State) -> Result<(), AllocError>
         ensures ok { OnOk result (self.new ≡ attempted restores ok nok self.old) }
         ensures err { OnErr result (IsTrue self.new.failed) }
@@ -470,7 +458,7 @@ impl<'a> Tokenizer<'a> {
     }
 
     /// Adds the pass last, unless it is there.
-    #[tactic(auto, unfolding(crate::specs::Ops::registered))]
+    #[tactic(auto, unfolding(crate::specs::Operations::registered))]
     pub fn register_resolver(&mut self, name: ResolveName) -> Result<(), AllocError>
         ensures ok { OnOk result (self.new ≡ registered name self.old) }
         ensures err { OnErr result (IsTrue self.new.failed) }
@@ -486,7 +474,7 @@ impl<'a> Tokenizer<'a> {
     }
 
     /// Adds the pass first, unless it is there.
-    #[tactic(auto, unfolding(crate::specs::Ops::registered_before))]
+    #[tactic(auto, unfolding(crate::specs::Operations::registered_before))]
     pub fn register_resolver_before(&mut self, name: ResolveName) -> Result<(), AllocError>
         ensures ok { OnOk result (self.new ≡ registered_before name self.old) }
         ensures err { OnErr result (IsTrue self.new.failed) }

@@ -1,5 +1,4 @@
-//! Helpers of the engine.
+// Walks over lists of events, edits of them, and what is lent of a document.
 
-pub mod edit_map;
-pub mod skip;
-pub mod slice;
+pub use markdown_engine_content::util::{skip, slice};
+pub use markdown_engine_events::util::edit_map;

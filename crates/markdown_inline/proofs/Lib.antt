@@ -1,2 +1,2 @@
 pub mod WholeDocument
-pub mod WordLemmas
+pub mod DefiningWords

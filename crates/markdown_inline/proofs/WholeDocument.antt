@@ -6,13 +6,13 @@ use Rattle.std.specs.Str.{IsCharBoundary}
 use Rattle.std.proofs.lemmas.Bool.{cases_lt, or_right}
 use Rattle.std.proofs.lemmas.Bool.Decides.{nat_tests}
 use Rattle.std.proofs.lemmas.Str.{IsCharBoundary-end, IsCharBoundary-from_drop}
-use Rattle.markdown_engine.specs.declared.event.Point.{Point}
-use Rattle.markdown_engine.specs.Codes.{Code, codes_of, document_start, stop_of, is_at_or_after}
-use Rattle.markdown_engine.specs.Content.{IsContent, document_limit, is_place, are_pieces, IsBetweenCharacters}
-use Rattle.markdown_inline.specs.Words.{whole_piece}
-use Rattle.markdown_engine.proofs.Points.{along}
-use Rattle.markdown_engine.proofs.Steps.{Stands, codes_at}
-use Rattle.markdown_engine.proofs.Walks.{step, stands-start}
+use Rattle.markdown_engine_content.specs.declared.event.Point.{Point}
+use Rattle.markdown_engine_content.specs.Codes.{Code, codes_of, document_start, stop_of, is_at_or_after}
+use Rattle.markdown_engine_content.specs.Content.{IsContent, document_limit, is_place, are_pieces, IsBetweenCharacters}
+use Rattle.markdown_inline.specs.ProgramWords.{whole_piece}
+use Rattle.markdown_engine_content.proofs.DocumentPlaces.{along}
+use Rattle.markdown_engine_content.proofs.DocumentCodes.{Stands, codes_at}
+use Rattle.markdown_engine_content.proofs.DocumentWalkLemmas.{step, stands-start}
 
 -- where the document's last code ends
 end-of : List ℕ → Point

@@ -1,3 +1,3 @@
-pub mod Words
-pub mod Output
-pub mod Statuses
+pub mod ProgramWords
+pub mod ProgramOutput
+pub mod ProgramStatuses

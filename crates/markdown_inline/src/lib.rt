@@ -6,15 +6,15 @@ pub mod options;
 pub mod program;
 pub mod util;
 
-pub use markdown_gfm::gfm_task_list_item_check;
-pub use markdown_html::html_text;
 pub use markdown_label::{gfm_label_start_footnote, label_start_image, label_start_link};
 pub use markdown_leaf::{
     autolink, character_escape, character_reference, hard_break_escape, raw_text,
 };
+pub use markdown_leaf_gfm::gfm_task_list_item_check;
+pub use markdown_leaf_html::html_text;
 pub use markdown_partial::{
     partial_data, partial_space_or_tab, partial_space_or_tab_eol, partial_whitespace,
 };
+pub use markdown_partial_link::{partial_destination, partial_label, partial_title};
 pub use markdown_run::{attention, gfm_autolink_literal, label_end, resolve, run, state};
-pub use markdown_string::{partial_destination, partial_label, partial_title};
-pub use markdown_text::{string, text};
+pub use markdown_run_text::{string, text};

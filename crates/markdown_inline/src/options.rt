@@ -1,5 +1,5 @@
 //! Options that more than one program or test runs with.
-use markdown_engine::configuration::{Constructs, ParseOptions};
+use markdown_engine_content::configuration::{Constructs, ParseOptions};
 
 /// All constructs, and each other setting by default: what the words `gfm` and `math` ask of the program.
 pub const ALL_CONSTRUCTS: ParseOptions = ParseOptions {

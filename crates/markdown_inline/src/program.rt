@@ -3,16 +3,16 @@ ghost use Rattle.std.specs.Prelude.{◌≡◌, ◌↔◌, ◌≤◌, ◌⊎◌, 
 ghost use Rattle.std.specs.IoError.{error_kind};
 ghost use Rattle.std.specs.List.{list_all};
 ghost use Rattle.std.specs.Option.{option_map};
-ghost use Rattle.markdown_engine.specs.Content.{IsContent, document_limit};
+ghost use Rattle.markdown_engine_content.specs.Content.{IsContent, document_limit};
 ghost use Rattle.markdown_inline.specs.declared.program.Fault.TheVariants.{OutOfMemory, Read, Write, Usage, NotText, BlankLine};
-ghost use Rattle.markdown_inline.specs.Statuses.{status_of, fault_of};
-ghost use Rattle.markdown_inline.specs.Words.{is_option, is_mode, are_known, reads_text, MayRead, IsTextDocument, whole_piece, without_line_ending, has_word, options_of, defined_word, defined_by};
-ghost use Rattle.markdown_inline.specs.Output.{found_events, printed};
+ghost use Rattle.markdown_inline.specs.ProgramStatuses.{status_of, fault_of};
+ghost use Rattle.markdown_inline.specs.ProgramWords.{is_option, is_mode, are_known, reads_text, MayRead, IsTextDocument, whole_piece, without_line_ending, has_word, options_of, defined_word, defined_by};
+ghost use Rattle.markdown_inline.specs.ProgramOutput.{found_events, printed};
 ghost use Rattle.std.specs.Io.KnownBytes.{Appends};
 
-use markdown_engine::configuration::{Constructs, ParseOptions};
-use markdown_engine::content::DOCUMENT_LIMIT;
-use markdown_engine::parser::{ParseState, Piece};
+use markdown_engine_content::configuration::{Constructs, ParseOptions};
+use markdown_engine_content::content::DOCUMENT_LIMIT;
+use markdown_engine_content::parser::{ParseState, Piece};
 use markdown_inline_lines::lines::lines_of;
 use markdown_run::run::{self, Run};
 use markdown_util::util::normalize_identifier::normalize_identifier;

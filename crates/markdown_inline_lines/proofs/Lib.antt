@@ -1,2 +1,2 @@
 -- The proofs of printed lines.
-pub mod NumberLemmas
+pub mod PrintedNumbers

@@ -1,9 +1,9 @@
 //! Each event on a line: whether it begins or ends, its name, its place, and its link if it has one.
 ghost use Rattle.std.specs.Prelude.{◌≡◌, [], ◌++◌, ◌+◌, ◌-◌, ◌<◌, ◌≤◌, codes, decimal, drop, length, take, IfOk, Some};
-ghost use Rattle.markdown_inline_lines.specs.Lines.{words_text, content_text, number_text, point_text, rest_text, link_text, line_of, lines_of};
+ghost use Rattle.markdown_inline_lines.specs.PrintedLines.{words_text, content_text, number_text, point_text, rest_text, link_text, line_of, lines_of};
 
 use itoa::{Buffer, write_digits};
-use markdown_engine::event::{Content, Event, Kind, Link, Name, Point};
+use markdown_engine_content::event::{Content, Event, Kind, Link, Name, Point};
 use std::alloc::{AllocError, Global};
 use std::marker::Model;
 
@@ -271,8 +271,8 @@ struct Printed {
 }
 
 impl Model for Printed {
-    ghost use Rattle.markdown_engine.specs.declared.event.Point.{Point};
-    ghost use Rattle.markdown_inline_lines.specs.Lines.{IsPrinted};
+    ghost use Rattle.markdown_engine_content.specs.declared.event.Point.{Point};
+    ghost use Rattle.markdown_inline_lines.specs.PrintedLines.{IsPrinted};
 
     ghost Value = { Point };
 

@@ -1,39 +1,40 @@
 -- The laws of the states of a label's end.
 use Rattle.std.proofs.Common.{◌≡◌, ℕ, ◌<◌, ◌==◌, Bool, true, false, ◌&&◌, None, List, [], ◌∷◌, refl, sym, ap, subst, ◌∙◌, arith}
 use Rattle.std.specs.Prelude.{is_some}
-use Rattle.markdown_engine.specs.Lists.{rest_of}
-use Rattle.markdown_engine.specs.Ops.{ahead, applied, current_of, scratched}
-use Rattle.markdown_engine.specs.Past.{TreeReading, past}
-use Rattle.markdown_engine.specs.Runs.{Stepped}
+use Rattle.markdown_engine_content.specs.ListFunctions.{rest_of}
+use Rattle.markdown_engine.specs.Operations.{ahead, applied, current_of, scratched}
+use Rattle.markdown_engine.specs.PastTree.{TreeReading, past}
+use Rattle.markdown_engine.specs.StateRuns.{Stepped}
 use Rattle.markdown_engine.specs.StateWords.{Words, Law, GoesIn}
-use Rattle.markdown_engine.specs.Tree.{empty}
+use Rattle.markdown_engine_content.specs.Tree.{empty}
 use Rattle.markdown_engine.specs.Weights.{codes_left, weight_at}
 use Rattle.markdown_engine.specs.declared.state.State.TheVariants.{Next, Retry}
 use Rattle.markdown_engine.specs.declared.state.StateName.TheVariants.{LabelEndOk, LabelEndNok, LabelEndResourceStart, LabelEndReferenceFull, LabelEndReferenceNotFull, LabelEndReferenceCollapsed, LabelEndReferenceCollapsedOpen}
-use Rattle.markdown_engine.specs.declared.tokenizer.LabelKind.{LabelKind}
+use Rattle.markdown_engine_content.specs.declared.label_kind.LabelKind.{LabelKind}
 use Rattle.markdown_engine.specs.declared.tokenizer.LabelStart as Kept
 use Rattle.markdown_engine.specs.declared.tokenizer.TokenizeState.{TokenizeState}
 use Rattle.markdown_engine.specs.declared.tokenizer.Tokenizer.{Tokenizer}
-use Rattle.markdown_engine.proofs.EndsLemmas.{scratched-same}
-use Rattle.markdown_engine.proofs.Laws.{if-step, code-step}
-use Rattle.markdown_engine.proofs.OpRules.{Begins, ahead-some, attempts-scratched, left-scratched, some-codes}
-use Rattle.markdown_engine.proofs.OpsLemmas.{Grown-scratched, and-left}
-use Rattle.markdown_engine.proofs.TreeLemmas.{past-empty}
-use Rattle.markdown_construct.specs.Plan.{Plan, plan_of, KeepsAs}
-use Rattle.markdown_construct.specs.Within.{Within}
-use Rattle.markdown_construct.proofs.PlanLemmas.{EndsAs-plan}
-use Rattle.markdown_construct.proofs.StateLaws.{FollowsIn, follows, GoesOn-map, Goes-end, Goes-next, Goes-no, Goes-plain, Goes-yes}
+use Rattle.markdown_engine.proofs.ReadingSequences.{scratched-same}
+use Rattle.markdown_engine.proofs.LawSteps.{if-step, code-step}
+use Rattle.markdown_engine.proofs.OperationFields.{Begins, ahead-some, attempts-scratched, left-scratched, some-codes}
+use Rattle.markdown_engine.proofs.OperationLemmas.{Grown-scratched}
+use Rattle.markdown_engine_content.proofs.AndParts.{and-left}
+use Rattle.markdown_engine.proofs.TreeEvents.{past-empty}
+use Rattle.markdown_plan.specs.Plan.{Plan, plan_of, KeepsAs}
+use Rattle.markdown_plan.specs.LayerEquation.{Within}
+use Rattle.markdown_plan.proofs.PlanSteps.{EndsAs-plan}
+use Rattle.markdown_plan.proofs.LawStepsOfLayer.{FollowsIn, follows, GoesOn-map, Goes-end, Goes-next, Goes-no, Goes-plain, Goes-yes}
 use Rattle.markdown_model.specs.Grammar.{either}
 use Rattle.markdown_model.specs.LabelEnd.{is_footnote, full_reference, collapsed_reference, shortcut, reference_after_label, after_label, link_kind, link_identifier}
 use Rattle.markdown_model.specs.Resource.{resource, label, reference_names}
 use Rattle.markdown_model.specs.Setting.{Setting, is_defined}
-use Rattle.markdown_model.proofs.ReadingSteps.{either-some, either-second, if-true, if-false}
-use Rattle.markdown_resource.specs.Parts.{rested}
-use Rattle.markdown_resource.proofs.NextCodes.{at-value, at-none}
-use Rattle.markdown_label.specs.Fields.{with_kind, as_link}
+use Rattle.markdown_model.proofs.GrammarSteps.{either-some, either-second, if-true, if-false}
+use Rattle.markdown_label.specs.AfterLabelParts.{rested}
+use Rattle.markdown_label.proofs.NextCodeTests.{at-value, at-none}
+use Rattle.markdown_label.specs.LabelFields.{with_kind, as_link}
 use Rattle.markdown_label.specs.LabelEnd.{identifier_between, by_definition, not_full, tail_at, link_tried, after_by, made_here, lost_here, label_seen, may_be_shortcut, collapsed_front, collapsed_back, collapsed_at, reference_collapsed_step, collapsed_open_at, AfterReady, FullReady, tail_ends, kind_set, made, after_reading_of, after_reading, after_ends, ok_ends, nok_ends, not_full_reading, reference_collapsed_ends, collapsed_open_plan, reference_collapsed_open_ends, starts_set, states, ok_words, nok_words, after_words, reference_collapsed_words, reference_collapsed_open_words, reference_not_full_words}
-use Rattle.markdown_model.specs.Single.{outcome}
-use Rattle.markdown_label.specs.Settings.{setting_in}
+use Rattle.markdown_model.specs.SingleConstructs.{outcome}
+use Rattle.markdown_label.specs.LabelSetting.{setting_in}
 use Rattle.markdown_label.proofs.LabelEndLemmas.{attempts-made, ahead-made, on-definition, goes-definition, goes-tried, tail-same, loses-here}
 use Rattle.markdown_label.proofs.LabelEndReadings.{after-paren, after-bracket, after-other, full-first, undefined-none, defined-either, collapsed-whole, collapsed-here, collapsed-none, outcome-call, outcome-tail, outcome-none, footnote-kind}
 

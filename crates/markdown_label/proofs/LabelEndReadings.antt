@@ -1,22 +1,22 @@
 -- What follows a label, by the codes at hand.
 use Rattle.std.proofs.Common.{◌≡◌, ℕ, ◌==◌, Bool, true, false, ◌&&◌, not, if◌then◌else◌, Option, Some, None, List, [], ◌∷◌, ◌++◌, refl, sym, ap, ◌∙◌, append-nil}
 use Rattle.std.specs.Prelude.{is_some}
-use Rattle.markdown_string.proofs.DestinationReadings.{if-here, if-other}
+use Rattle.markdown_partial_link.proofs.PartialDestinationReadings.{if-here, if-other}
 use Rattle.std.proofs.Math.Bool.{and-true, and-false}
-use Rattle.markdown_engine.specs.Codes.{Code}
-use Rattle.markdown_engine.specs.Tree.{Forest, empty, leaf, group, ◌⊕◌}
-use Rattle.markdown_engine.specs.declared.event.Name.TheVariants as N
-use Rattle.markdown_engine.specs.declared.tokenizer.LabelKind.{LabelKind}
-use Rattle.markdown_construct.specs.Plan.{preceded, plan_of, tree_ops}
-use Rattle.markdown_construct.proofs.WholeReadings.{Gives, Covers, IsSome, Gives-bind, Gives-one, Gives-gives, Covers-group, Covers-row, Covers-leaf, some-first}
+use Rattle.markdown_engine_content.specs.Codes.{Code}
+use Rattle.markdown_engine_content.specs.Tree.{Forest, empty, leaf, group, ◌⊕◌}
+use Rattle.markdown_engine_content.specs.declared.event.Name.TheVariants as N
+use Rattle.markdown_engine_content.specs.declared.label_kind.LabelKind.{LabelKind}
+use Rattle.markdown_plan.specs.Plan.{preceded, plan_of, tree_ops}
+use Rattle.markdown_plan.proofs.PassedByReadings.{Gives, Covers, IsSome, Gives-bind, Gives-one, Gives-gives, Covers-group, Covers-row, Covers-leaf, some-first}
 use Rattle.markdown_model.specs.CodeTests.{is_value, next_is}
 use Rattle.markdown_model.specs.Grammar.{Reading, ◌>>=◌, ◌>>◌, gives, either, unless, provided, one}
 use Rattle.markdown_model.specs.LabelEnd.{is_footnote, full_reference, collapsed_reference, shortcut, shortcut_before_bracket, reference_after_label, after_label, link_kind, link_identifier}
 use Rattle.markdown_model.specs.Resource.{resource, label, reference_names}
 use Rattle.markdown_model.specs.Setting.{Setting, is_defined}
-use Rattle.markdown_model.proofs.ReadingSteps.{bind-some, bind-none, one-here, one-not, either-some, either-second, switched-on, switched-off}
+use Rattle.markdown_model.proofs.GrammarSteps.{bind-some, bind-none, one-here, one-not, either-some, either-second, switched-on, switched-off}
 use Rattle.markdown_label.specs.LabelEnd.{collapsed_front, collapsed_back, collapsed_open_plan}
-use Rattle.markdown_model.specs.Single.{outcome}
+use Rattle.markdown_model.specs.SingleConstructs.{outcome}
 
 -- at a `(`, at a `[`, and elsewhere
 

@@ -1,50 +1,51 @@
 -- The law of the start of a label's end.
 use Rattle.std.proofs.Common.{◌≡◌, ℕ, ◌+◌, ◌<◌, ◌==◌, Bool, true, false, ◌&&◌, not, Some, None, List, [], ◌∷◌, ◌++◌, length, slice_get, refl, sym, ap, subst, ◌∙◌, arith, length-append}
 use Rattle.std.proofs.Math.Bool.{and-false}
-use Rattle.markdown_engine.specs.Codes.{Code}
-use Rattle.markdown_engine.specs.Grown.{Fails}
-use Rattle.markdown_engine.specs.Lists.{rest_of}
-use Rattle.markdown_engine.specs.Ops.{ahead, current_of, done, scratched}
-use Rattle.markdown_engine.specs.Past.{past, appended_from}
-use Rattle.markdown_engine.specs.Place.{moved}
-use Rattle.markdown_engine.specs.Runs.{Stepped, stepped}
+use Rattle.markdown_engine_content.specs.Codes.{Code}
+use Rattle.markdown_engine.specs.FailedRun.{Fails}
+use Rattle.markdown_engine_content.specs.ListFunctions.{rest_of}
+use Rattle.markdown_engine.specs.Operations.{ahead, current_of, done, scratched}
+use Rattle.markdown_engine.specs.PastTree.{past, appended_from}
+use Rattle.markdown_engine_content.specs.Place.{moved}
+use Rattle.markdown_engine.specs.StateRuns.{Stepped, stepped}
 use Rattle.markdown_engine.specs.StateWords.{Words, Law, GoesIn}
-use Rattle.markdown_engine.specs.Tree.{Forest, leaf}
+use Rattle.markdown_engine_content.specs.Tree.{Forest, leaf}
 use Rattle.markdown_engine.specs.Weights.{codes_left, weight_at}
-use Rattle.markdown_engine.specs.declared.event.Event.{Event}
-use Rattle.markdown_engine.specs.declared.event.Name.TheVariants as N
+use Rattle.markdown_engine_content.specs.declared.event.Event.{Event}
+use Rattle.markdown_engine_content.specs.declared.event.Name.TheVariants as N
 use Rattle.markdown_engine.specs.declared.state.State.TheVariants.{Next, Retry, Nok}
 use Rattle.markdown_engine.specs.declared.state.StateName.TheVariants.{LabelEndAfter, LabelEndNok}
-use Rattle.markdown_engine.specs.declared.tokenizer.LabelKind.{LabelKind}
+use Rattle.markdown_engine_content.specs.declared.label_kind.LabelKind.{LabelKind}
 use Rattle.markdown_engine.specs.declared.tokenizer.LabelStart as Kept
 use Rattle.markdown_engine.specs.declared.tokenizer.TokenizeState.{TokenizeState}
 use Rattle.markdown_engine.specs.declared.tokenizer.Tokenizer.{Tokenizer}
-use Rattle.markdown_engine.proofs.EndsLemmas.{then-fails}
-use Rattle.markdown_engine.proofs.Laws.{Grown-refl, if-step, code-step}
-use Rattle.markdown_engine.proofs.OpRules.{Begins, ahead-some, left-ahead}
-use Rattle.markdown_engine.proofs.OpsLemmas.{Grown-scratched, and-left, and-right}
-use Rattle.markdown_engine.proofs.SolidLemmas.{IsSolid-group, IsSolid-leaf}
-use Rattle.markdown_engine.proofs.TreeLemmas.{ahead-past, ops-past}
-use Rattle.markdown_construct.specs.Within.{Within}
-use Rattle.markdown_construct.specs.Characters.{bytes_of, later_value}
-use Rattle.markdown_construct.proofs.StateLaws.{Goes-end, Goes-plain}
-use Rattle.markdown_construct.proofs.ContentTexts.{text-past}
-use Rattle.markdown_construct.proofs.TextPlaces.{code-begins}
+use Rattle.markdown_engine.proofs.ReadingSequences.{then-fails}
+use Rattle.markdown_engine.proofs.LawSteps.{Grown-refl, if-step, code-step}
+use Rattle.markdown_engine.proofs.OperationFields.{Begins, ahead-some, left-ahead}
+use Rattle.markdown_engine.proofs.OperationLemmas.{Grown-scratched}
+use Rattle.markdown_engine_content.proofs.AndParts.{and-left, and-right}
+use Rattle.markdown_engine.proofs.SolidTrees.{IsSolid-group, IsSolid-leaf}
+use Rattle.markdown_engine.proofs.TreeEvents.{ahead-past, ops-past}
+use Rattle.markdown_plan.specs.LayerEquation.{Within}
+use Rattle.markdown_plan.specs.Characters.{bytes_of, later_value}
+use Rattle.markdown_plan.proofs.LawStepsOfLayer.{Goes-end, Goes-plain}
+use Rattle.markdown_plan.proofs.ContentCharacters.{text-past}
+use Rattle.markdown_plan.proofs.CharacterPlaces.{code-begins}
 use Rattle.markdown_model.specs.CodeTests.{is_value, is_later_byte, next_is}
 use Rattle.markdown_model.specs.Grammar.{Reading, ◌>>=◌, gives, one}
 use Rattle.markdown_model.specs.LabelEnd.{bytes_between}
-use Rattle.markdown_model.proofs.ReadingSteps.{bind-some, bind-none, one-here, one-not, switched-on, switched-off, if-true, if-false}
+use Rattle.markdown_model.proofs.GrammarSteps.{bind-some, bind-none, one-here, one-not, switched-on, switched-off, if-true, if-false}
 use Rattle.markdown_util.specs.Identifier.{identifier_of}
-use Rattle.markdown_label.specs.Fields.{bars, as_link, loosened}
+use Rattle.markdown_label.specs.LabelFields.{bars, as_link, loosened}
 use Rattle.std.specs.Str.{IsCharBoundary}
 use Rattle.std.proofs.lemmas.Bool.{eqb-true}
-use Rattle.markdown_engine.specs.declared.event.Point.{Point}
+use Rattle.markdown_engine_content.specs.declared.event.Point.{Point}
 use Rattle.markdown_label.specs.LabelEnd.{AreAround, EndsBetween, point_or, place_at, identifier_between, end_ops, ended_at, ended, start_by, is_on, start_at, AreWithin, StartReady, AfterReady, after_reading_of, after_reading, after_ends, nok_ends, lost_here, end_tree, outcome_by, end_reading, lost_starts, lost_by, lost_fields, end_made, start_ends, start_words, states}
-use Rattle.markdown_model.specs.Single.{outcome}
-use Rattle.markdown_label.specs.Settings.{setting_in}
+use Rattle.markdown_model.specs.SingleConstructs.{outcome}
+use Rattle.markdown_label.specs.LabelSetting.{setting_in}
 use Rattle.markdown_label.proofs.LabelEndLemmas.{Fails-lost}
-use Rattle.markdown_resource.proofs.NextCodes.{at-value, at-none}
-use Rattle.markdown_label.proofs.StartStack.{place-front}
+use Rattle.markdown_label.proofs.NextCodeTests.{at-value, at-none}
+use Rattle.markdown_label.proofs.KeptStartStack.{place-front}
 
 -- Where events stand.
 

@@ -1,32 +1,32 @@
 -- The laws of the states of the starts of labels.
 use Rattle.std.proofs.Common.{◌≡◌, ℕ, ◌+◌, ◌<◌, ◌≤◌, ◌==◌, Bool, true, false, ◌&&◌, not, Option, Some, None, List, [], ◌++◌, length, drop, refl, sym, ap, subst, ◌∙◌, arith}
 use Rattle.std.proofs.Math.Bool.{and-false}
-use Rattle.markdown_engine.specs.Codes.{Code}
-use Rattle.markdown_engine.specs.Grown.{Grown}
-use Rattle.markdown_engine.specs.Lists.{rest_of}
-use Rattle.markdown_engine.specs.Ops.{Op, ahead, current_of, done, moves, stays}
-use Rattle.markdown_engine.specs.Runs.{Stepped, stepped}
+use Rattle.markdown_engine_content.specs.Codes.{Code}
+use Rattle.markdown_engine.specs.FailedRun.{Grown}
+use Rattle.markdown_engine_content.specs.ListFunctions.{rest_of}
+use Rattle.markdown_engine.specs.Operations.{Op, ahead, current_of, done, moves, stays}
+use Rattle.markdown_engine.specs.StateRuns.{Stepped, stepped}
 use Rattle.markdown_engine.specs.StateWords.{StateWords, Words, words_in, Law, GoesIn}
 use Rattle.markdown_engine.specs.Weights.{weight_at}
 use Rattle.markdown_engine.specs.declared.resolve.ResolveName.TheVariants as R
 use Rattle.markdown_engine.specs.declared.state.State.TheVariants.{Next, Ok, Nok}
 use Rattle.markdown_engine.specs.declared.state.StateName.{StateName}
 use Rattle.markdown_engine.specs.declared.state.StateName.TheVariants.{GfmLabelStartFootnoteOpen, LabelStartImageOpen, LabelStartImageAfter}
-use Rattle.markdown_engine.specs.declared.tokenizer.LabelKind.{LabelKind}
+use Rattle.markdown_engine_content.specs.declared.label_kind.LabelKind.{LabelKind}
 use Rattle.markdown_engine.specs.declared.tokenizer.Tokenizer.{Tokenizer}
-use Rattle.markdown_engine.proofs.Laws.{Grown-refl, if-step, code-step}
-use Rattle.markdown_engine.proofs.OpRules.{attempts-scratched, some-codes}
-use Rattle.markdown_engine.proofs.OpsLemmas.{ahead-done, attempts-done, left-done, scratch-done, input-done}
-use Rattle.markdown_engine.proofs.TreeLemmas.{done-append}
-use Rattle.markdown_construct.specs.Plan.{depth_after}
-use Rattle.markdown_construct.specs.Within.{Within}
-use Rattle.markdown_construct.proofs.PlanLemmas.{Grown-after}
-use Rattle.markdown_construct.proofs.StateLaws.{Goes-end, Goes-ops}
+use Rattle.markdown_engine.proofs.LawSteps.{Grown-refl, if-step, code-step}
+use Rattle.markdown_engine.proofs.OperationFields.{attempts-scratched, some-codes}
+use Rattle.markdown_engine.proofs.OperationLemmas.{ahead-done, attempts-done, left-done, scratch-done, input-done}
+use Rattle.markdown_engine.proofs.TreeEvents.{done-append}
+use Rattle.markdown_plan.specs.Plan.{depth_after}
+use Rattle.markdown_plan.specs.LayerEquation.{Within}
+use Rattle.markdown_plan.proofs.PlanSteps.{Grown-after}
+use Rattle.markdown_plan.proofs.LawStepsOfLayer.{Goes-end, Goes-ops}
 use Rattle.markdown_model.specs.CodeTests.{is_value, next_is}
 use Rattle.markdown_label.specs.LabelStarts.{kept_start, link_ops, links_on, link_at, footnote_front, footnote_back, footnotes_on, footnote_at, footnote_open_at, image_front, image_back, images_on, image_at, image_open_at, is_caret, begins_as, link_test, link_ends, footnote_open_test, footnote_open_ends, footnote_test, footnote_ends, image_after_test, image_after_ends, image_open_test, image_open_ends, image_test, image_ends, states, link_words, footnote_words, footnote_open_words, image_words, image_open_words, image_after_words}
 use Rattle.markdown_label.proofs.LabelEndLemmas.{attempts-before}
-use Rattle.markdown_label.proofs.StartOps.{footnote-open-ready, image-open-ready, image-after-ready}
-use Rattle.markdown_resource.proofs.NextCodes.{at-value, at-none}
+use Rattle.markdown_label.proofs.LabelStartOps.{footnote-open-ready, image-open-ready, image-after-ready}
+use Rattle.markdown_label.proofs.NextCodeTests.{at-value, at-none}
 
 attempts-kept : (kind : LabelKind) (size : ℕ) (T : Tokenizer) → T.attempts ≡ [] → (kept_start kind size T).attempts ≡ []
 attempts-kept kind size T alone = attempts-before R.Label _ ∙ attempts-scratched _ T ∙ alone

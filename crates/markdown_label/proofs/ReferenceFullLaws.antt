@@ -2,38 +2,38 @@
 use Rattle.std.proofs.Common.{◌≡◌, ℕ, ◌+◌, Bool, true, false, if◌then◌else◌, Some, None, List, [], ◌∷◌, ◌++◌, length, nat_lt, refl, sym, ap, subst, ◌∙◌, arith, append_assoc}
 use Rattle.std.specs.Prelude.{is_some, IsUtf8}
 use Rattle.std.specs.Str.{IsCharBoundary}
-use Rattle.markdown_engine.specs.Codes.{Code, stop_of, document_start}
-use Rattle.markdown_engine.specs.Grown.{Fails}
-use Rattle.markdown_engine.specs.Ops.{ahead, scratched}
-use Rattle.markdown_engine.specs.Past.{Reads, EndsAs, past}
+use Rattle.markdown_engine_content.specs.Codes.{Code, stop_of, document_start}
+use Rattle.markdown_engine.specs.FailedRun.{Fails}
+use Rattle.markdown_engine.specs.Operations.{ahead, scratched}
+use Rattle.markdown_engine.specs.PastTree.{Reads, EndsAs, past}
 use Rattle.markdown_engine.specs.StateWords.{Words, Law, GoesIn}
-use Rattle.markdown_engine.specs.Tree.{Forest}
+use Rattle.markdown_engine_content.specs.Tree.{Forest}
 use Rattle.markdown_engine.specs.Weights.{codes_left, weight_at}
 use Rattle.markdown_engine.specs.declared.state.State.TheVariants.{Next, Retry}
 use Rattle.markdown_engine.specs.declared.state.StateName.TheVariants.{LabelEndReferenceFullAfter, LabelEndReferenceFullMissing, LabelStart}
 use Rattle.markdown_engine.specs.declared.tokenizer.TokenizeState.{TokenizeState}
 use Rattle.markdown_engine.specs.declared.tokenizer.Tokenizer.{Tokenizer}
-use Rattle.markdown_engine.proofs.EndsLemmas.{left-read, scratched-same}
-use Rattle.markdown_engine.proofs.Laws.{Grown-refl, if-step, restored-fails}
-use Rattle.markdown_engine.proofs.OpRules.{attempts-scratched, left-scratched}
-use Rattle.markdown_engine.proofs.TreeLemmas.{Fails-past}
-use Rattle.markdown_construct.specs.Within.{Within}
-use Rattle.markdown_construct.specs.Characters.{bytes_of, later_value}
-use Rattle.markdown_construct.proofs.StateLaws.{FollowsIn, follows, Goes-attempt, Goes-end}
-use Rattle.markdown_construct.proofs.TextPlaces.{text-places}
+use Rattle.markdown_engine.proofs.ReadingSequences.{left-read, scratched-same}
+use Rattle.markdown_engine.proofs.LawSteps.{Grown-refl, if-step, restored-fails}
+use Rattle.markdown_engine.proofs.OperationFields.{attempts-scratched, left-scratched}
+use Rattle.markdown_engine.proofs.TreeEvents.{Fails-past}
+use Rattle.markdown_plan.specs.LayerEquation.{Within}
+use Rattle.markdown_plan.specs.Characters.{bytes_of, later_value}
+use Rattle.markdown_plan.proofs.LawStepsOfLayer.{FollowsIn, follows, Goes-attempt, Goes-end}
+use Rattle.markdown_plan.proofs.CharacterPlaces.{text-places}
 use Rattle.markdown_model.specs.Grammar.{gives}
 use Rattle.markdown_model.specs.LabelEnd.{full_reference, reference_identifier}
 use Rattle.markdown_model.specs.Resource.{label, reference_names}
 use Rattle.markdown_model.specs.Setting.{Setting, is_defined}
-use Rattle.markdown_model.proofs.LinkFree.{Passes}
-use Rattle.markdown_model.proofs.ReadingSteps.{bind-some, bind-none, switched-on, switched-off}
-use Rattle.markdown_string.specs.Label as Label
+use Rattle.markdown_model.proofs.NoLinkInConstructs.{Passes}
+use Rattle.markdown_model.proofs.GrammarSteps.{bind-some, bind-none, switched-on, switched-off}
+use Rattle.markdown_partial_link.specs.PartialLabel as PartialLabel
 use Rattle.markdown_label.specs.LabelEnd.{names_set, label_seen, reference_name, ReferenceIsAround, FullReady, FullFails, reference_full_ends, reference_full_after_ends, reference_full_missing_ends, states, reference_full_words, reference_full_after_words, reference_full_missing_words}
-use Rattle.markdown_resource.specs.Parts.{names_rested, rested, PartReady}
-use Rattle.markdown_label.specs.Settings.{setting_in, IsListed}
-use Rattle.markdown_label.proofs.ReferenceAround.{reference-around}
-use Rattle.markdown_label.proofs.ReferencePlaces.{HasText, label-text}
-use Rattle.markdown_label.proofs.ReferenceShape.{IsReference, label-shape, name-there}
+use Rattle.markdown_label.specs.AfterLabelParts.{names_rested, rested, PartReady}
+use Rattle.markdown_label.specs.LabelSetting.{setting_in, IsListed}
+use Rattle.markdown_label.proofs.ReferenceFullText.{reference-around}
+use Rattle.markdown_label.proofs.ReferenceFullPlaces.{HasText, label-text}
+use Rattle.markdown_label.proofs.ReferenceFullTree.{IsReference, label-shape, name-there}
 
 -- The scratch fields.
 
@@ -43,10 +43,10 @@ names-back s e = ap names_rested (sym e) ∙ e
 seen-rest : (s : TokenizeState) → rested s ≡ s → label_seen false s ≡ s
 seen-rest s e = ap (label_seen false) (sym e) ∙ e
 
-label-rest : (s : TokenizeState) → rested s ≡ s → Label.rested (names_set s) ≡ names_set s
-label-rest s e = ap (λ q. Label.rested (names_set q)) (sym e) ∙ ap names_set e
+label-rest : (s : TokenizeState) → rested s ≡ s → PartialLabel.rested (names_set s) ≡ names_set s
+label-rest s e = ap (λ q. PartialLabel.rested (names_set q)) (sym e) ∙ ap names_set e
 
-label-ready : (T : Tokenizer) → PartReady T → Label.StartReady (scratched (names_set T.tokenize_state) T)
+label-ready : (T : Tokenizer) → PartReady T → PartialLabel.StartReady (scratched (names_set T.tokenize_state) T)
 unfolding scratched
 label-ready T k =
     record {
@@ -75,11 +75,11 @@ full-missing s cs e = bind-none (label reference_names) _ cs e
 LabelRead : Tokenizer → Tokenizer → Type 0
 LabelRead T U = Reads (label reference_names) None (names_set T.tokenize_state) (scratched (names_set T.tokenize_state) T) U
 
-label-read : (T U : Tokenizer) → Label.start_ends (scratched (names_set T.tokenize_state) T) true U → Reads (label reference_names) None (names_set T.tokenize_state) (scratched (names_set T.tokenize_state) T) U
+label-read : (T U : Tokenizer) → PartialLabel.start_ends (scratched (names_set T.tokenize_state) T) true U → Reads (label reference_names) None (names_set T.tokenize_state) (scratched (names_set T.tokenize_state) T) U
 unfolding scratched
 label-read T U k = k
 
-label-refused : (T U : Tokenizer) → Label.start_ends (scratched (names_set T.tokenize_state) T) false U → (label reference_names (ahead T) ≡ None) × Fails (names_set T.tokenize_state) (scratched (names_set T.tokenize_state) T) U
+label-refused : (T U : Tokenizer) → PartialLabel.start_ends (scratched (names_set T.tokenize_state) T) false U → (label reference_names (ahead T) ≡ None) × Fails (names_set T.tokenize_state) (scratched (names_set T.tokenize_state) T) U
 unfolding scratched
 label-refused T U k = (k.refused, k.fails)
 

@@ -1,38 +1,38 @@
 -- What the states of the end of a label do, and how runs from them end.
 use Rattle.std.specs.Prelude.{◌≡◌, ◌≢◌, ◌≤◌, ◌<◌, ℕ, ◌+◌, ◌-◌, Bool, true, false, ◌==◌, ◌&&◌, not, is_some, if◌then◌else◌, List, [], ◌∷◌, ◌++◌, length, slice_get, Option, Some, None, IsUtf8}
 use Rattle.std.specs.Str.{IsCharBoundary, byte}
-use Rattle.markdown_engine.specs.Codes.{Code, document_start}
-use Rattle.markdown_engine.specs.Grown.{Fails}
-use Rattle.markdown_engine.specs.Ops.{Op, Enter, Exit, Consume, IsOpen, ahead, attempted, current_of, done, registered_before, scratched}
-use Rattle.markdown_engine.specs.Past.{EndsAs, TreeReading, past}
-use Rattle.markdown_engine.specs.Runs.{Stepped, stepped}
+use Rattle.markdown_engine_content.specs.Codes.{Code, document_start}
+use Rattle.markdown_engine.specs.FailedRun.{Fails}
+use Rattle.markdown_engine.specs.Operations.{Op, Enter, Exit, Consume, IsOpen, ahead, attempted, current_of, done, registered_before, scratched}
+use Rattle.markdown_engine.specs.PastTree.{EndsAs, TreeReading, past}
+use Rattle.markdown_engine.specs.StateRuns.{Stepped, stepped}
 use Rattle.markdown_engine.specs.StateWords.{StateWords}
-use Rattle.markdown_engine.specs.Tree.{Forest, leaf, group, leaf_codes}
-use Rattle.markdown_engine.specs.declared.event.Event.{Event}
-use Rattle.markdown_engine.specs.declared.event.Name.TheVariants as N
-use Rattle.markdown_engine.specs.declared.event.Point.{Point}
+use Rattle.markdown_engine_content.specs.Tree.{Forest, leaf, group, leaf_codes}
+use Rattle.markdown_engine_content.specs.declared.event.Event.{Event}
+use Rattle.markdown_engine_content.specs.declared.event.Name.TheVariants as N
+use Rattle.markdown_engine_content.specs.declared.event.Point.{Point}
 use Rattle.markdown_engine.specs.declared.resolve.ResolveName.TheVariants as R
 use Rattle.markdown_engine.specs.declared.state.State.TheVariants.{Next, Retry, Ok, Nok}
 use Rattle.markdown_engine.specs.declared.state.StateName.{StateName}
 use Rattle.markdown_engine.specs.declared.state.StateName.TheVariants.{LabelEndAfter, LabelEndOk, LabelEndNok, LabelEndResourceStart, LabelEndReferenceFull, LabelEndReferenceFullAfter, LabelEndReferenceFullMissing, LabelEndReferenceNotFull, LabelEndReferenceCollapsed, LabelEndReferenceCollapsedOpen, LabelStart}
-use Rattle.markdown_engine.specs.declared.tokenizer.LabelKind.{LabelKind}
+use Rattle.markdown_engine_content.specs.declared.label_kind.LabelKind.{LabelKind}
 use Rattle.markdown_engine.specs.declared.tokenizer.LabelStart as Kept
 use Rattle.markdown_engine.specs.declared.tokenizer.TokenizeState.{TokenizeState}
 use Rattle.markdown_engine.specs.declared.tokenizer.Tokenizer.{Tokenizer}
-use Rattle.markdown_construct.specs.Characters.{bytes_of, ReadsText}
-use Rattle.markdown_construct.specs.Plan.{Plan, KeepsAs}
+use Rattle.markdown_plan.specs.Characters.{bytes_of, ReadsText}
+use Rattle.markdown_plan.specs.Plan.{Plan, KeepsAs}
 use Rattle.markdown_model.specs.CodeTests.{is_value, next_is}
 use Rattle.markdown_model.specs.Grammar.{Reading, either}
 use Rattle.markdown_model.specs.LabelEnd.{is_footnote, bytes_between, full_reference, collapsed_reference, shortcut, link_identifier}
 use Rattle.markdown_model.specs.Resource.{label, reference_names}
 use Rattle.markdown_model.specs.Setting.{is_defined}
-use Rattle.markdown_model.specs.Single.{Start, outcome, outcome_at, end_here}
-use Rattle.markdown_resource.specs.Parts.{names_rested, PartReady}
-use Rattle.markdown_resource.specs.Resource as Resource
-use Rattle.markdown_string.specs.Label as Label
+use Rattle.markdown_model.specs.SingleConstructs.{Start, outcome, outcome_at, label_end_here}
+use Rattle.markdown_label.specs.AfterLabelParts.{names_rested, PartReady}
+use Rattle.markdown_label.specs.Resource as Resource
+use Rattle.markdown_partial_link.specs.PartialLabel as PartialLabel
 use Rattle.markdown_util.specs.Identifier.{identifier_of}
-use Rattle.markdown_label.specs.Fields.{bars, with_kind, as_link, labelled, loosened}
-use Rattle.markdown_label.specs.Settings.{setting_in, IsListed}
+use Rattle.markdown_label.specs.LabelFields.{bars, with_kind, as_link, labelled, loosened}
+use Rattle.markdown_label.specs.LabelSetting.{setting_in, IsListed}
 
 -- Identifiers.
 
@@ -302,7 +302,7 @@ abbrev pub outcome_by : List Kept.LabelStart → Tokenizer → List Code → Mad
 outcome_by ls T = outcome_at (setting_in T) (last_start T.events ls)
 
 abbrev pub end_reading : Tokenizer → Reading (List Code × (LabelKind × Forest))
-end_reading T = end_here (setting_in T) (last_start T.events T.tokenize_state.label_starts)
+end_reading T = label_end_here (setting_in T) (last_start T.events T.tokenize_state.label_starts)
 
 -- the fields that a failed end leaves: its start is used up, tried as a link's unless it is barred
 abbrev pub lost_starts : List Kept.LabelStart → List Kept.LabelStart
@@ -417,5 +417,5 @@ states other LabelEndReferenceNotFull = reference_not_full_words
 states other LabelEndReferenceCollapsed = reference_collapsed_words
 states other LabelEndReferenceCollapsedOpen = reference_collapsed_open_words
 states other LabelEndResourceStart = Resource.start_words
-states other LabelStart = Label.start_words
+states other LabelStart = PartialLabel.start_words
 states other s = other s

@@ -4,18 +4,18 @@
 ghost use Rattle.std.specs.Prelude.{◌≡◌, map, slice_range, ◌&&◌, string_bytes, IfOk, OnOk, OnErr, IsTrue};
 ghost use Rattle.std.specs.List.{list_any};
 ghost use Rattle.std.specs.Str.{bytes_eq};
-ghost use Rattle.markdown_construct.specs.Characters.{bytes_of};
+ghost use Rattle.markdown_plan.specs.Characters.{bytes_of};
 ghost use Rattle.markdown_util.specs.Identifier.{identifier_of};
 ghost use Rattle.markdown_label.specs.LabelEnd.{AreAround};
-ghost use Rattle.markdown_label.specs.Lookup.{AreCuts, IsKnownName};
+ghost use Rattle.markdown_label.specs.IdentifierFronts.{AreCuts, IsKnownName};
 ghost use Rattle.markdown_label.specs.LabelEnd.{identifier_between};
-ghost use Rattle.markdown_label.specs.Settings.{setting_in, IsListed};
+ghost use Rattle.markdown_label.specs.LabelSetting.{setting_in, IsListed};
 ghost use Rattle.markdown_model.specs.LabelEnd.{is_footnote, link_identifier};
 ghost use Rattle.markdown_model.specs.Setting.{is_defined};
 
 use crate::lookup::is_ruled_out;
 use markdown_engine::tokenizer::{LabelKind, Tokenizer};
-use markdown_engine::util::slice::Slice;
+use markdown_engine_content::util::slice::Slice;
 use markdown_util::util::normalize_identifier::normalize_identifier;
 use std::alloc::{AllocError, Global};
 

@@ -5,26 +5,26 @@
 // vain. A start behind which a link or a call was made is no link's.
 //
 // Each state answers the error where a growth is refused; then `failed` is true.
-#![tactic(auto, using(markdown_engine::proofs::OpRules::law_rules), unfolding(markdown_engine::specs::Ops::scratched, markdown_engine::specs::Ops::attempted, markdown_engine::specs::Ops::frame_of))]
+#![tactic(auto, using(markdown_engine::proofs::OperationFields::law_rules), unfolding(markdown_engine::specs::Operations::scratched, markdown_engine::specs::Operations::attempted, markdown_engine::specs::Operations::frame_of))]
 
 ghost use Rattle.std.specs.Prelude.{◌≡◌, IfOk, OnErr, IsTrue};
-ghost use Rattle.markdown_engine.specs.Ops.{IsOpen, current_of};
-ghost use Rattle.markdown_engine.specs.declared.event.Name.TheVariants.{Reference};
+ghost use Rattle.markdown_engine.specs.Operations.{IsOpen, current_of};
+ghost use Rattle.markdown_engine_content.specs.declared.event.Name.TheVariants.{Reference};
 ghost use Rattle.markdown_model.specs.LabelEnd.{is_image, link_kind};
-ghost use Rattle.markdown_resource.specs.Parts.{names_rested};
-ghost use Rattle.markdown_label.specs.Fields.{bars, as_link, marked};
+ghost use Rattle.markdown_label.specs.AfterLabelParts.{names_rested};
+ghost use Rattle.markdown_label.specs.LabelFields.{bars, as_link, marked};
 ghost use Rattle.markdown_label.specs.LabelEnd.{LabelIsAround, ReferenceIsAround, start_step, tail_at, after_step, ok_step, nok_step, names_set, reference_full_step, reference_full_after_step, reference_full_missing_step, reference_not_full_step, reference_collapsed_step, reference_collapsed_open_step};
 
 use crate::identifier::{is_call, is_defined_between, is_link, name_between};
-use markdown_engine::event::Name;
-use markdown_engine::resolve::ResolveName;
-use markdown_engine::state::{State, StateName};
-use markdown_engine::tokenizer::{Label, LabelKind, LabelStart, TokenizeState, Tokenizer};
-use markdown_lists::seq::Stack;
-pub use markdown_resource::resource::{
+pub use crate::resource::{
     resource_before, resource_between, resource_destination_after, resource_destination_missing,
     resource_end, resource_open, resource_start, resource_title_after,
 };
+use markdown_engine::resolve::ResolveName;
+use markdown_engine::state::{State, StateName};
+use markdown_engine::tokenizer::{Label, LabelKind, LabelStart, TokenizeState, Tokenizer};
+use markdown_engine_content::event::Name;
+use markdown_lists::seq::Stack;
 use std::alloc::AllocError;
 
 // Whether a label of this kind is an image.

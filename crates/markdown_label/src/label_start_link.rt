@@ -3,15 +3,15 @@
 // CommonMark 6.3: the text of a link begins with an opening bracket.
 //
 // The state answers the error where a growth is refused; then `failed` is true.
-#![tactic(auto, using(markdown_engine::proofs::OpRules::law_rules), unfolding(markdown_engine::specs::Ops::scratched))]
+#![tactic(auto, using(markdown_engine::proofs::OperationFields::law_rules), unfolding(markdown_engine::specs::Operations::scratched))]
 
 ghost use Rattle.std.specs.Prelude.{◌≡◌, IfOk, OnErr, IsTrue};
 ghost use Rattle.markdown_label.specs.LabelStarts.{link_step};
 
 use crate::starts::keep_start;
-use markdown_engine::event::Name;
 use markdown_engine::state::State;
 use markdown_engine::tokenizer::{LabelKind, Tokenizer};
+use markdown_engine_content::event::Name;
 use std::alloc::AllocError;
 
 /// At the start of a link's label: its bracket.

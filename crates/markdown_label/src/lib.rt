@@ -7,4 +7,5 @@ pub mod label_end;
 pub mod label_start_image;
 pub mod label_start_link;
 mod lookup;
+pub mod resource;
 mod starts;

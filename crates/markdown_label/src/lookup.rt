@@ -4,15 +4,15 @@
 ghost use Rattle.std.specs.Prelude.{◌≡◌, ◌≤◌, ◌==◌, IfOk, IsTrue, [], map, slice_range, string_bytes};
 ghost use Rattle.std.specs.List.{list_any, starts_with};
 ghost use Rattle.std.specs.Str.{IsCharBoundary};
-ghost use Rattle.markdown_construct.specs.Characters.{bytes_of};
+ghost use Rattle.markdown_plan.specs.Characters.{bytes_of};
 ghost use Rattle.markdown_util.specs.Identifier.{identifier_of};
-ghost use Rattle.markdown_label.specs.Lookup.{AreCuts, begins_one, begins_defined, lacks_count, IsUnknown};
-ghost use Rattle.markdown_label.specs.Settings.{setting_in, IsListed};
+ghost use Rattle.markdown_label.specs.IdentifierFronts.{AreCuts, begins_one, begins_defined, lacks_count, IsUnknown};
+ghost use Rattle.markdown_label.specs.LabelSetting.{setting_in, IsListed};
 
 use crate::identifier::{identifier_of, is_footnote, link_identifier};
-use markdown_engine::name_index::Names;
 use markdown_engine::tokenizer::{LabelKind, Tokenizer};
-use markdown_engine::util::slice::Slice;
+use markdown_engine_content::util::slice::Slice;
+use markdown_engine_index::name_index::Names;
 use std::alloc::AllocError;
 
 // The first front of a label that an identifier is made for has two to this power bytes.

@@ -7,7 +7,7 @@ use markdown_engine::tokenizer::{LabelKind, LabelStart, Tokenizer};
 use std::alloc::AllocError;
 
 // Keeps a start of this kind whose last events these are, so many, and registers the pass of labels before all others.
-#[tactic(auto, using(markdown_engine::proofs::OpRules::law_rules), unfolding(markdown_engine::specs::Ops::scratched))]
+#[tactic(auto, using(markdown_engine::proofs::OperationFields::law_rules), unfolding(markdown_engine::specs::Operations::scratched))]
 pub(crate) fn keep_start(
     tokenizer: &mut Tokenizer,
     kind: LabelKind,

@@ -6,16 +6,16 @@ use Rattle.std.proofs.lemmas.List.{append-nil}
 use Rattle.std.proofs.lemmas.List.Elements.{All-nil, All-cons}
 use Rattle.std.proofs.lemmas.Bool.{ne_eqb}
 use Rattle.std.proofs.lemmas.Bool.Decides.{leb_tells}
-use Rattle.markdown_engine.specs.Edits.{removed_at, front_at, back_at}
-use Rattle.markdown_engine.specs.Codes.{Code}
-use Rattle.markdown_engine.specs.Tree.{Forest, event_count}
-use Rattle.markdown_engine.specs.declared.event.Event.{Event}
-use Rattle.markdown_engine.specs.declared.util.edit_map.Edit.{Edit}
-use Rattle.markdown_engine.proofs.EditFacts.{back-append, removed-append}
-use Rattle.markdown_engine.specs.Script.{Part, comes, stays, edits_from, coming, going, Does}
+use Rattle.markdown_engine_events.specs.Edits.{removed_at, front_at, back_at}
+use Rattle.markdown_engine_content.specs.Codes.{Code}
+use Rattle.markdown_engine_content.specs.Tree.{Forest, event_count}
+use Rattle.markdown_engine_content.specs.declared.event.Event.{Event}
+use Rattle.markdown_engine_events.specs.declared.util.edit_map.Edit.{Edit}
+use Rattle.markdown_engine_events.proofs.EditRules.{back-append, removed-append}
+use Rattle.markdown_engine.specs.OrderedEdits.{Part, comes, stays, edits_from, coming, going, Does}
 use Rattle.markdown_label_pass.specs.Brackets.{Front, link_front, image_front, call_front, caret_front, kind_of, tail_row, Tail, Brackets, nothing, tree_then, label_then, unused_then, failed_then, last_of, count, replacing, opened_of, ended, closed, as_data, first_start, last_stop, going_of, start_events, tail_stop, parts_of}
-use Rattle.markdown_engine.proofs.ScriptLaws.{back-going, removed-coming}
-use Rattle.markdown_label_pass.proofs.BracketRows.{behind_end}
+use Rattle.markdown_engine.proofs.OrderedEditLaws.{back-going, removed-coming}
+use Rattle.markdown_label_pass.proofs.EventsOfBrackets.{behind_end}
 
 -- The edits, with their events.
 

@@ -1,7 +1,7 @@
 -- The proofs of the pass of labels, and of what it leaves to pairs and merging.
-pub mod BracketRows
+pub mod EventsOfBrackets
 pub mod BracketEdits
-pub mod BracketReads
-pub mod Grouping
-pub mod Handing
-pub mod BracketJoins
+pub mod BracketEditsRead
+pub mod LabelPassLaw
+pub mod LabelsHandedOverLemmas
+pub mod BracketJoinLemmas

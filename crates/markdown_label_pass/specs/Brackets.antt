@@ -1,18 +1,18 @@
 -- What a run over a text leaves of labels: starts and ends among other trees, and the lists of labels and of unused starts.
 use Rattle.std.specs.Prelude.{◌≡◌, ℕ, zero, suc, ◌+◌, ◌-◌, ◌<◌, ◌≤◌, List, [], ◌∷◌, ◌++◌, None, false}
-use Rattle.markdown_engine.specs.Codes.{Code, document_start}
-use Rattle.markdown_engine.specs.Past.{appended_from, last_link}
-use Rattle.markdown_engine.specs.Tree.{Forest, empty, group_then, leaf, ◌⊕◌, group, event, event_count}
-use Rattle.markdown_engine.specs.declared.event.Event.{Event}
-use Rattle.markdown_engine.specs.declared.event.Kind.{Kind}
-use Rattle.markdown_engine.specs.declared.event.Name.{Name}
-use Rattle.markdown_engine.specs.declared.event.Point.{Point}
+use Rattle.markdown_engine_content.specs.Codes.{Code, document_start}
+use Rattle.markdown_engine.specs.PastTree.{appended_from, last_link}
+use Rattle.markdown_engine_content.specs.Tree.{Forest, empty, group_then, leaf, ◌⊕◌, group, event, event_count}
+use Rattle.markdown_engine_content.specs.declared.event.Event.{Event}
+use Rattle.markdown_engine_content.specs.declared.event.Kind.{Kind}
+use Rattle.markdown_engine_content.specs.declared.event.Name.{Name}
+use Rattle.markdown_engine_content.specs.declared.event.Point.{Point}
 use Rattle.markdown_engine.specs.declared.tokenizer.Label.{Label}
-use Rattle.markdown_engine.specs.declared.tokenizer.LabelKind.{LabelKind}
-use Rattle.markdown_engine.specs.declared.tokenizer.LabelKind.TheVariants as K
-use Rattle.markdown_engine.specs.declared.util.edit_map.Edit.{Edit}
+use Rattle.markdown_engine_content.specs.declared.label_kind.LabelKind.{LabelKind}
+use Rattle.markdown_engine_content.specs.declared.label_kind.LabelKind.TheVariants as K
+use Rattle.markdown_engine_events.specs.declared.util.edit_map.Edit.{Edit}
 use Rattle.markdown_model.specs.Passes.{start_tree, label_name, label_group}
-use Rattle.markdown_engine.specs.Script.{Part, comes, goes, stays}
+use Rattle.markdown_engine.specs.OrderedEdits.{Part, comes, goes, stays}
 
 -- the start of a label with its codes: `[`, `![`, `[^` of a call, `[^` of a link whose text begins with the caret
 pub data Front : Type 0 where

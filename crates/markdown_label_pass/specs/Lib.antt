@@ -1,4 +1,4 @@
 -- What contracts of the pass of labels speak of.
 pub mod Brackets
-pub mod Joins
-pub mod Handover
+pub mod BracketsJoined
+pub mod LabelsHandedOver

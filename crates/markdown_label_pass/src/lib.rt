@@ -1,4 +1,4 @@
 //! The pass that makes links, images and footnote calls of the labels that a run has found.
 #![tactic(auto)]
 
-pub mod label_end;
+pub mod label_groups;

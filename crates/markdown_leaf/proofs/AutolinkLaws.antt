@@ -3,40 +3,40 @@ use Rattle.std.proofs.Common.{◌≡◌, ℕ, ◌+◌, ◌<◌, ◌≤◌, ◌==
 use Rattle.std.proofs.Math.Bool.{and-false}
 use Rattle.std.proofs.lemmas.Bool.{eqb-true, or_left, or_parts, ltb-true, ltb-false}
 use Rattle.std.specs.List.{list_any}
-use Rattle.markdown_engine.specs.Codes.{Code}
-use Rattle.markdown_engine.specs.Lists.{rest_of}
-use Rattle.markdown_engine.specs.Ops.{Op, Consume, current_of, ahead, applied, consumed, done, scratched}
-use Rattle.markdown_engine.specs.Runs.{Stepped, stepped}
-use Rattle.markdown_engine.specs.Stretch.{is_free}
+use Rattle.markdown_engine_content.specs.Codes.{Code}
+use Rattle.markdown_engine_content.specs.ListFunctions.{rest_of}
+use Rattle.markdown_engine.specs.Operations.{Op, Consume, current_of, ahead, applied, consumed, done, scratched}
+use Rattle.markdown_engine.specs.StateRuns.{Stepped, stepped}
+use Rattle.markdown_engine_content.specs.Stretch.{is_free}
 use Rattle.markdown_engine.proofs.SteadyLemmas.{steady-at}
-use Rattle.markdown_construct.proofs.ValueLemmas.{no-control}
+use Rattle.markdown_plan.proofs.ByteTestLemmas.{no-control}
 use Rattle.markdown_engine.specs.Weights.{weight_at}
-use Rattle.markdown_engine.specs.declared.event.Name.{Name}
-use Rattle.markdown_engine.specs.declared.event.Name.TheVariants as N
+use Rattle.markdown_engine_content.specs.declared.event.Name.{Name}
+use Rattle.markdown_engine_content.specs.declared.event.Name.TheVariants as N
 use Rattle.markdown_engine.specs.declared.state.State.TheVariants.{Next, Retry}
 use Rattle.markdown_engine.specs.declared.state.State.TheVariants as State
 use Rattle.markdown_engine.specs.declared.state.StateName.TheVariants.{AutolinkOpen, AutolinkSchemeOrEmailAtext, AutolinkSchemeInsideOrEmailAtext, AutolinkUrlInside, AutolinkEmailAtext, AutolinkEmailAtSignOrDot, AutolinkEmailLabel, AutolinkEmailValue}
 use Rattle.markdown_engine.specs.declared.tokenizer.TokenizeState.{TokenizeState}
 use Rattle.markdown_engine.specs.declared.tokenizer.Tokenizer.{Tokenizer}
-use Rattle.markdown_engine.proofs.Laws.{if-step, code-step}
-use Rattle.markdown_engine.proofs.OpRules.{ahead-none, ahead-some, Begins, some-codes}
+use Rattle.markdown_engine.proofs.LawSteps.{if-step, code-step}
+use Rattle.markdown_engine.proofs.OperationFields.{ahead-none, ahead-some, Begins, some-codes}
 use Rattle.markdown_model.specs.CodeTests.{is_value, is_alphanumeric, is_letter, next_is}
 use Rattle.markdown_model.specs.Grammar.{any_number}
-use Rattle.markdown_model.specs.Leaf.{uri, email_address, is_scheme_code, is_uri_code, is_local_code}
-use Rattle.markdown_construct.specs.Values.{letter_value, alphanumeric_value}
+use Rattle.markdown_model.specs.LeafConstructs.{uri, email_address, is_scheme_code, is_uri_code, is_local_code}
+use Rattle.markdown_plan.specs.ByteTests.{letter_value, alphanumeric_value}
 use Rattle.markdown_leaf.specs.Autolink.{scheme_value, local_value, uri_value, is_on, opening, ending, start_at, start_step, open_at, scheme_or_at, scheme_inside_at, url_inside_at, url_inside_step, uri_stops, email_atext_at, email_at_sign_or_dot_at, in_label_at, email_label_at, InsideReady, LabelReady, link_here, start_ends, ended, up_to_bracket, or_else, scheme_rest, local_rest, domains, is_label_code, label_rest, open_naming, scheme_naming, open_ends, scheme_or_ends, scheme_inside_ends, url_inside_ends, email_atext_ends, email_at_sign_or_dot_ends, email_label_ends, states, email_at_sign_or_dot_words, email_atext_words, email_label_words, email_value_words, open_words, scheme_inside_words, scheme_or_words, start_words, url_inside_words}
-use Rattle.markdown_construct.specs.Plan.{Plan, preceded, plan_of, DoesAs, KeepsAs}
-use Rattle.markdown_construct.specs.Scratch.{with_size}
-use Rattle.markdown_construct.specs.Renaming.{Naming, NamesAs, renamed, preceded_by, opening_of}
+use Rattle.markdown_plan.specs.Plan.{Plan, preceded, plan_of, DoesAs, KeepsAs}
+use Rattle.markdown_plan.specs.ScratchFields.{with_size}
+use Rattle.markdown_plan.specs.LateNames.{Naming, NamesAs, renamed, preceded_by, opening_of}
 use Rattle.markdown_leaf.proofs.AutolinkReadings.{bracket-next, or-next, scheme-more, scheme-colon, scheme-here, scheme-other, scheme-long, uri-first, uri-none, url-more, url-end, local-more, local-at, local-other, email-first, email-none, label-more, label-long, label-unended, label-ended, domains-first, domains-none}
-use Rattle.markdown_leaf.proofs.AutolinkWhole.{whole-link, ended-here, ended-other, more-none, more-dot, bracket_ops, link-here, no-link}
-use Rattle.markdown_construct.proofs.NamingLemmas.{renamed-entered, renamed-consumed, renamed-scratched, DoesAs-entered}
-use Rattle.markdown_construct.proofs.PlanLemmas.{EndsAs-plan, DoesAs-then, kept}
+use Rattle.markdown_leaf.proofs.AutolinkCovers.{whole-link, ended-here, ended-other, more-none, more-dot, bracket_ops, link-here, no-link}
+use Rattle.markdown_plan.proofs.LateNameSteps.{renamed-entered, renamed-consumed, renamed-scratched, DoesAs-entered}
+use Rattle.markdown_plan.proofs.PlanSteps.{EndsAs-plan, DoesAs-then, kept}
 use Rattle.markdown_leaf.proofs.RawTextReady.{some-event}
-use Rattle.markdown_model.proofs.ReadingSteps.{and-left, and-right}
+use Rattle.markdown_model.proofs.GrammarSteps.{and-left, and-right}
 use Rattle.markdown_engine.specs.StateWords.{Words, Law, GoesIn}
-use Rattle.markdown_construct.proofs.StateLaws.{GoesOn-map, Goes-to, Goes-inside, Goes-inside-kept, Goes-over, Goes-no, Goes-named, Goes-refused}
-use Rattle.markdown_construct.specs.Within.{Within}
+use Rattle.markdown_plan.proofs.LawStepsOfLayer.{GoesOn-map, Goes-to, Goes-inside, Goes-inside-kept, Goes-over, Goes-no, Goes-named, Goes-refused}
+use Rattle.markdown_plan.specs.LayerEquation.{Within}
 
 -- Tests.
 

@@ -3,19 +3,19 @@ use Rattle.std.proofs.Common.{◌≡◌, ℕ, ◌+◌, ◌<◌, ◌≤◌, Bool,
 use Rattle.std.proofs.lemmas.Bool.{eqb-true}
 use Rattle.std.proofs.lemmas.Bool.Decides.{nat_tests}
 use Rattle.std.proofs.lemmas.Grind.{common_steps}
-use Rattle.markdown_engine.specs.Codes.{Code}
-use Rattle.markdown_engine.specs.Ops.{Op, Consume}
+use Rattle.markdown_engine_content.specs.Codes.{Code}
+use Rattle.markdown_engine.specs.Operations.{Op, Consume}
 use Rattle.markdown_engine.specs.TreeOps.{consumes}
-use Rattle.markdown_engine.specs.declared.event.Name.{Name}
+use Rattle.markdown_engine_content.specs.declared.event.Name.{Name}
 use Rattle.markdown_model.specs.CodeTests.{is_value, is_between, is_letter, is_alphanumeric, is_some_code, last_code, next_is, is_length_in}
 use Rattle.markdown_model.specs.Grammar.{Reading, ◌>>◌, ◌then_◌, gives, one, some, provided, any_number, span, with_first}
-use Rattle.markdown_model.specs.Leaf.{scheme, uri, email_address, domain_label, is_scheme_code, is_uri_code, is_local_code}
-use Rattle.markdown_construct.specs.Readings.{after}
+use Rattle.markdown_model.specs.LeafConstructs.{scheme, uri, email_address, domain_label, is_scheme_code, is_uri_code, is_local_code}
+use Rattle.markdown_plan.specs.PrecededReadings.{after}
 use Rattle.markdown_leaf.specs.Autolink.{ended, up_to_bracket, or_else, ending, scheme_rest, local_rest, domains, more_labels, is_label_code, ends_well, label_rest, scheme_value, local_value}
-use Rattle.markdown_construct.specs.Renaming.{preceded_by}
-use Rattle.markdown_construct.proofs.AfterLemmas.{after-more, after-none, after-one, then-after}
+use Rattle.markdown_plan.specs.LateNames.{preceded_by}
+use Rattle.markdown_plan.proofs.PrecededReadingLemmas.{after-more, after-none, after-one, then-after}
 use Rattle.markdown_leaf.proofs.RawTextReadings.{counted, none-more, one-more, some-here, some-none}
-use Rattle.markdown_model.proofs.ReadingSteps.{bind-some, bind-none, one-here, one-not, some-span, some-nothing, any-number-is, then-some, then-none, then-other, switched-on, switched-off, span-takes, span-none}
+use Rattle.markdown_model.proofs.GrammarSteps.{bind-some, bind-none, one-here, one-not, some-span, some-nothing, any-number-is, then-some, then-none, then-other, switched-on, switched-off, span-takes, span-none}
 
 -- The end of the link.
 

@@ -1,28 +1,28 @@
 -- The laws of the states of a character escape.
 use Rattle.std.proofs.Common.{◌≡◌, ◌==◌, ◌&&◌, Bool, true, false, if◌then◌else◌, Some, None, List, [], ◌∷◌, ◌++◌, refl, sym, ap, ◌∙◌, arith, append-nil}
 use Rattle.std.proofs.Math.Bool.{and-false}
-use Rattle.markdown_engine.specs.Codes.{Code}
-use Rattle.markdown_engine.specs.Lists.{rest_of}
-use Rattle.markdown_engine.specs.Ops.{current_of, ahead}
-use Rattle.markdown_engine.specs.Runs.{Stepped}
+use Rattle.markdown_engine_content.specs.Codes.{Code}
+use Rattle.markdown_engine_content.specs.ListFunctions.{rest_of}
+use Rattle.markdown_engine.specs.Operations.{current_of, ahead}
+use Rattle.markdown_engine.specs.StateRuns.{Stepped}
 use Rattle.markdown_engine.specs.Weights.{weight_at}
-use Rattle.markdown_engine.specs.declared.event.Name.TheVariants as N
+use Rattle.markdown_engine_content.specs.declared.event.Name.TheVariants as N
 use Rattle.markdown_engine.specs.declared.state.State.TheVariants.{Next}
 use Rattle.markdown_engine.specs.declared.state.StateName.TheVariants.{CharacterEscapeInside}
 use Rattle.markdown_engine.specs.declared.tokenizer.Tokenizer.{Tokenizer}
-use Rattle.markdown_engine.proofs.Laws.{if-step, code-step}
-use Rattle.markdown_engine.proofs.OpRules.{law_rules, ahead-none, ahead-some, some-codes}
+use Rattle.markdown_engine.proofs.LawSteps.{if-step, code-step}
+use Rattle.markdown_engine.proofs.OperationFields.{law_rules, ahead-none, ahead-some, some-codes}
 use Rattle.markdown_model.specs.CodeTests.{is_value, is_ascii_punctuation, next_is}
 use Rattle.markdown_model.specs.Grammar.{◌>>◌, ◌>>=◌, provided, one, gives}
-use Rattle.markdown_model.specs.Leaf.{escape, escape_tree}
+use Rattle.markdown_model.specs.LeafConstructs.{character_escape, escape_tree}
 use Rattle.markdown_leaf.specs.CharacterEscape.{is_punctuation, is_on, opening, value, start_at, start_step, inside_at, escape_here, inside_plan, start_ends, inside_ends, states, inside_words, start_words}
-use Rattle.markdown_construct.specs.Plan.{preceded, tree_ops, plan_of, KeepsAs}
-use Rattle.markdown_construct.proofs.PlanLemmas.{EndsAs-plan}
-use Rattle.markdown_model.proofs.ReadingSteps.{bind-some, bind-none, one-here, one-not, switched-on, switched-off, and-left, and-right, if-true, if-false}
-use Rattle.markdown_construct.proofs.WholeReadings.{Gives, Covers, IsSome, Gives-bind, Gives-switched, Gives-one, Gives-gives, Covers-group, Covers-row, Covers-leaf, some-first}
+use Rattle.markdown_plan.specs.Plan.{preceded, tree_ops, plan_of, KeepsAs}
+use Rattle.markdown_plan.proofs.PlanSteps.{EndsAs-plan}
+use Rattle.markdown_model.proofs.GrammarSteps.{bind-some, bind-none, one-here, one-not, switched-on, switched-off, and-left, and-right, if-true, if-false}
+use Rattle.markdown_plan.proofs.PassedByReadings.{Gives, Covers, IsSome, Gives-bind, Gives-switched, Gives-one, Gives-gives, Covers-group, Covers-row, Covers-leaf, some-first}
 use Rattle.markdown_engine.specs.StateWords.{Words, Law, GoesIn}
-use Rattle.markdown_construct.proofs.StateLaws.{GoesOn-map, Goes-next, Goes-yes, Goes-no}
-use Rattle.markdown_construct.specs.Within.{Within}
+use Rattle.markdown_plan.proofs.LawStepsOfLayer.{GoesOn-map, Goes-next, Goes-yes, Goes-no}
+use Rattle.markdown_plan.specs.LayerEquation.{Within}
 
 -- The reading, by what stands there.
 
@@ -36,20 +36,20 @@ escape-value slash (c ∷ cs) =
       | false ↦ λ e. ap tree_ops (bind-none _ _ _ (one-not is_ascii_punctuation (c ∷ cs) e))
     ] refl
 
-escape-slash : (on : Bool) (c : Code) (cs : List Code) → on ≡ true → (c.value == 92) ≡ true → plan_of (provided on >> escape) (c ∷ cs) ≡ preceded opening (inside_plan cs)
-unfolding escape
+escape-slash : (on : Bool) (c : Code) (cs : List Code) → on ≡ true → (c.value == 92) ≡ true → plan_of (provided on >> character_escape) (c ∷ cs) ≡ preceded opening (inside_plan cs)
+unfolding character_escape
 escape-slash on c cs e h =
-    ap tree_ops (switched-on escape on (c ∷ cs) e ∙ bind-some _ _ _ _ _ _ (one-here (is_value 92) c cs h) refl) ∙ escape-value c cs
+    ap tree_ops (switched-on character_escape on (c ∷ cs) e ∙ bind-some _ _ _ _ _ _ (one-here (is_value 92) c cs h) refl) ∙ escape-value c cs
 
-no-escape : (on : Bool) (cs : List Code) → on && next_is (is_value 92) cs ≡ false → plan_of (provided on >> escape) cs ≡ None
-unfolding escape
-no-escape false cs e = ap tree_ops (switched-off escape false cs refl)
-no-escape true cs e = ap tree_ops (switched-on escape true cs refl ∙ bind-none _ _ _ (one-not (is_value 92) cs e))
+no-escape : (on : Bool) (cs : List Code) → on && next_is (is_value 92) cs ≡ false → plan_of (provided on >> character_escape) cs ≡ None
+unfolding character_escape
+no-escape false cs e = ap tree_ops (switched-off character_escape false cs refl)
+no-escape true cs e = ap tree_ops (switched-on character_escape true cs refl ∙ bind-none _ _ _ (one-not (is_value 92) cs e))
 
-whole : (on : Bool) → Gives Covers (provided on >> escape)
-unfolding escape
+whole : (on : Bool) → Gives Covers (provided on >> character_escape)
+unfolding character_escape
 whole on =
-    Gives-switched on escape Covers
+    Gives-switched on character_escape Covers
     (Gives-bind _ _ IsSome Covers (Gives-one (is_value 92)) (λ slash ws p.
     Gives-bind _ _ IsSome _ (Gives-one is_ascii_punctuation) (λ read vs q.
     Gives-gives (escape_tree slash read) _

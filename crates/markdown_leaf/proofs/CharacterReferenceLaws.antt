@@ -2,33 +2,33 @@
 use Rattle.std.proofs.Common.{◌≡◌, ◌≢◌, ℕ, ◌+◌, ◌≤◌, ◌==◌, ◌&&◌, ◌||◌, nat_lt, Bool, true, false, List, [], ◌∷◌, ◌++◌, drop, refl, sym, ap, subst, ◌∙◌, arith, append-nil, inl, inr}
 use Rattle.std.specs.Prelude.{codes}
 use Rattle.std.proofs.Math.Bool.{or-false, and-false}
-use Rattle.markdown_engine.specs.Codes.{Code}
-use Rattle.markdown_engine.specs.Lists.{rest_of}
-use Rattle.markdown_engine.specs.Ops.{Op, Consume, applied, current_of, ahead, done, scratched}
-use Rattle.markdown_engine.specs.Runs.{Stepped, stepped}
+use Rattle.markdown_engine_content.specs.Codes.{Code}
+use Rattle.markdown_engine_content.specs.ListFunctions.{rest_of}
+use Rattle.markdown_engine.specs.Operations.{Op, Consume, applied, current_of, ahead, done, scratched}
+use Rattle.markdown_engine.specs.StateRuns.{Stepped, stepped}
 use Rattle.markdown_engine.specs.Weights.{weight_at}
-use Rattle.markdown_engine.specs.declared.event.Name.{Name}
-use Rattle.markdown_engine.specs.declared.event.Name.TheVariants as N
+use Rattle.markdown_engine_content.specs.declared.event.Name.{Name}
+use Rattle.markdown_engine_content.specs.declared.event.Name.TheVariants as N
 use Rattle.markdown_engine.specs.declared.state.State.TheVariants.{Next, Retry, Nok}
 use Rattle.markdown_engine.specs.declared.state.StateName.TheVariants.{CharacterReferenceOpen, CharacterReferenceNumeric, CharacterReferenceValue}
 use Rattle.markdown_engine.specs.declared.tokenizer.TokenizeState.{TokenizeState}
 use Rattle.markdown_engine.specs.declared.tokenizer.Tokenizer.{Tokenizer}
-use Rattle.markdown_engine.proofs.Laws.{if-step, code-step}
-use Rattle.markdown_engine.proofs.OpRules.{law_rules, ahead-none, ahead-some, scratch-scratched, some-codes}
-use Rattle.markdown_engine.proofs.OpsLemmas.{scratch-done}
+use Rattle.markdown_engine.proofs.LawSteps.{if-step, code-step}
+use Rattle.markdown_engine.proofs.OperationFields.{law_rules, ahead-none, ahead-some, scratch-scratched, some-codes}
+use Rattle.markdown_engine.proofs.OperationLemmas.{scratch-done}
 use Rattle.markdown_model.specs.CodeTests.{is_value, is_among, is_alphanumeric, is_digit, is_hex_digit, next_is}
 use Rattle.markdown_model.specs.Grammar.{◌>>◌, provided, some}
-use Rattle.markdown_model.specs.Leaf.{Parts, reference, reference_tree, named_parts, decimal_parts, hexadecimal_parts}
+use Rattle.markdown_model.specs.LeafConstructs.{Parts, character_reference, reference_tree, named_parts, decimal_parts, hexadecimal_parts}
 use Rattle.markdown_util.specs.Reference.{html_5_rows, IsMarker, value_size_max}
 use Rattle.markdown_leaf.specs.CharacterReference.{IsAtRest, IsOpened, IsValue, is_on, marked, sized, rested, opening, number_sign, hexadecimal_sign, value_start, closing, begins_name, is_taken, start_at, start_step, named_step, open_at, decimal_step, numeric_at, value_at, reference_here, value_plan, numeric_plan, named_plan, open_plan, start_ends, open_ends, numeric_ends, value_ends, states, numeric_words, open_words, start_words, value_words}
-use Rattle.markdown_construct.specs.Plan.{Plan, preceded, plan_of, DoesAs, KeepsAs}
-use Rattle.markdown_leaf.proofs.CharacterReferenceReading.{reference-start, no-reference, value-close, value-more, value-end, value-stop}
-use Rattle.markdown_construct.proofs.PlanLemmas.{EndsAs-plan, no-codes}
-use Rattle.markdown_model.proofs.ReadingSteps.{and-left, and-right, if-true, if-false}
-use Rattle.markdown_construct.proofs.WholeReadings.{Gives, Covers, IsSome, IsNothing, Gives-bind, Gives-after, Gives-either, Gives-switched, Gives-one, Gives-some, Gives-test, Gives-gives, Covers-group, Covers-row, Covers-leaf, some-first}
+use Rattle.markdown_plan.specs.Plan.{Plan, preceded, plan_of, DoesAs, KeepsAs}
+use Rattle.markdown_leaf.proofs.CharacterReferenceReadings.{reference-start, no-reference, value-close, value-more, value-end, value-stop}
+use Rattle.markdown_plan.proofs.PlanSteps.{EndsAs-plan, no-codes}
+use Rattle.markdown_model.proofs.GrammarSteps.{and-left, and-right, if-true, if-false}
+use Rattle.markdown_plan.proofs.PassedByReadings.{Gives, Covers, IsSome, IsNothing, Gives-bind, Gives-after, Gives-either, Gives-switched, Gives-one, Gives-some, Gives-test, Gives-gives, Covers-group, Covers-row, Covers-leaf, some-first}
 use Rattle.markdown_engine.specs.StateWords.{Words, Law, GoesIn}
-use Rattle.markdown_construct.proofs.StateLaws.{GoesOn-map, Goes-on, Goes-kept, Goes-next, Goes-ok, Goes-nok, Goes-no}
-use Rattle.markdown_construct.specs.Within.{Within}
+use Rattle.markdown_plan.proofs.LawStepsOfLayer.{GoesOn-map, Goes-on, Goes-kept, Goes-next, Goes-ok, Goes-nok, Goes-no}
+use Rattle.markdown_plan.specs.LayerEquation.{Within}
 
 -- What a reference passes.
 
@@ -74,10 +74,10 @@ parts-cover p some =
     (Covers-row _ _ p.hexadecimal _ (Covers-leaf _ p.hexadecimal p.hexadecimal refl)
     (Covers-row _ _ p.value p.back (Covers-leaf _ p.value p.value refl) (Covers-leaf _ p.back p.back refl)))))
 
-whole : (on : Bool) → Gives Covers (provided on >> reference html_5_rows)
-unfolding reference
+whole : (on : Bool) → Gives Covers (provided on >> character_reference html_5_rows)
+unfolding character_reference
 whole on =
-    Gives-switched on (reference html_5_rows) Covers
+    Gives-switched on (character_reference html_5_rows) Covers
     (Gives-bind _ _ IsParts Covers (Gives-either _ _ IsParts whole-named (Gives-either _ _ IsParts whole-decimal whole-hexadecimal)) (λ p ws q.
     Gives-gives (reference_tree p) _ (subst (λ us. Covers (reference_tree p) us) (q.whole ∙ sym (append-nil ws)) (parts-cover p q.some))))
 

@@ -1,29 +1,29 @@
 -- The laws of the states of a hard break by a backslash.
 use Rattle.std.proofs.Common.{◌≡◌, ◌==◌, ◌&&◌, Bool, true, false, if◌then◌else◌, Some, None, List, [], ◌∷◌, ◌++◌, refl, sym, ap, ◌∙◌, arith, append-nil}
 use Rattle.std.proofs.Math.Bool.{and-false}
-use Rattle.markdown_engine.specs.Codes.{Code, is_line_ending}
-use Rattle.markdown_engine.specs.Lists.{rest_of}
-use Rattle.markdown_engine.specs.Ops.{current_of, ahead}
-use Rattle.markdown_engine.specs.Runs.{Stepped}
-use Rattle.markdown_engine.specs.Tree.{leaf}
+use Rattle.markdown_engine_content.specs.Codes.{Code, is_line_ending}
+use Rattle.markdown_engine_content.specs.ListFunctions.{rest_of}
+use Rattle.markdown_engine.specs.Operations.{current_of, ahead}
+use Rattle.markdown_engine.specs.StateRuns.{Stepped}
+use Rattle.markdown_engine_content.specs.Tree.{leaf}
 use Rattle.markdown_engine.specs.Weights.{weight_at}
-use Rattle.markdown_engine.specs.declared.event.Name.TheVariants as N
+use Rattle.markdown_engine_content.specs.declared.event.Name.TheVariants as N
 use Rattle.markdown_engine.specs.declared.state.State.TheVariants.{Next}
 use Rattle.markdown_engine.specs.declared.state.StateName.TheVariants.{HardBreakEscapeAfter}
 use Rattle.markdown_engine.specs.declared.tokenizer.Tokenizer.{Tokenizer}
-use Rattle.markdown_engine.proofs.Laws.{if-step, code-step}
-use Rattle.markdown_engine.proofs.OpRules.{law_rules, ahead-none, ahead-some, some-codes}
+use Rattle.markdown_engine.proofs.LawSteps.{if-step, code-step}
+use Rattle.markdown_engine.proofs.OperationFields.{law_rules, ahead-none, ahead-some, some-codes}
 use Rattle.markdown_model.specs.CodeTests.{is_value, next_is}
 use Rattle.markdown_model.specs.Grammar.{◌>>◌, provided, gives}
-use Rattle.markdown_model.specs.Leaf.{hard_break_escape}
+use Rattle.markdown_model.specs.LeafConstructs.{hard_break_escape}
 use Rattle.markdown_leaf.specs.HardBreakEscape.{is_on, opening, closing, start_at, start_step, after_at, break_here, after_plan, start_ends, after_ends, states, after_words, start_words}
-use Rattle.markdown_construct.specs.Plan.{Plan, preceded, tree_ops, plan_of, KeepsAs}
-use Rattle.markdown_construct.proofs.PlanLemmas.{EndsAs-plan}
-use Rattle.markdown_model.proofs.ReadingSteps.{bind-some, bind-none, before-some, before-none, before-other, one-here, one-not, switched-on, switched-off, and-left, and-right, if-true, if-false}
-use Rattle.markdown_construct.proofs.WholeReadings.{Gives, Covers, IsSome, Gives-bind, Gives-before, Gives-switched, Gives-one, Gives-gives, Covers-leaf}
+use Rattle.markdown_plan.specs.Plan.{Plan, preceded, tree_ops, plan_of, KeepsAs}
+use Rattle.markdown_plan.proofs.PlanSteps.{EndsAs-plan}
+use Rattle.markdown_model.proofs.GrammarSteps.{bind-some, bind-none, before-some, before-none, before-other, one-here, one-not, switched-on, switched-off, and-left, and-right, if-true, if-false}
+use Rattle.markdown_plan.proofs.PassedByReadings.{Gives, Covers, IsSome, Gives-bind, Gives-before, Gives-switched, Gives-one, Gives-gives, Covers-leaf}
 use Rattle.markdown_engine.specs.StateWords.{Words, Law, GoesIn}
-use Rattle.markdown_construct.proofs.StateLaws.{GoesOn-map, Goes-next, Goes-yes, Goes-no}
-use Rattle.markdown_construct.specs.Within.{Within}
+use Rattle.markdown_plan.proofs.LawStepsOfLayer.{GoesOn-map, Goes-next, Goes-yes, Goes-no}
+use Rattle.markdown_plan.specs.LayerEquation.{Within}
 
 -- The reading, by what stands there.
 

@@ -1,39 +1,39 @@
 -- The laws of the states of code spans and math spans.
 use Rattle.std.proofs.Common.{◌≡◌, ℕ, ◌+◌, ◌≤◌, ◌==◌, ◌&&◌, ◌||◌, not, if◌then◌else◌, Bool, true, false, Option, Some, None, List, [], ◌∷◌, length, drop, refl, sym, ap, subst, ◌∙◌, arith}
 use Rattle.std.specs.Prelude.{codes}
-use Rattle.markdown_engine.specs.Codes.{Code}
-use Rattle.markdown_engine.specs.Lists.{rest_of}
-use Rattle.markdown_engine.specs.Ops.{Op, Enter, Exit, Consume, current_of, consumed, ahead, applied, done, scratched}
-use Rattle.markdown_engine.specs.Place.{value_of, code_before}
-use Rattle.markdown_engine.specs.Runs.{Stepped, stepped}
-use Rattle.markdown_engine.specs.Stretch.{is_free}
+use Rattle.markdown_engine_content.specs.Codes.{Code}
+use Rattle.markdown_engine_content.specs.ListFunctions.{rest_of}
+use Rattle.markdown_engine.specs.Operations.{Op, Enter, Exit, Consume, current_of, consumed, ahead, applied, done, scratched}
+use Rattle.markdown_engine_content.specs.Place.{value_of, code_before}
+use Rattle.markdown_engine.specs.StateRuns.{Stepped, stepped}
+use Rattle.markdown_engine_content.specs.Stretch.{is_free}
 use Rattle.markdown_engine.specs.Weights.{weight_at}
-use Rattle.markdown_engine.specs.declared.event.Name.TheVariants as N
+use Rattle.markdown_engine_content.specs.declared.event.Name.TheVariants as N
 use Rattle.markdown_engine.specs.declared.state.State.TheVariants.{Next, Retry}
 use Rattle.markdown_engine.specs.declared.state.State.TheVariants as State
 use Rattle.markdown_engine.specs.declared.state.StateName.TheVariants.{RawTextSequenceOpen, RawTextBetween, RawTextData, RawTextSequenceClose}
 use Rattle.markdown_engine.specs.declared.tokenizer.TokenizeState.{TokenizeState}
 use Rattle.markdown_engine.specs.declared.tokenizer.Tokenizer.{Tokenizer}
-use Rattle.markdown_engine.proofs.Laws.{if-step, code-step}
+use Rattle.markdown_engine.proofs.LawSteps.{if-step, code-step}
 use Rattle.markdown_engine.proofs.SteadyLemmas.{steady-at, alone-is, alone-other}
-use Rattle.markdown_engine.proofs.OpRules.{ahead-none, ahead-some, Begins, some-codes}
+use Rattle.markdown_engine.proofs.OperationFields.{ahead-none, ahead-some, Begins, some-codes}
 use Rattle.markdown_model.specs.CodeTests.{is_value, is_some_code, next_is}
-use Rattle.markdown_model.specs.Leaf.{SpanNames, code_names, math_names}
-use Rattle.markdown_construct.specs.Plan.{Plan, preceded, plan_of, KeepsAs}
+use Rattle.markdown_model.specs.LeafConstructs.{SpanNames, code_names, math_names}
+use Rattle.markdown_plan.specs.Plan.{Plan, preceded, plan_of, KeepsAs}
 use Rattle.markdown_leaf.specs.RawText.{data_step, data_stops, names_in, begun, rested, is_same, is_barred, code_just_before, code_is_on, math_is_on, single_dollar, opened, start_at, start_step, after_opening, sequence_open_at, between_at, after_data, data_at, after_run, sequence_close_at, StartReady, SequenceOpenReady, DataReady, SequenceCloseReady, span_at, is_hopeless, closed_ops, inside_plan, is_data, data_plan, run_naming, opening_plan, start_ends, sequence_open_ends, between_ends, data_ends, sequence_close_ends, states, between_words, data_words, sequence_close_words, sequence_open_words, start_words}
-use Rattle.markdown_model.specs.Single.{follows_escape}
-use Rattle.markdown_construct.specs.Scratch.{with_size, with_size_b}
-use Rattle.markdown_construct.specs.Renaming.{Naming, renamed}
-use Rattle.markdown_leaf.proofs.ClosingLemmas.{hopeless-none}
-use Rattle.markdown_construct.proofs.PlanLemmas.{EndsAs-plan}
+use Rattle.markdown_model.specs.SingleConstructs.{follows_escape}
+use Rattle.markdown_plan.specs.ScratchFields.{with_size, with_size_b}
+use Rattle.markdown_plan.specs.LateNames.{Naming, renamed}
+use Rattle.markdown_leaf.proofs.RawTextWithoutEnd.{hopeless-none}
+use Rattle.markdown_plan.proofs.PlanSteps.{EndsAs-plan}
 use Rattle.markdown_leaf.proofs.RawTextReadings.{inside-none, inside-ending, inside-data, inside-run, data-more, data-end, run-more, run-closed, run-other, open-more, open-end, code-opens, math-opens-here, no-span}
 use Rattle.markdown_leaf.proofs.RawTextReady.{start-opened, opened-more, opened-between, between-ending, between-data, between-run, data-next, data-between, run-next, run-between, opening-says}
-use Rattle.markdown_leaf.proofs.RawTextWhole.{whole-here}
-use Rattle.markdown_model.proofs.ReadingSteps.{and-left, and-right, if-true}
-use Rattle.markdown_construct.proofs.WholeReadings.{Gives, Covers, Gives-either}
+use Rattle.markdown_leaf.proofs.RawTextCovers.{whole-here}
+use Rattle.markdown_model.proofs.GrammarSteps.{and-left, and-right, if-true}
+use Rattle.markdown_plan.proofs.PassedByReadings.{Gives, Covers, Gives-either}
 use Rattle.markdown_engine.specs.StateWords.{Words, Law, GoesIn}
-use Rattle.markdown_construct.proofs.StateLaws.{GoesOn-map, Goes-on, Goes-kept, Goes-entered, Goes-inside, Goes-settled, Goes-nok, Goes-no, Goes-named}
-use Rattle.markdown_construct.specs.Within.{Within}
+use Rattle.markdown_plan.proofs.LawStepsOfLayer.{GoesOn-map, Goes-on, Goes-kept, Goes-entered, Goes-inside, Goes-settled, Goes-nok, Goes-no, Goes-named}
+use Rattle.markdown_plan.specs.LayerEquation.{Within}
 
 -- Tests.
 

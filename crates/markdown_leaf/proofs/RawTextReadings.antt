@@ -4,22 +4,22 @@ use Rattle.std.proofs.Math.Bool.{and-false}
 use Rattle.std.proofs.lemmas.Bool.{eqb-true, and_left}
 use Rattle.std.proofs.lemmas.Bool.Decides.{nat_tests}
 use Rattle.std.proofs.lemmas.Grind.{common_steps}
-use Rattle.markdown_engine.specs.Codes.{Code, is_line_ending}
-use Rattle.markdown_engine.specs.Ops.{Op, Enter, Exit, Consume}
-use Rattle.markdown_engine.specs.Past.{TreeReading}
-use Rattle.markdown_engine.specs.Tree.{Forest, empty, leaf_then, ◌⊕◌, leaf, group}
+use Rattle.markdown_engine_content.specs.Codes.{Code, is_line_ending}
+use Rattle.markdown_engine.specs.Operations.{Op, Enter, Exit, Consume}
+use Rattle.markdown_engine.specs.PastTree.{TreeReading}
+use Rattle.markdown_engine_content.specs.Tree.{Forest, empty, leaf_then, ◌⊕◌, leaf, group}
 use Rattle.markdown_engine.specs.TreeOps.{consumes, ops_of}
-use Rattle.markdown_engine.specs.declared.event.Name.{Name}
-use Rattle.markdown_engine.specs.declared.event.Name.TheVariants as N
+use Rattle.markdown_engine_content.specs.declared.event.Name.{Name}
+use Rattle.markdown_engine_content.specs.declared.event.Name.TheVariants as N
 use Rattle.markdown_model.specs.CodeTests.{is_value, next_is, is_empty, is_some_code}
 use Rattle.markdown_model.specs.Grammar.{◌>>=◌, ◌>>◌, gives, provided, either, some, span}
-use Rattle.markdown_model.specs.Lines.{joins, stretches, line_leaf, line_leaves}
-use Rattle.markdown_model.specs.Leaf.{SpanNames, code_names, math_names, closing_run, closing, span_of, span_here}
-use Rattle.markdown_model.proofs.ReadingSteps.{bind-some, bind-none, switched-on, switched-off, either-first, either-second, span-takes, span-none}
-use Rattle.markdown_construct.proofs.StretchLemmas.{stretch-alone, stretch-span}
-use Rattle.markdown_construct.specs.Plan.{preceded, tree_ops, plan_of}
+use Rattle.markdown_model.specs.TextLines.{joins, stretches, line_leaf, line_leaves}
+use Rattle.markdown_model.specs.LeafConstructs.{SpanNames, code_names, math_names, closing_run, closing, span_of, span_here}
+use Rattle.markdown_model.proofs.GrammarSteps.{bind-some, bind-none, switched-on, switched-off, either-first, either-second, span-takes, span-none}
+use Rattle.markdown_plan.proofs.FirstStretch.{stretch-alone, stretch-span}
+use Rattle.markdown_plan.specs.Plan.{preceded, tree_ops, plan_of}
 use Rattle.markdown_leaf.specs.RawText.{closed_ops, inside_plan, is_data, data_plan, run_naming, opens, opening_plan}
-use Rattle.markdown_construct.specs.Renaming.{opened, under, preceded_by}
+use Rattle.markdown_plan.specs.LateNames.{opened, under, preceded_by}
 
 -- Tests.
 

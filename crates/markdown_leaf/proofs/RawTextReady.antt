@@ -1,22 +1,22 @@
 -- The states of a span: when the next one may be called, and what its end says.
 use Rattle.std.proofs.Common.{◌≡◌, ℕ, ◌+◌, ◌<◌, ◌≤◌, ◌==◌, Bool, false, List, [], ◌∷◌, length, refl, sym, ap, subst, ◌∙◌, arith}
 use Rattle.std.proofs.lemmas.Grind.{common_steps}
-use Rattle.markdown_engine.specs.Ops.{Op, Enter, Exit, Consume, ahead, applied, done, scratched, moves}
-use Rattle.markdown_engine.specs.RunIndex.{LastRuns, last_runs}
+use Rattle.markdown_engine.specs.Operations.{Op, Enter, Exit, Consume, ahead, applied, done, scratched, moves}
+use Rattle.markdown_engine_index.specs.RunIndex.{LastRuns, last_runs}
 use Rattle.markdown_engine.specs.Weights.{codes_left}
-use Rattle.markdown_engine.specs.declared.event.Name.{Name}
-use Rattle.markdown_engine.specs.declared.event.Name.TheVariants as N
+use Rattle.markdown_engine_content.specs.declared.event.Name.{Name}
+use Rattle.markdown_engine_content.specs.declared.event.Name.TheVariants as N
 use Rattle.markdown_engine.specs.declared.tokenizer.TokenizeState.{TokenizeState}
 use Rattle.markdown_engine.specs.declared.tokenizer.Tokenizer.{Tokenizer}
-use Rattle.markdown_engine.proofs.OpRules.{left-scratched}
-use Rattle.markdown_engine.proofs.OpsLemmas.{left-done, codes-done}
-use Rattle.markdown_model.specs.Leaf.{SpanNames}
-use Rattle.markdown_construct.proofs.OpenLemmas.{second-open}
-use Rattle.markdown_construct.proofs.NamingLemmas.{renamed-entered, renamed-consumed, renamed-scratched}
-use Rattle.markdown_construct.specs.Plan.{DoesAs}
+use Rattle.markdown_engine.proofs.OperationFields.{left-scratched}
+use Rattle.markdown_engine.proofs.OperationLemmas.{left-done, codes-done}
+use Rattle.markdown_model.specs.LeafConstructs.{SpanNames}
+use Rattle.markdown_plan.proofs.OpenEvents.{second-open}
+use Rattle.markdown_plan.proofs.LateNameSteps.{renamed-entered, renamed-consumed, renamed-scratched}
+use Rattle.markdown_plan.specs.Plan.{DoesAs}
 use Rattle.markdown_leaf.specs.RawText.{begun, rested, IsIndexed, StartReady, SequenceOpenReady, BetweenReady, DataReady, SequenceCloseReady, single_dollar, opening_plan, sequence_open_ends}
-use Rattle.markdown_construct.specs.Scratch.{with_size, with_size_b, Fits}
-use Rattle.markdown_construct.specs.Renaming.{renamed}
+use Rattle.markdown_plan.specs.ScratchFields.{with_size, with_size_b, Fits}
+use Rattle.markdown_plan.specs.LateNames.{renamed}
 
 -- fewer codes are left
 fits-after : (n k : ℕ) (os : List Op) (r : TokenizeState) (X T : Tokenizer) → codes_left X ≡ codes_left T → moves os ≤ length (ahead X) → n ≤ k + moves os → Fits k T → Fits n (scratched r (done os X))

@@ -1,20 +1,20 @@
 -- What the states of an autolink do, and how runs from them end.
 use Rattle.std.specs.Prelude.{◌≡◌, ℕ, ◌+◌, ◌≤◌, Bool, true, false, ◌&&◌, ◌||◌, not, codes, nat_le, nat_lt, ◌==◌, if◌then◌else◌, Option, Some, None, List, [], ◌∷◌, ◌++◌, length}
-use Rattle.markdown_engine.specs.Codes.{Code}
-use Rattle.markdown_engine.specs.Ops.{Op, Enter, Exit, Consume, done, current_of, scratched}
-use Rattle.markdown_engine.specs.Past.{EndsAs, TreeReading}
-use Rattle.markdown_engine.specs.Runs.{Stepped, stepped}
+use Rattle.markdown_engine_content.specs.Codes.{Code}
+use Rattle.markdown_engine.specs.Operations.{Op, Enter, Exit, Consume, done, current_of, scratched}
+use Rattle.markdown_engine.specs.PastTree.{EndsAs, TreeReading}
+use Rattle.markdown_engine.specs.StateRuns.{Stepped, stepped}
 use Rattle.markdown_engine.specs.TreeOps.{consumes}
 use Rattle.markdown_model.specs.CodeTests.{is_value, is_between, is_alphanumeric, is_some_code, last_code, next_is}
 use Rattle.markdown_model.specs.Grammar.{Reading, ◌then_◌, one, any_number, span, repeatedly}
-use Rattle.markdown_model.specs.Leaf.{uri, email_address, domain_label, is_scheme_code, is_uri_code, is_local_code}
-use Rattle.markdown_model.specs.Single.{autolink_here}
-use Rattle.markdown_construct.specs.Readings.{after}
-use Rattle.markdown_construct.specs.Scratch.{AreOpen, with_size}
-use Rattle.markdown_construct.specs.Values.{letter_value, alphanumeric_value, among_values, controls}
-use Rattle.markdown_construct.specs.Renaming.{Naming, NamesAs, renamed, HasEvent}
-use Rattle.markdown_engine.specs.declared.event.Name.{Name}
-use Rattle.markdown_engine.specs.declared.event.Name.TheVariants as N
+use Rattle.markdown_model.specs.LeafConstructs.{uri, email_address, domain_label, is_scheme_code, is_uri_code, is_local_code}
+use Rattle.markdown_model.specs.SingleConstructs.{autolink_here}
+use Rattle.markdown_plan.specs.PrecededReadings.{after}
+use Rattle.markdown_plan.specs.ScratchFields.{AreOpen, with_size}
+use Rattle.markdown_plan.specs.ByteTests.{letter_value, alphanumeric_value, among_values, controls}
+use Rattle.markdown_plan.specs.LateNames.{Naming, NamesAs, renamed, HasEvent}
+use Rattle.markdown_engine_content.specs.declared.event.Name.{Name}
+use Rattle.markdown_engine_content.specs.declared.event.Name.TheVariants as N
 use Rattle.markdown_engine.specs.declared.state.State.TheVariants.{Next, Retry, Nok}
 use Rattle.markdown_engine.specs.declared.state.State.TheVariants as State
 use Rattle.markdown_engine.specs.declared.state.StateName.TheVariants.{AutolinkOpen, AutolinkSchemeOrEmailAtext, AutolinkSchemeInsideOrEmailAtext, AutolinkUrlInside, AutolinkEmailAtext, AutolinkEmailAtSignOrDot, AutolinkEmailLabel, AutolinkEmailValue, AutolinkStart}

@@ -1,12 +1,12 @@
 -- What the states of a character escape do, and how runs from them end.
 use Rattle.std.specs.Prelude.{ℕ, Bool, ◌&&◌, ◌||◌, nat_le, ◌==◌, if◌then◌else◌, Option, Some, None, List, [], ◌∷◌}
-use Rattle.markdown_engine.specs.Ops.{Op, Enter, Exit, Consume, done, current_of, IsOpen}
-use Rattle.markdown_engine.specs.Past.{EndsAs, TreeReading}
-use Rattle.markdown_engine.specs.Runs.{Stepped, stepped}
+use Rattle.markdown_engine.specs.Operations.{Op, Enter, Exit, Consume, done, current_of, IsOpen}
+use Rattle.markdown_engine.specs.PastTree.{EndsAs, TreeReading}
+use Rattle.markdown_engine.specs.StateRuns.{Stepped, stepped}
 use Rattle.markdown_model.specs.CodeTests.{is_ascii_punctuation, next_is}
-use Rattle.markdown_model.specs.Single as Single
-use Rattle.markdown_construct.specs.Plan.{Plan, KeepsAs}
-use Rattle.markdown_engine.specs.declared.event.Name.TheVariants as N
+use Rattle.markdown_model.specs.SingleConstructs as SingleConstructs
+use Rattle.markdown_plan.specs.Plan.{Plan, KeepsAs}
+use Rattle.markdown_engine_content.specs.declared.event.Name.TheVariants as N
 use Rattle.markdown_engine.specs.declared.state.State.TheVariants.{Next, Nok}
 use Rattle.markdown_engine.specs.declared.state.State.TheVariants as State
 use Rattle.markdown_engine.specs.declared.state.StateName.TheVariants.{CharacterEscapeInside, CharacterEscapeStart}
@@ -46,7 +46,7 @@ inside_step T = inside_at (current_of T) T
 
 -- the codes at hand read as an escape, where escapes are on
 abbrev pub escape_here : Tokenizer → TreeReading
-escape_here T = Single.escape_here T.parse_state.now.options.now
+escape_here T = SingleConstructs.character_escape_here T.parse_state.now.options.now
 
 abbrev pub start_ends : Tokenizer → Bool → Tokenizer → Type 0
 start_ends T ok U = EndsAs (escape_here T) None T.tokenize_state T ok U

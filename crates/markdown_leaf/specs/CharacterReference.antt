@@ -2,19 +2,19 @@
 use Rattle.std.specs.Prelude.{◌≡◌, ℕ, ◌+◌, ◌≤◌, Bool, true, false, ◌&&◌, ◌||◌, ◌==◌, nat_lt, if◌then◌else◌, Option, Some, None, is_some, take, ◌<◌, List, [], ◌∷◌, ◌++◌, length, codes}
 use Rattle.std.specs.Char.{is_ascii_alphanumeric}
 use Rattle.std.specs.List.{list_all}
-use Rattle.markdown_engine.specs.Codes.{Code}
-use Rattle.markdown_engine.specs.Lists.{rest_of}
-use Rattle.markdown_engine.specs.Ops.{Op, Enter, Exit, Consume, done, current_of, ahead, IsOpen, scratched}
-use Rattle.markdown_engine.specs.Past.{EndsAs, TreeReading}
-use Rattle.markdown_engine.specs.Runs.{Stepped, stepped}
+use Rattle.markdown_engine_content.specs.Codes.{Code}
+use Rattle.markdown_engine_content.specs.ListFunctions.{rest_of}
+use Rattle.markdown_engine.specs.Operations.{Op, Enter, Exit, Consume, done, current_of, ahead, IsOpen, scratched}
+use Rattle.markdown_engine.specs.PastTree.{EndsAs, TreeReading}
+use Rattle.markdown_engine.specs.StateRuns.{Stepped, stepped}
 use Rattle.markdown_engine.specs.TreeOps.{consumes}
 use Rattle.markdown_model.specs.CodeTests.{is_value, is_among, is_between, is_alphanumeric, next_is, values_of}
 use Rattle.markdown_model.specs.Grammar.{span}
-use Rattle.markdown_model.specs.Leaf.{is_name}
-use Rattle.markdown_model.specs.Single as Single
+use Rattle.markdown_model.specs.LeafConstructs.{is_name}
+use Rattle.markdown_model.specs.SingleConstructs as SingleConstructs
 use Rattle.markdown_util.specs.Reference.{Table, IsMarker, html_5_rows, named_value, value_size_max, is_value_byte}
-use Rattle.markdown_construct.specs.Plan.{Plan, preceded, DoesAs}
-use Rattle.markdown_engine.specs.declared.event.Name.TheVariants as N
+use Rattle.markdown_plan.specs.Plan.{Plan, preceded, DoesAs}
+use Rattle.markdown_engine_content.specs.declared.event.Name.TheVariants as N
 use Rattle.markdown_engine.specs.declared.state.State.TheVariants.{Next, Retry, Nok}
 use Rattle.markdown_engine.specs.declared.state.State.TheVariants as State
 use Rattle.markdown_engine.specs.declared.state.StateName.TheVariants.{CharacterReferenceOpen, CharacterReferenceNumeric, CharacterReferenceValue, CharacterReferenceStart}
@@ -157,7 +157,7 @@ value_step T = value_at (current_of T) T
 
 -- the codes at hand read as a reference, where these are on
 abbrev pub reference_here : Tokenizer → TreeReading
-reference_here T = Single.reference_here T.parse_state.now.options.now html_5_rows
+reference_here T = SingleConstructs.character_reference_here T.parse_state.now.options.now html_5_rows
 
 abbrev pub start_ends : Tokenizer → Bool → Tokenizer → Type 0
 start_ends T ok U = EndsAs (reference_here T) None T.tokenize_state T ok U

@@ -1,13 +1,13 @@
 -- What the states of a hard break by a backslash do, and how runs from them end.
 use Rattle.std.specs.Prelude.{ℕ, Bool, ◌&&◌, ◌==◌, if◌then◌else◌, Option, Some, None, List, [], ◌∷◌}
-use Rattle.markdown_engine.specs.Codes.{is_line_ending}
-use Rattle.markdown_engine.specs.Ops.{Op, Enter, Exit, Consume, done, current_of, IsOpen}
-use Rattle.markdown_engine.specs.Past.{EndsAs, TreeReading}
-use Rattle.markdown_engine.specs.Runs.{Stepped, stepped}
+use Rattle.markdown_engine_content.specs.Codes.{is_line_ending}
+use Rattle.markdown_engine.specs.Operations.{Op, Enter, Exit, Consume, done, current_of, IsOpen}
+use Rattle.markdown_engine.specs.PastTree.{EndsAs, TreeReading}
+use Rattle.markdown_engine.specs.StateRuns.{Stepped, stepped}
 use Rattle.markdown_model.specs.CodeTests.{next_is}
-use Rattle.markdown_model.specs.Single as Single
-use Rattle.markdown_construct.specs.Plan.{Plan, KeepsAs}
-use Rattle.markdown_engine.specs.declared.event.Name.TheVariants as N
+use Rattle.markdown_model.specs.SingleConstructs as SingleConstructs
+use Rattle.markdown_plan.specs.Plan.{Plan, KeepsAs}
+use Rattle.markdown_engine_content.specs.declared.event.Name.TheVariants as N
 use Rattle.markdown_engine.specs.declared.state.State.TheVariants.{Next, Nok}
 use Rattle.markdown_engine.specs.declared.state.State.TheVariants as State
 use Rattle.markdown_engine.specs.declared.state.StateName.TheVariants.{HardBreakEscapeAfter, HardBreakEscapeStart}
@@ -44,7 +44,7 @@ after_step T = after_at (current_of T) T
 
 -- the codes at hand read as a hard break, where these are on
 abbrev pub break_here : Tokenizer → TreeReading
-break_here T = Single.break_here T.parse_state.now.options.now
+break_here T = SingleConstructs.hard_break_escape_here T.parse_state.now.options.now
 
 abbrev pub start_ends : Tokenizer → Bool → Tokenizer → Type 0
 start_ends T ok U = EndsAs (break_here T) None T.tokenize_state T ok U

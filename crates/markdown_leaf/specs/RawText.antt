@@ -1,23 +1,23 @@
 -- What the states of code spans and math spans do, and how runs from them end.
 use Rattle.std.specs.Prelude.{◌≡◌, ℕ, ◌+◌, Bool, false, ◌&&◌, ◌||◌, not, ◌==◌, if◌then◌else◌, Option, Some, None, codes, List, [], ◌∷◌, ◌++◌, length}
-use Rattle.markdown_engine.specs.Codes.{Code, is_line_ending}
-use Rattle.markdown_engine.specs.Ops.{Op, Enter, Exit, Consume, IsOpen, done, current_of, previous_of, scratched}
-use Rattle.markdown_engine.specs.Past.{EndsAs, TreeReading}
-use Rattle.markdown_engine.specs.Place.{last_of}
-use Rattle.markdown_engine.specs.RunIndex.{last_runs, rules_out}
-use Rattle.markdown_engine.specs.Runs.{Stepped, stepped}
+use Rattle.markdown_engine_content.specs.Codes.{Code, is_line_ending}
+use Rattle.markdown_engine.specs.Operations.{Op, Enter, Exit, Consume, IsOpen, done, current_of, previous_of, scratched}
+use Rattle.markdown_engine.specs.PastTree.{EndsAs, TreeReading}
+use Rattle.markdown_engine_content.specs.Place.{last_of}
+use Rattle.markdown_engine_index.specs.RunIndex.{last_runs, rules_out}
+use Rattle.markdown_engine.specs.StateRuns.{Stepped, stepped}
 use Rattle.markdown_engine.specs.Steady.{alone_among}
-use Rattle.markdown_engine.specs.Tree.{◌⊕◌, leaf}
+use Rattle.markdown_engine_content.specs.Tree.{◌⊕◌, leaf}
 use Rattle.markdown_engine.specs.TreeOps.{consumes, ops_of}
 use Rattle.markdown_model.specs.CodeTests.{is_value}
 use Rattle.markdown_model.specs.Grammar.{span}
-use Rattle.markdown_model.specs.Leaf.{SpanNames, code_names, math_names, closing}
-use Rattle.markdown_model.specs.Single.{follows_escape, code_or_math_here}
-use Rattle.markdown_model.specs.Lines.{line_leaves}
-use Rattle.markdown_construct.specs.Plan.{Plan, preceded, DoesAs}
-use Rattle.markdown_construct.specs.Scratch.{Fits, AreOpen, with_size, with_size_b}
-use Rattle.markdown_construct.specs.Renaming.{Naming, NamesAs, under, renamed, HasEvent}
-use Rattle.markdown_engine.specs.declared.event.Name.TheVariants as N
+use Rattle.markdown_model.specs.LeafConstructs.{SpanNames, code_names, math_names, closing}
+use Rattle.markdown_model.specs.SingleConstructs.{follows_escape, raw_text_here}
+use Rattle.markdown_model.specs.TextLines.{line_leaves}
+use Rattle.markdown_plan.specs.Plan.{Plan, preceded, DoesAs}
+use Rattle.markdown_plan.specs.ScratchFields.{Fits, AreOpen, with_size, with_size_b}
+use Rattle.markdown_plan.specs.LateNames.{Naming, NamesAs, under, renamed, HasEvent}
+use Rattle.markdown_engine_content.specs.declared.event.Name.TheVariants as N
 use Rattle.markdown_engine.specs.declared.state.State.TheVariants.{Next, Retry, Nok}
 use Rattle.markdown_engine.specs.declared.state.State.TheVariants as State
 use Rattle.markdown_engine.specs.declared.state.StateName.TheVariants.{RawTextSequenceOpen, RawTextBetween, RawTextData, RawTextSequenceClose, RawTextStart}
@@ -188,7 +188,7 @@ code_just_before T = last_of T.cursor.codes T.cursor.at
 
 -- the codes at hand read as a code span or as a math span, where these are on
 abbrev pub span_at : Tokenizer → TreeReading
-span_at T = code_or_math_here T.parse_state.now.options.now (follows_escape T.events) (code_just_before T)
+span_at T = raw_text_here T.parse_state.now.options.now (follows_escape T.events) (code_just_before T)
 
 abbrev pub start_ends : Tokenizer → Bool → Tokenizer → Type 0
 start_ends T ok U = EndsAs (span_at T) None T.tokenize_state T ok U

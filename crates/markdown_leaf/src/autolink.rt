@@ -4,21 +4,21 @@
 // each and neither start nor end with a hyphen.
 //
 // Each state answers the error where a growth is refused; then `failed` is true.
-#![tactic(auto, using(markdown_engine::proofs::OpRules::law_rules), unfolding(markdown_engine::specs::Ops::scratched))]
+#![tactic(auto, using(markdown_engine::proofs::OperationFields::law_rules), unfolding(markdown_engine::specs::Operations::scratched))]
 
 ghost use Rattle.std.specs.Prelude.{◌≡◌, IfOk, OnErr, IsTrue};
-ghost use Rattle.markdown_engine.specs.Ops.{HasCode, current_of};
-ghost use Rattle.markdown_engine.specs.declared.event.Name.TheVariants.{Autolink};
-ghost use Rattle.markdown_construct.specs.Scratch.{AreOpen};
+ghost use Rattle.markdown_engine.specs.Operations.{HasCode, current_of};
+ghost use Rattle.markdown_engine_content.specs.declared.event.Name.TheVariants.{Autolink};
+ghost use Rattle.markdown_plan.specs.ScratchFields.{AreOpen};
 ghost use Rattle.markdown_leaf.specs.Autolink.{scheme_value, local_value, uri_stops, uri_value, refused, finished, start_step, open_step, scheme_or_step, scheme_inside_step, url_inside_step, email_atext_step, email_at_sign_or_dot_step, in_label_at, email_value_step, email_label_step, InsideReady, SchemeReady, LabelReady};
 
 use crate::renaming::rename_entered;
-use markdown_construct::bytes::{is_alphanumeric, is_letter};
-use markdown_engine::byte_set;
-use markdown_engine::bytes::ByteSet;
-use markdown_engine::event::Name;
 use markdown_engine::state::{State, StateName};
 use markdown_engine::tokenizer::Tokenizer;
+use markdown_engine_content::byte_set;
+use markdown_engine_content::bytes::ByteSet;
+use markdown_engine_content::event::Name;
+use markdown_plan::bytes::{is_alphanumeric, is_letter};
 use markdown_util::util::constant::{AUTOLINK_DOMAIN_SIZE_MAX, AUTOLINK_SCHEME_SIZE_MAX};
 use std::alloc::AllocError;
 
@@ -223,7 +223,7 @@ fn in_label(tokenizer: &mut Tokenizer) -> State
 ///
 ///     > | <o_k@x-1.org>
 ///               ^ ^ ^^^
-#[tactic(auto, using(markdown_construct::proofs::RenamingLemmas::rename_rules), unfolding(markdown_engine::specs::Ops::scratched))]
+#[tactic(auto, using(markdown_plan::proofs::RenameLemmas::rename_rules), unfolding(markdown_engine::specs::Operations::scratched))]
 pub fn email_label(tokenizer: &mut Tokenizer) -> Result<State, AllocError>
     requires { LabelReady tokenizer.old }
     ensures ok { IfOk result (λ s. email_label_step tokenizer.old ≡ record { state = s; left = tokenizer.new }) }

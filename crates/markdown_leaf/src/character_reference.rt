@@ -3,20 +3,20 @@
 // CommonMark 2.5: `&`, the name of a character or its number, and `;`. A number is `#` and decimal digits, or `#x` and hexadecimal ones.
 //
 // Each state answers the error where a growth is refused; then `failed` is true.
-#![tactic(auto, using(markdown_engine::proofs::OpRules::op_rules), unfolding(markdown_engine::specs::Ops::scratched))]
+#![tactic(auto, using(markdown_engine::proofs::OperationFields::op_rules), unfolding(markdown_engine::specs::Operations::scratched))]
 
 ghost use Rattle.std.specs.Prelude.{◌≡◌, ◌<◌, IfOk, OnErr, IsTrue};
 ghost use Rattle.std.specs.Char.{is_ascii_alphanumeric};
 ghost use Rattle.std.specs.List.{list_all};
-ghost use Rattle.markdown_engine.specs.Ops.{scratched};
-ghost use Rattle.markdown_engine.specs.Place.{ahead_at};
+ghost use Rattle.markdown_engine.specs.Operations.{scratched};
+ghost use Rattle.markdown_engine_content.specs.Place.{ahead_at};
 ghost use Rattle.markdown_util.specs.Reference.{html_5_rows, IsMarker, value_size_max};
 ghost use Rattle.markdown_leaf.specs.CharacterReference.{begins_name, has_value, HasPassed, IsValue, is_taken, rested, start_step, open_step, numeric_step, value_step};
 
-use markdown_engine::cursor::Cursor;
-use markdown_engine::event::Name;
 use markdown_engine::state::{State, StateName};
 use markdown_engine::tokenizer::Tokenizer;
+use markdown_engine_content::cursor::Cursor;
+use markdown_engine_content::event::Name;
 use markdown_util::util::character_reference::{decode_named, value_max, value_test};
 use markdown_util::util::constant::CHARACTER_REFERENCE_NAMED_SIZE_MAX;
 use std::alloc::AllocError;

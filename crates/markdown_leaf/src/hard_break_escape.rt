@@ -3,16 +3,16 @@
 // CommonMark 6.7: a backslash before a line ending is a hard line break. The line ending itself stays.
 //
 // Each state answers the error where a growth is refused; then `failed` is true.
-#![tactic(auto, using(markdown_engine::proofs::OpRules::op_rules))]
+#![tactic(auto, using(markdown_engine::proofs::OperationFields::op_rules))]
 
 ghost use Rattle.std.specs.Prelude.{◌≡◌, IfOk, OnErr, IsTrue};
-ghost use Rattle.markdown_engine.specs.Ops.{IsOpen};
-ghost use Rattle.markdown_engine.specs.declared.event.Name.TheVariants.{HardBreakEscape};
+ghost use Rattle.markdown_engine.specs.Operations.{IsOpen};
+ghost use Rattle.markdown_engine_content.specs.declared.event.Name.TheVariants.{HardBreakEscape};
 ghost use Rattle.markdown_leaf.specs.HardBreakEscape.{start_step, after_step};
 
-use markdown_engine::event::Name;
 use markdown_engine::state::{State, StateName};
 use markdown_engine::tokenizer::Tokenizer;
+use markdown_engine_content::event::Name;
 use std::alloc::AllocError;
 
 /// At the start of a hard break: the backslash.

@@ -4,19 +4,19 @@
 // length inside are leaves of their own. Math spans are the same with dollars.
 //
 // Each state answers the error where a growth is refused; then `failed` is true.
-#![tactic(auto, using(markdown_engine::proofs::OpRules::law_rules), unfolding(markdown_engine::specs::Ops::scratched))]
+#![tactic(auto, using(markdown_engine::proofs::OperationFields::law_rules), unfolding(markdown_engine::specs::Operations::scratched))]
 
 ghost use Rattle.std.specs.Prelude.{◌≡◌, IfOk, OnErr, IsTrue};
-ghost use Rattle.markdown_engine.specs.Ops.{HasCode, scratched};
+ghost use Rattle.markdown_engine.specs.Operations.{HasCode, scratched};
 ghost use Rattle.markdown_leaf.specs.RawText.{start_step, sequence_open_step, between_step, data_step, data_stops, sequence_close_step, after_opening, after_run, opened, is_barred, is_hopeless, rested, names_in, SequenceOpenReady, BetweenReady, DataReady, SequenceCloseReady};
-ghost use Rattle.markdown_model.specs.Single.{ends_escape, follows_escape};
+ghost use Rattle.markdown_model.specs.SingleConstructs.{ends_escape, follows_escape};
 
 use crate::renaming::rename_entered;
-use markdown_engine::byte_set;
-use markdown_engine::bytes::ByteSet;
-use markdown_engine::event::{Event, Kind, Name};
 use markdown_engine::state::{State, StateName};
 use markdown_engine::tokenizer::{TokenizeState, Tokenizer};
+use markdown_engine_content::byte_set;
+use markdown_engine_content::bytes::ByteSet;
+use markdown_engine_content::event::{Event, Kind, Name};
 use std::alloc::AllocError;
 
 // Whether the event ends an escape.
@@ -225,7 +225,7 @@ pub fn data_stops(fields: &TokenizeState) -> Option<ByteSet>
 }
 
 // After a run of markers: the span ends where it is as long as the opening run; else the run is data.
-#[tactic(auto, using(markdown_construct::proofs::RenamingLemmas::rename_rules), unfolding(markdown_engine::specs::Ops::scratched))]
+#[tactic(auto, using(markdown_plan::proofs::RenameLemmas::rename_rules), unfolding(markdown_engine::specs::Operations::scratched))]
 fn after_run(tokenizer: &mut Tokenizer) -> Result<State, AllocError>
     requires { SequenceCloseReady tokenizer.old }
     ensures ok { IfOk result (λ s. after_run tokenizer.old ≡ record { state = s; left = tokenizer.new }) }

@@ -1,11 +1,11 @@
 // Leaves whose name is settled only at their end.
-#![tactic(auto, using(markdown_engine::proofs::OpRules::op_rules), unfolding(markdown_construct::specs::Renaming::renamed))]
+#![tactic(auto, using(markdown_engine::proofs::OperationFields::op_rules), unfolding(markdown_plan::specs::LateNames::renamed))]
 
 ghost use Rattle.std.specs.Prelude.{◌≡◌, OnOk, OnErr, IsTrue};
-ghost use Rattle.markdown_construct.specs.Renaming.{HasEvent, renamed};
+ghost use Rattle.markdown_plan.specs.LateNames.{HasEvent, renamed};
 
-use markdown_engine::event::{Event, Name};
 use markdown_engine::tokenizer::Tokenizer;
+use markdown_engine_content::event::{Event, Name};
 use std::alloc::AllocError;
 
 // Gives the last event and the innermost open event another name; no link is left at the event.

@@ -2,17 +2,17 @@
 use Rattle.std.proofs.Common.{◌≡◌, ℕ, Bool, true, false, not, ◌==◌, List, [], ◌∷◌, drop, refl, subst, Option, Some, None}
 use Rattle.std.specs.List.{list_any}
 use Rattle.std.specs.Str.{byte}
-use Rattle.markdown_engine.specs.Codes.{Code}
-use Rattle.markdown_engine.specs.Tree.{Forest, empty}
-use Rattle.markdown_engine.specs.declared.tokenizer.LabelKind.{LabelKind}
+use Rattle.markdown_engine_content.specs.Codes.{Code}
+use Rattle.markdown_engine_content.specs.Tree.{Forest, empty}
+use Rattle.markdown_engine_content.specs.declared.label_kind.LabelKind.{LabelKind}
 use Rattle.markdown_model.specs.Grammar.{Reading, ◌>>◌, either, provided}
-use Rattle.markdown_model.specs.Leaf.{escape, hard_break_escape, reference, autolink, task_check}
-use Rattle.markdown_model.specs.Html.{html}
-use Rattle.markdown_model.specs.Literal.{protocol_literal, www_literal}
+use Rattle.markdown_model.specs.LeafConstructs.{character_escape, hard_break_escape, character_reference, autolink, gfm_task_list_item_check}
+use Rattle.markdown_model.specs.HtmlText.{html_text}
+use Rattle.markdown_model.specs.GfmAutolinkLiteral.{gfm_autolink_literal_protocol, gfm_autolink_literal_www}
 use Rattle.markdown_model.specs.Setting.{Setting}
 use Rattle.markdown_model.specs.LabelEnd.{Element, Label, is_barred, after_label, footnote_call, link_or_image, outcome_of, label_end}
-use Rattle.markdown_model.specs.Element.{as_plain, switched, line_ending, data_code, attention_run, image_start, footnote_start, link_start, code_span, math_span, Tries, tries, tried, first_check, text_element, string_element, Choice, AreElementsFrom, code_before}
-use Rattle.markdown_model.proofs.LinkFree.{Passes, Yields, yields_bind, yields_gives, yields_passed, yields_either}
+use Rattle.markdown_model.specs.Elements.{as_plain, switched, line_ending, data_code, attention_run, label_start_image, gfm_label_start_footnote, label_start_link, code_text, math_text, Tries, tries, tried, first_check, text_element, string_element, Choice, AreElementsFrom, code_before}
+use Rattle.markdown_model.proofs.NoLinkInConstructs.{Passes, Yields, yields_bind, yields_gives, yields_passed, yields_either}
 
 module _ (P : Option (Element × List Code) → Type 0) (none : P None) (cs : List Code) where
   pub either_has : (a b : Reading Element) → P (a cs) → P (b cs) → P (either a b cs)
@@ -42,32 +42,32 @@ module _ (P : Option (Element × List Code) → Type 0) (none : P None) (cs : Li
       by_test false more = more
 
   -- in a string
-  pub string_has : (s : Setting) → P (as_plain escape cs) → P (as_plain (reference s.references) cs) → P (either line_ending data_code cs) → P (string_element s cs)
+  pub string_has : (s : Setting) → P (as_plain character_escape cs) → P (as_plain (character_reference s.references) cs) → P (either line_ending data_code cs) → P (string_element s cs)
   unfolding string_element
   string_has s escaped referred more =
-      either_has _ _ (switched_has _ (as_plain escape) (λ _. escaped)) (either_has _ _ (switched_has _ (as_plain (reference s.references)) (λ _. referred)) more)
+      either_has _ _ (switched_has _ (as_plain character_escape) (λ _. escaped)) (either_has _ _ (switched_has _ (as_plain (character_reference s.references)) (λ _. referred)) more)
 
 -- It holds of what each construct reads there but data, and of runs where they are looked for.
 pub record EachConstruct (s : Setting) (end : ℕ) (earlier : List Element) (previous : Option Code) (P : Option (Element × List Code) → Type 0) (cs : List Code) : Type 0 where
   pub none : P None
   pub ending : P (line_ending cs)
-  pub image : (footnotes : Bool) → P (image_start footnotes cs)
-  pub math : (single : Bool) → P (math_span single earlier previous cs)
-  pub code : P (code_span earlier previous cs)
-  pub referred : P (as_plain (reference s.references) cs)
+  pub image : (footnotes : Bool) → P (label_start_image footnotes cs)
+  pub math : (single : Bool) → P (math_text single earlier previous cs)
+  pub code : P (code_text earlier previous cs)
+  pub referred : P (as_plain (character_reference s.references) cs)
   pub stars : s.options.constructs.attention ≡ true → P (attention_run (byte "*") cs)
   pub underscores : s.options.constructs.attention ≡ true → P (attention_run (byte "_") cs)
   pub tildes : s.options.constructs.gfm_strikethrough ≡ true → P (attention_run (byte "~") cs)
   pub linked : P (as_plain autolink cs)
-  pub tagged : P (as_plain html cs)
-  pub protocol : P (as_plain (protocol_literal s.bytes end previous) cs)
-  pub www : P (as_plain (www_literal s.bytes end previous) cs)
-  pub footnote : P (footnote_start cs)
-  pub link : P (link_start cs)
-  pub escaped : P (as_plain escape cs)
+  pub tagged : P (as_plain html_text cs)
+  pub protocol : P (as_plain (gfm_autolink_literal_protocol s.bytes end previous) cs)
+  pub www : P (as_plain (gfm_autolink_literal_www s.bytes end previous) cs)
+  pub footnote : P (gfm_label_start_footnote cs)
+  pub link : P (label_start_link cs)
+  pub escaped : P (as_plain character_escape cs)
   pub broken : P (as_plain hard_break_escape cs)
   pub ended : P (label_end s earlier cs)
-  pub checked : P (as_plain task_check cs)
+  pub checked : P (as_plain gfm_task_list_item_check cs)
 
 module _ (s : Setting) (end : ℕ) (earlier : List Element) (previous : Option Code) (P : Option (Element × List Code) → Type 0) where
   each_has : (cs : List Code) (h : EachConstruct s end earlier previous P cs) → EachHas P h.none cs (tries s end earlier previous)
@@ -89,7 +89,7 @@ module _ (s : Setting) (end : ℕ) (earlier : List Element) (previous : Option C
 
   pub check_has : (cs : List Code) → EachConstruct s end earlier previous P cs → P (first_check s end earlier previous cs)
   unfolding first_check
-  check_has cs h = switched_has P h.none cs _ (as_plain task_check) (λ _. h.checked)
+  check_has cs h = switched_has P h.none cs _ (as_plain gfm_task_list_item_check) (λ _. h.checked)
 
   pub text_has : (cs : List Code) → EachConstruct s end earlier previous P cs → P (data_code cs) → P (text_element s end earlier previous cs)
   unfolding text_element

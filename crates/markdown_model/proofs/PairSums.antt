@@ -2,14 +2,14 @@
 use Rattle.std.proofs.Common.{◌≡◌, ℕ, zero, suc, ◌-◌, ◌≤◌, List, [], ◌∷◌, ◌++◌, length, take, drop, reverse, map, sum_by, refl, sym, ◌∙◌, ap, arith}
 use Rattle.std.proofs.lemmas.List.{append_assoc, append-nil, take-append-drop, length-drop}
 use Rattle.std.proofs.lemmas.List.Sums.{sum_by-cons}
-use Rattle.markdown_engine.specs.declared.event.Name.{Name}
-use Rattle.markdown_engine.specs.Codes.{Code}
-use Rattle.markdown_engine.specs.Tree.{Forest, leaf}
-use Rattle.markdown_model.specs.Groups.{Token, item, opens, closes, nested, loose, pair_group, closing_sizes, opening_sizes, cut_front, run_tokens, assembled}
-use Rattle.markdown_model.specs.Leaf.{joined_codes}
+use Rattle.markdown_engine_content.specs.declared.event.Name.{Name}
+use Rattle.markdown_engine_content.specs.Codes.{Code}
+use Rattle.markdown_engine_content.specs.Tree.{Forest, leaf}
+use Rattle.markdown_model.specs.BracketGroups.{Token, item, opens, closes, nested, loose, pair_group, closing_sizes, opening_sizes, cut_front, run_tokens, assembled}
+use Rattle.markdown_model.specs.LeafConstructs.{joined_codes}
 use Rattle.markdown_model.specs.Pairs.{Pair}
 use Rattle.markdown_model.specs.Runs.{Run}
-use Rattle.markdown_model.proofs.Nesting.{Adds, sum_of, sum-joined, sum-nested, word_sum}
+use Rattle.markdown_model.proofs.BracketSums.{Adds, sum_of, sum-joined, sum-nested, word_sum}
 
 cut_front-append : (ns : List ℕ) (cs : List Code) → joined_codes (cut_front ns cs).0 ++ (cut_front ns cs).1 ≡ cs
 cut_front-append [] cs = refl

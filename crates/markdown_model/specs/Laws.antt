@@ -1,25 +1,25 @@
 -- Laws on the definitions.
 use Rattle.std.specs.Prelude.{◌≡◌, ◌↔◌, ℕ, zero, suc, ◌*◌, ◌<◌, ◌≤◌, List, [], ◌∷◌, ◌++◌, length, reverse, map, sum_by, Bool, true, false, ◌&&◌, ◌||◌, not, drop, Contains, Option, Some, None}
 use Rattle.std.specs.Str.{byte}
-use Rattle.markdown_engine.specs.declared.event.Name.{Name}
-use Rattle.markdown_engine.specs.declared.event.Event.{Event}
-use Rattle.markdown_engine.specs.declared.event.Kind.{Kind}
-use Rattle.markdown_engine.specs.declared.tokenizer.LabelKind.{LabelKind}
-use Rattle.markdown_engine.specs.Codes.{Code}
-use Rattle.markdown_engine.specs.Tree.{Forest, empty, leaf_then, group_then, leaf_codes, events_of}
+use Rattle.markdown_engine_content.specs.declared.event.Name.{Name}
+use Rattle.markdown_engine_content.specs.declared.event.Event.{Event}
+use Rattle.markdown_engine_content.specs.declared.event.Kind.{Kind}
+use Rattle.markdown_engine_content.specs.declared.label_kind.LabelKind.{LabelKind}
+use Rattle.markdown_engine_content.specs.Codes.{Code}
+use Rattle.markdown_engine_content.specs.Tree.{Forest, empty, leaf_then, group_then, leaf_codes, events_of}
 use Rattle.markdown_model.specs.CodeTests.{is_value}
 use Rattle.markdown_model.specs.Grammar.{Reading, one, ◌then_◌, repeatedly}
 use Rattle.markdown_model.specs.Resource.{StringNames, DestinationNames, label, title, destination, resource}
-use Rattle.markdown_model.specs.Leaf.{domain_label}
-use Rattle.markdown_model.specs.Html.{spaces, attribute}
-use Rattle.markdown_model.specs.Email.{email_leaves, with_emails}
+use Rattle.markdown_model.specs.LeafConstructs.{domain_label}
+use Rattle.markdown_model.specs.HtmlText.{spaces, attribute}
+use Rattle.markdown_model.specs.GfmEmailLiteral.{email_leaves, with_emails}
 use Rattle.markdown_model.specs.Setting.{Setting}
 use Rattle.markdown_model.specs.LabelEnd.{Element, plain, starts, ends, Label, label_before, is_image, makes_link, is_barred, after_label}
-use Rattle.markdown_model.specs.Element.{AreElements, AreStringElements, elements_of, string_elements_of}
+use Rattle.markdown_model.specs.Elements.{AreElements, AreStringElements, elements_of, string_elements_of}
 use Rattle.markdown_model.specs.Runs.{Run, marker_of}
 use Rattle.markdown_model.specs.Pairs.{Pair, run_at, taken_by, IsPairList, pair_list}
-use Rattle.markdown_model.specs.Passes.{merged, mailed}
-use Rattle.markdown_model.specs.Inline.{IsTextTree, IsStringTree, text_tree, string_tree}
+use Rattle.markdown_model.specs.Passes.{merged, with_emails_apart}
+use Rattle.markdown_model.specs.InlineTree.{IsTextTree, IsStringTree, text_tree, string_tree}
 
 -- it holds of x, and of nothing else
 abbrev pub HoldsAtOne : {A : Type 0} → (A → Type 0) → A → Type 0
@@ -188,7 +188,7 @@ insides_of_links (group_then name enter exit inside rest) = insides_of_links ins
 
 -- finding emails leaves what stands in a link as it is
 abbrev pub LinksAreNotMailed : Type 0
-LinksAreNotMailed = (tree : Forest) → insides_of_links (mailed tree) ≡ insides_of_links tree
+LinksAreNotMailed = (tree : Forest) → insides_of_links (with_emails_apart tree) ≡ insides_of_links tree
 
 -- Pairs.
 

@@ -1,15 +1,15 @@
 -- From elements to a tree: labels, merging, trimming and emails, each of a whole row and all inside it.
 use Rattle.std.specs.Prelude.{Bool, true, false, ◌&&◌, ◌||◌, nat_le, List, [], ◌∷◌, ◌++◌, length, take, drop, reverse, map, Option, Some, None}
 use Rattle.std.specs.List.{list_all}
-use Rattle.markdown_engine.specs.declared.event.Name.{Name}
-use Rattle.markdown_engine.specs.declared.tokenizer.LabelKind.{LabelKind}
-use Rattle.markdown_engine.specs.Codes.{Code, is_blank, stop_of, document_start}
-use Rattle.markdown_engine.specs.Tree.{Forest, empty, leaf_then, group_then, leaf, ◌⊕◌, group, text_group, start_of}
+use Rattle.markdown_engine_content.specs.declared.event.Name.{Name}
+use Rattle.markdown_engine_content.specs.declared.label_kind.LabelKind.{LabelKind}
+use Rattle.markdown_engine_content.specs.Codes.{Code, is_blank, stop_of, document_start}
+use Rattle.markdown_engine_content.specs.Tree.{Forest, empty, leaf_then, group_then, leaf, ◌⊕◌, group, text_group, start_of}
 use Rattle.markdown_model.specs.CodeTests.{is_real_space}
 use Rattle.markdown_model.specs.Grammar.{span}
-use Rattle.markdown_model.specs.Email.{with_emails}
+use Rattle.markdown_model.specs.GfmEmailLiteral.{with_emails}
 use Rattle.markdown_model.specs.LabelEnd.{Element, plain, starts, ends}
-use Rattle.markdown_model.specs.Groups.{Bracketed, item, opens, closes, nested, joined, loose}
+use Rattle.markdown_model.specs.BracketGroups.{Bracketed, item, opens, closes, nested, joined, loose}
 
 -- Labels: a group for each start and the end that it succeeds with; other starts and ends are data.
 
@@ -91,8 +91,12 @@ abbrev pub is_nothing : Forest → Bool
 is_nothing empty = true
 is_nothing _ = false
 
+-- A trailing hard break (CommonMark 6.7), where it may be one before a line ending: two or more codes, all of them real spaces.
+abbrev pub is_hard_break_trailing : List Code → Bool
+is_hard_break_trailing cs = nat_le 2 (length cs) && list_all is_real_space cs
+
 abbrev pub blank_name : Bool → List Code → Name
-blank_name hard cs = elim ((hard && nat_le 2 (length cs)) && list_all is_real_space cs) [ true ↦ Name.HardBreakTrailing | false ↦ Name.SpaceOrTab ]
+blank_name hard cs = elim (hard && is_hard_break_trailing cs) [ true ↦ Name.HardBreakTrailing | false ↦ Name.SpaceOrTab ]
 
 -- the leaves of a data that loses its blank codes in front, at its back, or both, the back first; `hard`
 -- says that those at its back may be a hard break
@@ -118,9 +122,9 @@ module _ (hard : Bool) where
 
 -- Emails: in data without a link, outside links.
 
-unfoldable pub mailed : Forest → Forest
-mailed empty = empty
-mailed (leaf_then Name.Data None cs rest) = with_emails cs ⊕ mailed rest
-mailed (leaf_then name link cs rest) = leaf_then name link cs (mailed rest)
-mailed (group_then Name.Link enter exit inside rest) = group_then Name.Link enter exit inside (mailed rest)
-mailed (group_then name enter exit inside rest) = group_then name enter exit (mailed inside) (mailed rest)
+unfoldable pub with_emails_apart : Forest → Forest
+with_emails_apart empty = empty
+with_emails_apart (leaf_then Name.Data None cs rest) = with_emails cs ⊕ with_emails_apart rest
+with_emails_apart (leaf_then name link cs rest) = leaf_then name link cs (with_emails_apart rest)
+with_emails_apart (group_then Name.Link enter exit inside rest) = group_then Name.Link enter exit inside (with_emails_apart rest)
+with_emails_apart (group_then name enter exit inside rest) = group_then name enter exit (with_emails_apart inside) (with_emails_apart rest)

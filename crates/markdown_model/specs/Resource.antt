@@ -2,15 +2,15 @@
 use Rattle.std.specs.Prelude.{ℕ, zero, suc, ◌-◌, Bool, true, false, ◌&&◌, ◌||◌, not, nat_lt, nat_le, ◌==◌, List, [], ◌∷◌, ◌++◌, codes, Some, None}
 use Rattle.std.specs.Str.{byte}
 use Rattle.std.specs.List.{list_any}
-use Rattle.markdown_engine.specs.Codes.{Code, is_line_ending, is_blank}
-use Rattle.markdown_engine.specs.Content.{has_no_blank_line}
-use Rattle.markdown_engine.specs.Tree.{Forest, empty, ◌⊕◌, leaf, leaf_then, group_then, linked, group}
-use Rattle.markdown_engine.specs.declared.event.Name.{Name}
-use Rattle.markdown_engine.specs.declared.event.Content.{Content}
+use Rattle.markdown_engine_content.specs.Codes.{Code, is_line_ending, is_blank}
+use Rattle.markdown_engine_content.specs.Content.{has_no_blank_line}
+use Rattle.markdown_engine_content.specs.Tree.{Forest, empty, ◌⊕◌, leaf, leaf_then, group_then, linked, group}
+use Rattle.markdown_engine_content.specs.declared.event.Name.{Name}
+use Rattle.markdown_engine_content.specs.declared.event.Content.{Content}
 use Rattle.markdown_model.specs.CodeTests.{is_value, is_among, is_empty, next_is, is_whitespace_code, is_control}
 use Rattle.markdown_model.specs.Grammar.{Reading, ◌>>=◌, ◌>>◌, gives, either, provided, if_next, one, before, with_first, up_to, optional_tree}
-use Rattle.markdown_model.specs.Lines.{lines}
-use Rattle.markdown_model.specs.Whitespace.{spacing}
+use Rattle.markdown_model.specs.TextLines.{lines}
+use Rattle.markdown_model.specs.Whitespace.{space_or_tab_eol}
 
 -- Texts between two markers.
 
@@ -139,21 +139,21 @@ begins_title cs = next_is (is_among (codes "\"'(")) cs
 
 unfoldable pub spaced_title : Reading Forest
 spaced_title = do
-  space ← before (spacing None) begins_title
+  space ← before (space_or_tab_eol None) begins_title
   text ← title title_names
-  back ← optional_tree (spacing None)
+  back ← optional_tree (space_or_tab_eol None)
   gives (space ⊕ text ⊕ back)
 
 unfoldable pub destination_and_title : Reading Forest
 destination_and_title = do
   target ← destination 32 resource_names
-  after ← either spaced_title (optional_tree (spacing None))
+  after ← either spaced_title (optional_tree (space_or_tab_eol None))
   gives (target ⊕ after)
 
 unfoldable pub resource : Reading Forest
 resource = do
   front ← one (is_value (byte "("))
-  space ← optional_tree (spacing None)
+  space ← optional_tree (space_or_tab_eol None)
   inside ← if_next (is_value (byte ")")) (gives empty) destination_and_title
   back ← one (is_value (byte ")"))
   gives (group Name.Resource (leaf Name.ResourceMarker front ⊕ space ⊕ inside ⊕ leaf Name.ResourceMarker back))

@@ -1,12 +1,12 @@
 -- Runs of markers, and whether they may open and close emphasis (CommonMark 6.2; GFM 6.5).
 use Rattle.std.specs.Prelude.{ℕ, Bool, true, false, ◌&&◌, ◌||◌, not, ◌==◌, List, [], ◌∷◌, ◌++◌, Option, Some, None}
 use Rattle.std.specs.Str.{byte}
-use Rattle.markdown_engine.specs.declared.event.Name.{Name}
-use Rattle.markdown_engine.specs.Codes.{Code, stop_of}
-use Rattle.markdown_engine.specs.Tree.{Forest, empty, leaf_then, group_then}
+use Rattle.markdown_engine_content.specs.declared.event.Name.{Name}
+use Rattle.markdown_engine_content.specs.Codes.{Code, stop_of}
+use Rattle.markdown_engine_content.specs.Tree.{Forest, empty, leaf_then, group_then}
 use Rattle.markdown_util.specs.Neighbours.{class_of, before_index, after_index}
 use Rattle.markdown_util.specs.declared.util.char.Kind.{Kind}
-use Rattle.markdown_model.specs.Literal.{is_other}
+use Rattle.markdown_model.specs.GfmAutolinkLiteral.{is_other}
 use Rattle.markdown_model.specs.Setting.{Setting}
 
 -- A run of equal markers, and whether it may open and may close.

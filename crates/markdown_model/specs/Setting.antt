@@ -2,7 +2,7 @@
 use Rattle.std.specs.Prelude.{ℕ, Bool, List}
 use Rattle.std.specs.List.{list_any}
 use Rattle.std.specs.Str.{bytes_eq}
-use Rattle.markdown_engine.specs.declared.configuration.ParseOptions.{ParseOptions}
+use Rattle.markdown_engine_content.specs.declared.configuration.ParseOptions.{ParseOptions}
 use Rattle.markdown_util.specs.Reference.{Table}
 
 pub record Setting : Type 0 where

@@ -1,12 +1,12 @@
 -- Whitespace on one line, and whitespace with a line ending.
 use Rattle.std.specs.Prelude.{ℕ, Bool, true, false, not, nat_le, List, [], ◌∷◌, length, take, drop, Option, Some, None}
-use Rattle.markdown_engine.specs.Codes.{Code, is_line_ending, is_blank}
-use Rattle.markdown_engine.specs.Tree.{Forest, ◌⊕◌}
-use Rattle.markdown_engine.specs.declared.event.Name.{Name}
-use Rattle.markdown_engine.specs.declared.event.Content.{Content}
+use Rattle.markdown_engine_content.specs.Codes.{Code, is_line_ending, is_blank}
+use Rattle.markdown_engine_content.specs.Tree.{Forest, ◌⊕◌}
+use Rattle.markdown_engine_content.specs.declared.event.Name.{Name}
+use Rattle.markdown_engine_content.specs.declared.event.Content.{Content}
 use Rattle.markdown_model.specs.CodeTests.{next_is}
 use Rattle.markdown_model.specs.Grammar.{Reading, ◌>>=◌, gives, either, one, some, any_number, before, span}
-use Rattle.markdown_model.specs.Lines.{linked_leaf}
+use Rattle.markdown_model.specs.TextLines.{linked_leaf}
 
 -- Bounded whitespace: as many blank codes as stand there, `max` at most; it holds where they are `min`
 -- at least, and gives no leaf where there is none.
@@ -40,5 +40,5 @@ spaces_across link = do
   gives (linked_leaf Name.SpaceOrTab link front ⊕ linked_leaf Name.LineEnding link ending ⊕ linked_leaf Name.SpaceOrTab link back)
 
 -- `link` says how the whitespace is to be read where it is part of a linked text
-unfoldable pub spacing : Option Content → Reading Forest
-spacing link = either (spaces_across link) (spaces_on_line link)
+unfoldable pub space_or_tab_eol : Option Content → Reading Forest
+space_or_tab_eol link = either (spaces_across link) (spaces_on_line link)

@@ -4,18 +4,19 @@ use Rattle.std.specs.List.{list_all}
 use Rattle.std.proofs.Math.Bool.{and-false, and-true}
 use Rattle.std.proofs.lemmas.Bool.{cases_Bool, both_ways, not-true}
 use Rattle.std.proofs.lemmas.Bool.Decides.{nat_tests}
-use Rattle.markdown_engine.specs.Codes.{Code, codes_of, is_blank, is_code_before, is_at_or_after, place_of, stop_of, point_at}
-use Rattle.markdown_engine.specs.Walk.{codes_after, IsPoint, next_point, value_from}
-use Rattle.markdown_engine.specs.declared.event.Point.{Point}
-use Rattle.markdown_engine.proofs.Bounds.{document_few}
-use Rattle.markdown_engine.proofs.Order.{is_before, at_or_after-is, same_place}
-use Rattle.markdown_engine.proofs.Steps.{code_here, stop_at}
-use Rattle.markdown_engine.proofs.Points.{IsToward, toward, there-point}
-use Rattle.markdown_engine.proofs.Standings.{none-before, passes}
+use Rattle.markdown_engine_content.specs.Codes.{Code, codes_of, is_blank, is_code_before, is_at_or_after, place_of, stop_of, point_at}
+use Rattle.markdown_engine_content.specs.DocumentWalk.{codes_after, IsPoint, next_point, value_from}
+use Rattle.markdown_engine_content.specs.declared.event.Point.{Point}
+use Rattle.markdown_engine.proofs.PlaceBounds.{document_few}
+use Rattle.markdown_engine_content.proofs.PlaceOrder.{is_before, at_or_after-is, same_place}
+use Rattle.markdown_engine_content.proofs.DocumentCodes.{code_here, stop_at}
+use Rattle.markdown_engine_content.proofs.DocumentPlaces.{IsToward, toward, there-point}
+use Rattle.markdown_engine_content.proofs.ContentCodes.{none-before, passes}
 use Rattle.markdown_model.specs.CodeTests.{is_real_space}
-use Rattle.markdown_partial.specs.SpaceSteps.{at_blank}
-use Rattle.markdown_partial.specs.Trim.{between, IsStretch, end_of_lead, at_real_space, is_hard_break, is_same_place}
-use Rattle.markdown_model.proofs.ReadingSteps.{span-takes, span-none}
+use Rattle.markdown_partial.specs.PartialSpaceOrTab.{at_blank}
+use Rattle.markdown_model.specs.Passes.{is_hard_break_trailing}
+use Rattle.markdown_partial.specs.TrimmedData.{between, IsStretch, end_of_lead, at_real_space, is_same_place}
+use Rattle.markdown_model.proofs.GrammarSteps.{span-takes, span-none}
 
 -- a stretch that is not at its end has a first code
 pub record IsBegun (bytes : List ℕ) (p q : Point) : Type 0 where
@@ -190,9 +191,9 @@ pub all-stop : (bytes : List ℕ) (p q : Point) (t : Bool) → IsBegun bytes p q
 all-stop bytes p q t b f h = all-first bytes p q t b f ∙ ap (λ x. x && list_all is_real_space (between bytes (stop_at bytes p) q)) h
 
 -- codes that are no break, since one of them is no space
-pub breaks-not : (cs : List Code) → list_all is_real_space cs ≡ false → false ≡ is_hard_break cs
+pub breaks-not : (cs : List Code) → list_all is_real_space cs ≡ false → false ≡ is_hard_break_trailing cs
 breaks-not cs h = sym (and-false (nat_le 2 (length cs))) ∙ ap (λ b. nat_le 2 (length cs) && b) (sym h)
 
 -- codes that are one if they are enough, since all of them are spaces
-pub breaks-if : (cs : List Code) (n : ℕ) (t : Bool) → t ≡ nat_le 2 n → n ≡ length cs → list_all is_real_space cs ≡ true → t ≡ is_hard_break cs
+pub breaks-if : (cs : List Code) (n : ℕ) (t : Bool) → t ≡ nat_le 2 n → n ≡ length cs → list_all is_real_space cs ≡ true → t ≡ is_hard_break_trailing cs
 breaks-if cs n t e k h = e ∙ ap (nat_le 2) k ∙ sym (and-true (nat_le 2 (length cs))) ∙ ap (λ b. nat_le 2 (length cs) && b) (sym h)

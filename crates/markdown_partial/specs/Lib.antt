@@ -1,7 +1,7 @@
-pub mod DataSteps
-pub mod SpaceSteps
-pub mod EolSteps
-pub mod Merge
-pub mod Trim
-pub mod TrimEvents
-pub mod DataLines
+pub mod PartialData
+pub mod PartialSpaceOrTab
+pub mod PartialSpaceOrTabEol
+pub mod MergedEvents
+pub mod TrimmedData
+pub mod TrimmedEvents
+pub mod DataOnLines

@@ -1,25 +1,25 @@
 // Data: text that means itself.
 //
 // Each state answers the error where a growth is refused; then `failed` is true.
-#![tactic(auto, using(markdown_engine::proofs::OpRules::op_rules))]
+#![tactic(auto, using(markdown_engine::proofs::OperationFields::op_rules))]
 
 ghost use Rattle.std.specs.Prelude.{◌≡◌, ◌-◌, ◌<◌, ◌≤◌, ◌++◌, IfOk, OnOk, OnErr, IsTrue, Some, None, [], drop, length};
-ghost use Rattle.markdown_engine.specs.Ops.{IsOpen, current_of};
-ghost use Rattle.markdown_engine.specs.declared.event.Name.TheVariants.{Data};
-ghost use Rattle.markdown_engine.specs.Edits.{edited};
-ghost use Rattle.markdown_engine.specs.Past.{appended_from};
-ghost use Rattle.markdown_engine.specs.Tree.{Forest};
+ghost use Rattle.markdown_engine.specs.Operations.{IsOpen, current_of};
+ghost use Rattle.markdown_engine_content.specs.declared.event.Name.TheVariants.{Data};
+ghost use Rattle.markdown_engine_events.specs.Edits.{edited};
+ghost use Rattle.markdown_engine.specs.PastTree.{appended_from};
+ghost use Rattle.markdown_engine_content.specs.Tree.{Forest};
 ghost use Rattle.markdown_model.specs.Passes.{merged};
-ghost use Rattle.markdown_partial.specs.DataSteps.{begins_none, next_of, stops_here, passing, start_step, at_break_step, inside_step, inside_stops};
-ghost use Rattle.markdown_partial.specs.Merge.{opens_data, closes_data, joint, marked, joints, HasData};
+ghost use Rattle.markdown_partial.specs.PartialData.{begins_none, next_of, stops_here, passing, start_step, at_break_step, inside_step, inside_stops};
+ghost use Rattle.markdown_partial.specs.MergedEvents.{opens_data, closes_data, joint, marked, joints, HasData};
 
-use markdown_engine::bytes::ByteSet;
-use markdown_engine::event::{Event, Kind, Name};
-use markdown_engine::events::Events;
 use markdown_engine::state::{State, StateName};
-use markdown_engine::subtokenize::Subresult;
 use markdown_engine::tokenizer::{TokenizeState, Tokenizer};
-use markdown_engine::util::edit_map::EditMap;
+use markdown_engine_content::bytes::ByteSet;
+use markdown_engine_content::event::{Event, Kind, Name};
+use markdown_engine_events::events::Events;
+use markdown_engine_events::subtokenize::Subresult;
+use markdown_engine_events::util::edit_map::EditMap;
 use std::alloc::AllocError;
 
 // Whether the code at hand is a letter with which a literal may begin, and the one behind it not that with which it goes on.

@@ -1,18 +1,18 @@
 // Whitespace on one line: spaces, tabs and virtual spaces, as many as stand there, within bounds.
 //
 // Each state answers the error where a growth is refused; then `failed` is true.
-#![tactic(auto, using(markdown_engine::proofs::OpRules::op_rules), unfolding(markdown_engine::specs::Ops::scratched))]
+#![tactic(auto, using(markdown_engine::proofs::OperationFields::op_rules), unfolding(markdown_engine::specs::Operations::scratched))]
 
 ghost use Rattle.std.specs.Prelude.{◌≡◌, IfOk, OnErr, IsTrue, true, false, None};
-ghost use Rattle.markdown_engine.specs.Ops.{IsOpen, LinkedBefore, scratched};
-ghost use Rattle.markdown_engine.specs.declared.event.Name.TheVariants.{SpaceOrTab};
+ghost use Rattle.markdown_engine.specs.Operations.{IsOpen, LinkedBefore, scratched};
+ghost use Rattle.markdown_engine_content.specs.declared.event.Name.TheVariants.{SpaceOrTab};
 ghost use Rattle.markdown_engine.specs.declared.state.StateName.TheVariants.{SpaceOrTabStart};
-ghost use Rattle.markdown_partial.specs.SpaceSteps.{most, asked, start_step, inside_step, after_step};
+ghost use Rattle.markdown_partial.specs.PartialSpaceOrTab.{most, asked, start_step, inside_step, after_step};
 
 use crate::leaf::enter_leaf;
-use markdown_engine::event::{Content, Name};
 use markdown_engine::state::{State, StateName};
 use markdown_engine::tokenizer::Tokenizer;
+use markdown_engine_content::event::{Content, Name};
 use std::alloc::AllocError;
 
 /// What whitespace is asked for.

@@ -1,18 +1,18 @@
 // Whitespace with at most one line ending: blank codes on one line, or a line ending with the blank codes around it.
 //
 // Each state answers the error where a growth is refused; then `failed` is true.
-#![tactic(auto, using(markdown_engine::proofs::OpRules::op_rules), unfolding(markdown_engine::specs::Ops::scratched, markdown_engine::specs::Ops::attempted, markdown_engine::specs::Ops::frame_of))]
+#![tactic(auto, using(markdown_engine::proofs::OperationFields::op_rules), unfolding(markdown_engine::specs::Operations::scratched, markdown_engine::specs::Operations::attempted, markdown_engine::specs::Operations::frame_of))]
 
 ghost use Rattle.std.specs.Prelude.{◌≡◌, IfOk, OnErr, IsTrue, true, false, None};
-ghost use Rattle.markdown_engine.specs.Ops.{LinkedBefore, scratched};
+ghost use Rattle.markdown_engine.specs.Operations.{LinkedBefore, scratched};
 ghost use Rattle.markdown_engine.specs.declared.state.StateName.TheVariants.{SpaceOrTabStart, SpaceOrTabEolStart};
-ghost use Rattle.markdown_partial.specs.EolSteps.{eol_asked, space_asked, eol_rested, start_step, after_first_step, at_eol_step, after_eol_step, after_more_step};
+ghost use Rattle.markdown_partial.specs.PartialSpaceOrTabEol.{eol_asked, space_asked, eol_rested, start_step, after_first_step, at_eol_step, after_eol_step, after_more_step};
 
 use crate::leaf::enter_leaf;
 use crate::partial_space_or_tab;
-use markdown_engine::event::{Content, Name};
 use markdown_engine::state::{State, StateName};
 use markdown_engine::tokenizer::Tokenizer;
+use markdown_engine_content::event::{Content, Name};
 use std::alloc::AllocError;
 
 /// What whitespace with a line ending is asked for.

@@ -3,22 +3,22 @@
 
 ghost use Rattle.std.specs.Prelude.{◌≡◌, false, ◌^◌, ◌<◌, ◌≤◌, ◌==◌, ◌&&◌, not, ◌++◌, IfOk, OnOk, OnErr, IsTrue, IsSome, Some, None, [], length, drop};
 ghost use Rattle.std.specs.List.{All};
-ghost use Rattle.markdown_engine.specs.Chain.{IsUnlinked};
-ghost use Rattle.markdown_engine.specs.Content.{document_limit};
-ghost use Rattle.markdown_engine.specs.Walk.{value_from, IsPoint};
-ghost use Rattle.markdown_partial.specs.SpaceSteps.{at_blank};
-ghost use Rattle.markdown_partial.specs.Trim.{between, IsStretch, end_of_kept, end_of_lead, at_real_space, starts_blank, ends_blank, is_hard_break, is_same_place, leaf_events, trimmed_events};
-ghost use Rattle.markdown_partial.specs.TrimEvents.{opens_ending, closes_ending, flag, goes_before, loses, trim_first, trims, FirstHasPlaces, HasPlaces, HasParts};
-ghost use Rattle.markdown_engine.specs.Past.{appended_from};
-ghost use Rattle.markdown_engine.specs.Tree.{Forest};
-ghost use Rattle.markdown_model.specs.Passes.{blank_name, trimmed};
+ghost use Rattle.markdown_engine_events.specs.EventChains.{IsUnlinked};
+ghost use Rattle.markdown_engine_content.specs.Content.{document_limit};
+ghost use Rattle.markdown_engine_content.specs.DocumentWalk.{value_from, IsPoint};
+ghost use Rattle.markdown_partial.specs.PartialSpaceOrTab.{at_blank};
+ghost use Rattle.markdown_partial.specs.TrimmedData.{between, IsStretch, end_of_kept, end_of_lead, at_real_space, starts_blank, ends_blank, is_same_place, leaf_events, trimmed_events};
+ghost use Rattle.markdown_partial.specs.TrimmedEvents.{opens_ending, closes_ending, flag, goes_before, loses, trim_first, trims, FirstHasPlaces, HasPlaces, HasParts};
+ghost use Rattle.markdown_engine.specs.PastTree.{appended_from};
+ghost use Rattle.markdown_engine_content.specs.Tree.{Forest};
+ghost use Rattle.markdown_model.specs.Passes.{is_hard_break_trailing, blank_name, trimmed};
 
 use crate::partial_data::opens_data;
-use markdown_engine::event::{Event, Kind, Name, Point};
-use markdown_engine::events::Events;
 use markdown_engine::tokenizer::Tokenizer;
-use markdown_engine::util::edit_map::EditMap;
-use markdown_engine::walk::{code_from, past_code};
+use markdown_engine_content::event::{Event, Kind, Name, Point};
+use markdown_engine_content::walk::{code_from, past_code};
+use markdown_engine_events::events::Events;
+use markdown_engine_events::util::edit_map::EditMap;
 use markdown_util::util::constant::HARD_BREAK_PREFIX_SIZE_MIN;
 use std::alloc::{AllocError, Global};
 
@@ -113,10 +113,10 @@ fn lead_end(bytes: &[u8], from: Point, to: Point) -> Point
 }
 
 // Whether the codes of a stretch are two or more, and all of them spaces that are no column of a tab.
-fn is_hard_break(bytes: &[u8], from: Point, to: Point) -> bool
+fn is_hard_break_trailing(bytes: &[u8], from: Point, to: Point) -> bool
     requires fits { length bytes.now ≤ document_limit }
     requires stretch { IsStretch bytes.now from to }
-    ensures { result ≡ is_hard_break (between bytes.now from to) }
+    ensures { result ≡ is_hard_break_trailing (between bytes.now from to) }
 {
     let mut spaces = 0usize;
     let mut point = from;
@@ -136,7 +136,7 @@ fn blank_name(bytes: &[u8], from: Point, to: Point, hard: bool) -> Name
     requires stretch { IsStretch bytes.now from to }
     ensures { result ≡ blank_name hard (between bytes.now from to) }
 {
-    if hard && is_hard_break(bytes, from, to) {
+    if hard && is_hard_break_trailing(bytes, from, to) {
         Name::HardBreakTrailing
     } else {
         Name::SpaceOrTab

@@ -1,29 +1,29 @@
 -- The passes of a text after a run that leaves a row: labels are grouped, then pairs, and the tree is merged and trimmed.
 use Rattle.std.proofs.Common.{◌≡◌, Bool, true, false, List, [], ◌∷◌, None, refl, sym, ap, subst, ◌∙◌}
-use Rattle.markdown_engine.specs.Ops.{registered, ahead}
-use Rattle.markdown_engine.specs.Past.{appended_from}
-use Rattle.markdown_engine.specs.Resolves.{MayResolve, Resolves, unregistered}
-use Rattle.markdown_engine.specs.Tree.{Forest}
-use Rattle.markdown_engine.specs.declared.parser.ParseState.{ParseState}
-use Rattle.markdown_engine.specs.declared.parser.Piece.{Piece}
+use Rattle.markdown_engine.specs.Operations.{registered, ahead}
+use Rattle.markdown_engine.specs.PastTree.{appended_from}
+use Rattle.markdown_engine.specs.PassesInOrder.{MayResolve, Resolves, unregistered}
+use Rattle.markdown_engine_content.specs.Tree.{Forest}
+use Rattle.markdown_engine_content.specs.declared.parser.ParseState.{ParseState}
+use Rattle.markdown_engine_content.specs.declared.parser.Piece.{Piece}
 use Rattle.markdown_engine.specs.declared.resolve.ResolveName.{ResolveName}
 use Rattle.markdown_engine.specs.declared.resolve.ResolveName.TheVariants as R
 use Rattle.markdown_engine.specs.declared.tokenizer.TokenizeState.{TokenizeState}
 use Rattle.markdown_engine.specs.declared.tokenizer.Tokenizer.{Tokenizer}
-use Rattle.markdown_emphasis.proofs.Good.{IsGood}
+use Rattle.markdown_attention.proofs.AttentionTreeLabels.{IsGood}
 use Rattle.markdown_label_pass.specs.Brackets.{Brackets, grouped}
-use Rattle.markdown_label_pass.specs.Handover.{HasBrackets, MayGroup}
+use Rattle.markdown_label_pass.specs.LabelsHandedOver.{HasBrackets, MayGroup}
 use Rattle.markdown_model.specs.Setting.{Setting}
-use Rattle.markdown_row.specs.Fresh.{IsFresh, IsPast, row_registers}
-use Rattle.markdown_row.specs.Opened.{brackets_of}
-use Rattle.markdown_row.specs.Row.{Row, past_row, row_codes, row_has_run, IsRowAt}
-use Rattle.markdown_row.proofs.RowBrackets.{row-brackets}
-use Rattle.markdown_row.proofs.RowKeeps.{grouped-lines, grouped-codes, grouped-runless}
-use Rattle.markdown_row.proofs.RowRests.{past-rest}
-use Rattle.markdown_row.proofs.RowTrees.{flat-grouped}
-use Rattle.markdown_row.specs.Trees.{IsRunless}
-use Rattle.markdown_text.specs.Resolve.{GroupsLabels, may_resolve_of, resolves_of}
-use Rattle.markdown_run.proofs.PassesRun.{passes_first, labels_first, IsTrimming, IsRead, IsGiven, IsStart, IsResolved, codes-ahead, first-may, first-leaves}
+use Rattle.markdown_run_row.specs.RowStart.{IsFresh, IsPast, row_registers}
+use Rattle.markdown_run_row.specs.OpenStarts.{brackets_of}
+use Rattle.markdown_run_row.specs.Row.{Row, past_row, row_codes, row_has_run, IsRowAt}
+use Rattle.markdown_run_row.proofs.RowBrackets.{row-brackets}
+use Rattle.markdown_run_row.proofs.RowTreeFacts.{grouped-lines, grouped-codes, grouped-runless}
+use Rattle.markdown_run_row.proofs.RowScratch.{past-rest}
+use Rattle.markdown_run_row.proofs.RowWithoutLabels.{flat-grouped}
+use Rattle.markdown_run_row.specs.RowTreeNames.{IsRunless}
+use Rattle.markdown_run_text.specs.ContentPasses.{GroupsLabels, may_resolve_of, resolves_of}
+use Rattle.markdown_run.proofs.PassesAfterRun.{passes_first, labels_first, IsTrimming, IsRead, IsGiven, IsStart, IsResolved, codes-ahead, first-may, first-leaves}
 
 module _ (p : ParseState) (pieces : List Piece) (s : Setting) (given : IsGiven s p) (row : Row) (last : ResolveName) (finish : ParseState → Forest → Forest) (S U : Tokenizer) (t : IsTrimming last finish) (start : IsStart p pieces S) (fresh : IsFresh S)
     (at : IsRowAt [] row) (codes : row_codes row ≡ ahead S) (good : row_has_run row ≡ true → IsGood p.bytes.now (grouped (brackets_of row))) (left : U ≡ registered last (registered R.Data (past_row row S))) where

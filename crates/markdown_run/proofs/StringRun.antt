@@ -1,44 +1,44 @@
 -- A whole run over a string.
 use Rattle.std.proofs.Common.{◌≡◌, Bool, true, false, List, [], None, refl, sym, ap, subst, ◌∙◌}
-use Rattle.markdown_engine.specs.Chain.{chained}
-use Rattle.markdown_engine.specs.Content.{IsContent, content_of}
-use Rattle.markdown_engine.specs.Ops.{scratched}
-use Rattle.markdown_engine.specs.Rest.{at_rest}
-use Rattle.markdown_engine.specs.Resolves.{MayResolve, Resolves, unregistered}
-use Rattle.markdown_engine.specs.Tree.{events_of}
-use Rattle.markdown_engine.specs.declared.parser.ParseState.{ParseState}
-use Rattle.markdown_engine.specs.declared.parser.Piece.{Piece}
+use Rattle.markdown_engine_events.specs.EventChains.{chained}
+use Rattle.markdown_engine_content.specs.Content.{IsContent, content_of}
+use Rattle.markdown_engine.specs.Operations.{scratched}
+use Rattle.markdown_engine.specs.RestingFields.{at_rest}
+use Rattle.markdown_engine.specs.PassesInOrder.{MayResolve, Resolves, unregistered}
+use Rattle.markdown_engine_content.specs.Tree.{events_of}
+use Rattle.markdown_engine_content.specs.declared.parser.ParseState.{ParseState}
+use Rattle.markdown_engine_content.specs.declared.parser.Piece.{Piece}
 use Rattle.markdown_engine.specs.declared.resolve.ResolveName.TheVariants as R
 use Rattle.markdown_engine.specs.declared.tokenizer.TokenizeState.{TokenizeState}
 use Rattle.markdown_engine.specs.declared.tokenizer.Tokenizer.{Tokenizer}
-use Rattle.markdown_model.specs.Element.{AreElementsFrom, AreStringElements, string_choice}
-use Rattle.markdown_model.specs.Inline.{string_events}
+use Rattle.markdown_model.specs.Elements.{AreElementsFrom, AreStringElements, string_choice}
+use Rattle.markdown_model.specs.InlineTree.{string_events}
 use Rattle.markdown_model.specs.Passes.{trimmed}
-use Rattle.markdown_row.specs.Elements.{Finishes}
-use Rattle.markdown_text.specs.Resolve.{may_resolve_of, resolves_of}
-use Rattle.markdown_text.specs.Settings.{setting_of}
-use Rattle.markdown_text.specs.StringSteps.{string_markers, string_marked, string_passed, string_here, StartReady, start_ends}
-use Rattle.markdown_run.proofs.PassesRun.{string_finish, string-trims}
+use Rattle.markdown_run_row.specs.RunOverElements.{Finishes}
+use Rattle.markdown_run_text.specs.ContentPasses.{may_resolve_of, resolves_of}
+use Rattle.markdown_run_text.specs.RunSetting.{setting_of}
+use Rattle.markdown_run_text.specs.StringContent.{string_markers, string_marked, string_passed, string_here, StartReady, start_ends}
+use Rattle.markdown_run.proofs.PassesAfterRun.{string_finish, string-trims}
 use Rattle.std.proofs.lemmas.Bool.{both_ways}
-use Rattle.markdown_engine.proofs.ChainTree.{chained-whole}
-use Rattle.markdown_engine.specs.Tree.{Forest}
+use Rattle.markdown_engine.proofs.TreeChains.{chained-whole}
+use Rattle.markdown_engine_content.specs.Tree.{Forest}
 use Rattle.markdown_label_pass.specs.Brackets.{grouped}
-use Rattle.markdown_emphasis.proofs.Good.{IsGood}
-use Rattle.markdown_model.specs.Groups.{paired}
+use Rattle.markdown_attention.proofs.AttentionTreeLabels.{IsGood}
+use Rattle.markdown_model.specs.BracketGroups.{paired}
 use Rattle.markdown_model.specs.Pairs.{pair_list}
 use Rattle.markdown_model.specs.Passes.{labels_of, merged}
-use Rattle.markdown_row.specs.Opened.{brackets_of}
-use Rattle.markdown_row.specs.Row.{row_has_run}
-use Rattle.markdown_row.specs.Trees.{IsRunless}
-use Rattle.markdown_row.proofs.RowKeeps.{grouped-lines, grouped-runless}
-use Rattle.markdown_run.proofs.PassesRun.{IsGiven, IsResolved}
-use Rattle.markdown_run.proofs.Runless.{paired-runless, probes-none}
-use Rattle.markdown_run.proofs.RunEnds.{Starts, start-with, AreFresh, IsFound, finished-may, finished-left, finished-elements}
+use Rattle.markdown_run_row.specs.OpenStarts.{brackets_of}
+use Rattle.markdown_run_row.specs.Row.{row_has_run}
+use Rattle.markdown_run_row.specs.RowTreeNames.{IsRunless}
+use Rattle.markdown_run_row.proofs.RowTreeFacts.{grouped-lines, grouped-runless}
+use Rattle.markdown_run.proofs.PassesAfterRun.{IsGiven, IsResolved}
+use Rattle.markdown_run.proofs.TreesWithoutRuns.{paired-runless, probes-none}
+use Rattle.markdown_run.proofs.WholeRun.{Starts, start-with, AreFresh, IsFound, finished-may, finished-left, finished-elements}
 use Rattle.markdown_run.proofs.StringTree.{string-finished, string-labels, string-still}
-use Rattle.markdown_run.proofs.StillRows.{row-still}
-use Rattle.markdown_run.proofs.ContentParts.{HasLines-HasCodes}
-use Rattle.markdown_cut.proofs.Splitting.{merged-same}
-use Rattle.markdown_model.proofs.DataLaws.{row_of}
+use Rattle.markdown_run.proofs.RowsWithoutRuns.{row-still}
+use Rattle.markdown_run.proofs.DataInDocument.{HasLines-HasCodes}
+use Rattle.markdown_run_row.proofs.CutDataLemmas.{merged-same}
+use Rattle.markdown_model.proofs.StringTreeIsElements.{row_of}
 
 -- where data stops at the markers of a string
 marked-start : (p : ParseState) (pieces : List Piece) (T : Tokenizer) → Starts p pieces at_rest T → Starts p pieces (record at_rest { markers = string_markers }) (string_marked T)

@@ -1,23 +1,23 @@
 -- The inline tree of a string, by its elements.
 use Rattle.std.proofs.Common.{◌≡◌, false, Option, List, [], ◌∷◌, None, refl, ap, subst, ◌∙◌}
-use Rattle.markdown_engine.specs.Codes.{Code}
-use Rattle.markdown_engine.specs.Tree.{Forest, leaf}
-use Rattle.markdown_engine.specs.declared.event.Name.TheVariants as N
+use Rattle.markdown_engine_content.specs.Codes.{Code}
+use Rattle.markdown_engine_content.specs.Tree.{Forest, leaf}
+use Rattle.markdown_engine_content.specs.declared.event.Name.TheVariants as N
 use Rattle.markdown_model.specs.Grammar.{Reading}
-use Rattle.markdown_model.specs.Leaf.{escape, reference}
-use Rattle.markdown_model.proofs.LinkFree.{Passes, Yields, yields_bind, yields_gives, yields_either, yields_passed, then_any}
-use Rattle.markdown_row.specs.Trees.{IsNode}
-use Rattle.markdown_row.proofs.NodeLemmas.{escape_yields, reference_yields}
-use Rattle.markdown_row.specs.Row.{row_has_run, row_of_elements}
-use Rattle.markdown_row.proofs.TreePasts.{quiet-runless, leaf-runless}
-use Rattle.markdown_run.proofs.StillRows.{IsStill, still-first}
-use Rattle.markdown_model.specs.Element.{AreStringElements, string_elements_of, AreElementsFrom, string_choice, string_element, as_plain, switched, line_ending, data_code, code_before}
-use Rattle.markdown_model.specs.Inline.{finished_string, string_tree}
+use Rattle.markdown_model.specs.LeafConstructs.{character_escape, character_reference}
+use Rattle.markdown_model.proofs.NoLinkInConstructs.{Passes, Yields, yields_bind, yields_gives, yields_either, yields_passed, then_any}
+use Rattle.markdown_run_row.specs.RowTreeNames.{IsNode}
+use Rattle.markdown_run_row.proofs.ConstructNodes.{escape_yields, reference_yields}
+use Rattle.markdown_run_row.specs.Row.{row_has_run, row_of_elements}
+use Rattle.markdown_run_row.proofs.PastTrees.{quiet-runless, leaf-runless}
+use Rattle.markdown_run.proofs.RowsWithoutRuns.{IsStill, still-first}
+use Rattle.markdown_model.specs.Elements.{AreStringElements, string_elements_of, AreElementsFrom, string_choice, string_element, as_plain, switched, line_ending, data_code, code_before}
+use Rattle.markdown_model.specs.InlineTree.{finished_string, string_tree}
 use Rattle.markdown_model.specs.LabelEnd.{Element, plain}
 use Rattle.markdown_model.specs.Passes.{labels_of, merged, trimmed}
 use Rattle.markdown_model.specs.Setting.{Setting}
-use Rattle.markdown_model.proofs.DataLaws.{labels_of-plain, row_of, string_are_plain}
-use Rattle.markdown_model.proofs.ElementLaws.{same_string_elements, string_elements}
+use Rattle.markdown_model.proofs.StringTreeIsElements.{labels_of-plain, row_of, string_are_plain}
+use Rattle.markdown_model.proofs.OneElementList.{same_string_elements, string_elements}
 
 -- the labels of a string are the row of its elements
 labels-of-string : (s : Setting) (cs : List Code) (es : List Element) → AreStringElements s cs es → labels_of (string_elements_of s cs) ≡ row_of es
@@ -42,7 +42,7 @@ still_plain a h = yields_bind IsNode _ _ _ h λ tree node. yields_gives _ (plain
 string_yields : (s : Setting) → Yields IsStill (string_element s)
 unfolding string_element switched line_ending data_code
 string_yields s =
-    yields_either _ _ _ (yields_passed _ _ _ (still_plain escape escape_yields)) (yields_either _ _ _ (yields_passed _ _ _ (still_plain (reference s.references) (reference_yields s.references)))
+    yields_either _ _ _ (yields_passed _ _ _ (still_plain character_escape escape_yields)) (yields_either _ _ _ (yields_passed _ _ _ (still_plain (character_reference s.references) (reference_yields s.references)))
     (yields_either _ _ _ (then_any _ _ _ λ c. yields_gives _ (plain (leaf N.LineEnding c)) (leaf-runless N.LineEnding c refl)) (then_any _ _ _ λ c. yields_gives _ (plain (leaf N.Data c)) (leaf-runless N.Data c refl))))
 
 -- no run stands in the row of the elements of a string

@@ -1,52 +1,52 @@
 -- A whole run over a text.
-use Rattle.markdown_partial.specs.SpaceSteps.{most}
+use Rattle.markdown_partial.specs.PartialSpaceOrTab.{most}
 use Rattle.markdown_engine.specs.Weights.{codes_left}
 use Rattle.std.proofs.Common.{◌≡◌, Bool, true, false, List, [], None, refl, sym, ap, subst, ◌∙◌, arith, ◌≤◌}
-use Rattle.markdown_engine.specs.Chain.{chained}
-use Rattle.markdown_engine.specs.Content.{IsContent, IsTextContent, content_of}
-use Rattle.markdown_engine.specs.Ops.{scratched}
-use Rattle.markdown_engine.specs.Place.{Place, start_of_content}
-use Rattle.markdown_engine.specs.Rest.{at_rest}
-use Rattle.markdown_engine.specs.Resolves.{MayResolve, Resolves, unregistered}
-use Rattle.markdown_engine.specs.Tree.{events_of, Forest}
-use Rattle.markdown_engine.specs.declared.parser.ParseState.{ParseState}
-use Rattle.markdown_engine.specs.declared.parser.Piece.{Piece}
+use Rattle.markdown_engine_events.specs.EventChains.{chained}
+use Rattle.markdown_engine_content.specs.Content.{IsContent, IsTextContent, content_of}
+use Rattle.markdown_engine.specs.Operations.{scratched}
+use Rattle.markdown_engine_content.specs.Place.{Place, start_of_content}
+use Rattle.markdown_engine.specs.RestingFields.{at_rest}
+use Rattle.markdown_engine.specs.PassesInOrder.{MayResolve, Resolves, unregistered}
+use Rattle.markdown_engine_content.specs.Tree.{events_of, Forest}
+use Rattle.markdown_engine_content.specs.declared.parser.ParseState.{ParseState}
+use Rattle.markdown_engine_content.specs.declared.parser.Piece.{Piece}
 use Rattle.markdown_engine.specs.declared.resolve.ResolveName.TheVariants as R
 use Rattle.markdown_engine.specs.declared.tokenizer.TokenizeState.{TokenizeState}
 use Rattle.markdown_engine.specs.declared.tokenizer.Tokenizer.{Tokenizer}
-use Rattle.markdown_engine.proofs.SequenceIndexLemmas.{right-unknown}
-use Rattle.markdown_engine.proofs.TitleIndexLemmas as TitleIndexLemmas
-use Rattle.markdown_label.proofs.ListedNames.{listed-unknown}
-use Rattle.markdown_gfm.specs.GfmAutolinkLiteral as GfmAutolinkLiteral
+use Rattle.markdown_engine_index.proofs.SequenceIndexLemmas.{right-unknown}
+use Rattle.markdown_engine_index.proofs.TitleIndexLemmas as TitleIndexLemmas
+use Rattle.markdown_label.proofs.NameIndexSearch.{listed-unknown}
+use Rattle.markdown_leaf_gfm.specs.GfmAutolinkLiteral as GfmAutolinkLiteral
 use Rattle.markdown_leaf.specs.RawText as RawText
-use Rattle.markdown_partial.specs.SpaceSteps as SpaceSteps
-use Rattle.markdown_model.specs.Element.{AreElements, AreElementsFrom, text_choice}
-use Rattle.markdown_model.specs.Inline.{text_events, label_tree}
+use Rattle.markdown_partial.specs.PartialSpaceOrTab as PartialSpaceOrTab
+use Rattle.markdown_model.specs.Elements.{AreElements, AreElementsFrom, text_choice}
+use Rattle.markdown_model.specs.InlineTree.{text_events, label_tree}
 use Rattle.markdown_model.specs.Setting.{Setting}
-use Rattle.markdown_row.specs.Elements.{Finishes}
-use Rattle.markdown_text.specs.Resolve.{may_resolve_of, resolves_of}
-use Rattle.markdown_text.specs.Settings.{text_setting_of}
-use Rattle.markdown_text.specs.TextSteps.{StartReady, marked_fields, text_marked, text_passed, text_choice_of, start_ends}
-use Rattle.markdown_run.proofs.PassesRun.{text_finish, text-trims, IsGiven}
-use Rattle.markdown_engine.specs.Codes.{Code}
+use Rattle.markdown_run_row.specs.RunOverElements.{Finishes}
+use Rattle.markdown_run_text.specs.ContentPasses.{may_resolve_of, resolves_of}
+use Rattle.markdown_run_text.specs.RunSetting.{text_setting_of}
+use Rattle.markdown_run_text.specs.TextContent.{StartReady, marked_fields, text_marked, text_passed, text_choice_of, start_ends}
+use Rattle.markdown_run.proofs.PassesAfterRun.{text_finish, text-trims, IsGiven}
+use Rattle.markdown_engine_content.specs.Codes.{Code}
 use Rattle.markdown_label.specs.LabelEnd.{AreWithin}
 use Rattle.markdown_label_pass.specs.Brackets.{grouped}
-use Rattle.markdown_partial.specs.EolSteps as EolSteps
-use Rattle.markdown_resource.specs.Parts as Parts
-use Rattle.markdown_emphasis.specs.Pass.{IsProbed}
-use Rattle.markdown_emphasis.proofs.Good.{IsGood}
-use Rattle.markdown_emphasis.proofs.Singles.{singles-content}
-use Rattle.markdown_emphasis.proofs.Striped.{good-tree}
+use Rattle.markdown_partial.specs.PartialSpaceOrTabEol as PartialSpaceOrTabEol
+use Rattle.markdown_label.specs.AfterLabelParts as AfterLabelParts
+use Rattle.markdown_attention.specs.AttentionPass.{IsProbed}
+use Rattle.markdown_attention.proofs.AttentionTreeLabels.{IsGood}
+use Rattle.markdown_attention.proofs.MarkerCodes.{singles-content}
+use Rattle.markdown_attention.proofs.ElementsHaveMarkerRuns.{good-tree}
 use Rattle.markdown_model.specs.Passes.{labels_of}
-use Rattle.markdown_row.specs.Opened.{brackets_of}
-use Rattle.markdown_row.specs.Row.{row_has_run}
-use Rattle.markdown_row.proofs.RowKeeps.{grouped-runless}
-use Rattle.markdown_run.proofs.GoodCut.{good-alike}
-use Rattle.markdown_run.proofs.Runless.{probes-none}
-use Rattle.markdown_run.proofs.RunEnds.{Starts, start-with, AreFresh, IsFound, finished-may, finished-left, finished-events, finished-probes, finished-elements}
-use Rattle.markdown_run.proofs.StartLemmas.{start-fits, start-last, start-literals, start-reads, unknown-runs}
+use Rattle.markdown_run_row.specs.OpenStarts.{brackets_of}
+use Rattle.markdown_run_row.specs.Row.{row_has_run}
+use Rattle.markdown_run_row.proofs.RowTreeFacts.{grouped-runless}
+use Rattle.markdown_run.proofs.MayPairOfCutData.{good-alike}
+use Rattle.markdown_run.proofs.TreesWithoutRuns.{probes-none}
+use Rattle.markdown_run.proofs.WholeRun.{Starts, start-with, AreFresh, IsFound, finished-may, finished-left, finished-events, finished-probes, finished-elements}
+use Rattle.markdown_run.proofs.ConstructsAtStart.{start-fits, start-last, start-literals, start-reads, unknown-runs}
 use Rattle.markdown_run.proofs.TextTree.{text-labels, text-still, text-finished}
-use Rattle.markdown_run.proofs.StillRows.{row-still}
+use Rattle.markdown_run.proofs.RowsWithoutRuns.{row-still}
 
 -- Runs.
 
@@ -70,11 +70,11 @@ text-ready p pieces first T text k =
     let input : T.parse_state.now.bytes.now ≡ p.bytes.now = ap (λ (x : ParseState). x.bytes.now) k.input in
     record {
       spans = record { rest = k.fields ∙ sym (ap RawText.rested k.fields); fits = omega (arith, fits); indexed = unknown-runs T.tokenize_state T.cursor.codes (ap (λ (s : TokenizeState). s.runs) k.fields) };
-      look = record { resting = ap SpaceSteps.rested k.fields ∙ sym k.fields; short = fits };
+      look = record { resting = ap PartialSpaceOrTab.rested k.fields ∙ sym k.fields; short = fits };
       literals = start-literals p.bytes.now pieces T content input k.place (ap GfmAutolinkLiteral.rested k.fields ∙ sym k.fields) (ap (λ (s : TokenizeState). s.no_domains) k.fields);
       last = start-last p.bytes.now pieces T.cursor text k.place;
       ends = record {
-        part = record { short = fits; indexed = right-unknown T.cursor.codes T.tokenize_state.sequences (ap (λ (s : TokenizeState). s.sequences) k.fields); titled = TitleIndexLemmas.right-unknown T.cursor.codes T.tokenize_state.titles (ap (λ (s : TokenizeState). s.titles) k.fields); spaces = record { space = ap SpaceSteps.rested k.fields ∙ sym k.fields; eol = ap EolSteps.eol_rested k.fields ∙ sym k.fields }; rest = ap Parts.rested k.fields ∙ sym k.fields };
+        part = record { short = fits; indexed = right-unknown T.cursor.codes T.tokenize_state.sequences (ap (λ (s : TokenizeState). s.sequences) k.fields); titled = TitleIndexLemmas.right-unknown T.cursor.codes T.tokenize_state.titles (ap (λ (s : TokenizeState). s.titles) k.fields); spaces = record { space = ap PartialSpaceOrTab.rested k.fields ∙ sym k.fields; eol = ap PartialSpaceOrTabEol.eol_rested k.fields ∙ sym k.fields }; rest = ap AfterLabelParts.rested k.fields ∙ sym k.fields };
         listed = listed-unknown T (ap (λ (s : TokenizeState). s.names) k.fields);
         text = start-reads p.bytes.now pieces T content input k.place;
         within = subst (λ (s : TokenizeState). AreWithin T s.label_starts) (sym k.fields) tt;

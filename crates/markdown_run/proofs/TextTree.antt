@@ -1,32 +1,32 @@
 -- The inline tree of a text: the labels of its elements grouped, paired, merged and trimmed, and its emails set apart.
 use Rattle.std.proofs.Common.{◌≡◌, ℕ, Bool, true, false, List, [], ◌∷◌, Option, None, Some, refl, ap, ◌∙◌}
 use Rattle.std.proofs.lemmas.Bool.{both_ways}
-use Rattle.markdown_engine.specs.Codes.{Code, stop_of, document_start}
-use Rattle.markdown_engine.specs.Tree.{Forest, leaf}
-use Rattle.markdown_engine.specs.declared.event.Name.{Name}
-use Rattle.markdown_engine.specs.declared.event.Name.TheVariants as N
-use Rattle.markdown_engine.specs.declared.configuration.Constructs.{Constructs}
-use Rattle.markdown_engine.specs.declared.tokenizer.LabelKind.{LabelKind}
-use Rattle.markdown_model.specs.Element.{attention_run, as_plain, line_ending, data_code, code_span, math_span, text_element, image_start, footnote_start, link_start, text_choice, AreElements, elements_of}
+use Rattle.markdown_engine_content.specs.Codes.{Code, stop_of, document_start}
+use Rattle.markdown_engine_content.specs.Tree.{Forest, leaf}
+use Rattle.markdown_engine_content.specs.declared.event.Name.{Name}
+use Rattle.markdown_engine_content.specs.declared.event.Name.TheVariants as N
+use Rattle.markdown_engine_content.specs.declared.configuration.Constructs.{Constructs}
+use Rattle.markdown_engine_content.specs.declared.label_kind.LabelKind.{LabelKind}
+use Rattle.markdown_model.specs.Elements.{attention_run, as_plain, line_ending, data_code, code_text, math_text, text_element, label_start_image, gfm_label_start_footnote, label_start_link, text_choice, AreElements, elements_of}
 use Rattle.markdown_model.specs.Grammar.{Reading}
-use Rattle.markdown_model.specs.Groups.{paired}
-use Rattle.markdown_model.specs.Inline.{label_tree, raw_tree, finished_text, text_tree}
+use Rattle.markdown_model.specs.BracketGroups.{paired}
+use Rattle.markdown_model.specs.InlineTree.{label_tree, raw_tree, finished_text, text_tree}
 use Rattle.markdown_model.specs.LabelEnd.{Element, plain, starts, ends, label_end}
-use Rattle.markdown_model.specs.Leaf.{code_names, math_names}
+use Rattle.markdown_model.specs.LeafConstructs.{code_names, math_names}
 use Rattle.markdown_model.specs.Pairs.{Pair, pair_list}
-use Rattle.markdown_model.specs.Passes.{labels_of, merged, trimmed, mailed}
+use Rattle.markdown_model.specs.Passes.{labels_of, merged, trimmed, with_emails_apart}
 use Rattle.markdown_model.specs.Runs.{Run}
 use Rattle.markdown_model.specs.Setting.{Setting}
 use Rattle.markdown_model.proofs.ElementCases.{AllAre, EachConstruct, all_are, text_has}
-use Rattle.markdown_model.proofs.ElementLaws.{text_elements, same_text_elements}
-use Rattle.markdown_model.proofs.LinkFree.{Passes, Yields, yields_bind, yields_gives, yields_either, then_any}
-use Rattle.markdown_text.specs.Resolve.{mailed_where}
-use Rattle.markdown_attention.specs.Reading.{is_run}
-use Rattle.markdown_row.specs.Trees.{IsNode}
-use Rattle.markdown_row.specs.Row.{row_has_run, row_of_elements}
-use Rattle.markdown_run.proofs.StillRows.{IsStill, still-first}
-use Rattle.markdown_row.proofs.TreePasts.{quiet-runless, leaf-runless}
-use Rattle.markdown_row.proofs.NodeLemmas.{check_yields, html_yields, escape_yields, reference_yields, break_yields, autolink_yields, protocol_yields, www_yields, span_here_yields, code_quiet, math_quiet}
+use Rattle.markdown_model.proofs.OneElementList.{text_elements, same_text_elements}
+use Rattle.markdown_model.proofs.NoLinkInConstructs.{Passes, Yields, yields_bind, yields_gives, yields_either, then_any}
+use Rattle.markdown_run_text.specs.ContentPasses.{mailed_where}
+use Rattle.markdown_attention.specs.RunsRead.{is_run}
+use Rattle.markdown_run_row.specs.RowTreeNames.{IsNode}
+use Rattle.markdown_run_row.specs.Row.{row_has_run, row_of_elements}
+use Rattle.markdown_run.proofs.RowsWithoutRuns.{IsStill, still-first}
+use Rattle.markdown_run_row.proofs.PastTrees.{quiet-runless, leaf-runless}
+use Rattle.markdown_run_row.proofs.ConstructNodes.{check_yields, html_yields, escape_yields, reference_yields, break_yields, autolink_yields, protocol_yields, www_yields, span_here_yields, code_quiet, math_quiet}
 
 -- What is said of the elements of a text.
 
@@ -53,24 +53,24 @@ module _ (P : Element → Type 0) (s : Setting) (h : HoldsOfParts P s.options.co
   unfolding data_code
   data_yields = then_any _ _ _ λ c. yields_gives _ (plain (leaf N.Data c)) (h.leaves N.Data c refl)
 
-  code_yields : (earlier : List Element) (previous : Option Code) → Yields P (code_span earlier previous)
-  unfolding code_span
+  code_yields : (earlier : List Element) (previous : Option Code) → Yields P (code_text earlier previous)
+  unfolding code_text
   code_yields earlier previous = plain_yields _ (span_here_yields _ code_names _ _ _ code_quiet)
 
-  math_yields : (single : Bool) (earlier : List Element) (previous : Option Code) → Yields P (math_span single earlier previous)
-  unfolding math_span
+  math_yields : (single : Bool) (earlier : List Element) (previous : Option Code) → Yields P (math_text single earlier previous)
+  unfolding math_text
   math_yields single earlier previous = plain_yields _ (span_here_yields _ math_names _ _ _ math_quiet)
 
-  image_yields : (footnotes : Bool) → Yields P (image_start footnotes)
-  unfolding image_start
+  image_yields : (footnotes : Bool) → Yields P (label_start_image footnotes)
+  unfolding label_start_image
   image_yields footnotes = then_any _ _ _ λ marker. yields_gives _ _ (h.opens LabelKind.Image marker)
 
-  footnote_yields : Yields P footnote_start
-  unfolding footnote_start
+  footnote_yields : Yields P gfm_label_start_footnote
+  unfolding gfm_label_start_footnote
   footnote_yields = then_any _ _ _ λ marker. yields_gives _ _ (h.opens LabelKind.GfmFootnote marker)
 
-  link_yields : Yields P link_start
-  unfolding link_start
+  link_yields : Yields P label_start_link
+  unfolding label_start_link
   link_yields = then_any _ _ _ λ marker. yields_gives _ _ (h.opens LabelKind.Link marker)
 
   end_yields : (earlier : List Element) → Yields P (label_end s earlier)
@@ -134,7 +134,7 @@ text-labels s cs es are = ap labels_of (same_text_elements s cs (elements_of s c
 
 -- a raw tree merged, trimmed and searched for emails, by the two switches
 finish : Bool → Bool → Forest → Forest
-finish hard literals t = let u = trimmed hard true true (merged t) in elim literals [ true ↦ mailed u | false ↦ u ]
+finish hard literals t = let u = trimmed hard true true (merged t) in elim literals [ true ↦ with_emails_apart u | false ↦ u ]
 
 finished-is : (s : Setting) (pairs_of : List Run → List Pair) (es : List Element)
     → finished_text s pairs_of es ≡ finish s.options.constructs.hard_break_trailing s.options.constructs.gfm_autolink_literal (paired s pairs_of (labels_of es))

@@ -1,4 +1,4 @@
 pub mod Layer
-pub mod Laws
-pub mod Construct
-pub mod Whole
+pub mod LayerLaws
+pub mod RunConstruct
+pub mod RunWithPasses

@@ -7,4 +7,4 @@ pub use markdown_label::label_end::{
     resource_between, resource_destination_after, resource_destination_missing, resource_end,
     resource_open, resource_start, resource_title_after, start,
 };
-pub use markdown_label_pass::label_end::resolve;
+pub use markdown_label_pass::label_groups::resolve;

@@ -1,13 +1,13 @@
 //! The passes of inline content by name.
 ghost use Rattle.std.specs.Prelude.{◌≡◌, IfOk, IsErr, OnErr, IsTrue, None};
-ghost use Rattle.markdown_text.specs.Resolve.{may_resolve_of, resolves_of};
+ghost use Rattle.markdown_run_text.specs.ContentPasses.{may_resolve_of, resolves_of};
 
 use crate::{attention, label_end};
 use markdown_engine::resolve::ResolveName;
-use markdown_engine::subtokenize::Subresult;
 use markdown_engine::tokenizer::Tokenizer;
+use markdown_engine_events::subtokenize::Subresult;
 use markdown_partial::partial_data;
-use markdown_text::{string, text};
+use markdown_run_text::{string, text};
 use std::alloc::AllocError;
 
 // Calls the pass of this name.

@@ -1,26 +1,26 @@
 //! Runs over a content.
 ghost use Rattle.std.specs.Prelude.{◌≡◌, ◌-◌, false, [], take, drop, map, length, IfOk, IsErr, OnErr, IsTrue};
 ghost use Rattle.std.specs.List.{All};
-ghost use Rattle.markdown_run.specs.Construct.{IsConstruct, ConstructEnds};
+ghost use Rattle.markdown_run.specs.RunConstruct.{IsConstruct, ConstructEnds};
 ghost use Rattle.markdown_run.specs.Layer.{ready_of};
-ghost use Rattle.markdown_run.specs.Whole.{MayPass, IsFoundFrom};
-ghost use Rattle.markdown_engine.specs.Content.{IsContent, IsTextContent, content_of};
-ghost use Rattle.markdown_text.specs.Settings.{setting_of, text_setting_of};
-ghost use Rattle.markdown_emphasis.specs.Pass.{IsProbed};
-ghost use Rattle.markdown_leaves.specs.Leaves.{IsInOrder, covered, innermost, lent};
-ghost use Rattle.markdown_model.specs.Inline.{label_tree, string_events, text_events};
+ghost use Rattle.markdown_run.specs.RunWithPasses.{MayPass, IsFoundFrom};
+ghost use Rattle.markdown_engine_content.specs.Content.{IsContent, IsTextContent, content_of};
+ghost use Rattle.markdown_run_text.specs.RunSetting.{setting_of, text_setting_of};
+ghost use Rattle.markdown_attention.specs.AttentionPass.{IsProbed};
+ghost use Rattle.markdown_run_leaves.specs.InnermostEvents.{IsInOrder, covered, innermost, lent};
+ghost use Rattle.markdown_model.specs.InlineTree.{label_tree, string_events, text_events};
 
 use crate::state::Inline;
-pub use markdown_engine::content::{is_content, is_text};
-use markdown_engine::cursor::Cursor;
-use markdown_engine::event::Event;
-use markdown_engine::events::Events;
-use markdown_engine::parser::ParseState;
-pub use markdown_engine::parser::Piece;
 use markdown_engine::state::StateName;
 use markdown_engine::tokenizer::Tokenizer;
-pub use markdown_leaves::leaf::{Leaf, Leaves};
-pub use markdown_leaves::leaves;
+pub use markdown_engine_content::content::{is_content, is_text};
+use markdown_engine_content::cursor::Cursor;
+use markdown_engine_content::event::Event;
+use markdown_engine_content::parser::ParseState;
+pub use markdown_engine_content::parser::Piece;
+use markdown_engine_events::events::Events;
+pub use markdown_run_leaves::leaf::{Leaf, Leaves};
+pub use markdown_run_leaves::leaves;
 use std::alloc::{AllocError, Global};
 use std::mem;
 

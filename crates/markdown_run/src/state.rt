@@ -1,24 +1,24 @@
 //! The states of inline content by name.
 ghost use Rattle.std.specs.Prelude.{◌≡◌, IfOk, IsErr, OnErr, IsTrue};
 ghost use Rattle.markdown_run.specs.Layer.{ready_of, step_of, ends_of, weight_of, stops_of};
-ghost use Rattle.markdown_run.specs.Laws.{laws_of};
-ghost use Rattle.markdown_run.specs.Laws.Steady.{steady_of};
-ghost use Rattle.markdown_text.specs.Resolve.{may_resolve_of, resolves_of};
+ghost use Rattle.markdown_run.specs.LayerLaws.{laws_of};
+ghost use Rattle.markdown_run.specs.LayerLaws.Steady.{steady_of};
+ghost use Rattle.markdown_run_text.specs.ContentPasses.{may_resolve_of, resolves_of};
 
 use crate::{attention, label_end, resolve};
-use markdown_engine::bytes::ByteSet;
 use markdown_engine::layer::Layer;
 use markdown_engine::resolve::ResolveName;
 use markdown_engine::state::{State, StateName};
-use markdown_engine::subtokenize::Subresult;
 use markdown_engine::tokenizer::{TokenizeState, Tokenizer};
-use markdown_gfm::{gfm_autolink_literal, gfm_task_list_item_check};
-use markdown_html::html_text;
+use markdown_engine_content::bytes::ByteSet;
+use markdown_engine_events::subtokenize::Subresult;
 use markdown_label::{gfm_label_start_footnote, label_start_image, label_start_link};
 use markdown_leaf::{autolink, character_escape, character_reference, hard_break_escape, raw_text};
+use markdown_leaf_gfm::{gfm_autolink_literal, gfm_task_list_item_check};
+use markdown_leaf_html::html_text;
 use markdown_partial::{partial_data, partial_space_or_tab, partial_space_or_tab_eol};
-use markdown_string::{partial_destination, partial_label, partial_title};
-use markdown_text::{string, text};
+use markdown_partial_link::{partial_destination, partial_label, partial_title};
+use markdown_run_text::{string, text};
 use std::alloc::AllocError;
 
 // Calls the state of this name.

@@ -1,19 +1,19 @@
 // Single constructs, each read at the place of a tokenizer.
 ghost use Rattle.std.specs.Prelude.{◌≡◌, ◌≤◌, []};
-ghost use Rattle.markdown_engine.specs.Content.{IsContent};
-ghost use Rattle.markdown_engine.specs.Rest.{at_rest};
+ghost use Rattle.markdown_engine_content.specs.Content.{IsContent};
+ghost use Rattle.markdown_engine.specs.RestingFields.{at_rest};
 ghost use Rattle.markdown_engine.specs.Weights.{codes_left};
 ghost use Rattle.markdown_engine.specs.declared.state.StateName.TheVariants.{AutolinkStart, CharacterReferenceStart, DestinationStart, HtmlTextStart, LabelStart, RawTextStart, SpaceOrTabStart, SpaceOrTabEolStart, TitleStart};
-ghost use Rattle.markdown_run.specs.Construct.{IsConstruct};
-ghost use Rattle.markdown_partial.specs.SpaceSteps.{most};
+ghost use Rattle.markdown_run.specs.RunConstruct.{IsConstruct};
+ghost use Rattle.markdown_partial.specs.PartialSpaceOrTab.{most};
 
-use markdown_engine::byte_set;
-use markdown_engine::bytes::ByteSet;
-use markdown_engine::event::{Content, Name};
-use markdown_engine::parser::{ParseState, Piece};
-use markdown_engine::sequence_index::SequenceIndex;
 use markdown_engine::state::StateName;
 use markdown_engine::tokenizer::Tokenizer;
+use markdown_engine_content::byte_set;
+use markdown_engine_content::bytes::ByteSet;
+use markdown_engine_content::event::{Content, Name};
+use markdown_engine_content::parser::{ParseState, Piece};
+use markdown_engine_index::sequence_index::SequenceIndex;
 use markdown_inline::run::construct;
 use markdown_inline::{partial_space_or_tab, partial_space_or_tab_eol};
 use std::alloc::{AllocError, Global};
@@ -73,7 +73,7 @@ fn ask_for_spacing(tokenizer: &mut Tokenizer) -> StateName
 }
 
 // Asks for blank codes with a line ending, linked where they begin with the line ending.
-#[tactic(auto, unfolding(markdown_engine::specs::Ops::scratched))]
+#[tactic(auto, unfolding(markdown_engine::specs::Operations::scratched))]
 fn ask_for_linked_spacing(tokenizer: &mut Tokenizer) -> StateName
     requires rest { tokenizer.old.tokenize_state ≡ at_rest }
     requires fits { codes_left tokenizer.old ≤ most }

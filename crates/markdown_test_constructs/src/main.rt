@@ -15,13 +15,13 @@
 
 mod constructs;
 
-ghost use Rattle.markdown_engine.specs.Content.{IsContent};
+ghost use Rattle.markdown_engine_content.specs.Content.{IsContent};
 
 use crate::constructs::{at_start, is_name, read_named};
-use markdown_engine::configuration::{Constructs, ParseOptions};
-use markdown_engine::event::{Event, Kind, Link};
-use markdown_engine::parser::{ParseState, Piece};
 use markdown_engine::tokenizer::Tokenizer;
+use markdown_engine_content::configuration::{Constructs, ParseOptions};
+use markdown_engine_content::event::{Event, Kind, Link};
+use markdown_engine_content::parser::{ParseState, Piece};
 use markdown_inline::run::is_content;
 use std::alloc::{AllocError, Global};
 use std::io;

@@ -1,13 +1,13 @@
 #!/usr/bin/env python3
 """Writes stdin and stdout. Run it in the crate's folder.
 
-The rows are those of tools/rows.txt, and those worked rows of markdown_rows that are a label, a title, a destination, or blank
+The rows are those of tools/rows.txt, and those worked rows of markdown_model_examples that are a label, a title, a destination, or blank
 codes on one line. What is expected is made of their answers as it is made there."""
 import os, re, sys
 
 HERE = os.path.dirname(os.path.dirname(os.path.abspath(__file__)))
 sys.dont_write_bytecode = True
-sys.path.insert(0, os.path.join(HERE, '../markdown_rows/tools'))
+sys.path.insert(0, os.path.join(HERE, '../markdown_model_examples/tools'))
 from rows import SYMBOLS, events, parsed, plain, points
 
 SIGNS = {character: sign for sign, character in SYMBOLS.items() if character != ' '}
@@ -50,7 +50,7 @@ def own():
 
 def worked():
     """The worked rows that this program reads too, as lines of tools/rows.txt."""
-    for line in open(HERE + '/../markdown_rows/tools/rows.txt', encoding='utf-8').read().split('\n== ', 1)[1].split('\n'):
+    for line in open(HERE + '/../markdown_model_examples/tools/rows.txt', encoding='utf-8').read().split('\n== ', 1)[1].split('\n'):
         if re.match('(label|title|destination) «', line):
             yield line
         bounds = re.fullmatch(r'bounded(?: min=(\d+))?(?: max=(\d+))? («.*)', line)

@@ -1,6 +1,6 @@
 // Numbers, texts, options and documents that are drawn by a seed.
 use crate::rows::Rows;
-use markdown_engine::configuration::{Constructs, ParseOptions};
+use markdown_engine_content::configuration::{Constructs, ParseOptions};
 use markdown_inline::options::ALL_CONSTRUCTS;
 use std::alloc::{AllocError, Global};
 

@@ -11,7 +11,7 @@
 //! `tools/data.py` writes the input and what is expected.
 #![tactic(auto)]
 
-ghost use Rattle.markdown_engine.specs.Content.{IsTextContent};
+ghost use Rattle.markdown_engine_content.specs.Content.{IsTextContent};
 
 mod options;
 mod pairing;
@@ -20,8 +20,8 @@ mod passes;
 use crate::options::{are_known, has, named, options_of, plain};
 use crate::pairing::unchained;
 use crate::passes::{Pairing, passed};
-use markdown_engine::event::Event;
-use markdown_engine::parser::{ParseState, Piece};
+use markdown_engine_content::event::Event;
+use markdown_engine_content::parser::{ParseState, Piece};
 use markdown_inline::run::{is_text, text};
 use std::alloc::{AllocError, Global};
 use std::io;

@@ -1,6 +1,6 @@
 // What a text is read with, as words: the switches of constructs that are off by default, `first` (the text is the first of a list item), the other
 // options, and `definition=IDENTIFIER` and `footnote=IDENTIFIER`.
-use markdown_engine::configuration::{Constructs, ParseOptions};
+use markdown_engine_content::configuration::{Constructs, ParseOptions};
 use std::alloc::{AllocError, Global};
 
 // Whether the word is among the words.

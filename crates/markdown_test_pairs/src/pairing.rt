@@ -1,11 +1,11 @@
 // A second pass of runs, as simple as can be: one array of all runs, walked back for each closer.
 ghost use Rattle.std.specs.Prelude.{◌≡◌, OnOk};
-ghost use Rattle.markdown_engine.specs.Chain.{IsFresh};
+ghost use Rattle.markdown_engine_events.specs.EventChains.{IsFresh};
 
-use markdown_engine::configuration::{Constructs, ParseOptions};
-use markdown_engine::event::{Event, Kind, Link, Name, Point};
-use markdown_engine::events::Events;
 use markdown_engine::tokenizer::Tokenizer;
+use markdown_engine_content::configuration::{Constructs, ParseOptions};
+use markdown_engine_content::event::{Event, Kind, Link, Name, Point};
+use markdown_engine_events::events::Events;
 use markdown_inline::util::char::{Kind as Class, classify_opt};
 use std::alloc::{AllocError, Global};
 

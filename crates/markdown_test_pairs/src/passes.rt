@@ -1,22 +1,22 @@
 // The passes behind a run over a text, called one by one: those before the pass of runs by their names, then that pass or the simple one, and then
 // those behind it. Nothing is known of what the simple one leaves, so what the passes behind it ask for is looked at before they are called.
 ghost use Rattle.std.specs.Prelude.{◌≡◌, ◌<◌, ◌≤◌, [], length, drop, IfOk, IsTrue};
-ghost use Rattle.markdown_engine.specs.Content.{IsTextContent, document_limit};
-ghost use Rattle.markdown_engine.specs.Resolves.{MayResolve, unregistered};
-ghost use Rattle.markdown_engine.specs.Walk.{IsPoint};
-ghost use Rattle.markdown_text.specs.Resolve.{MayPair, may_resolve_of, resolves_of};
-ghost use Rattle.markdown_partial.specs.Trim.{IsStretch};
-ghost use Rattle.markdown_partial.specs.TrimEvents.{FirstHasPlaces, HasPlaces};
+ghost use Rattle.markdown_engine_content.specs.Content.{IsTextContent, document_limit};
+ghost use Rattle.markdown_engine.specs.PassesInOrder.{MayResolve, unregistered};
+ghost use Rattle.markdown_engine_content.specs.DocumentWalk.{IsPoint};
+ghost use Rattle.markdown_run_text.specs.ContentPasses.{MayPair, may_resolve_of, resolves_of};
+ghost use Rattle.markdown_partial.specs.TrimmedData.{IsStretch};
+ghost use Rattle.markdown_partial.specs.TrimmedEvents.{FirstHasPlaces, HasPlaces};
 
 use crate::pairing;
-use markdown_engine::content::is_content;
-use markdown_engine::event::{Event, Kind, Name, Point};
-use markdown_engine::events::Events;
-use markdown_engine::parser::{ParseState, Piece};
 use markdown_engine::resolve::ResolveName;
 use markdown_engine::state::StateName;
 use markdown_engine::tokenizer::Tokenizer;
-use markdown_engine::walk::walk_to;
+use markdown_engine_content::content::is_content;
+use markdown_engine_content::event::{Event, Kind, Name, Point};
+use markdown_engine_content::parser::{ParseState, Piece};
+use markdown_engine_content::walk::walk_to;
+use markdown_engine_events::events::Events;
 use markdown_inline::state::Inline;
 use markdown_inline::{attention, gfm_autolink_literal, partial_data, partial_whitespace, resolve};
 use markdown_lists::seq::Seq;
@@ -99,7 +99,7 @@ fn may_look(tokenizer: &Tokenizer) -> bool
 }
 
 // Calls the registered passes before the one of runs. Answers whether that one is registered; where it is not, all are called.
-#[tactic(auto, unfolding(markdown_engine::specs::Resolves::unregistered))]
+#[tactic(auto, unfolding(markdown_engine::specs::PassesInOrder::unregistered))]
 fn resolve_before(tokenizer: &mut Tokenizer) -> Result<bool, AllocError>
     requires { MayResolve may_resolve_of resolves_of tokenizer.old.resolvers (unregistered tokenizer.old) }
     ensures { IfOk result (λ found. IsTrue found → MayPair tokenizer.new) }

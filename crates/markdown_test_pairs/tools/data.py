@@ -1,13 +1,13 @@
 #!/usr/bin/env python3
 """Writes stdin and stdout: texts whose runs are paired in both ways, and what is said of them. Run it in the crate's folder.
 
-The texts are those of tools/documents.txt, and those of the worked rows, tools/rows.txt of markdown_rows. A worked row is
+The texts are those of tools/documents.txt, and those of the worked rows, tools/rows.txt of markdown_model_examples. A worked row is
 read with its own words, and once more with other options; where its answer shows all events, their number is expected too."""
 import os, re, sys
 
 HERE = os.path.dirname(os.path.dirname(os.path.abspath(__file__)))
 sys.dont_write_bytecode = True
-sys.path.insert(0, os.path.join(HERE, '../markdown_rows/tools'))
+sys.path.insert(0, os.path.join(HERE, '../markdown_model_examples/tools'))
 from rows import CHAINED, SYMBOLS, WORDS, parsed, place, plain
 
 RUNS = 'gfm_autolink_literal gfm_label_start_footnote gfm_strikethrough'
@@ -70,7 +70,7 @@ def documents():
 
 def worked():
     """The texts among the worked rows."""
-    rows = open(HERE + '/../markdown_rows/tools/rows.txt', encoding='utf-8').read().split('\n== ', 1)[1]
+    rows = open(HERE + '/../markdown_model_examples/tools/rows.txt', encoding='utf-8').read().split('\n== ', 1)[1]
     for line in rows.split('\n'):
         found = re.fullmatch(r'(text|counts|looks) ?(.*?)«(.*)»(.*?):(.*)', line)
         if not found:

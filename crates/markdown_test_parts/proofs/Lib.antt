@@ -1,1 +1,1 @@
-mod Joining
+mod JoinedEvents

@@ -1,8 +1,8 @@
 -- What the events of the cases have.
 use Rattle.std.specs.Prelude.{ℕ, List}
-use Rattle.markdown_engine.specs.declared.event.Event.{Event}
-use Rattle.markdown_attention.specs.Reading.{HaveRunPlaces}
-use Rattle.markdown_emphasis.specs.RunEdits.{HaveRunEnds, HaveRunRoom}
+use Rattle.markdown_engine_content.specs.declared.event.Event.{Event}
+use Rattle.markdown_attention.specs.RunsRead.{HaveRunPlaces}
+use Rattle.markdown_attention.specs.RunEdits.{HaveRunEnds, HaveRunRoom}
 
 -- the runs of these events are such as the edits of the pass ask for
 pub record HaveRuns (bytes : List ℕ) (es : List Event) : Type 0 where

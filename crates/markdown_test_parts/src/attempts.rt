@@ -4,17 +4,17 @@
 //                       event that the first is linked on to; then the codes at and before the place. The text has two codes or more
 //     register | TEXT   the passes in their order, where some are registered twice
 ghost use Rattle.std.specs.Prelude.{◌≡◌, OnOk};
-ghost use Rattle.markdown_engine.specs.Ops.{LinkedBefore};
+ghost use Rattle.markdown_engine.specs.Operations.{LinkedBefore};
 
 use crate::case::{Case, whole};
-use markdown_engine::configuration::ParseOptions;
-use markdown_engine::content::is_content;
-use markdown_engine::event::{Content, Event, Link, Name};
-use markdown_engine::parser::ParseState;
 use markdown_engine::resolve::ResolveName;
 use markdown_engine::run::resume;
 use markdown_engine::state::{State, StateName};
 use markdown_engine::tokenizer::{Attempt, Tokenizer};
+use markdown_engine_content::configuration::ParseOptions;
+use markdown_engine_content::content::is_content;
+use markdown_engine_content::event::{Content, Event, Link, Name};
+use markdown_engine_content::parser::ParseState;
 use std::alloc::{AllocError, Global};
 
 // Appends what a case answers.
@@ -50,7 +50,7 @@ pub(crate) fn document<'a>(
 }
 
 // Passes a code, with linked content over it. It is an error as well where there is no code.
-#[tactic(auto, using(markdown_engine::proofs::ConnectLemmas::leaf_rules), unfolding(markdown_engine::specs::Ops::applied))]
+#[tactic(auto, using(markdown_engine::proofs::LinkLemmas::leaf_rules), unfolding(markdown_engine::specs::Operations::applied))]
 fn pass_linked(tokenizer: &mut Tokenizer) -> Result<(), AllocError>
     ensures { OnOk result (LinkedBefore tokenizer.new) }
 {
@@ -68,7 +68,7 @@ fn pass_linked(tokenizer: &mut Tokenizer) -> Result<(), AllocError>
 }
 
 // Passes a code, with content over it that is linked to the content before. It is an error as well where there is no code.
-#[tactic(auto, using(markdown_engine::proofs::ConnectLemmas::leaf_rules), unfolding(markdown_engine::specs::Ops::applied))]
+#[tactic(auto, using(markdown_engine::proofs::LinkLemmas::leaf_rules), unfolding(markdown_engine::specs::Operations::applied))]
 fn pass_connected(tokenizer: &mut Tokenizer) -> Result<(), AllocError>
     requires { LinkedBefore tokenizer.old }
 {
@@ -81,7 +81,7 @@ fn pass_connected(tokenizer: &mut Tokenizer) -> Result<(), AllocError>
 }
 
 // Opens a check, and hands it over.
-#[tactic(auto, unfolding(markdown_engine::specs::Ops::attempted, markdown_engine::specs::Runs::settled))]
+#[tactic(auto, unfolding(markdown_engine::specs::Operations::attempted, markdown_engine::specs::StateRuns::settled))]
 fn checked<'a>(tokenizer: &mut Tokenizer<'a>, nok: StateName) -> Result<Attempt<'a>, AllocError>
     ensures { OnOk result (tokenizer.new.events ≡ tokenizer.old.events) }
 {
@@ -90,7 +90,7 @@ fn checked<'a>(tokenizer: &mut Tokenizer<'a>, nok: StateName) -> Result<Attempt<
 }
 
 // Opens an attempt, and hands it over.
-#[tactic(auto, unfolding(markdown_engine::specs::Ops::attempted, markdown_engine::specs::Runs::settled))]
+#[tactic(auto, unfolding(markdown_engine::specs::Operations::attempted, markdown_engine::specs::StateRuns::settled))]
 fn opened<'a>(tokenizer: &mut Tokenizer<'a>, nok: StateName) -> Result<Attempt<'a>, AllocError>
     ensures { OnOk result (tokenizer.new.events ≡ tokenizer.old.events) }
 {

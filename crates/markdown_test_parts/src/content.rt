@@ -10,11 +10,11 @@
 ghost use Rattle.std.specs.Prelude.{◌≡◌};
 
 use crate::case::Case;
-use markdown_engine::content::{is_content, is_text};
-use markdown_engine::event::Point;
-use markdown_engine::parser::Piece;
-use markdown_engine::util::slice::{Position, Slice};
-use markdown_engine::walk::{code_from, move_to, past_code, walk_to};
+use markdown_engine_content::content::{is_content, is_text};
+use markdown_engine_content::event::Point;
+use markdown_engine_content::parser::Piece;
+use markdown_engine_content::util::slice::{Position, Slice};
+use markdown_engine_content::walk::{code_from, move_to, past_code, walk_to};
 use std::alloc::{AllocError, Global};
 
 /// The place before all codes of a document.
@@ -49,7 +49,7 @@ pub(crate) fn push_place(out: &mut String, place: Point) -> Result<(), AllocErro
 }
 
 // Walks to an index, and from there to a later one and past one code.
-#[tactic(auto, using(markdown_engine::proofs::Points::point_start))]
+#[tactic(auto, using(markdown_engine_content::proofs::DocumentPlaces::point_start))]
 fn walk(bytes: &[u8], from: usize, to: usize, out: &mut String) -> Result<(), AllocError> {
     let first = [Piece {
         start: (0, 0),
@@ -82,7 +82,7 @@ fn push_slice(out: &mut String, slice: Slice) -> Result<(), AllocError> {
 }
 
 // Lends the codes of the only piece.
-#[tactic(auto, using(markdown_engine::proofs::Points::point_start))]
+#[tactic(auto, using(markdown_engine_content::proofs::DocumentPlaces::point_start))]
 fn lend(bytes: &[u8], pieces: &[Piece], out: &mut String) -> Result<(), AllocError> {
     let [piece] = pieces else {
         return out.push_str(" no piece");

@@ -12,9 +12,9 @@ ghost use Rattle.std.specs.Prelude.{◌≡◌, ◌≤◌, codes};
 
 use crate::case::Case;
 use crate::content::push_place;
-use markdown_engine::byte_set;
-use markdown_engine::content::is_content;
-use markdown_engine::cursor::Cursor;
+use markdown_engine_content::byte_set;
+use markdown_engine_content::content::is_content;
+use markdown_engine_content::cursor::Cursor;
 use std::alloc::{AllocError, Global};
 
 // Appends what a case answers.

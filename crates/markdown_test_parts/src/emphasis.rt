@@ -9,24 +9,23 @@
 //                                       registered passes, and the events
 ghost use Rattle.std.specs.Prelude.{◌≡◌, ◌<◌, ◌≤◌, ◌+◌, ◌^◌, length, slice_index_or, IsTrue, IsUtf8, OnOk, true, []};
 ghost use Rattle.std.specs.Str.{IsAscii};
-ghost use Rattle.markdown_attention.specs.Open.{IsMarker};
-ghost use Rattle.markdown_attention.specs.Reading.{is_run};
-ghost use Rattle.markdown_engine.specs.Content.{IsContent};
-ghost use Rattle.markdown_engine.specs.Ops.{IsOpen};
-ghost use Rattle.markdown_engine.specs.declared.event.Name.TheVariants.{AttentionSequence};
-ghost use Rattle.markdown_emphasis.specs.Pass.{IsSmall};
+ghost use Rattle.markdown_attention.specs.OpenRuns.{IsMarker};
+ghost use Rattle.markdown_attention.specs.RunsRead.{is_run};
+ghost use Rattle.markdown_engine_content.specs.Content.{IsContent};
+ghost use Rattle.markdown_engine.specs.Operations.{IsOpen};
+ghost use Rattle.markdown_engine_content.specs.declared.event.Name.TheVariants.{AttentionSequence};
+ghost use Rattle.markdown_attention.specs.AttentionPass.{IsSmall};
 ghost use Rattle.markdown_test_parts.specs.Fixtures.{HaveRuns};
 
 use crate::attempts::document;
 use crate::case::{Case, whole};
 use markdown_attention::attention::runs::{Runs, Sequence};
-use markdown_attention::attention::{inside, start};
-use markdown_emphasis::attention::{resolve, resolve_counted};
-use markdown_engine::configuration::{Constructs, ParseOptions};
-use markdown_engine::content::is_content;
-use markdown_engine::event::{Event, Kind, Name, Point};
-use markdown_engine::events::Events;
+use markdown_attention::attention::{inside, resolve, resolve_counted, start};
 use markdown_engine::tokenizer::Tokenizer;
+use markdown_engine_content::configuration::{Constructs, ParseOptions};
+use markdown_engine_content::content::is_content;
+use markdown_engine_content::event::{Event, Kind, Name, Point};
+use markdown_engine_events::events::Events;
 use std::alloc::{AllocError, Global};
 
 // Appends what a case answers.

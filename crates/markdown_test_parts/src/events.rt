@@ -9,16 +9,16 @@
 // An event is printed on a line of its own: `Enter` or `Exit`, its name, line, column, index and codes of the tab there; of linked content
 // `link`, the kind of content, and the numbers of the events before and after it on its chain.
 ghost use Rattle.std.specs.Prelude.{◌≡◌, [], Some, None};
-ghost use Rattle.markdown_engine.specs.declared.event.Kind.TheVariants as Kind;
+ghost use Rattle.markdown_engine_content.specs.declared.event.Kind.TheVariants as Kind;
 
 use crate::case::Case;
 use crate::content::{DOCUMENT_START, push_place};
-use markdown_engine::event::{Content, Event, Kind, Link, Name, Point};
-use markdown_engine::events::Events;
-use markdown_engine::subtokenize::link;
-use markdown_engine::util::edit_map::EditMap;
-use markdown_engine::util::skip::to_back;
-use markdown_engine::util::slice::Position;
+use markdown_engine_content::event::{Content, Event, Kind, Link, Name, Point};
+use markdown_engine_content::util::skip::to_back;
+use markdown_engine_content::util::slice::Position;
+use markdown_engine_events::events::Events;
+use markdown_engine_events::subtokenize::link;
+use markdown_engine_events::util::edit_map::EditMap;
 use std::alloc::{AllocError, Global};
 
 // Appends what a case answers.

@@ -13,14 +13,14 @@
 ghost use Rattle.std.specs.Prelude.{◌≡◌};
 
 use crate::case::{Case, number_of, whole};
-use markdown_engine::bracket_index::BracketIndex;
-use markdown_engine::byte_set;
-use markdown_engine::content::is_content;
-use markdown_engine::cursor::Cursor;
-use markdown_engine::name_index::{NameIndex, Names};
-use markdown_engine::run_index::RunIndex;
-use markdown_engine::sequence_index::{Sequence, SequenceIndex};
-use markdown_engine::title_index::TitleIndex;
+use markdown_engine_content::byte_set;
+use markdown_engine_content::content::is_content;
+use markdown_engine_content::cursor::Cursor;
+use markdown_engine_index::bracket_index::BracketIndex;
+use markdown_engine_index::name_index::{NameIndex, Names};
+use markdown_engine_index::run_index::RunIndex;
+use markdown_engine_index::sequence_index::{Sequence, SequenceIndex};
+use markdown_engine_index::title_index::TitleIndex;
 use markdown_lists::place_index::PlaceIndex;
 use std::alloc::{AllocError, Global};
 

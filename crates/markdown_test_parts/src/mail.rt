@@ -7,25 +7,25 @@
 //                             text of a label and data, where the text stands behind the second code of the tab
 ghost use Rattle.std.specs.Prelude.{◌≡◌, ◌∷◌, [], false, length, IfOk, None};
 ghost use Rattle.std.specs.Option.{option_map};
-ghost use Rattle.markdown_engine.specs.Content.{IsContent};
-ghost use Rattle.markdown_engine.specs.Ops.{link_back};
-ghost use Rattle.markdown_engine.specs.Tree.{event};
-ghost use Rattle.markdown_engine.specs.declared.event.Kind.{Kind};
-ghost use Rattle.markdown_partial.specs.Merge.{is_data};
-ghost use Rattle.markdown_partial.specs.TrimEvents.{HasPlaces};
+ghost use Rattle.markdown_engine_content.specs.Content.{IsContent};
+ghost use Rattle.markdown_engine.specs.Operations.{link_back};
+ghost use Rattle.markdown_engine_content.specs.Tree.{event};
+ghost use Rattle.markdown_engine_content.specs.declared.event.Kind.{Kind};
+ghost use Rattle.markdown_partial.specs.MergedEvents.{is_data};
+ghost use Rattle.markdown_partial.specs.TrimmedEvents.{HasPlaces};
 
 use crate::attempts::document;
 use crate::case::Case;
 use crate::content::DOCUMENT_START;
-use markdown_engine::configuration::ParseOptions;
-use markdown_engine::content::is_content;
-use markdown_engine::event::{Content, Event, Kind, Link, Name, Point};
-use markdown_engine::events::Events;
-use markdown_engine::parser::Piece;
 use markdown_engine::tokenizer::Tokenizer;
-use markdown_engine::walk::walk_to;
-use markdown_leaves::leaves;
-use markdown_mail::gfm_autolink_literal::resolve;
+use markdown_engine_content::configuration::ParseOptions;
+use markdown_engine_content::content::is_content;
+use markdown_engine_content::event::{Content, Event, Kind, Link, Name, Point};
+use markdown_engine_content::parser::Piece;
+use markdown_engine_content::walk::walk_to;
+use markdown_engine_events::events::Events;
+use markdown_leaf_email_pass::email::resolve;
+use markdown_run_leaves::leaves;
 use std::alloc::{AllocError, Global};
 
 // Appends what a case answers.
@@ -78,7 +78,7 @@ fn exit(name: Name, point: Point) -> Event
 }
 
 // The events of a group around data that is the whole document.
-#[tactic(auto, using(markdown_engine::proofs::Points::point_start))]
+#[tactic(auto, using(markdown_engine_content::proofs::DocumentPlaces::point_start))]
 fn data_in(
     alloc: Global,
     bytes: &[u8],
@@ -136,7 +136,7 @@ fn find(
 }
 
 // What is lent for the events of an emphasis, where data is on both sides of the empty text of a label.
-#[tactic(auto, using(markdown_engine::proofs::Points::point_start))]
+#[tactic(auto, using(markdown_engine_content::proofs::DocumentPlaces::point_start))]
 fn lend_leaves(bytes: &[u8], out: &mut String) -> Result<(), AllocError> {
     let pieces = [Piece {
         start: (0, 0),

@@ -9,10 +9,10 @@ ghost use Rattle.std.specs.Prelude.{◌≡◌};
 
 use crate::attempts::document;
 use crate::case::{Case, whole};
-use markdown_engine::configuration::ParseOptions;
-use markdown_engine::content::is_content;
 use markdown_engine::tokenizer::Tokenizer;
-use markdown_string::{partial_destination, partial_label, partial_title};
+use markdown_engine_content::configuration::ParseOptions;
+use markdown_engine_content::content::is_content;
+use markdown_partial_link::{partial_destination, partial_label, partial_title};
 use std::alloc::{AllocError, Global};
 
 // Appends what a case answers.

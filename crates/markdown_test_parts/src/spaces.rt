@@ -13,10 +13,10 @@ ghost use Rattle.std.specs.Prelude.{◌≡◌};
 
 use crate::attempts::document;
 use crate::case::{Case, whole};
-use markdown_engine::configuration::ParseOptions;
-use markdown_engine::content::is_content;
-use markdown_engine::event::{Content, Name};
 use markdown_engine::tokenizer::Tokenizer;
+use markdown_engine_content::configuration::ParseOptions;
+use markdown_engine_content::content::is_content;
+use markdown_engine_content::event::{Content, Name};
 use markdown_partial::{partial_space_or_tab, partial_space_or_tab_eol};
 use std::alloc::{AllocError, Global};
 

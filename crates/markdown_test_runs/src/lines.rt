@@ -1,6 +1,6 @@
 // How events, leaves and probes are printed.
 use crate::row::Asked;
-use markdown_engine::event::{Event, Kind, Link, Point};
+use markdown_engine_content::event::{Event, Kind, Link, Point};
 use markdown_inline::run::Leaf;
 use std::alloc::AllocError;
 

@@ -1,5 +1,5 @@
 // Rows: a content, and what it is read with.
-use markdown_engine::configuration::{Constructs, ParseOptions};
+use markdown_engine_content::configuration::{Constructs, ParseOptions};
 use markdown_inline::run::Piece;
 use std::alloc::{AllocError, Global};
 

@@ -1,12 +1,12 @@
 // What is found in a row.
 ghost use Rattle.std.specs.Prelude.{◌≡◌, []};
-ghost use Rattle.markdown_engine.specs.Content.{IsContent};
+ghost use Rattle.markdown_engine_content.specs.Content.{IsContent};
 
 use crate::lines::{print_events, print_leaf, print_probes};
 use crate::row::{Asked, Row};
-use markdown_engine::parser::ParseState;
 use markdown_engine::state::StateName;
 use markdown_engine::tokenizer::Tokenizer;
+use markdown_engine_content::parser::ParseState;
 use markdown_inline::program;
 use markdown_inline::run::{Leaves, Piece, construct, is_content, is_text, leaves, string, text};
 use std::alloc::{AllocError, Global};

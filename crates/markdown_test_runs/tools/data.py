@@ -1,14 +1,14 @@
 #!/usr/bin/env python3
-"""Writes stdin and stdout: the rows of this crate and of the worked rows, and what has to be found in each.
+"""Writes stdin and stdout: the rows of this crate and the worked examples, and what has to be found in each.
 
-Run it in the crate's folder. What it reads are tools/rows.txt and markdown_rows/tools/rows.txt; src/main.rt says what it writes."""
+Run it in the crate's folder. What it reads are tools/rows.txt and markdown_model_examples/tools/examples.txt; src/main.rt says what it writes."""
 import os, re, sys
 
 HERE = os.path.dirname(os.path.dirname(os.path.abspath(__file__)))
-WORKED = os.path.join(HERE, '..', 'markdown_rows', 'tools')
+WORKED = os.path.join(HERE, '..', 'markdown_model_examples', 'tools')
 sys.path.insert(0, WORKED)
 sys.dont_write_bytecode = True
-import rows
+import examples
 
 STARTS = ['link', 'image', 'footnote']
 OWN = {'unlabelled': ['no-attention', 'no-label_end', 'no-label_start_image', 'no-label_start_link'],
@@ -26,9 +26,9 @@ def parts(text):
     for token in re.split(r'(⟦.*?×\d+⟧)', text):
         found = re.fullmatch(r'⟦(.*?)×(\d+)⟧', token)
         if found:
-            yield rows.plain(found.group(1)), int(found.group(2))
+            yield examples.plain(found.group(1)), int(found.group(2))
         elif token:
-            yield rows.plain(token), 1
+            yield examples.plain(token), 1
 
 
 def document_fields(text):
@@ -44,7 +44,7 @@ def piece_fields(ends):
 def word_fields(words):
     """What the words turn on and off, what they define, and whether the outermost events are asked for."""
     own = [more for word in words for more in OWN.get(word, [word])]
-    switched, definitions, footnotes, outer = rows.settings(own)
+    switched, definitions, footnotes, outer = examples.settings(own)
     fields = [('+' if f.endswith(' = true') else '-') + f.split(' = ')[0] for f in switched]
     fields += ['definition=' + escaped(name.decode()) for name in definitions]
     fields += ['footnote=' + escaped(name.decode()) for name in footnotes]
@@ -67,7 +67,7 @@ def point(words):
 
 
 def printed_event(term):
-    """An event term of rows.py, as the program prints it."""
+    """An event term of examples.py, as the program prints it."""
     words = re.sub(r'\(Some (\d+)\)', r'\1', term).replace('None', '-').split()
     sign = '-' if words[0] == 'exit' else '+'
     chain = ':String:%s:%s' % tuple(words[6:]) if words[0] == 'chained' else ''
@@ -75,11 +75,11 @@ def printed_event(term):
 
 
 def printed_events(text, at):
-    return ''.join(map(printed_event, rows.events(rows.parsed(text), at)))
+    return ''.join(map(printed_event, examples.events(examples.parsed(text), at)))
 
 
 def printed_line(term):
-    """An event term of rows.py, as a line of the program mdinline."""
+    """An event term of examples.py, as a line of the program mdinline."""
     words = re.sub(r'\(Some (\d+)\)', r'\1', term).replace('None', '-').split()
     kind = 'Exit' if words[0] == 'exit' else 'Enter'
     chain = ' link String ' + ' '.join(words[6:]) if words[0] == 'chained' else ''
@@ -89,7 +89,7 @@ def printed_line(term):
 def printed_leaf(text, at):
     """A leaf: its name, its places, and the codes and bytes that it lends."""
     name, places, lent = text.split()
-    start, end = (point(at[p] + p) for p in map(rows.place, places.split('-')))
+    start, end = (point(at[p] + p) for p in map(examples.place, places.split('-')))
     return ' %s %s-%s %s' % (name, start, end, lent)
 
 
@@ -101,11 +101,11 @@ def has_blank_line(data, ends):
 
 def printed(kind, words, data, answer):
     """What the program has to print of a row."""
-    at = rows.points(data)
+    at = examples.points(data)
     if answer in REFUSED:
         return answer
     if kind == 'program':
-        return ' status 0 errors 0 ' + ''.join(map(printed_line, rows.events(rows.parsed(answer), at)))
+        return ' status 0 errors 0 ' + ''.join(map(printed_line, examples.events(examples.parsed(answer), at)))
     if kind in STARTS:
         found, rest = answer.split(';')
         return (' no start' if found == ' no' else ' start' + printed_events(found, at)) + rest
@@ -117,19 +117,19 @@ def printed(kind, words, data, answer):
 
 
 def row(line):
-    """A row and its answer, or none of a single construct of the worked rows, which is no run."""
-    kind, words, document, pieces, answer = rows.divided(line)
-    if kind in rows.READINGS:
+    """A row and its answer, or none of a single construct of the worked examples, which is no run."""
+    kind, words, document, pieces, answer = examples.divided(line)
+    if kind in examples.READINGS:
         return None
-    data = rows.plain(document).encode()
+    data = examples.plain(document).encode()
     if kind == 'program':
-        fields = ['word=' + escaped(rows.plain(w)) for w in words] + list(document_fields(document))
+        fields = ['word=' + escaped(examples.plain(w)) for w in words] + list(document_fields(document))
         return '\t'.join([kind] + fields), kind + printed(kind, words, data, answer)
     counted = kind in ('counts', 'looks')
     reading = 'text' if counted else kind
     asked = [w for w in words if w != 'leaves' and not w.startswith('probes=')]
     fields = word_fields(asked) + ['+leaves'] * ('leaves' in words) + ['depth=0'] * counted
-    ends = [] if pieces == ['none'] else rows.ends_of(pieces, data)
+    ends = [] if pieces == ['none'] else examples.ends_of(pieces, data)
     fields += bound_fields(kind, words, answer) + piece_fields(ends) + list(document_fields(document))
     if reading == 'text' and has_blank_line(data, ends):
         answer = REFUSED[0]
@@ -137,8 +137,8 @@ def row(line):
 
 
 def main():
-    lines = [line for path in (os.path.join(WORKED, 'rows.txt'), os.path.join(HERE, 'tools', 'rows.txt'))
-             for group in rows.groups_of(path).values() for line in group]
+    lines = [line for path in (os.path.join(WORKED, 'examples.txt'), os.path.join(HERE, 'tools', 'rows.txt'))
+             for group in examples.groups_of(path).values() for line in group]
     found = [pair for pair in map(row, lines) if pair]
     for path, texts in (('stdin', [pair[0] for pair in found]), ('stdout', [pair[1] for pair in found])):
         with open(os.path.join(HERE, path), 'w', encoding='utf-8', newline='') as file:

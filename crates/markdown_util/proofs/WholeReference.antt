@@ -14,10 +14,10 @@ use Rattle.std.proofs.lemmas.Str.{IsUtf8-past_char, encode_ascii, IsCharBoundary
 use Rattle.std.proofs.lemmas.Bool.{false≢true, eqb-false, ltb-true, leb-true, and_parts}
 use Rattle.std.proofs.lemmas.Bool.Decides.{nat_tests}
 use Rattle.markdown_util.specs.Reference.{Table, IsTable, IsMarker, IsNumber, named_value, decoded, is_value, is_value_byte, value_size_max, radix_of, reference_text, inner_text, numbered_text, number_text, is_semicolon}
-use Rattle.markdown_util.specs.Parts.{IsMarked, LacksFirst}
-use Rattle.markdown_util.proofs.FirstByte.{utf8-behind}
-use Rattle.markdown_util.proofs.ParsedLemmas.{eqb_off}
-use Rattle.markdown_util.proofs.Semicolon.{NoSemicolon, parted, before-semicolon, after-semicolon, any-semicolon, passing_none, passing_len, passing_front, prefix-le}
+use Rattle.markdown_util.specs.ReferenceParts.{IsMarked, LacksFirst}
+use Rattle.markdown_util.proofs.StripPrefix.{utf8-behind}
+use Rattle.markdown_util.proofs.ParseLemmas.{eqb_off}
+use Rattle.markdown_util.proofs.UpToSemicolon.{NoSemicolon, parted, before-semicolon, after-semicolon, any-semicolon, passing_none, passing_len, passing_front, prefix-le}
 
 abbrev pick : Bool → Option (List ℕ) → Option (List ℕ) → Option (List ℕ)
 pick b x y = elim b [ true ↦ x | false ↦ y ]

@@ -1,6 +1,6 @@
 pub mod Identifier
-pub mod Laws
+pub mod IdentifierLaws
 pub mod Neighbours
-pub mod Parts
+pub mod ReferenceParts
 pub mod Reference
 pub mod TableParts

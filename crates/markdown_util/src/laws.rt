@@ -1,7 +1,7 @@
 //! Laws of the definitions: each function stands for the law that its contract states.
 
 ghost use Rattle.std.specs.Prelude.{IsTrue};
-ghost use Rattle.markdown_util.specs.Laws.{ConstantsHoldRows, IdentifierLaw, UnchangedLaw};
+ghost use Rattle.markdown_util.specs.IdentifierLaws.{ConstantsHoldRows, IdentifierLaw, UnchangedLaw};
 ghost use Rattle.markdown_util.specs.Reference.{html_4_rows, html_5_rows, is_sorted, IsTable};
 
 /// Two texts that differ only in the kind and length of runs of TAB, LF, CR and space, and in such
@@ -17,7 +17,7 @@ pub fn unchanged()
 
 /// The names of each table are distinct, stand in the order of their bytes, and are 1 to 31 ASCII letters and digits;
 /// and `CHARACTER_REFERENCES` and `CHARACTER_REFERENCES_HTML_4` hold these rows.
-#[tactic(auto, using(crate::proofs::Tables::html_4_sound, crate::proofs::Tables::html_5_sound, crate::proofs::Tables::html_4_sorted, crate::proofs::Tables::html_5_sorted, crate::proofs::Tables::constants))]
+#[tactic(auto, using(crate::proofs::ReferenceTables::html_4_sound, crate::proofs::ReferenceTables::html_5_sound, crate::proofs::ReferenceTables::html_4_sorted, crate::proofs::ReferenceTables::html_5_sorted, crate::proofs::ReferenceTables::constants))]
 pub fn tables()
     ensures html_4 { IsTable html_4_rows }
     ensures html_4_sorted { IsTrue (is_sorted html_4_rows) }

@@ -4,14 +4,14 @@
 //! that fits it. A mark for each list and each class of closers says how far all open runs refuse the class, so that a walk stops there.
 
 ghost use Rattle.std.specs.Prelude.{◌≡◌, ℕ, ◌+◌, ◌-◌, ◌*◌, ◌^◌, ◌<◌, ◌≤◌, ◌⊎◌, ◌&&◌, length, slice_index, slice_set, nat_lt, if◌then◌else◌, IfSome, IfNone, IfOk, IsTrue, IsFalse, count_by, replicate};
-ghost use Rattle.markdown_attention.specs.Pairs.{run_at, markers_left, sizes_fit, ruled_size, is_refused_by_three, is_tilde_pair, size_of_pair, row_of};
-ghost use Rattle.markdown_attention.specs.Walk.{Stands, Whole, AreSmall};
-ghost use Rattle.markdown_attention.specs.Open.{key_of, kind_of, class_of, WalkFound, WalkEnded, IsCut, HaveMarkers, IsClosing};
-ghost use Rattle.markdown_attention.specs.Containers.{ArePairLists, AreWithin, AreTakenOnce};
+ghost use Rattle.markdown_attention.specs.NumberedPairs.{run_at, markers_left, sizes_fit, ruled_size, is_refused_by_three, is_tilde_pair, size_of_pair, row_of};
+ghost use Rattle.markdown_attention.specs.PairScan.{Stands, Whole, AreSmall};
+ghost use Rattle.markdown_attention.specs.OpenRuns.{key_of, kind_of, class_of, WalkFound, WalkEnded, IsCut, HaveMarkers, IsClosing};
+ghost use Rattle.markdown_attention.specs.RunContainers.{ArePairLists, AreWithin, AreTakenOnce};
 
 use crate::attention::newest::Newest;
 use crate::attention::runs::{Runs, Sequence};
-use markdown_engine::configuration::ParseOptions;
+use markdown_engine_content::configuration::ParseOptions;
 use std::alloc::{AllocError, Global};
 
 /// An opener and a closer by their numbers, and how many markers the pair takes of each.
@@ -59,7 +59,7 @@ fn is_tilde_pair(options: ParseOptions, x: usize, y: usize) -> bool
 }
 
 // Whether the sizes let two runs pair.
-#[tactic(auto, unfolding(crate::specs::Pairs::sizes_fit))]
+#[tactic(auto, unfolding(crate::specs::NumberedPairs::sizes_fit))]
 fn do_sizes_fit(options: ParseOptions, a: Sequence, b: Sequence) -> bool
     requires whole { a.size + b.size < 2 ^ 64 }
     requires rest { a.remaining + b.remaining < 2 ^ 64 }
@@ -106,7 +106,7 @@ fn list_of(run: Sequence) -> usize
 }
 
 // What of a closer decides who refuses it.
-#[tactic(auto, unfolding(crate::specs::Open::class_of))]
+#[tactic(auto, unfolding(crate::specs::OpenRuns::class_of))]
 fn class_number(options: ParseOptions, closer: Sequence) -> usize
     ensures is { result ≡ class_of options closer closer.remaining }
     ensures small { result < 6 }

@@ -1,14 +1,14 @@
 //! Reading the runs of markers off the events.
 
 ghost use Rattle.std.specs.Prelude.{◌≡◌, ◌+◌, ◌<◌, ◌^◌, ◌++◌, length, drop, count_by, IfOk, OnOk, IsUtf8, None};
-ghost use Rattle.markdown_attention.specs.Reading.{opens_run, opens_text, is_beside_marker, is_flanking, may_act, sequence_at, where_after, outermost, first_run, runs_from, IsRunPlace, FirstHasPlaces, HaveRunPlaces};
-ghost use Rattle.markdown_attention.specs.Walk.{Numbered};
-ghost use Rattle.markdown_model.specs.Literal.{is_other};
+ghost use Rattle.markdown_attention.specs.RunsRead.{opens_run, opens_text, is_beside_marker, is_flanking, may_act, sequence_at, where_after, outermost, first_run, runs_from, IsRunPlace, FirstHasPlaces, HaveRunPlaces};
+ghost use Rattle.markdown_attention.specs.PairScan.{Numbered};
+ghost use Rattle.markdown_model.specs.GfmAutolinkLiteral.{is_other};
 ghost use Rattle.markdown_util.specs.Neighbours.{class_of};
 
 use crate::attention::runs::Sequence;
-use markdown_engine::event::{Event, Kind, Name, Point};
-use markdown_engine::events::Events;
+use markdown_engine_content::event::{Event, Kind, Name, Point};
+use markdown_engine_events::events::Events;
 use markdown_lists::seq::Stack;
 use markdown_util::util::char::{self, Kind as CharacterKind};
 use std::alloc::{AllocError, Global};

@@ -1,14 +1,14 @@
 //! The runs of markers of a content, and the one way to look at them.
 
 ghost use Rattle.std.specs.Prelude.{◌≡◌, ◌+◌, ◌^◌, ◌<◌, ◌≤◌, ◌↔◌, length, count_by, IfSome, IsSome, IfOk, OnOk, OnErr, IsTrue, IsUtf8, None};
-ghost use Rattle.markdown_attention.specs.Pairs.{run_at, after_taking};
-ghost use Rattle.markdown_attention.specs.Reading.{HaveRunPlaces, opens_text};
-ghost use Rattle.markdown_attention.specs.Events.{runs_of_events};
-ghost use Rattle.markdown_attention.specs.Open.{HaveMarkers};
-ghost use Rattle.markdown_attention.specs.Walk.{Whole, StandIn};
-ghost use Rattle.markdown_attention.specs.Rows.{IsOf, HasRuns, HasRows};
-ghost use Rattle.markdown_engine.specs.Past.{appended_from};
-ghost use Rattle.markdown_engine.specs.Tree.{Forest};
+ghost use Rattle.markdown_attention.specs.NumberedPairs.{run_at, after_taking};
+ghost use Rattle.markdown_attention.specs.RunsRead.{HaveRunPlaces, opens_text};
+ghost use Rattle.markdown_attention.specs.RunsOfEvents.{runs_of_events};
+ghost use Rattle.markdown_attention.specs.OpenRuns.{HaveMarkers};
+ghost use Rattle.markdown_attention.specs.PairScan.{Whole, StandIn};
+ghost use Rattle.markdown_attention.specs.RunsOfTree.{IsOf, HasRuns, HasRows};
+ghost use Rattle.markdown_engine.specs.PastTree.{appended_from};
+ghost use Rattle.markdown_engine_content.specs.Tree.{Forest};
 ghost use Rattle.markdown_model.specs.Setting.{Setting};
 
 use crate::attention::reading::read;
@@ -54,7 +54,7 @@ pub struct Runs {
 
 impl Model for Runs {
     ghost use Rattle.std.specs.Prelude.{◌≤◌, length};
-    ghost use Rattle.markdown_attention.specs.Walk.{Walk, Numbered, StandIn};
+    ghost use Rattle.markdown_attention.specs.PairScan.{Walk, Numbered, StandIn};
 
     ghost Value = { Walk };
 

@@ -64,7 +64,7 @@ pub fn kind_after_index(bytes: &[u8], index: usize) -> Kind
 }
 
 // Whether a character is white space by Unicode. Of ASCII this needs no look into the tables.
-#[tactic(auto, using(crate::proofs::AsciiClass::white_space_ascii))]
+#[tactic(auto, using(crate::proofs::AsciiClasses::white_space_ascii))]
 #[inline]
 fn is_space(c: char) -> bool
     ensures { result ≡ is_white_space c }

@@ -2,7 +2,7 @@
 
 ghost use Rattle.std.specs.Prelude.{◌≡◌, ◌≢◌, ◌⊎◌, IfOk, IsTrue, MatchOption, encode_utf8, option_map, string_bytes, take};
 ghost use Rattle.std.specs.List.{after_first, prefix_len};
-ghost use Rattle.markdown_util.specs.Parts.{IsMarked};
+ghost use Rattle.markdown_util.specs.ReferenceParts.{IsMarked};
 ghost use Rattle.std.specs.Option.{option_copied};
 ghost use Rattle.std.specs.Str.{byte};
 ghost use Rattle.std.specs.Str.Parse.{digits_value};

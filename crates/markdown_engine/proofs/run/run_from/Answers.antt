@@ -1,8 +1,8 @@
 use Rattle.std.proofs.Common.{◌≡◌, Bool, suc, sym, ap, ◌∙◌, ◌∷◌}
-use Rattle.markdown_engine.specs.Runs.{ends_state, weight_state}
-use Rattle.markdown_engine.proofs.ReachLemmas.{answer}
-use Rattle.markdown_engine.proofs.RunLemmas.{settled-alone, going_in-alone, ready-next}
-use Rattle.markdown_engine.proofs.Turns.{Turned, goes-now, turned-call, turned-out}
+use Rattle.markdown_engine.specs.StateRuns.{ends_state, weight_state}
+use Rattle.markdown_engine.proofs.CallsWithAttemptsLemmas.{answer}
+use Rattle.markdown_engine.proofs.AttemptLemmas.{settled-alone, going_in-alone, ready-next}
+use Rattle.markdown_engine.proofs.TurnLemmas.{Turned, goes-now, turned-call, turned-out}
 use Rattle.markdown_engine.proofs.run.run_from.Given.{Over}
 use Rattle.markdown_engine.proofs.run.run_from.Goals.{in-Ok, in-Nok}
 use Rattle.markdown_engine.proofs.run.run_from.Goals as goal

@@ -1,7 +1,7 @@
 use Rattle.std.proofs.Common.{◌≡◌, suc, Bool, []}
-use Rattle.markdown_engine.specs.Runs.{ends_state, weight_state, Goes}
-use Rattle.markdown_engine.specs.Reach.{Reaches}
-use Rattle.markdown_engine.specs.Turns.{ran, runs_out}
+use Rattle.markdown_engine.specs.StateRuns.{ends_state, weight_state, Goes}
+use Rattle.markdown_engine.specs.CallsWithAttempts.{Reaches}
+use Rattle.markdown_engine.specs.TurnCount.{ran, runs_out}
 use Rattle.markdown_engine.specs.declared.tokenizer.Tokenizer.{Tokenizer}
 use Rattle.markdown_engine.proofs.run.run_from.Given as goal
 

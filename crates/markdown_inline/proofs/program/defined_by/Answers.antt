@@ -2,8 +2,8 @@ use Rattle.std.proofs.Common.{◌≡◌, ℕ, List, Option, Some, None, ap, ◌�
 use Rattle.std.specs.Option.{option_map}
 use Rattle.std.specs.declared.alloc.Global.{Global}
 use Rattle.std.specs.declared.string.String.{String}
-use Rattle.markdown_inline.specs.Words.{defined_word, listed}
-use Rattle.markdown_inline.proofs.WordLemmas.{defined-more, defined-same}
+use Rattle.markdown_inline.specs.ProgramWords.{defined_word, listed}
+use Rattle.markdown_inline.proofs.DefiningWords.{defined-more, defined-same}
 use Rattle.markdown_inline.proofs.program.defined_by.Goals as goal
 use Rattle.markdown_inline.proofs.program.defined_by.Goals.{in-Some+in_ok-push, in_default}
 

@@ -1,5 +1,5 @@
 use Rattle.std.proofs.Common.{◌≡◌, map, string_bytes, take}
-use Rattle.markdown_inline.specs.Words.{defined_by}
+use Rattle.markdown_inline.specs.ProgramWords.{defined_by}
 use Rattle.markdown_inline.proofs.program.defined_by.Given as goal
 
 abbrev pub invariant-loop-word : goal.invariant-loop-word

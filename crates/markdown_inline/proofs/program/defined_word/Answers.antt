@@ -1,5 +1,5 @@
 use Rattle.std.proofs.Common.{Some, ap, ◌∙◌}
-use Rattle.markdown_inline.proofs.WordLemmas.{defined-yes, defined-no}
+use Rattle.markdown_inline.proofs.DefiningWords.{defined-yes, defined-no}
 use Rattle.markdown_inline.proofs.program.defined_word.Goals as goal
 
 pub returns-in_ok-normalize_identifier-in-Some : goal.returns-in_ok-normalize_identifier-in-Some

@@ -1,7 +1,7 @@
 use Rattle.std.proofs.Common.{[], ◌∷◌, sym, subst, ◌∙◌}
 use Rattle.std.proofs.lemmas.Bool.{both_ways}
-use Rattle.markdown_engine.specs.Content.{IsTextContent}
-use Rattle.markdown_engine.specs.declared.parser.Piece.{Piece}
+use Rattle.markdown_engine_content.specs.Content.{IsTextContent}
+use Rattle.markdown_engine_content.specs.declared.parser.Piece.{Piece}
 use Rattle.markdown_inline.proofs.program.found_in.Goals as goal
 
 pub returns-then-not-is_text-clause-blank_line : goal.returns-then-not-is_text-clause-blank_line

@@ -1,8 +1,8 @@
 use Rattle.std.proofs.Common.{◌≡◌, ◌∙◌, sym, ap, ℕ, ◌+◌, ◌<◌, List, [], ◌∷◌, ◌++◌, append-nil, append_assoc, get_or, length, take, arith}
 use Rattle.std.proofs.lemmas.Grind.{flat_map-append}
 use Rattle.std.proofs.lemmas.List.{take_more, take_all}
-use Rattle.markdown_engine.specs.declared.event.Event.{Event}
-use Rattle.markdown_inline_lines.specs.Lines.{line_of, lines_of}
+use Rattle.markdown_engine_content.specs.declared.event.Event.{Event}
+use Rattle.markdown_inline_lines.specs.PrintedLines.{line_of, lines_of}
 use Rattle.markdown_inline_lines.proofs.lines.lines_of.Goals as goal
 
 one-more : (es : List Event) (i : ℕ) (d : Event) (old : List ℕ) → i < length es → old ≡ lines_of (take i es) → old ++ line_of (get_or es i d) ≡ lines_of (take (i + 1) es)

@@ -1,6 +1,6 @@
 use Rattle.std.proofs.Common.{◌≡◌, ℕ, ◌≤◌, List, ◌++◌, take}
-use Rattle.markdown_engine.specs.declared.event.Event.{Event}
-use Rattle.markdown_inline_lines.specs.Lines.{lines_of}
+use Rattle.markdown_engine_content.specs.declared.event.Event.{Event}
+use Rattle.markdown_inline_lines.specs.PrintedLines.{lines_of}
 use Rattle.markdown_inline_lines.proofs.lines.lines_of.Given as goal
 
 -- the lines of these events, the last of which, up to at, are not added to the output yet

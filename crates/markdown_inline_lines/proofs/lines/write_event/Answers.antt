@@ -1,6 +1,6 @@
 use Rattle.std.proofs.Common.{◌≡◌, ◌∙◌, sym, ap, subst, refl, List, ℕ, ◌≤◌, ◌++◌, codes, take, length, append_assoc, arith}
 use Rattle.std.proofs.lemmas.List.{length-take-le, take-take}
-use Rattle.markdown_inline_lines.specs.Lines.{words_text, line_of, link_text, point_text}
+use Rattle.markdown_inline_lines.specs.PrintedLines.{words_text, line_of, link_text, point_text}
 use Rattle.markdown_inline_lines.proofs.lines.write_event.Goals as goal
 
 -- words, of which the spaces behind them do not count, and what is written behind them

@@ -1,9 +1,9 @@
 -- The six events of a footnote call's start are there.
 use Rattle.std.proofs.Common.{◌≤◌, length, sym, ap, subst, ◌∙◌}
-use Rattle.markdown_engine.specs.Ops.{Exit, Consume, applied}
-use Rattle.markdown_engine.specs.declared.event.Name.TheVariants as N
+use Rattle.markdown_engine.specs.Operations.{Exit, Consume, applied}
+use Rattle.markdown_engine_content.specs.declared.event.Name.TheVariants as N
 use Rattle.markdown_engine.specs.declared.tokenizer.Tokenizer.{Tokenizer}
-use Rattle.markdown_label.proofs.StartOps.{long-footnote}
+use Rattle.markdown_label.proofs.LabelStartOps.{long-footnote}
 use Rattle.markdown_label.proofs.gfm_label_start_footnote.open.Goals as goal
 
 pub keep_start-requires-clause-within : goal.keep_start-requires-clause-within

@@ -1,8 +1,8 @@
 -- A part of a text between characters is a text.
 use Rattle.std.proofs.Common.{subst, sym}
 use Rattle.std.specs.Str.{IsUtf8}
-use Rattle.markdown_construct.specs.Characters.{bytes_of}
-use Rattle.markdown_label.proofs.Fronts.{cuts-text}
+use Rattle.markdown_plan.specs.Characters.{bytes_of}
+use Rattle.markdown_label.proofs.IdentifierFrontLemmas.{cuts-text}
 use Rattle.markdown_label.proofs.identifier.identifier_of.Goals as goal
 
 pub as_str-requires : goal.as_str-requires

@@ -1,7 +1,7 @@
 -- The names in order are those that are defined.
 use Rattle.std.proofs.Common.{◌∙◌}
 use Rattle.std.specs.Str.{bytes_eq}
-use Rattle.markdown_label.proofs.ListedNames.{any-definition}
+use Rattle.markdown_label.proofs.NameIndexSearch.{any-definition}
 use Rattle.markdown_label.proofs.identifier.names_definition.Goals as goal
 
 pub returns-in-Some : goal.returns-in-Some

@@ -1,9 +1,9 @@
 -- The four events of a link's start are there.
 use Rattle.std.proofs.Common.{◌≤◌, length, sym, ap, subst, ◌∙◌}
-use Rattle.markdown_engine.specs.Ops.{Enter, Exit, Consume, applied}
-use Rattle.markdown_engine.specs.declared.event.Name.TheVariants as N
+use Rattle.markdown_engine.specs.Operations.{Enter, Exit, Consume, applied}
+use Rattle.markdown_engine_content.specs.declared.event.Name.TheVariants as N
 use Rattle.markdown_engine.specs.declared.tokenizer.Tokenizer.{Tokenizer}
-use Rattle.markdown_label.proofs.StartOps.{long-link}
+use Rattle.markdown_label.proofs.LabelStartOps.{long-link}
 use Rattle.markdown_label.proofs.label_start_link.start.Goals as goal
 
 pub keep_start-requires-clause-within : goal.keep_start-requires-clause-within

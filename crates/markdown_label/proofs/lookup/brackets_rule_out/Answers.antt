@@ -1,6 +1,6 @@
 -- Of another number of brackets nothing is defined.
 use Rattle.std.proofs.Common.{◌∙◌, sym}
-use Rattle.markdown_label.proofs.BracketRules.{lacks-unknown}
+use Rattle.markdown_label.proofs.IdentifierBrackets.{lacks-unknown}
 use Rattle.markdown_label.proofs.lookup.brackets_rule_out.Goals as goal
 
 pub returns-in-Some : goal.returns-in-Some

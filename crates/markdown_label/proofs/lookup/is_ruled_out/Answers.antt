@@ -1,8 +1,8 @@
 -- A front that no definition begins with rules the whole label out.
 use Rattle.std.proofs.Common.{◌∙◌, sym}
-use Rattle.markdown_construct.specs.Characters.{bytes_of}
-use Rattle.markdown_label.specs.Settings.{setting_in}
-use Rattle.markdown_label.proofs.Fronts.{front-cuts, unknown-from, unknown-nothing}
+use Rattle.markdown_plan.specs.Characters.{bytes_of}
+use Rattle.markdown_label.specs.LabelSetting.{setting_in}
+use Rattle.markdown_label.proofs.IdentifierFrontLemmas.{front-cuts, unknown-from, unknown-nothing}
 use Rattle.markdown_label.proofs.lookup.is_ruled_out.Goals as goal
 
 pub identifier_of-requires : goal.identifier_of-requires

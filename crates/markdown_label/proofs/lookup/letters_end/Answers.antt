@@ -1,6 +1,6 @@
 -- Each byte that is passed is a letter.
 use Rattle.std.proofs.Common.{◌≡◌, ◌∙◌, sym, subst, arith}
-use Rattle.markdown_label.proofs.Letters.{IsWord, word-none, word-more, word-kept}
+use Rattle.markdown_label.proofs.IdentifierLetters.{IsWord, word-none, word-more, word-kept}
 use Rattle.markdown_label.proofs.lookup.letters_end.Goals as goal
 
 pub loop-at-init : goal.loop-at-init

@@ -1,4 +1,4 @@
-use Rattle.markdown_label.proofs.Letters.{IsWord}
+use Rattle.markdown_label.proofs.IdentifierLetters.{IsWord}
 use Rattle.markdown_label.proofs.lookup.letters_end.Given as goal
 
 abbrev pub invariant-loop-at : goal.invariant-loop-at

@@ -2,9 +2,9 @@
 use Rattle.std.proofs.Common.{subst, sym, ◌∙◌}
 use Rattle.std.specs.Str.{IsUtf8}
 use Rattle.std.proofs.lemmas.Bool.{not-true}
-use Rattle.markdown_construct.specs.Characters.{bytes_of}
-use Rattle.markdown_label.specs.Settings.{setting_in}
-use Rattle.markdown_label.proofs.Fronts.{cuts-text, unknown-from}
+use Rattle.markdown_plan.specs.Characters.{bytes_of}
+use Rattle.markdown_label.specs.LabelSetting.{setting_in}
+use Rattle.markdown_label.proofs.IdentifierFrontLemmas.{cuts-text, unknown-from}
 use Rattle.markdown_label.proofs.lookup.letters_rule_out.Goals as goal
 
 pub as_str-requires : goal.as_str-requires

@@ -1,4 +1,4 @@
-use Rattle.markdown_leaf.proofs.NameLemmas.{name-utf8}
+use Rattle.markdown_leaf.proofs.CharacterReferenceNames.{name-utf8}
 use Rattle.markdown_leaf.proofs.character_reference.is_name.Goals as goal
 
 pub unreachable-requires : goal.unreachable-requires

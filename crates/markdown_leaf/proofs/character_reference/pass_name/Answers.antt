@@ -1,5 +1,5 @@
 use Rattle.std.proofs.Common.{arith, sym, ◌∙◌, ◌≤◌, length}
-use Rattle.markdown_leaf.proofs.NameLemmas.{passed-other, passed-end, passing-step}
+use Rattle.markdown_leaf.proofs.CharacterReferenceNames.{passed-other, passed-end, passing-step}
 use Rattle.markdown_leaf.proofs.character_reference.pass_name.Goals as goal
 
 pub returns-then-not-is_ascii_alphanumeric : goal.returns-then-not-is_ascii_alphanumeric

@@ -1,4 +1,4 @@
-use Rattle.markdown_engine.specs.Place.{ahead_at}
+use Rattle.markdown_engine_content.specs.Place.{ahead_at}
 use Rattle.markdown_leaf.specs.CharacterReference.{IsPassing}
 use Rattle.markdown_leaf.proofs.character_reference.pass_name.Given as goal
 

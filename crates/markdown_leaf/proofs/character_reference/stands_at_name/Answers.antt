@@ -1,7 +1,7 @@
 use Rattle.std.proofs.Common.{◌≡◌, Some, length, sym, ap, subst, ◌∙◌, arith}
-use Rattle.markdown_engine.specs.Place.{ahead_at}
+use Rattle.markdown_engine_content.specs.Place.{ahead_at}
 use Rattle.markdown_leaf.specs.CharacterReference.{HasPassed}
-use Rattle.markdown_leaf.proofs.NameLemmas.{stands-at, stands-none, stands-other}
+use Rattle.markdown_leaf.proofs.CharacterReferenceNames.{stands-at, stands-none, stands-other}
 use Rattle.markdown_leaf.proofs.character_reference.stands_at_name.Goals as goal
 
 pub returns-in_default : goal.returns-in_default

@@ -1,5 +1,5 @@
 use Rattle.std.proofs.Common.{◌∙◌, arith, ◌-◌}
-use Rattle.markdown_leaf.proofs.EscapeEvents.{last-escape}
+use Rattle.markdown_leaf.proofs.LastEvent.{last-escape}
 use Rattle.markdown_leaf.proofs.raw_text.follows_escape.Goals as goal
 
 pub returns : goal.returns

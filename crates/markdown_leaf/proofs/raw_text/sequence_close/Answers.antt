@@ -1,5 +1,5 @@
 use Rattle.std.proofs.Common.{sym, ◌∙◌, arith}
-use Rattle.markdown_construct.proofs.RenamingLemmas.{room}
+use Rattle.markdown_plan.proofs.RenameLemmas.{room}
 use Rattle.markdown_leaf.proofs.raw_text.sequence_close.Goals as goal
 
 pub overflow_add-passed : goal.overflow_add-passed

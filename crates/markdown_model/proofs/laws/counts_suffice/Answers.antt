@@ -1,4 +1,4 @@
-use Rattle.markdown_model.proofs.Counts.{counts_suffice}
+use Rattle.markdown_model.proofs.CountsSuffice.{counts_suffice}
 use Rattle.markdown_model.proofs.laws.counts_suffice.Goals as goal
 
 pub returns : goal.returns

@@ -1,4 +1,4 @@
-use Rattle.markdown_model.proofs.UnusedStarts.{ends_take_the_nearest}
+use Rattle.markdown_model.proofs.EndsTakeTheNearest.{ends_take_the_nearest}
 use Rattle.markdown_model.proofs.laws.ends_take_the_nearest.Goals as goal
 
 pub returns : goal.returns

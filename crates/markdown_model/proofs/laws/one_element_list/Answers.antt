@@ -1,4 +1,4 @@
-use Rattle.markdown_model.proofs.TreeLaws.{one_element_list}
+use Rattle.markdown_model.proofs.OneTree.{one_element_list}
 use Rattle.markdown_model.proofs.laws.one_element_list.Goals as goal
 
 pub returns : goal.returns

@@ -1,4 +1,4 @@
-use Rattle.markdown_model.proofs.TreeLaws.{one_end}
+use Rattle.markdown_model.proofs.OneTree.{one_end}
 use Rattle.markdown_model.proofs.laws.one_end.Goals as goal
 
 pub returns : goal.returns

@@ -1,4 +1,4 @@
-use Rattle.markdown_model.proofs.TreeLaws.{one_tree}
+use Rattle.markdown_model.proofs.OneTree.{one_tree}
 use Rattle.markdown_model.proofs.laws.one_tree.Goals as goal
 
 pub returns : goal.returns

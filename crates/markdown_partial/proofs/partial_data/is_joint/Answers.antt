@@ -1,5 +1,5 @@
 use Rattle.std.proofs.Common.{arith, ◌∙◌, sym}
-use Rattle.markdown_partial.proofs.MergeMarks.{joint-none, joint-two}
+use Rattle.markdown_partial.proofs.MergeEdits.{joint-none, joint-two}
 use Rattle.markdown_partial.proofs.partial_data.is_joint.Goals as goal
 
 pub returns-then-not-opens_data : goal.returns-then-not-opens_data

@@ -1,5 +1,5 @@
 use Rattle.std.proofs.Common.{arith}
-use Rattle.markdown_partial.proofs.MergeMarks.{marks-more, marks-end}
+use Rattle.markdown_partial.proofs.MergeEdits.{marks-more, marks-end}
 use Rattle.markdown_partial.proofs.partial_data.mark_joints.Goals as goal
 
 pub loop-index-preserved : goal.loop-index-preserved

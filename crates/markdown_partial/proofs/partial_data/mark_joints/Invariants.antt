@@ -1,5 +1,5 @@
 use Rattle.std.proofs.Common.{◌≡◌, ◌-◌, ◌++◌, drop}
-use Rattle.markdown_partial.specs.Merge.{joints}
+use Rattle.markdown_partial.specs.MergedEvents.{joints}
 use Rattle.markdown_partial.proofs.partial_data.mark_joints.Given as goal
 
 -- the joints so far, and those that are still to come

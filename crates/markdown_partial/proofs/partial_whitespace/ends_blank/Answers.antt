@@ -1,5 +1,5 @@
 use Rattle.std.proofs.Common.{◌∙◌, sym, arith}
-use Rattle.markdown_partial.proofs.TrimEnds.{ends-none, ends-inside, ends-byte, end-within}
+use Rattle.markdown_partial.proofs.FirstAndLastCode.{ends-none, ends-inside, ends-byte, end-within}
 use Rattle.markdown_partial.proofs.partial_whitespace.ends_blank.Goals as goal
 
 pub returns-then-is_same_place : goal.returns-then-is_same_place

@@ -1,6 +1,6 @@
 use Rattle.std.proofs.Common.{◌≡◌, ◌∙◌, ◌-◌, sym, ap, suc, arith}
-use Rattle.markdown_partial.specs.TrimEvents.{flag}
-use Rattle.markdown_partial.proofs.TrimMarks.{flag-next}
+use Rattle.markdown_partial.specs.TrimmedEvents.{flag}
+use Rattle.markdown_partial.proofs.TrimEdits.{flag-next}
 use Rattle.markdown_partial.proofs.partial_whitespace.front_goes.Goals as goal
 
 pub returns : goal.returns

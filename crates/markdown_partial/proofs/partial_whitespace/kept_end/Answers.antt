@@ -1,7 +1,7 @@
 use Rattle.std.proofs.Common.{◌∙◌, sym, ap}
-use Rattle.markdown_partial.proofs.TrimRows.{last-is}
+use Rattle.markdown_partial.proofs.TrimmedLeaves.{last-is}
 use Rattle.markdown_partial.proofs.TrimWalks.{IsBegun, IsEnded, begun-where, ended-where, shorter, stretch-next, last_kept, kept-same, kept-moved}
-use Rattle.markdown_partial.specs.Trim.{between}
+use Rattle.markdown_partial.specs.TrimmedData.{between}
 use Rattle.markdown_partial.proofs.partial_whitespace.kept_end.Goals as goal
 
 pub is_blank-blank-requires-clause-begins : goal.is_blank-blank-requires-clause-begins

@@ -1,5 +1,5 @@
 use Rattle.std.proofs.Common.{◌≡◌, length}
-use Rattle.markdown_partial.specs.Trim.{between, IsStretch}
+use Rattle.markdown_partial.specs.TrimmedData.{between, IsStretch}
 use Rattle.markdown_partial.proofs.TrimWalks.{last_kept}
 use Rattle.markdown_partial.proofs.partial_whitespace.kept_end.Given as goal
 

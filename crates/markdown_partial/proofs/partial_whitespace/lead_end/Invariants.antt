@@ -1,5 +1,5 @@
 use Rattle.std.proofs.Common.{◌≡◌, length}
-use Rattle.markdown_partial.specs.Trim.{between, IsStretch, end_of_lead}
+use Rattle.markdown_partial.specs.TrimmedData.{between, IsStretch, end_of_lead}
 use Rattle.markdown_partial.proofs.partial_whitespace.lead_end.Given as goal
 
 -- where the blank codes that are left end, the others end

@@ -1,4 +1,4 @@
-use Rattle.markdown_partial.proofs.TrimRows.{pushed-leaf, leaf-none}
+use Rattle.markdown_partial.proofs.TrimmedLeaves.{pushed-leaf, leaf-none}
 use Rattle.markdown_partial.proofs.partial_whitespace.push_leaf.Goals as goal
 
 pub returns-in_ok-push-2 : goal.returns-in_ok-push-2

@@ -1,5 +1,5 @@
 use Rattle.std.proofs.Common.{◌∙◌, sym, ap, not}
-use Rattle.markdown_partial.proofs.TrimEnds.{starts-is, starts-none}
+use Rattle.markdown_partial.proofs.FirstAndLastCode.{starts-is, starts-none}
 use Rattle.markdown_partial.proofs.TrimWalks.{begun-where}
 use Rattle.markdown_partial.proofs.partial_whitespace.starts_blank.Goals as goal
 

@@ -1,9 +1,9 @@
 use Rattle.std.proofs.Common.{◌≡◌, ◌∙◌, List, OnOk, ap, sym, subst}
-use Rattle.markdown_engine.specs.Edits.{CanEdit, edited}
-use Rattle.markdown_engine.specs.declared.event.Event.{Event}
-use Rattle.markdown_engine.specs.declared.util.edit_map.Edit.{Edit}
-use Rattle.markdown_partial.proofs.TrimLaws.{trimmed-tree}
-use Rattle.markdown_partial.proofs.TrimMarks.{can-trim}
+use Rattle.markdown_engine_events.specs.Edits.{CanEdit, edited}
+use Rattle.markdown_engine_content.specs.declared.event.Event.{Event}
+use Rattle.markdown_engine_events.specs.declared.util.edit_map.Edit.{Edit}
+use Rattle.markdown_partial.proofs.TrimPassLaw.{trimmed-tree}
+use Rattle.markdown_partial.proofs.TrimEdits.{can-trim}
 use Rattle.markdown_partial.proofs.partial_whitespace.trim.Goals as goal
 
 pub consume-requires : goal.consume-requires

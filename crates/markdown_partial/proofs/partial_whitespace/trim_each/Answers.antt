@@ -1,5 +1,5 @@
 use Rattle.std.proofs.Common.{arith}
-use Rattle.markdown_partial.proofs.TrimMarks.{places-on, trims-on}
+use Rattle.markdown_partial.proofs.TrimEdits.{places-on, trims-on}
 use Rattle.markdown_partial.proofs.partial_whitespace.trim_each.Goals as goal
 
 pub loop-index-preserved : goal.loop-index-preserved

@@ -1,5 +1,5 @@
 use Rattle.std.proofs.Common.{◌≡◌, ◌++◌, drop}
-use Rattle.markdown_partial.specs.TrimEvents.{flag, trims, HasPlaces}
+use Rattle.markdown_partial.specs.TrimmedEvents.{flag, trims, HasPlaces}
 use Rattle.markdown_partial.proofs.partial_whitespace.trim_each.Given as goal
 
 -- the edits so far, and those that are still to come

@@ -1,6 +1,6 @@
 use Rattle.std.proofs.Common.{arith, sym, ◌∙◌}
-use Rattle.markdown_partial.proofs.TrimMarks.{next-within, closes-first}
-use Rattle.markdown_partial.proofs.TrimRows.{trimmed-unlinked}
+use Rattle.markdown_partial.proofs.TrimEdits.{next-within, closes-first}
+use Rattle.markdown_partial.proofs.TrimmedLeaves.{trimmed-unlinked}
 use Rattle.markdown_partial.proofs.partial_whitespace.trim_first.Goals as goal
 
 pub overflow_add-index : goal.overflow_add-index

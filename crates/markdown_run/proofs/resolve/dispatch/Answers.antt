@@ -1,17 +1,17 @@
 use Rattle.std.proofs.Common.{◌≡◌, IfOk, OnOk, Result, Ok, Err, None, sym, subst}
-use Rattle.markdown_engine.specs.Past.{appended_from}
-use Rattle.markdown_engine.specs.Tree.{Forest}
+use Rattle.markdown_engine.specs.PastTree.{appended_from}
+use Rattle.markdown_engine_content.specs.Tree.{Forest}
 use Rattle.markdown_engine.specs.declared.resolve.ResolveName.{ResolveName}
 use Rattle.markdown_engine.specs.declared.tokenizer.Tokenizer.{Tokenizer}
-use Rattle.markdown_attention.specs.Rows.{IsOf, HasRuns}
-use Rattle.markdown_emphasis.specs.Pass.{IsProbed}
-use Rattle.markdown_emphasis.specs.Trees.{IsStriped}
-use Rattle.markdown_model.specs.Groups.{paired}
+use Rattle.markdown_attention.specs.RunsOfTree.{IsOf, HasRuns}
+use Rattle.markdown_attention.specs.AttentionPass.{IsProbed}
+use Rattle.markdown_attention.specs.AttentionTrees.{IsStriped}
+use Rattle.markdown_model.specs.BracketGroups.{paired}
 use Rattle.markdown_model.specs.Pairs.{pair_list}
 use Rattle.markdown_model.specs.Setting.{Setting}
 use Rattle.markdown_label_pass.specs.Brackets.{Brackets, grouped}
-use Rattle.markdown_label_pass.specs.Handover.{HasBrackets, unlabelled}
-use Rattle.markdown_text.specs.Resolve.{GroupsLabels, PairsRuns, resolves_of}
+use Rattle.markdown_label_pass.specs.LabelsHandedOver.{HasBrackets, unlabelled}
+use Rattle.markdown_run_text.specs.ContentPasses.{GroupsLabels, PairsRuns, resolves_of}
 use Rattle.markdown_run.proofs.resolve.dispatch.Goals as goal
 
 -- what the pass of runs ensures, put together

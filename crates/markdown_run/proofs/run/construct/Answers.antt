@@ -1,6 +1,6 @@
 use Rattle.std.proofs.Common.{◌≡◌}
 use Rattle.markdown_engine.specs.declared.tokenizer.Tokenizer.{Tokenizer}
-use Rattle.markdown_run.proofs.ConstructLemmas.{put_back, construct-stays, construct-reads}
+use Rattle.markdown_run.proofs.RunConstructLemmas.{put_back, construct-stays, construct-reads}
 use Rattle.markdown_run.proofs.run.construct.Goals as goal
 
 pub returns-then-not-held-clause-reads : goal.returns-then-not-held-clause-reads

@@ -1,5 +1,5 @@
 use Rattle.std.proofs.Common.{refl, ap, ◌∙◌}
-use Rattle.markdown_engine.specs.Chain.{chained}
+use Rattle.markdown_engine_events.specs.EventChains.{chained}
 use Rattle.markdown_run.proofs.run.run_through.Goals as goal
 
 pub resolve_all-requires : goal.resolve_all-requires

@@ -1,9 +1,9 @@
 use Rattle.std.proofs.Common.{◌∙◌}
 use Rattle.std.proofs.lemmas.Result.{IfOk-weaker}
-use Rattle.markdown_run.proofs.RunEnds.{begun-starts}
+use Rattle.markdown_run.proofs.WholeRun.{begun-starts}
 use Rattle.markdown_run.proofs.StringRun.{string-ready, string-may, string-probes, string-run}
-use Rattle.markdown_text.specs.Settings.{setting_of}
-use Rattle.markdown_stretch.proofs.ContentLeaves.{string-in-order, string-covers}
+use Rattle.markdown_run_text.specs.RunSetting.{setting_of}
+use Rattle.markdown_run_leaves.proofs.LeavesAreStretches.{string-in-order, string-covers}
 use Rattle.markdown_run.proofs.run.string.Goals as goal
 
 pub run_through-requires-clause-ready : goal.run_through-requires-clause-ready

@@ -1,13 +1,13 @@
 use Rattle.std.proofs.Common.{ℕ, sym, subst, ◌∙◌}
 use Rattle.std.proofs.lemmas.Result.{IfOk-weaker}
-use Rattle.markdown_engine.specs.Content.{content_of}
-use Rattle.markdown_emphasis.specs.Pass.{IsProbed}
-use Rattle.markdown_model.specs.Inline.{label_tree}
+use Rattle.markdown_engine_content.specs.Content.{content_of}
+use Rattle.markdown_attention.specs.AttentionPass.{IsProbed}
+use Rattle.markdown_model.specs.InlineTree.{label_tree}
 use Rattle.markdown_model.specs.Setting.{Setting}
-use Rattle.markdown_text.specs.Settings.{text_setting_of}
-use Rattle.markdown_run.proofs.RunEnds.{begun-starts}
+use Rattle.markdown_run_text.specs.RunSetting.{text_setting_of}
+use Rattle.markdown_run.proofs.WholeRun.{begun-starts}
 use Rattle.markdown_run.proofs.TextRun.{started, text-ready, text-may, text-probes, text-no-probes, text-run}
-use Rattle.markdown_stretch.proofs.ContentLeaves.{text-in-order, text-covers}
+use Rattle.markdown_run_leaves.proofs.LeavesAreStretches.{text-in-order, text-covers}
 use Rattle.markdown_run.proofs.run.text.Goals as goal
 
 pub run_through-requires-clause-ready : goal.run_through-requires-clause-ready

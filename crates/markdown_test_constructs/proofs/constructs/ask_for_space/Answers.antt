@@ -1,8 +1,8 @@
 use Rattle.std.proofs.Common.{ap, subst, sym, ◌∙◌}
 use Rattle.markdown_engine.specs.declared.tokenizer.Tokenizer.{Tokenizer}
-use Rattle.markdown_engine.proofs.OpRules.{attempts-scratched}
-use Rattle.markdown_run.proofs.StartLemmas.{start-space}
-use Rattle.markdown_partial.specs.SpaceSteps.{StartReady}
+use Rattle.markdown_engine.proofs.OperationFields.{attempts-scratched}
+use Rattle.markdown_run.proofs.ConstructsAtStart.{start-space}
+use Rattle.markdown_partial.specs.PartialSpaceOrTab.{StartReady}
 use Rattle.markdown_test_constructs.proofs.constructs.ask_for_space.Goals as goal
 
 pub returns-clause-alone : goal.returns-clause-alone

@@ -1,8 +1,8 @@
 use Rattle.std.proofs.Common.{ap, subst, sym, ◌∙◌}
 use Rattle.markdown_engine.specs.declared.tokenizer.Tokenizer.{Tokenizer}
-use Rattle.markdown_engine.proofs.OpRules.{attempts-scratched}
-use Rattle.markdown_run.proofs.StartLemmas.{start-spacing}
-use Rattle.markdown_partial.specs.EolSteps.{StartReady}
+use Rattle.markdown_engine.proofs.OperationFields.{attempts-scratched}
+use Rattle.markdown_run.proofs.ConstructsAtStart.{start-spacing}
+use Rattle.markdown_partial.specs.PartialSpaceOrTabEol.{StartReady}
 use Rattle.markdown_test_constructs.proofs.constructs.ask_for_spacing.Goals as goal
 
 pub returns-clause-alone : goal.returns-clause-alone

@@ -1,10 +1,10 @@
 use Rattle.std.proofs.Common.{◌≤◌, ap, subst, sym, ◌∙◌}
-use Rattle.markdown_engine.specs.Ops.{Consume}
+use Rattle.markdown_engine.specs.Operations.{Consume}
 use Rattle.markdown_engine.specs.Weights.{codes_left}
 use Rattle.markdown_engine.specs.declared.tokenizer.Tokenizer.{Tokenizer}
-use Rattle.markdown_engine.proofs.OpRules.{attempts-applied, scratch-applied}
-use Rattle.markdown_run.proofs.StartLemmas.{past-fits}
-use Rattle.markdown_partial.specs.SpaceSteps.{most}
+use Rattle.markdown_engine.proofs.OperationFields.{attempts-applied, scratch-applied}
+use Rattle.markdown_run.proofs.ConstructsAtStart.{past-fits}
+use Rattle.markdown_partial.specs.PartialSpaceOrTab.{most}
 use Rattle.markdown_test_constructs.proofs.constructs.pass_first.Goals as goal
 
 pub returns-then-is_some-clause-alone : goal.returns-then-is_some-clause-alone

@@ -1,11 +1,11 @@
 use Rattle.std.proofs.Common.{◌≡◌, ◌-◌, ◌<◌, ℕ, suc, List, drop, length, sym, subst, arith}
 use Rattle.std.proofs.Math.Seq.{drop-cons}
-use Rattle.markdown_engine.specs.Codes.{document_start}
-use Rattle.markdown_engine.specs.Tree.{event}
-use Rattle.markdown_engine.specs.declared.event.Event.{Event}
-use Rattle.markdown_engine.specs.declared.event.Kind.TheVariants as Kind
-use Rattle.markdown_engine.specs.declared.event.Name.TheVariants as N
-use Rattle.markdown_partial.specs.TrimEvents.{FirstHasPlaces, HasPlaces}
+use Rattle.markdown_engine_content.specs.Codes.{document_start}
+use Rattle.markdown_engine_content.specs.Tree.{event}
+use Rattle.markdown_engine_content.specs.declared.event.Event.{Event}
+use Rattle.markdown_engine_content.specs.declared.event.Kind.TheVariants as Kind
+use Rattle.markdown_engine_content.specs.declared.event.Name.TheVariants as N
+use Rattle.markdown_partial.specs.TrimmedEvents.{FirstHasPlaces, HasPlaces}
 use Rattle.markdown_test_pairs.proofs.passes.has_places.Goals as goal
 
 from-here : (bytes : List ℕ) (es : List Event) (j : ℕ) → j < length es → FirstHasPlaces bytes (drop j es) → HasPlaces bytes (drop (suc j) es) → HasPlaces bytes (drop j es)

@@ -1,5 +1,5 @@
 use Rattle.std.proofs.Common.{drop}
-use Rattle.markdown_partial.specs.TrimEvents.{HasPlaces}
+use Rattle.markdown_partial.specs.TrimmedEvents.{HasPlaces}
 use Rattle.markdown_test_pairs.proofs.passes.has_places.Given as goal
 
 -- the data from here on

@@ -1,6 +1,6 @@
 use Rattle.std.proofs.Common.{[], refl}
-use Rattle.markdown_engine.specs.Codes.{codes_of}
-use Rattle.markdown_engine.proofs.Points.{point-split}
+use Rattle.markdown_engine_content.specs.Codes.{codes_of}
+use Rattle.markdown_engine_content.proofs.DocumentPlaces.{point-split}
 use Rattle.markdown_test_pairs.proofs.passes.is_point.Goals as goal
 
 pub walk_to-requires-clause-is_point : goal.walk_to-requires-clause-is_point

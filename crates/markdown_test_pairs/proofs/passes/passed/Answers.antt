@@ -1,4 +1,4 @@
-use Rattle.markdown_run.proofs.RunEnds.{begun-starts}
+use Rattle.markdown_run.proofs.WholeRun.{begun-starts}
 use Rattle.markdown_run.proofs.TextRun.{started, text-ready, text-may}
 use Rattle.markdown_test_pairs.proofs.passes.passed.Goals as goal
 

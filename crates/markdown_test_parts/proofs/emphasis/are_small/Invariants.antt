@@ -1,5 +1,5 @@
 use Rattle.std.proofs.Common.{◌≡◌, take}
-use Rattle.markdown_attention.specs.Pairs.{markers_left}
+use Rattle.markdown_attention.specs.NumberedPairs.{markers_left}
 use Rattle.markdown_test_parts.proofs.emphasis.are_small.Given as goal
 
 -- the runs so far

@@ -1,9 +1,9 @@
 use Rattle.std.proofs.Common.{◌≡◌, true, List, [], ◌∷◌, ◌++◌, Some, refl, ap, ◌∙◌}
-use Rattle.markdown_engine.specs.declared.event.Event.{Event}
-use Rattle.markdown_engine.specs.declared.util.edit_map.Edit.{Edit}
-use Rattle.markdown_engine.specs.Chain.{with_previous, changed_at}
-use Rattle.markdown_engine.specs.Edits.{CanEdit}
-use Rattle.markdown_engine.proofs.EditFacts.{can_edit, CanEdit-from_test}
+use Rattle.markdown_engine_content.specs.declared.event.Event.{Event}
+use Rattle.markdown_engine_events.specs.declared.util.edit_map.Edit.{Edit}
+use Rattle.markdown_engine_events.specs.EventChains.{with_previous, changed_at}
+use Rattle.markdown_engine_events.specs.Edits.{CanEdit}
+use Rattle.markdown_engine_events.proofs.EditRules.{can_edit, CanEdit-from_test}
 use Rattle.markdown_test_parts.proofs.events.edit_one_place.Goals as goal
 
 -- a list that one item was added to

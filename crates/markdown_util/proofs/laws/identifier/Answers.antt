@@ -1,4 +1,4 @@
-use Rattle.markdown_util.proofs.Spaces.{identifier_law}
+use Rattle.markdown_util.proofs.WordsAcrossSpaces.{identifier_law}
 use Rattle.markdown_util.proofs.laws.identifier.Goals as goal
 
 pub returns : goal.returns

@@ -1,5 +1,5 @@
 use Rattle.std.proofs.Common.{◌≡◌, ℕ, suc, ◌<◌, ◌≤◌, get_or, length, subst, arith}
-use Rattle.markdown_attention.specs.Open.{CutFrom}
+use Rattle.markdown_attention.specs.OpenRuns.{CutFrom}
 use Rattle.std.proofs.lemmas.List.{get_or_read}
 use Rattle.markdown_attention.proofs.attention.pairing.cut.Goals as goal
 

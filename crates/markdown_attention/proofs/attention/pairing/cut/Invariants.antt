@@ -1,5 +1,5 @@
 use Rattle.std.proofs.Common.{ℕ, ◌≤◌}
-use Rattle.markdown_attention.specs.Open.{CutFrom}
+use Rattle.markdown_attention.specs.OpenRuns.{CutFrom}
 use Rattle.markdown_attention.proofs.attention.pairing.cut.Given as goal
 
 abbrev pub invariant-loop-run : goal.invariant-loop-run

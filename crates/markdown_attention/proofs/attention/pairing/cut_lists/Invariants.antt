@@ -1,5 +1,5 @@
 use Rattle.std.proofs.Common.{◌≡◌, ℕ, ◌<◌, ◌≤◌, ◌⊎◌, length, get_or}
-use Rattle.markdown_attention.specs.Open.{IsCut}
+use Rattle.markdown_attention.specs.OpenRuns.{IsCut}
 use Rattle.markdown_attention.proofs.attention.pairing.cut_lists.Given as goal
 
 abbrev pub invariant-loop-i : goal.invariant-loop-i

@@ -1,13 +1,13 @@
 use Rattle.std.proofs.Common.{◌≡◌, ℕ, ◌+◌, ◌-◌, ◌*◌, ◌<◌, ◌≤◌, ◌⊎◌, ◌&&◌, cond, true, false, eqb, ltb, set, length, get_or, refl, sym, ◌∙◌, ap, subst, arith, List, inl, inr}
 use Rattle.std.proofs.lemmas.Bool.{cases_lt}
 use Rattle.std.proofs.lemmas.List.{get_or_read, length-replicate}
-use Rattle.markdown_attention.specs.Pairs.{row_of, run_at, markers_left, after_taking}
-use Rattle.markdown_attention.specs.Open.{class_of, list_of, mark_of, WalkFound, WalkEnded, IsCut, IsClosing}
-use Rattle.markdown_attention.proofs.OpenLists.{by-marker}
-use Rattle.markdown_attention.proofs.Standing.{markers_taking, length_taking}
-use Rattle.markdown_attention.proofs.ListScan.{inv_start}
-use Rattle.markdown_attention.proofs.Scan.{all-within, all-once}
-use Rattle.markdown_attention.proofs.Turns.{scanned-all, paid-all, looks-all, end_turn, pair_turn, fits, key_is, small_runs, some_key, zeros, length_if, less}
+use Rattle.markdown_attention.specs.NumberedPairs.{row_of, run_at, markers_left, after_taking}
+use Rattle.markdown_attention.specs.OpenRuns.{class_of, list_of, mark_of, WalkFound, WalkEnded, IsCut, IsClosing}
+use Rattle.markdown_attention.proofs.OpenRunLists.{by-marker}
+use Rattle.markdown_attention.proofs.RemainingSizes.{markers_taking, length_taking}
+use Rattle.markdown_attention.proofs.PairScanByLists.{inv_start}
+use Rattle.markdown_attention.proofs.PairScanInvariant.{all-within, all-once}
+use Rattle.markdown_attention.proofs.PairScanTurns.{scanned-all, paid-all, looks-all, end_turn, pair_turn, fits, key_is, small_runs, some_key, zeros, length_if, less}
 use Rattle.markdown_attention.proofs.attention.pairing.pair_runs.Goals as goal
 use Rattle.markdown_attention.proofs.attention.pairing.pair_runs.Goals.{After-walk, After-row_known-1}
 

@@ -1,6 +1,6 @@
 use Rattle.std.proofs.Common.{◌≡◌, ◌+◌, ◌-◌, ◌*◌, length}
-use Rattle.markdown_attention.specs.Pairs.{markers_left}
-use Rattle.markdown_attention.proofs.ListScan.{Inv}
+use Rattle.markdown_attention.specs.NumberedPairs.{markers_left}
+use Rattle.markdown_attention.proofs.PairScanByLists.{Inv}
 use Rattle.markdown_attention.proofs.attention.pairing.pair_runs.Given as goal
 
 abbrev pub invariant-loop-closer : goal.invariant-loop-closer

@@ -1,5 +1,5 @@
 use Rattle.std.proofs.Common.{◌≡◌, ◌+◌, ◌-◌, ◌≤◌}
-use Rattle.markdown_attention.specs.Open.{Passed}
+use Rattle.markdown_attention.specs.OpenRuns.{Passed}
 use Rattle.markdown_attention.proofs.attention.pairing.walk.Given as goal
 
 abbrev pub invariant-loop-run : goal.invariant-loop-run

@@ -1,5 +1,5 @@
 use Rattle.std.proofs.Common.{◌<◌, ◌≤◌, length, arith}
-use Rattle.markdown_attention.proofs.ReadingLemmas.{reading-start, reading-more, reading-end, reading-first, texts-end}
+use Rattle.markdown_attention.proofs.RunsReadLemmas.{reading-start, reading-more, reading-end, reading-first, texts-end}
 use Rattle.markdown_attention.proofs.attention.reading.read.Goals as goal
 
 pub loop-index-init : goal.loop-index-init

@@ -1,4 +1,4 @@
-use Rattle.markdown_attention.proofs.ReadingLemmas.{Reading}
+use Rattle.markdown_attention.proofs.RunsReadLemmas.{Reading}
 use Rattle.markdown_attention.proofs.attention.reading.read.Given as goal
 
 abbrev pub invariant-loop-index : goal.invariant-loop-index

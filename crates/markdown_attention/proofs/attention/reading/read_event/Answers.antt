@@ -1,6 +1,6 @@
 use Rattle.std.proofs.Common.{◌∙◌, ◌≡◌, true, sym}
-use Rattle.markdown_attention.specs.Reading.{opens_run}
-use Rattle.markdown_attention.proofs.ReadingLemmas.{exit-within, exit-place}
+use Rattle.markdown_attention.specs.RunsRead.{opens_run}
+use Rattle.markdown_attention.proofs.RunsReadLemmas.{exit-within, exit-place}
 use Rattle.markdown_attention.proofs.attention.reading.read_event.Goals as goal
 
 pub bare_at-exit-requires : goal.bare_at-exit-requires

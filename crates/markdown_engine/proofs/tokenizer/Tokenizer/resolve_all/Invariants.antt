@@ -1,5 +1,5 @@
 use Rattle.std.proofs.Common.{drop}
-use Rattle.markdown_engine.specs.Resolves.{MayResolve, Resolves, unregistered}
+use Rattle.markdown_engine.specs.PassesInOrder.{MayResolve, Resolves, unregistered}
 use Rattle.markdown_engine.specs.declared.tokenizer.Tokenizer.{Tokenizer}
 use Rattle.markdown_engine.proofs.tokenizer.Tokenizer.resolve_all.Given as goal
 

@@ -1,4 +1,4 @@
-use Rattle.markdown_inline_lines.proofs.NumberLemmas.{last-kept}
+use Rattle.markdown_inline_lines.proofs.PrintedNumbers.{last-kept}
 use Rattle.markdown_inline_lines.proofs.lines.Numbers.keep_last.Goals as goal
 
 pub returns : goal.returns

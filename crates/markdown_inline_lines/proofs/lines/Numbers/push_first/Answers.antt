@@ -3,7 +3,7 @@ use Rattle.std.proofs.Math.Seq.{take-append-add}
 use Rattle.std.proofs.lemmas.Fmt.{length-decimal-le}
 use Rattle.std.proofs.lemmas.Grind.{drop-set_at}
 use Rattle.std.proofs.lemmas.List.{length-append}
-use Rattle.markdown_inline_lines.proofs.NumberLemmas.{length-kept}
+use Rattle.markdown_inline_lines.proofs.PrintedNumbers.{length-kept}
 use Rattle.markdown_inline_lines.proofs.lines.Numbers.push_first.Goals as goal
 
 -- a space and digits, written before it

@@ -1,5 +1,5 @@
 use Rattle.std.proofs.Common.{◌∙◌, ◌<◌, sym, arith}
-use Rattle.markdown_util.proofs.AsciiClass.{punctuation_ascii}
+use Rattle.markdown_util.proofs.AsciiClasses.{punctuation_ascii}
 use Rattle.markdown_util.proofs.util.char.is_punctuation.Goals as goal
 
 pub returns-then-is_ascii : goal.returns-then-is_ascii

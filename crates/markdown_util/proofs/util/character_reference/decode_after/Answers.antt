@@ -1,10 +1,10 @@
 use Rattle.std.proofs.Common.{◌≡◌, ◌∙◌, sym, ap, ℕ, List, Option, Some, None, Bor, MatchOption, option_map, string_bytes, inl, lit<, rules}
 use Rattle.std.specs.Option.{IsSomeAnd}
 use Rattle.markdown_util.specs.Reference.{html_4_rows}
-use Rattle.markdown_util.specs.Parts.{LacksFirst}
-use Rattle.markdown_util.proofs.Tables.{html_4_sound}
+use Rattle.markdown_util.specs.ReferenceParts.{LacksFirst}
+use Rattle.markdown_util.proofs.ReferenceTables.{html_4_sound}
 use Rattle.markdown_util.proofs.WholeReference.{read_value, read_none, number_from_value, body_utf8, value_boundary, marked}
-use Rattle.markdown_util.proofs.FirstByte.{strip_prefix-none, strip_prefix-some}
+use Rattle.markdown_util.proofs.StripPrefix.{strip_prefix-none, strip_prefix-some}
 use Rattle.markdown_util.proofs.util.character_reference.decode_after.Goals as goal
 
 pub split_at-requires : goal.split_at-requires

@@ -1,5 +1,5 @@
 use Rattle.std.proofs.Common.{◌≡◌, ◌∙◌, sym, ℕ, ◌≤◌, ◌⊎◌, inl, inr, arith}
-use Rattle.markdown_util.proofs.Numbers.{number_read, replaced_out, character_kept, character_replaced}
+use Rattle.markdown_util.proofs.NumberValues.{number_read, replaced_out, character_kept, character_replaced}
 use Rattle.markdown_util.proofs.util.character_reference.decode_numeric.Goals as goal
 use Rattle.markdown_util.proofs.util.character_reference.decode_numeric.Goals.{in_default-via-in-Some+else-not-is_replaced, in_default-via-in_default}
 

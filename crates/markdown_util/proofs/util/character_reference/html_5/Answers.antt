@@ -1,6 +1,6 @@
 use Rattle.std.proofs.Common.{sym, ◌∙◌}
 use Rattle.markdown_util.specs.Reference.{html_5_rows}
-use Rattle.markdown_util.proofs.Tables.{html_5_parted, in_capitals, in_a_to_d, in_e_to_l, in_m_to_r, in_s_to_z}
+use Rattle.markdown_util.proofs.ReferenceTables.{html_5_parted, in_capitals, in_a_to_d, in_e_to_l, in_m_to_r, in_s_to_z}
 use Rattle.markdown_util.proofs.util.character_reference.html_5.Goals as goal
 
 pub returns-then-lt : goal.returns-then-lt

@@ -1,6 +1,6 @@
 use Rattle.std.proofs.Common.{◌≡◌, sym, ◌∙◌, ℕ, List, Option, Some, None, Bor, inl, inr, refl, lit<}
 use Rattle.std.specs.Option.{option_or}
-use Rattle.markdown_util.proofs.FirstByte.{strip_prefix-none, strip_prefix-some}
+use Rattle.markdown_util.proofs.StripPrefix.{strip_prefix-none, strip_prefix-some}
 use Rattle.markdown_util.proofs.util.character_reference.marker_of.Goals as goal
 
 neither : (r s : Option (Bor (List ℕ))) → option_or r s ≡ None → (r ≡ None) × (s ≡ None)

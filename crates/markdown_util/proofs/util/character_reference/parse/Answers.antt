@@ -2,8 +2,8 @@ use Rattle.std.proofs.Common.{◌≡◌, ◌∙◌, sym, ap, subst, ◌++◌, []
 use Rattle.std.specs.Str.{IsUtf8}
 use Rattle.std.proofs.lemmas.Str.{encode_ascii}
 use Rattle.markdown_util.specs.Reference.{html_4_rows}
-use Rattle.markdown_util.proofs.FirstByte.{split_once-some, split_once-none, utf8-behind}
-use Rattle.markdown_util.proofs.ParsedLemmas.{turn-plain, turn-reference, turn-lone, turn-end}
+use Rattle.markdown_util.proofs.StripPrefix.{split_once-some, split_once-none, utf8-behind}
+use Rattle.markdown_util.proofs.ParseLemmas.{turn-plain, turn-reference, turn-lone, turn-end}
 use Rattle.markdown_util.proofs.WholeReference.{behind_utf8}
 use Rattle.markdown_util.proofs.util.character_reference.parse.Goals as goal
 

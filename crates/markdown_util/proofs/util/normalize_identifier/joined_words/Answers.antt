@@ -5,7 +5,7 @@ use Rattle.std.proofs.lemmas.Iterator.{YieldsList-from_chars}
 use Rattle.std.proofs.lemmas.Iterator.Consumers.{YieldsList-turn, YieldsList-end}
 use Rattle.std.proofs.lemmas.List.{length_push}
 use Rattle.markdown_util.specs.Identifier.{separates_words, joined_words}
-use Rattle.markdown_util.proofs.Joining.{to_come, IsTurn, turn-start, turn-end, turn-space, turn-next, turn-first, turn-within, turn-push, same_whole, not_empty}
+use Rattle.markdown_util.proofs.JoinedWords.{to_come, IsTurn, turn-start, turn-end, turn-space, turn-next, turn-first, turn-within, turn-push, same_whole, not_empty}
 use Rattle.markdown_util.proofs.util.normalize_identifier.joined_words.Goals as goal
 use Rattle.markdown_util.proofs.util.normalize_identifier.joined_words.Goals.{then-pending+then-not-is_empty+in_ok-push, else-pending, else-pending-via-then-pending+else-not-is_empty, else-pending-via-else-pending}
 

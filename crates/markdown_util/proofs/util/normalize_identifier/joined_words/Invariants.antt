@@ -1,7 +1,7 @@
 use Rattle.std.proofs.Common.{◌≡◌, ◌==◌, ◌++◌, drop, length, string_bytes, string_len}
 use Rattle.std.specs.Str.{chars, encode_utf8_all}
 use Rattle.markdown_util.specs.Identifier.{joined_words}
-use Rattle.markdown_util.proofs.Joining.{to_come}
+use Rattle.markdown_util.proofs.JoinedWords.{to_come}
 use Rattle.markdown_util.proofs.util.normalize_identifier.joined_words.Given as goal
 
 -- what is joined so far, and what the characters still to come add

@@ -1,7 +1,7 @@
 use Rattle.std.proofs.Common.{ap, sym, subst}
-use Rattle.markdown_attention.specs.Rows.{HasRows}
-use Rattle.markdown_attention.proofs.RowLemmas.{rows-of-events}
-use Rattle.markdown_attention.proofs.ReadingLemmas.{all-read}
+use Rattle.markdown_attention.specs.RunsOfTree.{HasRows}
+use Rattle.markdown_attention.proofs.RunsOfTreeLemmas.{rows-of-events}
+use Rattle.markdown_attention.proofs.RunsReadLemmas.{all-read}
 use Rattle.std.proofs.Common.{arith}
 use Rattle.markdown_attention.proofs.attention.runs.Runs.new.Goals as goal
 

@@ -1,0 +1,147 @@
+-- The elements of a content are sound, so its tree of labels is striped.
+use Rattle.std.proofs.Common.{◌≡◌, ℕ, Bool, true, false, List, [], ◌∷◌, ◌++◌, refl, sym, subst, Option, Some, None, inl, inr}
+use Rattle.markdown_engine_content.specs.declared.event.Name.{Name}
+use Rattle.markdown_engine_content.specs.declared.label_kind.LabelKind.{LabelKind}
+use Rattle.markdown_engine_content.specs.Codes.{Code}
+use Rattle.markdown_engine_content.specs.Tree.{Forest, leaf}
+use Rattle.markdown_model.specs.CodeTests.{is_value}
+use Rattle.markdown_model.specs.Grammar.{Reading, ◌>>=◌, gives, some}
+use Rattle.markdown_model.specs.Setting.{Setting}
+use Rattle.markdown_model.specs.LabelEnd.{Element, plain, starts, ends, Label, label_before, outcome_of, label_end}
+use Rattle.markdown_model.specs.Elements.{as_plain, line_ending, data_code, attention_run, label_start_image, gfm_label_start_footnote, label_start_link, code_text, math_text, text_element, AreElementsFrom, AreElements, code_before, elements_of}
+use Rattle.markdown_model.specs.InlineTree.{label_tree}
+use Rattle.markdown_model.proofs.ElementCases.{AllAre, EachConstruct, outcome_yields, text_has}
+use Rattle.markdown_model.proofs.ElementsCover.{covers_text_element}
+use Rattle.markdown_model.proofs.OneElementList.{text_elements}
+use Rattle.markdown_model.proofs.LabelsCover.{element_codes, unused}
+use Rattle.markdown_model.proofs.ReadingsCover.{At}
+use Rattle.markdown_model.proofs.NoLinkInConstructs.{Passes, Yields, yields_bind, yields_gives, yields_either, then_any}
+use Rattle.markdown_attention.specs.OpenRuns.{IsMarker}
+use Rattle.markdown_attention.proofs.AttentionTreeLabels.{IsGood, IsSound, quiet-good, good-run, good-leaf, good-labels}
+use Rattle.markdown_model.proofs.PlainTrees.{IsQuiet, Free, quiet_escape, quiet_hard_break_escape, quiet_reference, quiet_autolink, quiet_task_check, quiet_code, quiet_math, quiet_html, quiet_protocol, quiet_www, quiet_after_label}
+use Rattle.markdown_attention.proofs.MarkerCodes.{AreSingles, IsRunLeaf, singles-back, run-leaf}
+
+-- Readings whose values all pass, at codes of a content.
+
+record YieldsOn (bytes : List ℕ) {A : Type 0} (P : A → Type 0) (a : Reading A) : Type 0 where
+  at : (cs : List Code) → AreSingles bytes cs → Passes P (a cs)
+
+module _ (bytes : List ℕ) where
+  module _ {A : Type 0} (P : A → Type 0) where
+    on_any : (a : Reading A) → Yields P a → YieldsOn bytes P a
+    on_any a h = record { at = λ cs _. h.at cs }
+
+  -- Single elements.
+
+  abbrev Sound : Reading Element → Type 0
+  Sound a = YieldsOn bytes (IsSound bytes) a
+
+  sound_plain : (a : Reading Forest) → Free a → Sound (as_plain a)
+  unfolding as_plain
+  sound_plain a h = on_any _ _ (yields_bind (IsQuiet true) _ _ _ h λ tree k. yields_gives _ (plain tree) (quiet-good bytes tree k))
+
+  sound_line_ending : Sound line_ending
+  unfolding line_ending
+  sound_line_ending = on_any _ _ (then_any _ _ _ λ c. yields_gives _ (plain (leaf Name.LineEnding c)) (good-leaf bytes Name.LineEnding c refl))
+
+  sound_data_code : Sound data_code
+  unfolding data_code
+  sound_data_code = on_any _ _ (then_any _ _ _ λ c. yields_gives _ (plain (leaf Name.Data c)) (good-leaf bytes Name.Data c refl))
+
+  sound_run : (m : ℕ) → IsMarker m → Sound (attention_run m)
+  unfolding attention_run ◌>>=◌ gives
+  sound_run m k = record { at = λ cs h. by_answer (some (is_value m) cs) (run-leaf bytes m cs k h) }
+    where
+      by_answer : (r : Option (List Code × List Code)) → Passes (IsRunLeaf bytes) r
+          → Passes (IsSound bytes) (elim r [ None ↦ None | Some x ↦ Some (plain (leaf Name.AttentionSequence x.0), x.1) ])
+      by_answer None h = tt
+      by_answer (Some x) h = good-run bytes x.0 h
+
+  sound_image_start : (footnotes : Bool) → Sound (label_start_image footnotes)
+  unfolding label_start_image
+  sound_image_start footnotes = on_any _ _ (then_any _ _ _ λ marker. yields_gives _ (starts LabelKind.Image marker) tt)
+
+  sound_footnote_start : Sound gfm_label_start_footnote
+  unfolding gfm_label_start_footnote
+  sound_footnote_start = on_any _ _ (then_any _ _ _ λ marker. yields_gives _ (starts LabelKind.GfmFootnote marker) tt)
+
+  sound_link_start : Sound label_start_link
+  unfolding label_start_link
+  sound_link_start = on_any _ _ (then_any _ _ _ λ marker. yields_gives _ (starts LabelKind.Link marker) tt)
+
+  sound_code_span : (earlier : List Element) (previous : Option Code) → Sound (code_text earlier previous)
+  unfolding code_text
+  sound_code_span earlier previous = sound_plain _ (quiet_code _ _ _ _)
+
+  sound_math_span : (single : Bool) (earlier : List Element) (previous : Option Code) → Sound (math_text single earlier previous)
+  unfolding math_text
+  sound_math_span single earlier previous = sound_plain _ (quiet_math _ _ _ _)
+
+  -- Ends of labels.
+
+  abbrev QuietOutcome : LabelKind × Forest → Type 0
+  QuietOutcome outcome = IsQuiet false outcome.1
+
+  quiet_outcome : (s : Setting) (l : Option Label) (back : List Code) → Yields QuietOutcome (outcome_of s l back)
+  quiet_outcome s l back = outcome_yields (IsQuiet false) refl s (quiet_after_label s) l back
+
+  sound_label_end : (s : Setting) (earlier : List Element) → Sound (label_end s earlier)
+  unfolding label_end
+  sound_label_end s earlier =
+      on_any _ _ (then_any _ _ _ λ back. yields_either _ _ _
+      (yields_bind QuietOutcome _ _ _ (quiet_outcome s (label_before earlier) back) λ outcome k. yields_gives _ (ends back (Some outcome)) k)
+      (yields_gives _ (ends back None) tt))
+
+  -- Elements.
+
+  sound_text_element : (s : Setting) (end : ℕ) (earlier : List Element) (previous : Option Code) → Sound (text_element s end earlier previous)
+  sound_text_element s end earlier previous = record { at = λ cs k. text_has s end earlier previous (Passes (IsSound bytes)) cs (each cs k) (sound_data_code.at cs k) }
+    where
+      each : (cs : List Code) → AreSingles bytes cs → EachConstruct s end earlier previous (Passes (IsSound bytes)) cs
+      each cs k = record {
+        none = tt;
+        ending = sound_line_ending.at cs k;
+        image = λ footnotes. (sound_image_start footnotes).at cs k;
+        math = λ single. (sound_math_span single earlier previous).at cs k;
+        code = (sound_code_span earlier previous).at cs k;
+        referred = (sound_plain _ (quiet_reference s.references)).at cs k;
+        stars = λ _. (sound_run 42 (inl refl)).at cs k;
+        underscores = λ _. (sound_run 95 (inr (inl refl))).at cs k;
+        tildes = λ _. (sound_run 126 (inr (inr refl))).at cs k;
+        linked = (sound_plain _ quiet_autolink).at cs k;
+        tagged = (sound_plain _ quiet_html).at cs k;
+        protocol = (sound_plain _ (quiet_protocol s.bytes end previous)).at cs k;
+        www = (sound_plain _ (quiet_www s.bytes end previous)).at cs k;
+        footnote = sound_footnote_start.at cs k;
+        link = sound_link_start.at cs k;
+        escaped = (sound_plain _ quiet_escape).at cs k;
+        broken = (sound_plain _ quiet_hard_break_escape).at cs k;
+        ended = (sound_label_end s earlier).at cs k;
+        checked = (sound_plain _ quiet_task_check).at cs k;
+      }
+
+  -- Lists of elements: what is left after an element is the end of the codes.
+
+  all_sound : (s : Setting) (end : ℕ) (es earlier : List Element) (previous : Option Code) (cs : List Code)
+      → AreSingles bytes cs → AreElementsFrom (text_element s end) earlier previous cs es → AllAre (IsSound bytes) es
+  all_sound s end [] earlier previous cs k h = tt
+  all_sound s end (e ∷ es) earlier previous cs k h =
+      let d : ℕ = unused earlier in
+      let whole : element_codes d e ++ h.0 ≡ cs = covered (text_element s end earlier previous cs) h.1 ((covers_text_element s end earlier previous).at cs) in
+      let rest : AreSingles bytes h.0 = singles-back bytes (element_codes d e) h.0 (subst (λ (x : List Code). AreSingles bytes x) (sym whole) k) in
+      (at_some (text_element s end earlier previous cs) h.1 ((sound_text_element s end earlier previous).at cs k), all_sound s end es (e ∷ earlier) (code_before cs h.0) h.0 rest h.2)
+    where
+      at_some : (r : Option (Element × List Code)) → r ≡ Some (e, h.0) → Passes (IsSound bytes) r → IsSound bytes e
+      at_some r n x = subst (λ z. Passes (IsSound bytes) z) n x
+
+      covered : (r : Option (Element × List Code)) → r ≡ Some (e, h.0) → At (element_codes (unused earlier)) [] cs r → element_codes (unused earlier) e ++ h.0 ≡ cs
+      covered r n x = subst (λ z. At (element_codes (unused earlier)) [] cs z) n x
+
+  pub sound-elements : (s : Setting) (cs : List Code) (es : List Element) → AreSingles bytes cs → AreElements s cs es → AllAre (IsSound bytes) es
+  sound-elements s cs es k h = all_sound s _ es [] None cs k h
+
+-- The tree of labels.
+
+pub good-tree : (bytes : List ℕ) (s : Setting) (cs : List Code) → AreSingles bytes cs → IsGood bytes (label_tree s cs)
+unfolding label_tree
+good-tree bytes s cs k = good-labels bytes (elements_of s cs) (sound-elements bytes s cs (elements_of s cs) k (text_elements s cs))

@@ -1,0 +1,149 @@
+-- What pairs take of a run, by its number in all and in its container.
+use Rattle.std.proofs.Common.{◌≡◌, ℕ, ◌+◌, ◌<◌, ◌==◌, ◌||◌, Bool, true, false, if◌then◌else◌, cond, List, [], ◌∷◌, length, map, refl, sym, ap, ◌∙◌, arith, inl, inr, sum_by}
+use Rattle.std.proofs.lemmas.Bool.{cases_lt, eqb-true, both_ways, cases_Bool, ne_eqb, eq-eqb}
+use Rattle.std.proofs.lemmas.List.Sums.{sum_by-cons}
+use Rattle.markdown_model.specs.BracketGroups.{closing_sizes, opening_sizes}
+use Rattle.markdown_model.specs.Pairs as Model
+use Rattle.markdown_attention.specs.RunContainers.{is_in, place_in, placed, AreWithin}
+use Rattle.markdown_attention.specs.NumberedPairs.{row_of, run_at, takes, taken, pairs_in}
+use Rattle.markdown_attention.specs.declared.attention.pairing.Pair.{Pair}
+use Rattle.markdown_attention.specs.declared.attention.runs.Sequence.{Sequence}
+use Rattle.markdown_attention.proofs.RunNumbers.{place-order}
+use Rattle.markdown_attention.specs.RunEdits.{closed_sizes, opened_sizes}
+use Rattle.markdown_attention.specs.RunEvents.{total}
+
+closing-yes : (i : ℕ) (q : Model.Pair) (qs : List Model.Pair) → (q.closer == i) ≡ true → closing_sizes i (q ∷ qs) ≡ q.size ∷ closing_sizes i qs
+closing-yes i q qs e = ap (λ (x : Bool). elim x as (λ y. List ℕ) [ true ↦ q.size ∷ closing_sizes i qs | false ↦ closing_sizes i qs ]) e
+
+closing-no : (i : ℕ) (q : Model.Pair) (qs : List Model.Pair) → (q.closer == i) ≡ false → closing_sizes i (q ∷ qs) ≡ closing_sizes i qs
+closing-no i q qs e = ap (λ (x : Bool). elim x as (λ y. List ℕ) [ true ↦ q.size ∷ closing_sizes i qs | false ↦ closing_sizes i qs ]) e
+
+opening-yes : (i : ℕ) (q : Model.Pair) (qs : List Model.Pair) → (q.opener == i) ≡ true → opening_sizes i (q ∷ qs) ≡ q.size ∷ opening_sizes i qs
+opening-yes i q qs e = ap (λ (x : Bool). elim x as (λ y. List ℕ) [ true ↦ q.size ∷ opening_sizes i qs | false ↦ opening_sizes i qs ]) e
+
+opening-no : (i : ℕ) (q : Model.Pair) (qs : List Model.Pair) → (q.opener == i) ≡ false → opening_sizes i (q ∷ qs) ≡ opening_sizes i qs
+opening-no i q qs e = ap (λ (x : Bool). elim x as (λ y. List ℕ) [ true ↦ q.size ∷ opening_sizes i qs | false ↦ opening_sizes i qs ]) e
+
+closed-by : (g : ℕ) (p : Pair) (ps : List Pair) (b : Bool) → (p.closer == g) ≡ b → closed_sizes g (p ∷ ps) ≡ (if b then p.size ∷ closed_sizes g ps else closed_sizes g ps)
+closed-by g p ps b e = ap (λ (x : Bool). if x then p.size ∷ closed_sizes g ps else closed_sizes g ps) e
+
+opened-by : (g : ℕ) (p : Pair) (ps : List Pair) (b : Bool) → (p.opener == g) ≡ b → opened_sizes g (p ∷ ps) ≡ (if b then p.size ∷ opened_sizes g ps else opened_sizes g ps)
+opened-by g p ps b e = ap (λ (x : Bool). if x then p.size ∷ opened_sizes g ps else opened_sizes g ps) e
+
+module _ (k : ℕ) (list : List Sequence) (g : ℕ) (within : g < length list) (inside : is_in k (run_at list g) ≡ true) where
+  abbrev in_row : Pair → Bool
+  in_row p = row_of (run_at list p.closer).text == k
+
+  abbrev local : List Pair → List Model.Pair
+  local ps = map (placed k list) (pairs_in list k ps)
+
+  local-yes : (p : Pair) (ps : List Pair) → in_row p ≡ true → local (p ∷ ps) ≡ placed k list p ∷ local ps
+  local-yes p ps e = ap (λ (b : Bool). map (placed k list) (cond b (p ∷ pairs_in list k ps) (pairs_in list k ps))) e
+
+  local-no : (p : Pair) (ps : List Pair) → in_row p ≡ false → local (p ∷ ps) ≡ local ps
+  local-no p ps e = ap (λ (b : Bool). map (placed k list) (cond b (p ∷ pairs_in list k ps) (pairs_in list k ps))) e
+
+  apart : (j : ℕ) → j < length list → is_in k (run_at list j) ≡ true → (j ≡ g → ⊥) → (place_in k list j == place_in k list g) ≡ false
+  apart j l e ne =
+      ne_eqb (place_in k list j) (place_in k list g) (λ same.
+      elim (cases_lt j g) [
+        | inl low ↦ let o = place-order k list j g low within e in omega (arith, o, same)
+        | inr high ↦
+            elim (cases_lt g j) [
+              | inl above ↦ let o = place-order k list g j above l inside in omega (arith, o, same)
+              | inr below ↦ ne (omega (arith, high, below))
+            ]
+      ])
+
+  pub closing-local : (ps : List Pair) → AreWithin list ps → closing_sizes (place_in k list g) (local ps) ≡ closed_sizes g ps
+  closing-local [] w = refl
+  closing-local (p ∷ ps) w =
+      let i : ℕ = place_in k list g in
+      let ih : closing_sizes i (local ps) ≡ closed_sizes g ps = closing-local ps w.1 in
+      let wp = w.0.within in
+      elim (cases_Bool (p.closer == g)) [
+        | inl hit ↦
+            let e : p.closer ≡ g = eqb-true p.closer g hit in
+            let row : in_row p ≡ true = ap (λ j. row_of (run_at list j).text == k) e ∙ inside in
+            ap (closing_sizes i) (local-yes p ps row)
+            ∙ closing-yes i (placed k list p) (local ps) (eq-eqb (place_in k list p.closer) i (ap (place_in k list) e))
+            ∙ ap (λ xs. p.size ∷ xs) ih
+            ∙ sym (closed-by g p ps true hit)
+        | inr miss ↦
+            elim (cases_Bool (in_row p)) [
+              | inl row ↦
+                  ap (closing_sizes i) (local-yes p ps row)
+                  ∙ closing-no i (placed k list p) (local ps) (apart p.closer wp row (λ e. absurd (both_ways (p.closer == g) miss (eq-eqb p.closer g e))))
+                  ∙ ih
+                  ∙ sym (closed-by g p ps false miss)
+              | inr out ↦ ap (closing_sizes i) (local-no p ps out) ∙ ih ∙ sym (closed-by g p ps false miss)
+            ]
+      ]
+
+  pub opening-local : (ps : List Pair) → AreWithin list ps → opening_sizes (place_in k list g) (local ps) ≡ opened_sizes g ps
+  opening-local [] w = refl
+  opening-local (p ∷ ps) w =
+      let i : ℕ = place_in k list g in
+      let ih : opening_sizes i (local ps) ≡ opened_sizes g ps = opening-local ps w.1 in
+      let wp = w.0.within in
+      let wo = w.0.order in
+      let within_opener : p.opener < length list = omega (arith, wp, wo) in
+      elim (cases_Bool (p.opener == g)) [
+        | inl hit ↦
+            let e : p.opener ≡ g = eqb-true p.opener g hit in
+            let row : in_row p ≡ true = ap (λ r. r == k) (sym w.0.row) ∙ ap (λ j. row_of (run_at list j).text == k) e ∙ inside in
+            ap (opening_sizes i) (local-yes p ps row)
+            ∙ opening-yes i (placed k list p) (local ps) (eq-eqb (place_in k list p.opener) i (ap (place_in k list) e))
+            ∙ ap (λ xs. p.size ∷ xs) ih
+            ∙ sym (opened-by g p ps true hit)
+        | inr miss ↦
+            elim (cases_Bool (in_row p)) [
+              | inl row ↦
+                  ap (opening_sizes i) (local-yes p ps row)
+                  ∙ opening-no i (placed k list p) (local ps) (apart p.opener within_opener (ap (λ r. r == k) w.0.row ∙ row) (λ e. absurd (both_ways (p.opener == g) miss (eq-eqb p.opener g e))))
+                  ∙ ih
+                  ∙ sym (opened-by g p ps false miss)
+              | inr out ↦ ap (opening_sizes i) (local-no p ps out) ∙ ih ∙ sym (opened-by g p ps false miss)
+            ]
+      ]
+
+  takes-by : (p : Pair) (o c : Bool) → (p.opener == g) ≡ o → (p.closer == g) ≡ c → takes g p ≡ (if o || c then p.size else 0)
+  takes-by p o c e f = λ i. if e i || f i then p.size else 0
+
+  sum-local : (ps : List Pair) → AreWithin list ps → sum_by (takes g) (pairs_in list k ps) ≡ total (closed_sizes g ps) + total (opened_sizes g ps)
+  sum-local [] w = refl
+  sum-local (p ∷ ps) w =
+      let ih = sum-local ps w.1 in
+      let in-yes : in_row p ≡ true → sum_by (takes g) (pairs_in list k (p ∷ ps)) ≡ takes g p + sum_by (takes g) (pairs_in list k ps) =
+      λ e. ap (λ (b : Bool). sum_by (takes g) (cond b (p ∷ pairs_in list k ps) (pairs_in list k ps))) e ∙ sum_by-cons (takes g) p (pairs_in list k ps) in
+      let in-no : in_row p ≡ false → sum_by (takes g) (pairs_in list k (p ∷ ps)) ≡ sum_by (takes g) (pairs_in list k ps) =
+      λ e. ap (λ (b : Bool). sum_by (takes g) (cond b (p ∷ pairs_in list k ps) (pairs_in list k ps))) e in
+      let wo = w.0.order in
+      elim (cases_Bool (p.closer == g)) [
+        | inl hit ↦
+            let e : p.closer ≡ g = eqb-true p.closer g hit in
+            let not_opener : (p.opener == g) ≡ false = ne_eqb p.opener g (λ x. omega (arith, x, e, wo)) in
+            let a = in-yes (ap (λ j. row_of (run_at list j).text == k) e ∙ inside) in
+            let b = takes-by p false true not_opener hit in
+            let c = ap total (closed-by g p ps true hit) in
+            let d = ap total (opened-by g p ps false not_opener) in
+            omega (arith, a, b, c, d, ih)
+        | inr miss ↦ elim (cases_Bool (p.opener == g)) [
+          | inl hit ↦
+              let e : p.opener ≡ g = eqb-true p.opener g hit in
+              let a = in-yes (ap (λ r. r == k) (sym w.0.row) ∙ ap (λ j. row_of (run_at list j).text == k) e ∙ inside) in
+              let b = takes-by p true false hit miss in
+              let c = ap total (closed-by g p ps false miss) in
+              let d = ap total (opened-by g p ps true hit) in
+              omega (arith, a, b, c, d, ih)
+          | inr neither ↦
+              let b = takes-by p false false neither miss in
+              let c = ap total (closed-by g p ps false miss) in
+              let d = ap total (opened-by g p ps false neither) in
+              elim (cases_Bool (in_row p)) [ inl row ↦ (let a = in-yes row in omega (arith, a, b, c, d, ih)) | inr out ↦ (let a = in-no out in omega (arith, a, c, d, ih)) ]
+        ]
+      ]
+
+  pub taken-local : (ps : List Pair) → AreWithin list ps → taken (pairs_in list k ps) g ≡ total (closed_sizes g ps) + total (opened_sizes g ps)
+  unfolding taken
+  taken-local ps w = sum-local ps w

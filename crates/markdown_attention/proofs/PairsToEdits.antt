@@ -1,0 +1,61 @@
+-- From what pairing leaves to what the edits ask for, and to what they leave.
+use Rattle.std.proofs.Common.{◌≡◌, ◌∙◌, ℕ, ◌<◌, Bool, true, false, List, length, sym, ap, subst}
+use Rattle.std.specs.List.{All}
+use Rattle.markdown_engine_events.specs.Edits.{CanEdit, edited}
+use Rattle.markdown_engine_content.specs.declared.event.Event.{Event}
+use Rattle.markdown_engine.specs.declared.tokenizer.Tokenizer.{Tokenizer}
+use Rattle.markdown_engine_events.specs.declared.util.edit_map.Edit.{Edit}
+use Rattle.markdown_attention.specs.RunsOfEvents.{runs_of_events}
+use Rattle.markdown_attention.specs.NumberedPairs.{run_at}
+use Rattle.markdown_attention.specs.declared.attention.pairing.Pair.{Pair}
+use Rattle.markdown_attention.specs.declared.attention.runs.Sequence.{Sequence}
+use Rattle.markdown_attention.specs.AttentionPass.{MayPair, IsPairing, IsGrouped}
+use Rattle.markdown_attention.specs.RunEdits.{run_edits, point_in}
+use Rattle.markdown_attention.specs.PairSizes.{side_of, HasRoomFor}
+use Rattle.markdown_attention.proofs.RunRoom.{has-room, have-closers, have-openers}
+use Rattle.markdown_attention.proofs.AttentionEditsLaw.{log-same, group-can}
+
+-- U is T; these runs and pairs are what pairing leaves of the runs of T
+module _ (T U : Tokenizer) (same : U ≡ T) (may : MayPair T) (list fin runs : List Sequence) (found pairs : List Pair) (probes : ℕ) (read : list ≡ runs_of_events T)
+    (left : IsPairing T.parse_state.now.options.now list fin found probes) (are : runs ≡ fin) (as_found : pairs ≡ found) where
+  abbrev tildes : Bool
+  tildes = T.parse_state.now.options.now.constructs.gfm_strikethrough
+
+  abbrev bytes : List ℕ
+  bytes = T.parse_state.now.bytes.now
+
+  pairing : IsPairing T.parse_state.now.options.now (runs_of_events T) runs pairs probes
+  pairing =
+      subst (λ (x : List Sequence). IsPairing T.parse_state.now.options.now x runs pairs probes) read
+      (subst (λ (x : List Sequence). IsPairing T.parse_state.now.options.now list x pairs probes) (sym are)
+      (subst (λ (x : List Pair). IsPairing T.parse_state.now.options.now list fin x probes) (sym as_found) left))
+
+  pub closers-in : All (λ p. side_of true p < length runs) pairs
+  closers-in = have-closers tildes bytes T.events may.places may.ends may.room runs pairs pairing.left pairing.within
+
+  pub openers-in : All (λ p. side_of false p < length runs) pairs
+  openers-in = have-openers tildes bytes T.events may.places may.ends may.room runs pairs pairing.left pairing.within
+
+  pub room-in : (i : ℕ) → i < length runs → HasRoomFor U.events (length runs) pairs (run_at runs i)
+  room-in i l =
+      subst (λ (X : Tokenizer). HasRoomFor X.events (length runs) pairs (run_at runs i)) (sym same)
+      (has-room tildes bytes T.events may.places may.ends may.room runs pairs pairing.left pairing.within pairing.once i l)
+
+  pub can-in : CanEdit (run_edits (point_in U.events) pairs runs) U.events
+  can-in =
+      subst (λ (X : Tokenizer). CanEdit (run_edits (point_in X.events) pairs runs) X.events) (sym same)
+      (group-can tildes bytes T.events may.places runs pairs pairing.left may.ends)
+
+  pub grouped-in : (after : List Event) → after ≡ edited (run_edits (point_in U.events) pairs runs) U.events → IsGrouped T.parse_state.now.options.now (runs_of_events T) T.events after probes
+  grouped-in after e = record {
+    pairs = pairs;
+    lists = pairing.lists;
+    within = pairing.within;
+    once = pairing.once;
+    events =
+        e ∙ ap (λ (X : Tokenizer). edited (run_edits (point_in X.events) pairs runs) X.events) same
+        ∙ ap (λ (x : List Edit). edited x T.events) (log-same tildes bytes T.events may.places runs pairs pairing.left);
+    at_least = pairing.at_least;
+    at_most = pairing.at_most;
+    scan = pairing.scan;
+  }

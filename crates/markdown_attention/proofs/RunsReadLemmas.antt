@@ -1,0 +1,193 @@
+-- The runs of a list of events, event by event.
+use Rattle.std.proofs.Common.{cond, ◌≡◌, ℕ, zero, suc, ◌+◌, ◌<◌, ◌≤◌, ◌&&◌, Bool, true, false, List, [], ◌∷◌, ◌++◌, length, drop, get_or, refl, sym, ap, subst, ◌∙◌, arith, add-one, append_assoc, append-nil, length-append, inl, inr}
+use Rattle.std.proofs.lemmas.Bool.{cases_Bool, cases_lt}
+use Rattle.std.proofs.lemmas.List.{drop_more, get_or_append_left, get_or_push}
+use Rattle.std.proofs.lemmas.List.{length-drop}
+use Rattle.std.proofs.lemmas.List.Elements.{All-append, All-cons, All-head, All-nil, All-tail}
+use Rattle.std.proofs.lemmas.List.Sums.{sum_by-cons}
+use Rattle.std.specs.List.{count_by}
+use Rattle.std.specs.Prelude.{All}
+use Rattle.markdown_engine_content.specs.ListFunctions.{rest_of}
+use Rattle.markdown_attention.specs.OpenRuns.{IsMarker}
+use Rattle.markdown_engine_content.specs.declared.event.Event.{Event}
+use Rattle.markdown_attention.specs.NumberedPairs.{row_of, run_at, no_run}
+use Rattle.markdown_attention.specs.RunsRead.{Container, row_around, is_text, is_enter, left_to, opens_run, opens_text, sequence_at, into_text, out_of_text, where_after, outermost, first_run, runs_from, IsRunPlace, EndsRun, FirstHasPlaces, HaveRunPlaces}
+use Rattle.markdown_attention.specs.PairScan.{Numbered}
+use Rattle.markdown_attention.specs.declared.attention.reading.Where.{Where}
+use Rattle.markdown_attention.specs.declared.attention.runs.Sequence.{Sequence}
+
+-- the first of the events from i on, and those behind it
+pub first-event : (events : List Event) (i : ℕ) (e : Event) → i < length events → e ≡ get_or events i e → drop i events ≡ e ∷ drop (i + 1) events
+first-event events i e l h = drop_more events i e l ∙ ap (λ x. x ∷ drop (i + 1) events) (sym h)
+
+-- behind the Enter of a run stands another event
+some-behind : (bytes : List ℕ) (e : Event) (es : List Event) → EndsRun bytes e es → 1 ≤ length es
+some-behind bytes e [] h = absurd h
+some-behind bytes e (x ∷ es) h = omega arith
+
+module _ (bytes : List ℕ) (events : List Event) (i : ℕ) (e : Event) (l : i < length events) (h : e ≡ get_or events i e)
+    (places : FirstHasPlaces bytes (drop i events)) (opens : opens_run e ≡ true) where
+  behind : EndsRun bytes e (drop (i + 1) events)
+  behind = let p : FirstHasPlaces bytes (e ∷ drop (i + 1) events) = subst (FirstHasPlaces bytes) (first-event events i e l h) places in p opens
+
+  pub exit-within : i + 1 < length events
+  exit-within = let some = some-behind bytes e (drop (i + 1) events) behind in let n = length-drop (i + 1) events in omega arith
+
+  module _ (x : Event) (k : x ≡ get_or events (i + 1) x) where
+    pub exit-place : IsRunPlace bytes e.point x.point
+    exit-place = subst (EndsRun bytes e) (first-event events (i + 1) x exit-within k) behind
+
+-- 1 for the Enter of a text
+abbrev as_opened : Event → ℕ
+as_opened e = cond (opens_text e) 1 0
+
+texts-more : (e : Event) (es : List Event) → count_by opens_text (e ∷ es) ≡ as_opened e + count_by opens_text es
+texts-more e es = sum_by-cons as_opened e es
+
+texts-after : (i : ℕ) (e : Event) (w : Where) → (where_after i e w).texts ≡ w.texts + as_opened e
+texts-after i e w = by_test (is_text e.name) (is_enter e.kind)
+  where
+    by_test : (t b : Bool) → (cond t (cond b (into_text i w) (out_of_text w)) w).texts ≡ w.texts + cond (b && t) 1 0
+    by_test true true = refl
+    by_test true false = omega arith
+    by_test false true = omega arith
+    by_test false false = omega arith
+
+one-opened : (e : Event) → as_opened e ≤ 1
+one-opened e = elim (cases_Bool (opens_text e)) [ inl is ↦ rw is (omega arith) | inr off ↦ rw off (omega arith) ]
+
+-- the runs so far, and those that are still to come
+pub record Reading (tildes : Bool) (bytes : List ℕ) (events : List Event) (i : ℕ) (list : List Sequence) (w : Where) : Type 0 where
+  pub all : list ++ runs_from tildes bytes (length list) i w (drop i events) ≡ runs_from tildes bytes 0 0 outermost events
+  pub numbered : Numbered list
+  pub places : HaveRunPlaces bytes (drop i events)
+  pub counted : w.texts + count_by opens_text (drop i events) ≡ count_by opens_text events
+  pub few : w.texts ≤ i
+
+pub reading-start : (tildes : Bool) (bytes : List ℕ) (events : List Event) → HaveRunPlaces bytes events → Reading tildes bytes events 0 [] outermost
+reading-start tildes bytes events h = record { all = refl; numbered = λ i l. absurd (omega arith); places = h; counted = omega arith; few = omega arith }
+
+numbered-one : (list : List Sequence) (r : Sequence) → Numbered list → r.number ≡ length list → Numbered (list ++ r ∷ [])
+numbered-one list r h e i l =
+    elim (cases_lt i (length list)) [
+      | inl below ↦ ap (λ (x : Sequence). x.number) (get_or_append_left list (r ∷ []) no_run i below) ∙ h i below
+      | inr above ↦
+          let n = length-append list (r ∷ []) in
+          let at : i ≡ length list = omega arith in
+          ap (λ j. (run_at (list ++ r ∷ []) j).number) at ∙ ap (λ (x : Sequence). x.number) (get_or_push list r no_run (length list) refl) ∙ e ∙ sym at
+    ]
+
+numbered-more : (tildes : Bool) (bytes : List ℕ) (i : ℕ) (c : Container) (list : List Sequence) (es : List Event) → Numbered list
+    → Numbered (list ++ first_run tildes bytes (length list) i c es)
+numbered-more tildes bytes i c list [] h = subst Numbered (sym (append-nil list)) h
+numbered-more tildes bytes i c list (e ∷ []) h = subst Numbered (sym (append-nil list)) h
+numbered-more tildes bytes i c list (e ∷ x ∷ es) h =
+    elim (cases_Bool (opens_run e)) [
+      | inl on ↦ rw on (numbered-one list (sequence_at tildes bytes (length list) i c e.point x.point) h refl)
+      | inr off ↦ rw off (subst Numbered (sym (append-nil list)) h)
+    ]
+
+pub reading-more : (tildes : Bool) (bytes : List ℕ) (events : List Event) (i : ℕ) (list list' : List Sequence) (w w' : Where) (e : Event)
+    → i < length events → e ≡ get_or events i e → list' ≡ list ++ first_run tildes bytes (length list) i w.container (drop i events) → w' ≡ where_after i e w
+    → Reading tildes bytes events i list w → Reading tildes bytes events (i + 1) list' w'
+reading-more tildes bytes events i list list' w w' e l h lists wheres r =
+    let first : List Sequence = first_run tildes bytes (length list) i w.container (drop i events) in
+    let es : List Event = drop (i + 1) events in
+    let split : drop i events ≡ e ∷ es = first-event events i e l h in
+    let head : first ≡ first_run tildes bytes (length list) i w.container (e ∷ es) = ap (first_run tildes bytes (length list) i w.container) split in
+    let size : length list' ≡ length list + length first = ap length lists ∙ length-append list first in
+    let rest : runs_from tildes bytes (length list) i w (drop i events) ≡ first ++ runs_from tildes bytes (length list') (i + 1) w' es =
+    ap (runs_from tildes bytes (length list) i w) split
+    ∙ ap (λ (f : List Sequence). f ++ runs_from tildes bytes (length list + length f) (suc i) (where_after i e w) es) (sym head)
+    ∙ (λ z. first ++ runs_from tildes bytes (sym size z) (sym (add-one i) z) (sym wheres z) es) in
+    let more : w'.texts ≡ w.texts + as_opened e = ap (λ (x : Where). x.texts) wheres ∙ texts-after i e w in
+    let front : count_by opens_text (drop i events) ≡ as_opened e + count_by opens_text es = ap (λ xs. count_by opens_text xs) split ∙ texts-more e es in
+    let counted = r.counted in
+    let few = r.few in
+    record {
+      all = ap (λ xs. xs ++ runs_from tildes bytes (length list') (i + 1) w' es) lists ∙ append_assoc list first _ ∙ ap (λ xs. list ++ xs) (sym rest) ∙ r.all;
+      numbered = subst Numbered (sym lists) (numbered-more tildes bytes i w.container list (drop i events) r.numbered);
+      places = (let p : HaveRunPlaces bytes (e ∷ es) = subst (HaveRunPlaces bytes) split r.places in p.1);
+      counted = omega (arith, more, front, counted);
+      few = omega (arith, more, one-opened e, few);
+    }
+
+pub reading-first : (bytes : List ℕ) (es : List Event) → HaveRunPlaces bytes es → FirstHasPlaces bytes es
+reading-first bytes [] h = tt
+reading-first bytes (e ∷ es) h = h.0
+
+nothing-left : (events : List Event) (i : ℕ) → length events ≤ i → drop i events ≡ []
+nothing-left [] zero l = refl
+nothing-left [] (suc i) l = refl
+nothing-left (e ∷ es) zero l = absurd (omega arith)
+nothing-left (e ∷ es) (suc i) l = nothing-left es i (omega arith)
+
+pub reading-end : (tildes : Bool) (bytes : List ℕ) (events : List Event) (i : ℕ) (list : List Sequence) (w : Where) → length events ≤ i
+    → Reading tildes bytes events i list w → list ≡ runs_from tildes bytes 0 0 outermost events
+reading-end tildes bytes events i list w l r =
+    sym (append-nil list) ∙ ap (λ es. list ++ runs_from tildes bytes (length list) i w es) (sym (nothing-left events i l)) ∙ r.all
+
+pub texts-end : (tildes : Bool) (bytes : List ℕ) (events : List Event) (i : ℕ) (list : List Sequence) (w : Where) → length events ≤ i
+    → Reading tildes bytes events i list w → w.texts ≡ count_by opens_text events
+texts-end tildes bytes events i list w l r =
+    let none : count_by opens_text (drop i events) ≡ 0 = ap (λ es. count_by opens_text es) (nothing-left events i l) in
+    let counted = r.counted in
+    omega (arith, none, counted)
+
+-- What is so of each run that is read.
+
+pub record IsRead (high : ℕ) (r : Sequence) : Type 0 where
+  pub whole : r.remaining ≡ r.size
+  pub marker : IsMarker r.marker
+  pub row : row_of r.text ≤ high
+
+-- containers that are no later
+pub record AreBefore (high : ℕ) (w : Where) : Type 0 where
+  pub container : row_around w.container ≤ high
+  pub outer : All (λ k. row_around k ≤ high) w.outer
+
+left-before : (high : ℕ) (ks : List Container) → All (λ k. row_around k ≤ high) ks → row_around (left_to ks) ≤ high
+left-before high [] h = omega arith
+left-before high (k ∷ ks) h = All-head (λ k. row_around k ≤ high) k ks h
+
+rest-before : (high : ℕ) (ks : List Container) → All (λ k. row_around k ≤ high) ks → All (λ k. row_around k ≤ high) (rest_of ks)
+rest-before high [] h = h
+rest-before high (k ∷ ks) h = All-tail (λ k. row_around k ≤ high) k ks h
+
+before-after : (high i : ℕ) (e : Event) (w : Where) → w.texts + as_opened e ≤ high → AreBefore high w → AreBefore high (where_after i e w)
+before-after high i e w = by_test (is_text e.name) (is_enter e.kind)
+  where
+    by_test : (t b : Bool) → w.texts + cond (b && t) 1 0 ≤ high → AreBefore high w → AreBefore high (cond t (cond b (into_text i w) (out_of_text w)) w)
+    by_test true true l h = record { container = l; outer = All-cons (λ k. row_around k ≤ high) w.container w.outer h.container h.outer }
+    by_test true false l h = record { container = left-before high w.outer h.outer; outer = rest-before high w.outer h.outer }
+    by_test false b l h = h
+
+first-read : (tildes : Bool) (bytes : List ℕ) (high n i : ℕ) (k : Container) (es : List Event) → FirstHasPlaces bytes es → row_around k ≤ high
+    → All (IsRead high) (first_run tildes bytes n i k es)
+first-read tildes bytes high n i k [] h l = All-nil (IsRead high)
+first-read tildes bytes high n i k (e ∷ []) h l = All-nil (IsRead high)
+first-read tildes bytes high n i k (e ∷ x ∷ es) h l = by_test (opens_run e) h
+  where
+    by_test : (b : Bool) → (b ≡ true → IsRunPlace bytes e.point x.point) → All (IsRead high) (cond b (sequence_at tildes bytes n i k e.point x.point ∷ []) [])
+    by_test true p = All-cons (IsRead high) (sequence_at tildes bytes n i k e.point x.point) [] (record { whole = refl; marker = (p refl).marker; row = l }) (All-nil (IsRead high))
+    by_test false p = All-nil (IsRead high)
+
+pub are-read : (tildes : Bool) (bytes : List ℕ) (high : ℕ) (es : List Event) (n i : ℕ) (w : Where) → HaveRunPlaces bytes es → w.texts + count_by opens_text es ≤ high → AreBefore high w
+    → All (IsRead high) (runs_from tildes bytes n i w es)
+are-read tildes bytes high [] n i w h l b = All-nil (IsRead high)
+are-read tildes bytes high (e ∷ es) n i w h l b =
+    let first : List Sequence = first_run tildes bytes n i w.container (e ∷ es) in
+    let more = texts-more e es in
+    All-append (IsRead high) first (runs_from tildes bytes (n + length first) (suc i) (where_after i e w) es)
+    (first-read tildes bytes high n i w.container (e ∷ es) h.0 b.container)
+    (are-read tildes bytes high es (n + length first) (suc i) (where_after i e w) h.1 (omega (arith, l, more, texts-after i e w)) (before-after high i e w (omega (arith, l, more)) b))
+
+-- of all runs
+pub all-read : (tildes : Bool) (bytes : List ℕ) (es : List Event) (list : List Sequence) → HaveRunPlaces bytes es → list ≡ runs_from tildes bytes 0 0 outermost es
+    → (i : ℕ) → i < length list → IsRead (count_by opens_text es) (run_at list i)
+all-read tildes bytes es list h e i l =
+    let high : ℕ = count_by opens_text es in
+    let read : All (IsRead high) list =
+    subst (All (IsRead high)) (sym e)
+    (are-read tildes bytes high es 0 0 outermost h (omega arith) (record { container = omega arith; outer = All-nil (λ k. row_around k ≤ high) })) in
+    read i no_run l

@@ -1,8 +1,0 @@
-use Rattle.std.proofs.Common.{◌∙◌, sym, ap}
-use Rattle.markdown_engine.specs.Place.{code_before, point_of}
-use Rattle.markdown_engine.proofs.CursorSteps.{cursor_point}
-use Rattle.markdown_engine.proofs.cursor.Cursor.exit_point.Goals as goal
-
-pub returns-clause-within_line : goal.returns-clause-within_line
-returns-clause-within_line c =
-    λ other. c.self.invariant.within_line (λ f. other (sym (ap code_before c.self.view_is) ∙ sym c.self.invariant.before ∙ f)) ∙ cursor_point c.self.invariant ∙ ap point_of c.self.view_is

@@ -1,7 +1,0 @@
-use Rattle.std.proofs.Common.{◌∙◌, ap}
-use Rattle.markdown_engine.specs.Place.{point_of}
-use Rattle.markdown_engine.proofs.CursorSteps.{cursor_point}
-use Rattle.markdown_engine.proofs.cursor.Cursor.point.Goals as goal
-
-pub returns : goal.returns
-returns c = cursor_point c.self.invariant ∙ ap point_of c.self.view_is

@@ -1,6 +1,0 @@
-use Rattle.std.proofs.Common.{◌∙◌}
-use Rattle.markdown_engine.proofs.FilledLemmas.{view-length}
-use Rattle.markdown_engine.proofs.events.Events.len.Goals as goal
-
-pub returns : goal.returns
-returns c = c.len.ensures ∙ view-length _ _ c.self.view_is

@@ -1,6 +1,0 @@
-use Rattle.std.proofs.Common.{arith}
-use Rattle.markdown_engine.proofs.EditOrder.{here-more}
-use Rattle.markdown_engine.proofs.util.edit_map.count_at.Goals as goal
-
-pub loop-count-preserved : goal.loop-count-preserved
-loop-count-preserved c = (omega arith, here-more c.args.at c.args.edits.now c.loop-count.count c.loop-count-test.true c.if-edits-count.true c.loop-count.invariant.1)

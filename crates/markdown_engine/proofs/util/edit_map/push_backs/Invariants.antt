@@ -1,6 +1,0 @@
-use Rattle.std.proofs.Common.{◌≡◌, ◌++◌, take}
-use Rattle.markdown_engine.specs.Edits.{back_at, kept}
-use Rattle.markdown_engine.proofs.util.edit_map.push_backs.Given as goal
-
-abbrev pub invariant-loop-edit : goal.invariant-loop-edit
-invariant-loop-edit l = l.done ≡ l.initial.done ++ back_at l.at (kept l.edits.comes.now (take l.edit-index l.edits.entries.now))

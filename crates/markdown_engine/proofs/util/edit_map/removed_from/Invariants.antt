@@ -1,6 +1,0 @@
-use Rattle.std.proofs.Common.{◌≡◌, ◌-◌, ◌^◌, min, take}
-use Rattle.markdown_engine.specs.Edits.{removed_at, kept}
-use Rattle.markdown_engine.proofs.util.edit_map.removed_from.Given as goal
-
-abbrev pub invariant-loop-edit : goal.invariant-loop-edit
-invariant-loop-edit l = l.removed ≡ min (removed_at l.at (kept l.edits.comes.now (take l.edit-index l.edits.entries.now))) (2 ^ 64 - 1)

@@ -1,0 +1,13 @@
+pub mod DefaultOptions
+pub mod Codes
+pub mod Content
+pub mod DocumentWalk
+pub mod ContentTest
+pub mod PlaceInDocument
+pub mod Tree
+pub mod Place
+pub mod Slices
+pub mod ListFunctions
+pub mod Nesting
+pub mod Stretch
+pub mod PlainBytes

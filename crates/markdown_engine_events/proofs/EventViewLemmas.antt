@@ -1,0 +1,213 @@
+-- What a change of the kept events does to the events that contracts see, and that their links stay filled in.
+use Rattle.std.proofs.Common.{◌≡◌, ℕ, zero, suc, ◌+◌, ◌-◌, ◌<◌, ◌≤◌, Option, Some, None, List, [], ◌∷◌, ◌++◌, length, take, drop, get_or, true, refl, append_assoc, sym, ap, subst, ◌∙◌, arith}
+use Rattle.std.proofs.lemmas.List.{take_at, same_from_push, length_push, append-nil, length-take, get_or-take, get_or-drop}
+use Rattle.std.specs.List.{All}
+use Rattle.markdown_engine_content.specs.declared.event.Link.{Link}
+use Rattle.markdown_engine_content.specs.declared.event.Event.{Event}
+use Rattle.markdown_engine_events.specs.EventChains.{with_next, with_previous, bare, bares, previous_of, chained, changed_at, previous_at, linked_at, EndsChain, IsLinked, IsFresh, IsFilled, OnlyEnters, MayLink, link_previous, next_link}
+use Rattle.markdown_engine_events.proofs.EventChainLemmas.{length-changed_at, changed_at-append, length-bares, bares-append, bares-next, bares-previous, get-bares, chained-fresh, chained-push, chained-end, chained-link, IsLinked-prefix, IsLinked-push, OnlyEnters-part, bare-fresh, fresh-of, chained-ends, fresh-unnamed, ends-before, last-earlier, IsLinked-connect, previous_of-bare, within-linked, changed_at-twice}
+
+-- the kept events at their view
+pub filled-at : (xs vs : List Event) → bares xs ≡ vs → IsFilled xs → xs ≡ chained vs
+filled-at xs vs v f = f.filled ∙ ap chained v
+
+filled-from : (ys vs : List Event) → bares ys ≡ vs → ys ≡ chained vs → IsLinked vs → IsFilled ys
+filled-from ys vs v h w = record { filled = h ∙ ap chained (sym v); linked = subst IsLinked (sym v) w }
+
+pub view-one : (xs vs ys : List Event) (e : Event) → bares xs ≡ vs → bare e ≡ e → ys ≡ xs ++ e ∷ [] → bares ys ≡ vs ++ e ∷ []
+view-one xs vs ys e v b h = ap bares h ∙ bares-append xs (e ∷ []) ∙ ap (λ x. bares xs ++ x ∷ []) b ∙ ap (λ x. x ++ e ∷ []) v
+
+-- an event added that names none
+
+pub view-push : (xs vs ys : List Event) (e : Event) → bares xs ≡ vs → IsFresh e → ys ≡ xs ++ e ∷ [] → bares ys ≡ vs ++ e ∷ []
+view-push xs vs ys e v f h = view-one xs vs ys e v (bare-fresh e f) h
+
+pub kept-plain : (xs vs ys : List Event) (e : Event) → bares xs ≡ vs → IsFilled xs → bare e ≡ e → previous_of e ≡ None → IsLinked (vs ++ e ∷ []) → ys ≡ xs ++ e ∷ [] → IsFilled ys
+kept-plain xs vs ys e v k b n w h =
+    let made : xs ++ e ∷ [] ≡ chained (vs ++ e ∷ []) = ap (λ x. x ++ e ∷ []) (filled-at xs vs v k) ∙ ap (λ x. chained vs ++ x ∷ []) (sym b) ∙ sym (chained-fresh 0 vs e n) in
+    filled-from ys (vs ++ e ∷ []) (view-one xs vs ys e v b h) (h ∙ made) w
+
+pub kept-push : (xs vs ys : List Event) (e : Event) → bares xs ≡ vs → IsFilled xs → IsFresh e → ys ≡ xs ++ e ∷ [] → IsFilled ys
+kept-push xs vs ys e v k f h =
+    kept-plain xs vs ys e v k (bare-fresh e f) (fresh-unnamed e f) (IsLinked-push vs e (subst IsLinked v k.linked) f) h
+
+-- an event added that names an earlier one
+
+pub view-named : (xs vs ys zs : List Event) (e : Event) (p : ℕ) (k : Option ℕ) → bares xs ≡ vs → bare e ≡ e → ys ≡ xs ++ e ∷ [] → zs ≡ changed_at (with_next k) p ys → bares zs ≡ vs ++ e ∷ []
+view-named xs vs ys zs e p k v b h g = ap bares g ∙ bares-next k p ys ∙ view-one xs vs ys e v b h
+
+pub kept-named : (xs vs ys zs : List Event) (e : Event) (p m : ℕ) → bares xs ≡ vs → IsFilled xs → bare e ≡ e → previous_of e ≡ Some p → IsLinked (vs ++ e ∷ []) → m ≡ length xs → ys ≡ xs ++ e ∷ [] → zs ≡ changed_at (with_next (Some m)) p ys → IsFilled zs
+kept-named xs vs ys zs e p m v k b n w s h g =
+    let less : p < length vs = last-earlier vs e p w n in
+    let size : length xs ≡ length vs = sym (length-bares xs) ∙ ap length v in
+    let near : p < length xs = omega arith in
+    let there : m ≡ 0 + length vs = omega arith in
+    let here : p ≡ 0 + p = omega arith in
+    let front : changed_at (with_next (Some m)) p xs ≡ changed_at (with_next (Some m)) p (chained vs) = ap (changed_at (with_next (Some m)) p) (filled-at xs vs v k) in
+    let made : changed_at (with_next (Some m)) p (xs ++ e ∷ []) ≡ chained (vs ++ e ∷ []) =
+    changed_at-append (with_next (Some m)) p xs (e ∷ []) near ∙ ap (λ x. x ++ e ∷ []) front ∙ ap (λ x. changed_at (with_next (Some m)) p (chained vs) ++ x ∷ []) (sym b) ∙ sym (chained-push 0 p p m vs e here there less n (ends-before vs e p w n)) in
+    filled-from zs (vs ++ e ∷ []) (view-named xs vs ys zs e p (Some m) v b h g) (g ∙ ap (changed_at (with_next (Some m)) p) h ∙ made) w
+
+-- the last event taken off
+
+front : (ys : List Event) (e : Event) → take (length (ys ++ e ∷ []) - 1) (ys ++ e ∷ []) ≡ ys
+front ys e = take_at ys (e ∷ []) (length (ys ++ e ∷ []) - 1) (omega (arith, length_push ys e))
+
+view-front : (xs vs ys : List Event) (e : Event) → bares xs ≡ vs → xs ≡ ys ++ e ∷ [] → bares ys ≡ take (length vs - 1) vs
+view-front xs vs ys e v h =
+    let both : vs ≡ bares ys ++ bare e ∷ [] = sym v ∙ ap bares h ∙ bares-append ys (e ∷ []) in
+    sym (front (bares ys) (bare e)) ∙ ap (λ x. take (length x - 1) x) (sym both)
+
+pub view-dropped : (xs vs ys zs : List Event) (e : Event) (p : ℕ) (k : Option ℕ) → bares xs ≡ vs → xs ≡ ys ++ e ∷ [] → zs ≡ changed_at (with_next k) p ys → bares zs ≡ take (length vs - 1) vs
+view-dropped xs vs ys zs e p k v h g = ap bares g ∙ bares-next k p ys ∙ view-front xs vs ys e v h
+
+pub view-popped : (xs vs ys : List Event) (e : Event) → bares xs ≡ vs → xs ≡ ys ++ e ∷ [] → bares ys ≡ take (length vs - 1) vs
+view-popped xs vs ys e v h = view-front xs vs ys e v h
+
+split-linked : (xs ys : List Event) (e : Event) → IsFilled xs → xs ≡ ys ++ e ∷ [] → IsLinked (bares ys ++ bare e ∷ [])
+split-linked xs ys e k h = subst IsLinked (ap bares h ∙ bares-append ys (e ∷ [])) k.linked
+
+split-filled : (xs ys : List Event) (e : Event) → IsFilled xs → xs ≡ ys ++ e ∷ [] → ys ++ e ∷ [] ≡ chained (bares ys ++ bare e ∷ [])
+split-filled xs ys e k h = sym h ∙ k.filled ∙ ap chained (ap bares h ∙ bares-append ys (e ∷ []))
+
+pub kept-popped : (xs ys : List Event) (e : Event) → IsFilled xs → xs ≡ ys ++ e ∷ [] → previous_of e ≡ None → IsFilled ys
+kept-popped xs ys e k h n =
+    let none : previous_of (bare e) ≡ None = previous_of-bare e ∙ n in
+    let made : ys ++ e ∷ [] ≡ chained (bares ys) ++ bare (bare e) ∷ [] = split-filled xs ys e k h ∙ chained-fresh 0 (bares ys) (bare e) none in
+    record { filled = (same_from_push ys (chained (bares ys)) e (bare (bare e)) made).0; linked = IsLinked-prefix (bares ys) (bare e ∷ []) (split-linked xs ys e k h) }
+
+module _ (xs ys : List Event) (e : Event) (p : ℕ) (k : IsFilled xs) (h : xs ≡ ys ++ e ∷ []) (n : previous_of e ≡ Some p) where
+  named : previous_of (bare e) ≡ Some p
+  named = previous_of-bare e ∙ n
+
+  pub dropped-within : p < length ys
+  dropped-within =
+      let less : p < length (bares ys) = last-earlier (bares ys) (bare e) p (split-linked xs ys e k h) named in
+      omega (arith, length-bares ys)
+
+  kept-front : ys ≡ changed_at (with_next (Some (length (bares ys)))) p (chained (bares ys))
+  kept-front =
+      let less : p < length (bares ys) = last-earlier (bares ys) (bare e) p (split-linked xs ys e k h) named in
+      let there : length (bares ys) ≡ 0 + length (bares ys) = omega arith in
+      let here : p ≡ 0 + p = omega arith in
+      let made : ys ++ e ∷ [] ≡ changed_at (with_next (Some (length (bares ys)))) p (chained (bares ys)) ++ bare (bare e) ∷ [] =
+      split-filled xs ys e k h ∙ chained-push 0 p p (length (bares ys)) (bares ys) (bare e) here there less named (ends-before (bares ys) (bare e) p (split-linked xs ys e k h) named) in
+      (same_from_push ys (changed_at (with_next (Some (length (bares ys)))) p (chained (bares ys))) e (bare (bare e)) made).0
+
+  pub kept-dropped : (zs : List Event) → zs ≡ changed_at (with_next None) p ys → IsFilled zs
+  kept-dropped zs g =
+      let here : p ≡ 0 + p = omega arith in
+      let clear : zs ≡ chained (bares ys) = g ∙ ap (changed_at (with_next None) p) kept-front ∙ changed_at-twice (Some (length (bares ys))) None p (chained (bares ys)) ∙ chained-end 0 p p (bares ys) here (ends-before (bares ys) (bare e) p (split-linked xs ys e k h) named) in
+      filled-from zs (bares ys) (ap bares g ∙ bares-next None p ys) clear (IsLinked-prefix (bares ys) (bare e ∷ []) (split-linked xs ys e k h))
+
+-- two events linked
+
+pub view-linked : (xs vs ys zs : List Event) (p i : ℕ) → bares xs ≡ vs → ys ≡ changed_at (with_next (Some i)) p xs → zs ≡ changed_at (with_previous (Some p)) i ys → bares zs ≡ changed_at (with_previous (Some p)) i vs
+view-linked xs vs ys zs p i v h g =
+    ap bares g ∙ bares-previous (Some p) i ys ∙ ap (changed_at (with_previous (Some p)) i) (ap bares h ∙ bares-next (Some i) p xs ∙ v)
+
+pub kept-linked : (xs vs ys zs : List Event) (p i : ℕ) → bares xs ≡ vs → IsFilled xs → p < i → linked_at vs p ≡ true → linked_at vs i ≡ true → previous_at vs i ≡ None → EndsChain p vs → ys ≡ changed_at (with_next (Some i)) p xs → zs ≡ changed_at (with_previous (Some p)) i ys → IsFilled zs
+kept-linked xs vs ys zs p i v k l a b n u h g =
+    let here : p ≡ 0 + p = omega arith in
+    let there : i ≡ 0 + i = omega arith in
+    let inner : ys ≡ changed_at (with_next (Some i)) p (chained vs) = h ∙ ap (changed_at (with_next (Some i)) p) (filled-at xs vs v k) in
+    let made : zs ≡ chained (changed_at (with_previous (Some p)) i vs) = g ∙ ap (changed_at (with_previous (Some p)) i) inner ∙ sym (chained-link 0 p p i i vs here there l n b u) in
+    filled-from zs (changed_at (with_previous (Some p)) i vs) (view-linked xs vs ys zs p i v h g) made (IsLinked-connect vs p i (subst IsLinked v k.linked) l a b u)
+
+-- an index in the list that contracts see is one in the list that is kept
+pub view-length : (xs vs : List Event) → bares xs ≡ vs → length xs ≡ length vs
+view-length xs vs v = sym (length-bares xs) ∙ ap length v
+
+pub linked-within : (xs vs : List Event) (i : ℕ) → bares xs ≡ vs → linked_at vs i ≡ true → i < length xs
+linked-within xs vs i v h = let l = within-linked vs i h in omega (arith, view-length xs vs v)
+
+pub linked-within-changed : (xs vs ys : List Event) (f : Event → Event) (p i : ℕ) → bares xs ≡ vs → linked_at vs i ≡ true → ys ≡ changed_at f p xs → i < length ys
+linked-within-changed xs vs ys f p i v h g =
+    let size : length ys ≡ length xs = ap length g ∙ length-changed_at f p xs in
+    let l : i < length xs = linked-within xs vs i v h in
+    omega arith
+
+-- an event read, without the event after
+pub bare-read : (xs vs : List Event) (i : ℕ) (d r : Event) → bares xs ≡ vs → d ≡ get_or xs i d → r ≡ bare d → r ≡ get_or vs i r
+bare-read xs vs i d r v h k = k ∙ ap bare h ∙ get-bares xs i d ∙ ap (λ x. get_or (bares xs) i x) (sym k) ∙ ap (λ x. get_or x i r) v
+
+-- events that are linked to no other
+
+-- with no event after
+abbrev pub AreBare : List Event → Type 0
+AreBare xs = All (λ e. next_link None e.link ≡ e.link) xs
+
+bares-same : (xs : List Event) → AreBare xs → bares xs ≡ xs
+bares-same [] u = refl
+bares-same (x ∷ xs) u =
+    ap (λ (l : Option Link). record x { link = l } ∷ bares xs) (u 0 x (omega arith)) ∙ ap (λ ys. x ∷ ys) (bares-same xs (λ k d l. u (suc k) d (omega arith)))
+
+bares-part : (n k : ℕ) (xs : List Event) → take k (drop n (bares xs)) ≡ bares (take k (drop n xs))
+bares-part zero zero xs = refl
+bares-part zero (suc k) [] = refl
+bares-part zero (suc k) (x ∷ xs) = ap (λ ys. bare x ∷ ys) (bares-part zero k xs)
+bares-part (suc n) zero [] = refl
+bares-part (suc n) (suc k) [] = refl
+bares-part (suc n) zero (x ∷ xs) = bares-part n zero xs
+bares-part (suc n) (suc k) (x ∷ xs) = bares-part n (suc k) xs
+
+take-take-le : (a b : ℕ) (ys : List Event) → a ≤ b → take a (take b ys) ≡ take a ys
+take-take-le zero b ys h = refl
+take-take-le (suc a) zero ys h = absurd (omega arith)
+take-take-le (suc a) (suc b) [] h = refl
+take-take-le (suc a) (suc b) (y ∷ ys) h = ap (λ zs. y ∷ zs) (take-take-le a b ys (omega arith))
+
+enters-each : (xs : List Event) → OnlyEnters xs → All (λ e. MayLink e.kind e.link) xs
+enters-each [] h = λ k d l. absurd (omega arith)
+enters-each (x ∷ xs) h = λ k d l. enters-step x xs h.0 (enters-each xs h.1) k d l
+  where
+    enters-step : (x : Event) (xs : List Event) → MayLink x.kind x.link → All (λ e. MayLink e.kind e.link) xs → (k : ℕ) (d : Event) → k < length (x ∷ xs) → MayLink (get_or (x ∷ xs) k d).kind (get_or (x ∷ xs) k d).link
+    enters-step x xs h g zero d l = h
+    enters-step x xs h g (suc k) d l = g k d (omega arith)
+
+some-event : (xs : List Event) (i : ℕ) → i < length xs → Event
+some-event [] i l = absurd (omega arith)
+some-event (x ∷ xs) i l = x
+
+module _ (xs vs ws : List Event) (n m k : ℕ) (v : bares xs ≡ vs) (w : ws ≡ xs) (l : k ≤ length (take m (drop n ws))) (u : AreBare (take k (take m (drop n ws)))) where
+  size : length (take k (take m (drop n ws))) ≡ k
+  size = omega (arith, length-take k (take m (drop n ws)))
+
+  once : take k (take m (drop n ws)) ≡ take k (drop n ws)
+  once = take-take-le k m (drop n ws) (omega (arith, length-take m (drop n ws)))
+
+  pub part-seen : take k (take m (drop n ws)) ≡ take (length (take k (take m (drop n ws)))) (drop n vs)
+  part-seen =
+      let P : List Event → Type 0 = λ ys. AreBare ys in
+      once ∙ sym (bares-same (take k (drop n ws)) (subst P once u)) ∙ sym (bares-part n k ws) ∙ ap (λ y. take k (drop n (bares y))) w ∙ ap (λ y. take k (drop n y)) v ∙ ap (λ j. take j (drop n vs)) (sym size)
+
+  pub part-fresh : IsFilled xs → All (λ e. link_previous e.link ≡ None) (take k (take m (drop n ws))) → All IsFresh (take k (take m (drop n ws)))
+  part-fresh f none j d h =
+      let ys : List Event = take k (take m (drop n ws)) in
+      let P : List Event → Type 0 = λ zs. OnlyEnters zs in
+      let whole : OnlyEnters vs = subst P v f.linked.enters in
+      let part : OnlyEnters ys = subst P (sym part-seen) (OnlyEnters-part n (length ys) vs whole) in
+      fresh-of (get_or ys j d).kind (get_or ys j d).link (enters-each ys part j d h) (none j d h) (u j d h)
+
+  pub part-ends : IsFilled xs → (j : ℕ) → n ≤ j → j < n + length (take k (take m (drop n ws))) → EndsChain j vs
+  part-ends f j low high =
+      let ys : List Event = take k (take m (drop n ws)) in
+      let lt : j - n < k = omega (arith, size, low, high) in
+      let d : Event = some-event ys (j - n) (omega (arith, size, lt)) in
+      let there : n + (j - n) ≡ j = omega (arith, low) in
+      let same : get_or ys (j - n) d ≡ get_or (chained vs) j d =
+      ap (λ zs. get_or zs (j - n) d) once ∙ get_or-take k (drop n ws) (j - n) d lt ∙ get_or-drop n ws (j - n) d ∙ ap (λ i. get_or ws i d) there ∙ ap (λ zs. get_or zs j d) (w ∙ filled-at xs vs v f) in
+      let P : Event → Type 0 = λ e. next_link None e.link ≡ e.link in
+      chained-ends j vs d (subst IsLinked v f.linked) (subst P same (u (j - n) d (omega (arith, size, lt))))
+
+pub view-extended : (xs vs ys zs : List Event) → bares xs ≡ vs → All IsFresh ys → zs ≡ xs ++ ys → bares zs ≡ vs ++ ys
+view-extended xs vs ys zs v u h = ap bares h ∙ bares-append xs ys ∙ ap (λ x. bares xs ++ x) (bares-same ys (λ k d l. ap (λ (e : Event). e.link) (bare-fresh (get_or ys k d) (u k d l)))) ∙ ap (λ x. x ++ ys) v
+
+extended : (xs ys : List Event) → IsFilled xs → All IsFresh ys → IsFilled (xs ++ ys)
+extended xs [] k u = subst IsFilled (sym (append-nil xs)) k
+extended xs (y ∷ ys) k u =
+    let one : IsFilled (xs ++ y ∷ []) = kept-push xs (bares xs) (xs ++ y ∷ []) y refl k (u 0 y (omega arith)) refl in
+    subst IsFilled (append_assoc xs (y ∷ []) ys) (extended (xs ++ y ∷ []) ys one (λ j d l. u (suc j) d (omega arith)))
+
+pub kept-extended : (xs ys zs : List Event) → IsFilled xs → All IsFresh ys → zs ≡ xs ++ ys → IsFilled zs
+kept-extended xs ys zs k u h = subst IsFilled (sym h) (extended xs ys k u)

@@ -1,0 +1,6 @@
+pub mod EditRules
+pub mod EventChainLemmas
+pub mod EventViewLemmas
+pub mod EditLemmas
+pub mod EditOrder
+pub mod EditStretches

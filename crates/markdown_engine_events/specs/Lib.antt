@@ -1,0 +1,2 @@
+pub mod EventChains
+pub mod Edits

@@ -1,0 +1,3 @@
+// Edits of a list of events.
+
+pub mod edit_map;

@@ -1,0 +1,55 @@
+-- One sequence shows at the code, and the others do not.
+use Rattle.std.proofs.Common.{◌≡◌, ◌||◌, ◌==◌, cond, false, inl, inr, Some, ap, refl, sym, ◌∙◌, arith}
+use Rattle.std.proofs.lemmas.Bool.{ne_eqb}
+use Rattle.std.proofs.lemmas.Bool.Decides.{nat_tests}
+use Rattle.markdown_engine_index.specs.declared.sequence_index.Sequence.TheVariants.{CommentEnd, SectionEnd, InstructionEnd, DeclarationEnd, ResourceEnd, ProtocolSlash, WwwDot, SpanMark}
+use Rattle.markdown_engine_index.proofs.SequenceIndexLemmas.{next-is, span-here, unmoved}
+use Rattle.markdown_engine_index.proofs.sequence_index.found_at.Goals as goal
+
+pub returns-in-45 : goal.returns-in-45
+returns-in-45 c CommentEnd = cc
+returns-in-45 c s = unmoved s c.args.place.now 45 c.args.last (c.requires ∙ ap (λ n. Some n) c.in-45.is) refl
+
+pub returns-in-93 : goal.returns-in-93
+returns-in-93 c SectionEnd = cc
+returns-in-93 c s = unmoved s c.args.place.now 93 c.args.last (c.requires ∙ ap (λ n. Some n) c.in-93.is) refl
+
+pub returns-in-63 : goal.returns-in-63
+returns-in-63 c InstructionEnd = cc
+returns-in-63 c s = unmoved s c.args.place.now 63 c.args.last (c.requires ∙ ap (λ n. Some n) c.in-63.is) refl
+
+pub returns-in-62 : goal.returns-in-62
+returns-in-62 c DeclarationEnd = ap (λ n. Some n) c.passed-at.ensures ∙ ap (λ b. cond b (Some c.args.place.now.at) c.args.last.declaration_end) (sym (next-is 62 c.args.place.now (c.requires ∙ ap (λ n. Some n) c.in-62.is)))
+returns-in-62 c s = unmoved s c.args.place.now 62 c.args.last (c.requires ∙ ap (λ n. Some n) c.in-62.is) refl
+
+pub returns-in-41 : goal.returns-in-41
+returns-in-41 c ResourceEnd = cc
+returns-in-41 c s = unmoved s c.args.place.now 41 c.args.last (c.requires ∙ ap (λ n. Some n) c.in-41.is) refl
+
+pub returns-in-58 : goal.returns-in-58
+returns-in-58 c ProtocolSlash = cc
+returns-in-58 c s = unmoved s c.args.place.now 58 c.args.last (c.requires ∙ ap (λ n. Some n) c.in-58.is) refl
+
+pub returns-in-46 : goal.returns-in-46
+returns-in-46 c WwwDot = cc
+returns-in-46 c s = unmoved s c.args.place.now 46 c.args.last (c.requires ∙ ap (λ n. Some n) c.in-46.is) refl
+
+pub returns-in-96 : goal.returns-in-96
+returns-in-96 c SpanMark = ap (λ n. Some n) c.passed-at.ensures ∙ ap (λ b. cond b (Some c.args.place.now.at) c.args.last.span_mark) (sym (span-here c.args.place.now c.args.code c.requires c.in-96.is))
+returns-in-96 c s = elim c.in-96.is [
+  | inl e ↦ unmoved s c.args.place.now 36 c.args.last (c.requires ∙ ap (λ n. Some n) e) refl
+  | inr e ↦ unmoved s c.args.place.now 96 c.args.last (c.requires ∙ ap (λ n. Some n) e) refl
+]
+
+not-span : (c : goal.In_default) → (c.args.code == 96 || c.args.code == 36) ≡ false
+not-span c = grind (arith, nat_tests)
+
+pub returns-in_default : goal.returns-in_default
+returns-in_default c CommentEnd = unmoved CommentEnd c.args.place.now c.args.code c.args.last c.requires (ne_eqb c.args.code 45 (λ e. omega arith))
+returns-in_default c SectionEnd = unmoved SectionEnd c.args.place.now c.args.code c.args.last c.requires (ne_eqb c.args.code 93 (λ e. omega arith))
+returns-in_default c InstructionEnd = unmoved InstructionEnd c.args.place.now c.args.code c.args.last c.requires (ne_eqb c.args.code 63 (λ e. omega arith))
+returns-in_default c DeclarationEnd = unmoved DeclarationEnd c.args.place.now c.args.code c.args.last c.requires (ne_eqb c.args.code 62 (λ e. omega arith))
+returns-in_default c ResourceEnd = unmoved ResourceEnd c.args.place.now c.args.code c.args.last c.requires (ne_eqb c.args.code 41 (λ e. omega arith))
+returns-in_default c ProtocolSlash = unmoved ProtocolSlash c.args.place.now c.args.code c.args.last c.requires (ne_eqb c.args.code 58 (λ e. omega arith))
+returns-in_default c WwwDot = unmoved WwwDot c.args.place.now c.args.code c.args.last c.requires (ne_eqb c.args.code 46 (λ e. omega arith))
+returns-in_default c SpanMark = unmoved SpanMark c.args.place.now c.args.code c.args.last c.requires (not-span c)

@@ -1,0 +1,5 @@
+pub mod RunIndex
+pub mod SequenceIndex
+pub mod TitleIndex
+pub mod BracketIndex
+pub mod NameIndex

@@ -1,0 +1,131 @@
+// Names in the order of their bytes, each found by a search.
+ghost use Rattle.std.specs.Prelude.{◌≡◌, ◌≤◌, ◌==◌, IfOk, map, length, string_bytes, true, false};
+ghost use Rattle.std.specs.List.{list_any, starts_with, AllWithin};
+ghost use Rattle.std.specs.Str.{bytes_eq};
+ghost use Rattle.std.specs.List.Sorted.{IsNonDecreasing, IsPermutation, IsSorted};
+ghost use Rattle.std.specs.String.{string_cmp};
+ghost use Rattle.markdown_engine_index.specs.BracketIndex.{brackets_of, has_brackets};
+ghost use Rattle.markdown_engine_index.specs.NameIndex.{in_order, comes_before, names_in_order};
+
+use crate::bracket_index::{BracketIndex, brackets_of};
+use std::alloc::{AllocError, Global};
+use std::marker::Model;
+
+/// Some names. Contracts see their bytes, in order.
+#[derive(Drop)]
+pub struct NameIndex {
+    // In the order of their bytes.
+    names: Vec<String>,
+    // How many opening brackets they have, in order.
+    counts: Vec<usize>,
+}
+
+impl Model for NameIndex {
+    ghost use Rattle.std.specs.Prelude.{List, ℕ, map, string_bytes};
+    ghost use Rattle.std.specs.List.Sorted.{IsNonDecreasing, IsPermutation, IsSorted};
+    ghost use Rattle.std.specs.String.{string_cmp};
+    ghost use Rattle.markdown_engine_index.specs.BracketIndex.{brackets_of};
+
+    ghost Value = { List (List ℕ) };
+
+    ghost view = { λ r. map string_bytes r.names.items };
+
+    ghost invariant = { λ r. IsSorted string_cmp r.names.items × (IsNonDecreasing r.counts.items × IsPermutation (map (λ name. brackets_of (string_bytes name)) r.names.items) r.counts.items) };
+}
+
+impl NameIndex {
+    /// An index of these names.
+    ///
+    /// The only error is that memory was refused.
+    pub fn over(alloc: Global, names: &[String]) -> Result<NameIndex, AllocError>
+        ensures { IfOk result (λ index. index ≡ in_order (map string_bytes names.now)) }
+    {
+        let mut sorted = Vec::new(alloc);
+        for name in names {
+            sorted.push(name.clone()?)?;
+        }
+        sorted.sort_unstable();
+        let counts = counts_of(alloc, sorted.as_slice())?;
+        Ok(NameIndex {
+            names: sorted,
+            counts,
+        })
+    }
+
+    /// Whether it is one of the names.
+    pub fn has(&self, name: &str) -> bool
+        ensures { result ≡ list_any (bytes_eq name.now) self.now }
+    {
+        let at = first_from(self.names.as_slice(), name);
+        at < self.names.len() && name == self.names[at].as_str()
+    }
+
+    /// Whether one of the names begins so.
+    pub fn begins(&self, front: &str) -> bool
+        ensures { result ≡ list_any (λ name. starts_with (◌==◌) name front.now) self.now }
+    {
+        let at = first_from(self.names.as_slice(), front);
+        at < self.names.len() && self.names[at].as_bytes().starts_with(front.as_bytes())
+    }
+
+    /// Whether one of the names has so many opening brackets.
+    pub fn has_brackets(&self, count: usize) -> bool
+        ensures { result ≡ has_brackets count self.now }
+    {
+        self.counts.binary_search(&count).is_ok()
+    }
+}
+
+// How many opening brackets these names have, in order.
+fn counts_of(alloc: Global, names: &[String]) -> Result<Vec<usize>, AllocError>
+    ensures sorted { IfOk result (λ counts. IsNonDecreasing counts.items) }
+    ensures permutation { IfOk result (λ counts. IsPermutation (map (λ name. brackets_of (string_bytes name)) names.now) counts.items) }
+{
+    let mut counts = Vec::new(alloc);
+    for name in names {
+        counts.push(brackets_of(name.as_str()))?;
+    }
+    counts.sort_unstable();
+    Ok(counts)
+}
+
+// How many of these names, which are in order, come before a text.
+fn first_from(names: &[String], text: &str) -> usize
+    requires { IsSorted string_cmp names.now }
+    ensures within { result ≤ length names.now }
+    ensures before { AllWithin (λ name. comes_before text.now (string_bytes name) ≡ true) names.now 0 result }
+    ensures after { AllWithin (λ name. comes_before text.now (string_bytes name) ≡ false) names.now result (length names.now) }
+{
+    names.partition_point(|name| name.as_str() < text)
+}
+
+/// The names of what is defined, and where opening brackets stand in the document.
+#[derive(Drop)]
+pub struct Names {
+    /// Of the definitions.
+    pub definitions: NameIndex,
+    /// Of the footnotes.
+    pub footnotes: NameIndex,
+    /// Where opening brackets stand: a label with another number of them than each name has is none of them.
+    pub brackets: BracketIndex,
+}
+
+impl Names {
+    /// These names, with these brackets.
+    ///
+    /// The only error is that memory was refused.
+    pub fn over(
+        alloc: Global,
+        definitions: &[String],
+        footnotes: &[String],
+        brackets: BracketIndex,
+    ) -> Result<Names, AllocError>
+        ensures { IfOk result (λ names. names ≡ names_in_order (map string_bytes definitions.now) (map string_bytes footnotes.now) brackets) }
+    {
+        Ok(Names {
+            definitions: NameIndex::over(alloc, definitions)?,
+            footnotes: NameIndex::over(alloc, footnotes)?,
+            brackets,
+        })
+    }
+}

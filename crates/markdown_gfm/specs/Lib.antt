@@ -1,4 +1,0 @@
-pub mod GfmTaskListItemCheck
-pub mod DomainOutlook
-pub mod DomainLooks
-pub mod GfmAutolinkLiteral

@@ -1,4 +1,0 @@
-pub mod Values
-pub mod LineOps
-pub mod Rests
-pub mod HtmlText

@@ -1,0 +1,252 @@
+// Resources.
+//
+// CommonMark 6.3: behind the label of a link or an image, in parentheses, a destination and a title, each of which may be missing, with
+// whitespace around them; a title does not stand without a destination. These are states of a label's end.
+//
+// Each state answers the error where a growth is refused; then `failed` is true.
+#![tactic(auto, using(markdown_engine::proofs::OperationFields::law_rules), unfolding(markdown_engine::specs::Operations::scratched, markdown_engine::specs::Operations::attempted, markdown_engine::specs::Operations::frame_of))]
+
+ghost use Rattle.std.specs.Prelude.{◌≡◌, IfOk, OnErr, IsTrue};
+ghost use Rattle.markdown_engine.specs.Operations.{IsOpen};
+ghost use Rattle.markdown_engine_index.specs.TitleIndex as Titles;
+ghost use Rattle.markdown_engine_content.specs.declared.event.Name.TheVariants.{Resource};
+ghost use Rattle.markdown_label.specs.AfterLabelParts.{names_rested};
+ghost use Rattle.markdown_label.specs.Resource.{destination_asked, destination_rested, title_asked, start_step, before_step, open_step, destination_after_step, missing_step, is_hopeless, between_step, title_after_step, end_step};
+
+use markdown_engine::state::{State, StateName};
+use markdown_engine::tokenizer::{TokenizeState, Tokenizer};
+use markdown_engine_content::event::Name;
+use markdown_engine_index::sequence_index::Sequence;
+use markdown_engine_index::title_index::TitleIndex;
+use markdown_partial::partial_space_or_tab_eol::space_or_tab_eol;
+use markdown_util::util::constant::RESOURCE_DESTINATION_BALANCE_MAX;
+use std::alloc::AllocError;
+
+// Asks for a destination under the names of a resource's.
+fn ask_for_destination(state: &mut TokenizeState)
+    ensures { state.new ≡ destination_asked state.old }
+{
+    state.size_b = RESOURCE_DESTINATION_BALANCE_MAX;
+    state.token_1 = Name::ResourceDestination;
+    state.token_2 = Name::ResourceDestinationLiteral;
+    state.token_3 = Name::ResourceDestinationLiteralMarker;
+    state.token_4 = Name::ResourceDestinationRaw;
+    state.token_5 = Name::ResourceDestinationString;
+}
+
+// Puts to rest what was asked of a destination or a title.
+fn rest_destination(state: &mut TokenizeState)
+    ensures { state.new ≡ destination_rested state.old }
+{
+    state.size_b = 0;
+    state.token_1 = Name::Data;
+    state.token_2 = Name::Data;
+    state.token_3 = Name::Data;
+    state.token_4 = Name::Data;
+    state.token_5 = Name::Data;
+}
+
+// Asks for a title under the names of a resource's.
+fn ask_for_title(state: &mut TokenizeState)
+    ensures { state.new ≡ title_asked state.old }
+{
+    state.token_1 = Name::ResourceTitle;
+    state.token_2 = Name::ResourceTitleMarker;
+    state.token_3 = Name::ResourceTitleString;
+}
+
+// Puts the names of a title to rest.
+fn rest_title(state: &mut TokenizeState)
+    ensures { state.new ≡ names_rested state.old }
+{
+    state.token_1 = Name::Data;
+    state.token_2 = Name::Data;
+    state.token_3 = Name::Data;
+}
+
+/// At the start of a resource: its opening parenthesis.
+///
+///     > | [x]( y 'z' )
+///            ^
+pub fn resource_start(tokenizer: &mut Tokenizer) -> Result<State, AllocError>
+    ensures ok { IfOk result (λ s. start_step tokenizer.old ≡ record { state = s; left = tokenizer.new }) }
+    ensures err { OnErr result (IsTrue tokenizer.new.failed) }
+{
+    match tokenizer.current() {
+        Some(b'(') => {
+            tokenizer.enter(Name::Resource)?;
+            tokenizer.enter(Name::ResourceMarker)?;
+            tokenizer.consume();
+            tokenizer.exit(Name::ResourceMarker)?;
+            Ok(State::Next(StateName::LabelEndResourceBefore))
+        }
+        _ => Ok(State::Nok),
+    }
+}
+
+/// Behind the opening parenthesis, where whitespace may stand.
+///
+///     > | [x]( y 'z' )
+///             ^
+pub fn resource_before(tokenizer: &mut Tokenizer) -> Result<State, AllocError>
+    ensures ok { IfOk result (λ s. before_step tokenizer.old ≡ record { state = s; left = tokenizer.new }) }
+    ensures err { OnErr result (IsTrue tokenizer.new.failed) }
+{
+    match tokenizer.current() {
+        Some(b'\t' | b'\n' | b' ') => {
+            let space = space_or_tab_eol(tokenizer);
+            tokenizer.attempt(
+                State::Next(StateName::LabelEndResourceOpen),
+                State::Next(StateName::LabelEndResourceOpen),
+            )?;
+            Ok(State::Retry(space))
+        }
+        _ => Ok(State::Retry(StateName::LabelEndResourceOpen)),
+    }
+}
+
+/// Behind the whitespace after the opening parenthesis: at the closing one, or at a destination.
+///
+///     > | [x]( y 'z' )
+///              ^
+pub fn resource_open(tokenizer: &mut Tokenizer) -> Result<State, AllocError>
+    ensures ok { IfOk result (λ s. open_step tokenizer.old ≡ record { state = s; left = tokenizer.new }) }
+    ensures err { OnErr result (IsTrue tokenizer.new.failed) }
+{
+    match tokenizer.current() {
+        Some(b')') => Ok(State::Retry(StateName::LabelEndResourceEnd)),
+        _ => {
+            ask_for_destination(&mut tokenizer.tokenize_state);
+            tokenizer.attempt(
+                State::Next(StateName::LabelEndResourceDestinationAfter),
+                State::Next(StateName::LabelEndResourceDestinationMissing),
+            )?;
+            Ok(State::Retry(StateName::DestinationStart))
+        }
+    }
+}
+
+/// Behind a destination, where whitespace may stand, and behind that a title.
+///
+///     > | [x]( y 'z' )
+///               ^
+pub fn resource_destination_after(tokenizer: &mut Tokenizer) -> Result<State, AllocError>
+    ensures ok { IfOk result (λ s. destination_after_step tokenizer.old ≡ record { state = s; left = tokenizer.new }) }
+    ensures err { OnErr result (IsTrue tokenizer.new.failed) }
+{
+    rest_destination(&mut tokenizer.tokenize_state);
+    match tokenizer.current() {
+        Some(b'\t' | b'\n' | b' ') => {
+            let space = space_or_tab_eol(tokenizer);
+            tokenizer.attempt(
+                State::Next(StateName::LabelEndResourceBetween),
+                State::Next(StateName::LabelEndResourceEnd),
+            )?;
+            Ok(State::Retry(space))
+        }
+        _ => Ok(State::Retry(StateName::LabelEndResourceEnd)),
+    }
+}
+
+/// No destination stands there, or no title where one has to stand: all names are put to rest.
+///
+///     > | [x](<y)
+///             ^
+///
+///     > | [x](y 'z)
+///               ^
+pub fn resource_destination_missing(tokenizer: &mut Tokenizer) -> Result<State, AllocError>
+    ensures ok { IfOk result (λ s. missing_step tokenizer.old ≡ record { state = s; left = tokenizer.new }) }
+    ensures err { OnErr result (IsTrue tokenizer.new.failed) }
+{
+    rest_destination(&mut tokenizer.tokenize_state);
+    Ok(State::Nok)
+}
+
+// Whether it is known that no resource ends behind a title in parentheses that begins at this many codes.
+fn rules_out(titles: &Option<TitleIndex>, at: usize) -> bool
+    ensures { result ≡ Titles.rules_out titles.now at }
+{
+    match titles {
+        None => false,
+        Some(index) => index.rules_out(at),
+    }
+}
+
+// Whether a title in parentheses may begin here, and it is known that no resource ends behind one.
+fn is_hopeless(tokenizer: &Tokenizer) -> bool
+    ensures { result ≡ is_hopeless tokenizer.now }
+{
+    let state = &tokenizer.tokenize_state;
+    let at = tokenizer.cursor.passed();
+    matches!(tokenizer.current(), Some(b'('))
+        && (state.sequences.rules_out(Sequence::ResourceEnd, at) || rules_out(&state.titles, at))
+}
+
+/// Behind a destination and whitespace: at a title, if a quote or a parenthesis stands there, or else at the end.
+///
+/// A title in parentheses is not tried where it is known that the first `)` behind it that no backslash escapes has no other one behind it,
+/// past whitespace, or that none at all has.
+///
+///     > | [x]( y 'z' )
+///                ^
+pub fn resource_between(tokenizer: &mut Tokenizer) -> Result<State, AllocError>
+    ensures ok { IfOk result (λ s. between_step tokenizer.old ≡ record { state = s; left = tokenizer.new }) }
+    ensures err { OnErr result (IsTrue tokenizer.new.failed) }
+{
+    if is_hopeless(tokenizer) {
+        return Ok(State::Nok);
+    }
+    match tokenizer.current() {
+        Some(b'"' | b'\'' | b'(') => {
+            ask_for_title(&mut tokenizer.tokenize_state);
+            let missing = State::Next(StateName::LabelEndResourceDestinationMissing);
+            tokenizer.attempt(State::Next(StateName::LabelEndResourceTitleAfter), missing)?;
+            Ok(State::Retry(StateName::TitleStart))
+        }
+        _ => Ok(State::Retry(StateName::LabelEndResourceEnd)),
+    }
+}
+
+/// Behind a title, where whitespace may stand.
+///
+///     > | [x]( y 'z' )
+///                   ^
+pub fn resource_title_after(tokenizer: &mut Tokenizer) -> Result<State, AllocError>
+    ensures ok { IfOk result (λ s. title_after_step tokenizer.old ≡ record { state = s; left = tokenizer.new }) }
+    ensures err { OnErr result (IsTrue tokenizer.new.failed) }
+{
+    rest_title(&mut tokenizer.tokenize_state);
+    match tokenizer.current() {
+        Some(b'\t' | b'\n' | b' ') => {
+            let space = space_or_tab_eol(tokenizer);
+            tokenizer.attempt(
+                State::Next(StateName::LabelEndResourceEnd),
+                State::Next(StateName::LabelEndResourceEnd),
+            )?;
+            Ok(State::Retry(space))
+        }
+        _ => Ok(State::Retry(StateName::LabelEndResourceEnd)),
+    }
+}
+
+/// At the closing parenthesis.
+///
+///     > | [x]( y 'z' )
+///                    ^
+pub fn resource_end(tokenizer: &mut Tokenizer) -> Result<State, AllocError>
+    requires { IsOpen Resource tokenizer.old }
+    ensures ok { IfOk result (λ s. end_step tokenizer.old ≡ record { state = s; left = tokenizer.new }) }
+    ensures err { OnErr result (IsTrue tokenizer.new.failed) }
+{
+    match tokenizer.current() {
+        Some(b')') => {
+            tokenizer.enter(Name::ResourceMarker)?;
+            tokenizer.consume();
+            tokenizer.exit(Name::ResourceMarker)?;
+            tokenizer.exit(Name::Resource)?;
+            Ok(State::Ok)
+        }
+        _ => Ok(State::Nok),
+    }
+}

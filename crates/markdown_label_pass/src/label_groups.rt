@@ -1,0 +1,350 @@
+// The pass of label ends.
+//
+// CommonMark 6.3 and 6.4, and footnote calls: a run leaves the starts and the ends of labels as events, and lists of which belong to which.
+// The pass puts the groups around them, and makes data of the starts that no end has used.
+#![tactic(auto)]
+
+ghost use Rattle.std.specs.Prelude.{◌≡◌, ◌+◌, ◌-◌, ◌<◌, ◌++◌, ◌∷◌, [], length, IfOk, OnOk, OnErr, IsTrue, None};
+ghost use Rattle.std.specs.List.{All};
+ghost use Rattle.markdown_engine.specs.PastTree.{appended_from};
+ghost use Rattle.markdown_engine_content.specs.Tree.{event};
+ghost use Rattle.markdown_engine_content.specs.declared.event.Kind.{Kind};
+ghost use Rattle.markdown_engine_content.specs.declared.label_kind.LabelKind.{LabelKind};
+ghost use Rattle.markdown_model.specs.Passes.{label_name};
+ghost use Rattle.markdown_label_pass.specs.Brackets.{Brackets, grouped, place_at, opened, ended, closed, label_edits, labels_edits, loose_edits, loose_edit, replacing, IsWithin, IsStartWithin};
+ghost use Rattle.markdown_label_pass.specs.LabelsHandedOver.{HasBrackets, MayGroup, starts_of, unlabelled};
+
+use markdown_engine::tokenizer::{Label, LabelKind, LabelStart, TokenizeState, Tokenizer};
+use markdown_engine_content::event::{Event, Kind, Name, Point};
+use markdown_engine_events::events::Events;
+use markdown_engine_events::subtokenize::Subresult;
+use markdown_engine_events::util::edit_map::EditMap;
+use markdown_lists::seq::Stack;
+use std::alloc::AllocError;
+
+// Where an event stands.
+fn place(events: &Events, index: usize) -> Point
+    requires { index < length events.now }
+    ensures { result ≡ place_at events.now index }
+{
+    events.bare_at(index).point
+}
+
+// The number after that of an event.
+fn behind(events: &Events, index: usize) -> usize
+    requires { index < length events.now }
+    ensures { result ≡ index + 1 }
+{
+    let count = events.len();
+    if index < count { index + 1 } else { count }
+}
+
+fn enter(name: Name, point: Point) -> Event
+    ensures { result ≡ event Kind.Enter name point }
+{
+    Event {
+        kind: Kind::Enter,
+        name,
+        point,
+        link: None,
+    }
+}
+
+fn exit(name: Name, point: Point) -> Event
+    ensures { result ≡ event Kind.Exit name point }
+{
+    Event {
+        kind: Kind::Exit,
+        name,
+        point,
+        link: None,
+    }
+}
+
+// The name of a label's group.
+fn group_name(kind: LabelKind) -> Name
+    ensures { result ≡ label_name kind }
+{
+    match kind {
+        LabelKind::Image => Name::Image,
+        LabelKind::GfmFootnote => Name::GfmFootnoteCall,
+        LabelKind::Link | LabelKind::GfmUndefinedFootnote => Name::Link,
+    }
+}
+
+// What comes in place of the events of a link's start: the link's groups, the start, and the text's group.
+fn link_opened(start: Point, marker_end: Point) -> [Event; 7]
+    ensures { result ≡ opened LabelKind.Link start marker_end marker_end marker_end }
+{
+    [
+        enter(Name::Link, start),
+        enter(Name::Label, start),
+        enter(Name::LabelLink, start),
+        enter(Name::LabelMarker, start),
+        exit(Name::LabelMarker, marker_end),
+        exit(Name::LabelLink, marker_end),
+        enter(Name::LabelText, marker_end),
+    ]
+}
+
+// The same for a link whose text begins with the caret of a footnote start: the caret is data, the first in the text.
+fn caret_opened(start: Point, marker_end: Point, caret: Point, end: Point) -> [Event; 9]
+    ensures { result ≡ opened LabelKind.GfmUndefinedFootnote start marker_end caret end }
+{
+    [
+        enter(Name::Link, start),
+        enter(Name::Label, start),
+        enter(Name::LabelLink, start),
+        enter(Name::LabelMarker, start),
+        exit(Name::LabelMarker, marker_end),
+        exit(Name::LabelLink, marker_end),
+        enter(Name::LabelText, marker_end),
+        enter(Name::Data, caret),
+        exit(Name::Data, end),
+    ]
+}
+
+// The same for an image.
+fn image_opened(start: Point, marker_end: Point, bracket: Point, end: Point) -> [Event; 9]
+    ensures { result ≡ opened LabelKind.Image start marker_end bracket end }
+{
+    [
+        enter(Name::Image, start),
+        enter(Name::Label, start),
+        enter(Name::LabelImage, start),
+        enter(Name::LabelImageMarker, start),
+        exit(Name::LabelImageMarker, marker_end),
+        enter(Name::LabelMarker, bracket),
+        exit(Name::LabelMarker, end),
+        exit(Name::LabelImage, end),
+        enter(Name::LabelText, end),
+    ]
+}
+
+// The same for a footnote call.
+fn call_opened(start: Point, marker_end: Point, caret: Point, end: Point) -> [Event; 9]
+    ensures { result ≡ opened LabelKind.GfmFootnote start marker_end caret end }
+{
+    [
+        enter(Name::GfmFootnoteCall, start),
+        enter(Name::Label, start),
+        enter(Name::GfmFootnoteCallLabel, start),
+        enter(Name::LabelMarker, start),
+        exit(Name::LabelMarker, marker_end),
+        enter(Name::GfmFootnoteCallMarker, caret),
+        exit(Name::GfmFootnoteCallMarker, end),
+        exit(Name::GfmFootnoteCallLabel, end),
+        enter(Name::LabelText, end),
+    ]
+}
+
+// What comes in place of an end's events: the text's group ends, and behind the end the label's.
+fn ended(start: Point, end: Point) -> [Event; 6]
+    ensures { result ≡ ended start end }
+{
+    [
+        exit(Name::LabelText, start),
+        enter(Name::LabelEnd, start),
+        enter(Name::LabelMarker, start),
+        exit(Name::LabelMarker, end),
+        exit(Name::LabelEnd, end),
+        exit(Name::Label, end),
+    ]
+}
+
+// Marks the start of a link. Each kind has a function of its own, so that none makes room for another kind's events.
+fn mark_link(label: &Label, events: &Events, map: &mut EditMap) -> Result<(), AllocError>
+    requires within { IsWithin (length events.now) label.now }
+    requires kind { label.now.kind ≡ LabelKind.Link }
+    ensures { let l = label.now in OnOk result (map.new ≡ map.old ++ replacing l.start.0 (l.start.1 + 1 - l.start.0)
+        (opened l.kind (place_at events.now l.start.0) (place_at events.now (l.start.0 + 2)) (place_at events.now (l.start.0 + 3)) (place_at events.now l.start.1)) ∷ []) }
+{
+    let (first, last) = label.start;
+    let start = place(events, first);
+    let marker_end = place(events, first + 2);
+    let comes = link_opened(start, marker_end);
+    map.add_slice(first, behind(events, last) - first, &comes)
+}
+
+// The same for a link whose text begins with the caret of a footnote start.
+fn mark_caret(label: &Label, events: &Events, map: &mut EditMap) -> Result<(), AllocError>
+    requires within { IsWithin (length events.now) label.now }
+    requires kind { label.now.kind ≡ LabelKind.GfmUndefinedFootnote }
+    ensures { let l = label.now in OnOk result (map.new ≡ map.old ++ replacing l.start.0 (l.start.1 + 1 - l.start.0)
+        (opened l.kind (place_at events.now l.start.0) (place_at events.now (l.start.0 + 2)) (place_at events.now (l.start.0 + 3)) (place_at events.now l.start.1)) ∷ []) }
+{
+    let (first, last) = label.start;
+    let start = place(events, first);
+    let marker_end = place(events, first + 2);
+    let second = place(events, first + 3);
+    let comes = caret_opened(start, marker_end, second, place(events, last));
+    map.add_slice(first, behind(events, last) - first, &comes)
+}
+
+// The same for an image.
+fn mark_image(label: &Label, events: &Events, map: &mut EditMap) -> Result<(), AllocError>
+    requires within { IsWithin (length events.now) label.now }
+    requires kind { label.now.kind ≡ LabelKind.Image }
+    ensures { let l = label.now in OnOk result (map.new ≡ map.old ++ replacing l.start.0 (l.start.1 + 1 - l.start.0)
+        (opened l.kind (place_at events.now l.start.0) (place_at events.now (l.start.0 + 2)) (place_at events.now (l.start.0 + 3)) (place_at events.now l.start.1)) ∷ []) }
+{
+    let (first, last) = label.start;
+    let start = place(events, first);
+    let marker_end = place(events, first + 2);
+    let second = place(events, first + 3);
+    let comes = image_opened(start, marker_end, second, place(events, last));
+    map.add_slice(first, behind(events, last) - first, &comes)
+}
+
+// The same for a footnote call.
+fn mark_call(label: &Label, events: &Events, map: &mut EditMap) -> Result<(), AllocError>
+    requires within { IsWithin (length events.now) label.now }
+    requires kind { label.now.kind ≡ LabelKind.GfmFootnote }
+    ensures { let l = label.now in OnOk result (map.new ≡ map.old ++ replacing l.start.0 (l.start.1 + 1 - l.start.0)
+        (opened l.kind (place_at events.now l.start.0) (place_at events.now (l.start.0 + 2)) (place_at events.now (l.start.0 + 3)) (place_at events.now l.start.1)) ∷ []) }
+{
+    let (first, last) = label.start;
+    let start = place(events, first);
+    let marker_end = place(events, first + 2);
+    let second = place(events, first + 3);
+    let comes = call_opened(start, marker_end, second, place(events, last));
+    map.add_slice(first, behind(events, last) - first, &comes)
+}
+
+// Marks the start of a label.
+fn mark_start(label: &Label, events: &Events, map: &mut EditMap) -> Result<(), AllocError>
+    requires { IsWithin (length events.now) label.now }
+    ensures { let l = label.now in OnOk result (map.new ≡ map.old ++ replacing l.start.0 (l.start.1 + 1 - l.start.0)
+        (opened l.kind (place_at events.now l.start.0) (place_at events.now (l.start.0 + 2)) (place_at events.now (l.start.0 + 3)) (place_at events.now l.start.1)) ∷ []) }
+{
+    match label.kind {
+        LabelKind::Link => mark_link(label, events, map),
+        LabelKind::Image => mark_image(label, events, map),
+        LabelKind::GfmFootnote => mark_call(label, events, map),
+        LabelKind::GfmUndefinedFootnote => mark_caret(label, events, map),
+    }
+}
+
+// Marks the end of a label.
+fn mark_end(label: &Label, events: &Events, map: &mut EditMap) -> Result<(), AllocError>
+    requires { IsWithin (length events.now) label.now }
+    ensures { let l = label.now in OnOk result (map.new ≡ map.old ++ replacing l.end.0 4 (ended (place_at events.now l.end.0) (place_at events.now (l.end.0 + 3))) ∷ []) }
+{
+    let (first, _last) = label.end;
+    let comes = ended(place(events, first), place(events, first + 3));
+    map.add_slice(first, 4, &comes)
+}
+
+// Marks where a label's group ends.
+fn mark_close(label: &Label, events: &Events, map: &mut EditMap) -> Result<(), AllocError>
+    requires { IsWithin (length events.now) label.now }
+    ensures { let l = label.now in OnOk result (map.new ≡ map.old ++ replacing (l.end.1 + 1) 0 (closed l.kind (place_at events.now l.end.1)) ∷ []) }
+{
+    let last = label.end.1;
+    let comes = [exit(group_name(label.kind), place(events, last))];
+    map.add_slice(behind(events, last), 0, &comes)
+}
+
+// Marks what a label changes.
+fn mark_label(label: &Label, events: &Events, map: &mut EditMap) -> Result<(), AllocError>
+    requires { IsWithin (length events.now) label.now }
+    ensures { OnOk result (map.new ≡ map.old ++ label_edits events.now label.now) }
+{
+    mark_start(label, events, map)?;
+    mark_end(label, events, map)?;
+    mark_close(label, events, map)
+}
+
+// Marks what the labels change, in the order of their ends.
+fn mark_labels(labels: &[Label], events: &Events, map: &mut EditMap) -> Result<(), AllocError>
+    requires { All (IsWithin (length events.now)) labels.now }
+    ensures { OnOk result (map.new ≡ map.old ++ labels_edits events.now labels.now) }
+{
+    for label in labels {
+        mark_label(label, events, map)?;
+    }
+    Ok(())
+}
+
+// Marks a start that becomes data.
+fn mark_loose(start: (usize, usize), events: &Events, map: &mut EditMap) -> Result<(), AllocError>
+    requires { IsStartWithin (length events.now) start }
+    ensures { OnOk result (map.new ≡ map.old ++ loose_edit events.now start ∷ []) }
+{
+    let (first, last) = start;
+    let comes = [
+        enter(Name::Data, place(events, first)),
+        exit(Name::Data, place(events, last)),
+    ];
+    map.add_slice(first, behind(events, last) - first, &comes)
+}
+
+// Marks the starts whose ends failed.
+fn mark_failed(starts: &[LabelStart], events: &Events, map: &mut EditMap) -> Result<(), AllocError>
+    requires { All (IsStartWithin (length events.now)) (starts_of starts.now) }
+    ensures { OnOk result (map.new ≡ map.old ++ loose_edits events.now (starts_of starts.now)) }
+{
+    for start in starts {
+        mark_loose(start.start, events, map)?;
+    }
+    Ok(())
+}
+
+// Marks the starts that no end used, the last one first, and takes them off.
+fn mark_unused(
+    starts: &mut Stack<LabelStart>,
+    events: &Events,
+    map: &mut EditMap,
+) -> Result<(), AllocError>
+    requires { All (IsStartWithin (length events.now)) (starts_of starts.old) }
+    ensures marked { OnOk result (map.new ≡ map.old ++ loose_edits events.now (starts_of starts.old)) }
+    ensures none { OnOk result (starts.new ≡ []) }
+{
+    while let Some(start) = starts.pop() {
+        mark_loose(start.start, events, map)?;
+    }
+    Ok(())
+}
+
+// Makes groups of labels.
+fn group(
+    state: &mut TokenizeState,
+    events: &mut Events,
+    map: &mut EditMap,
+) -> Result<(), AllocError>
+    requires map { map.old ≡ [] }
+    requires brackets { (b : Brackets) × HasBrackets b state.old events.old }
+    ensures events { (b : Brackets) → HasBrackets b state.old events.old → OnOk result (events.new ≡ appended_from 0 None (grouped b)) }
+    ensures state { OnOk result (state.new ≡ unlabelled state.old) }
+    ensures map { OnOk result (map.new ≡ []) }
+{
+    mark_labels(state.labels.as_slice(), events, map)?;
+    mark_unused(&mut state.label_starts, events, map)?;
+    mark_failed(state.label_starts_loose.as_slice(), events, map)?;
+    map.consume(events)?;
+    state.labels.truncate(0);
+    state.label_starts_loose.truncate(0);
+    Ok(())
+}
+
+/// Makes links, images and footnote calls of the labels, and data of the other starts.
+///
+/// The work is that of the events. The error comes where memory is refused; then `failed` is true.
+pub fn resolve(tokenizer: &mut Tokenizer) -> Result<Option<Subresult>, AllocError>
+    requires { MayGroup tokenizer.old }
+    ensures none { IfOk result (λ r. r ≡ None) }
+    ensures same { OnOk result (tokenizer.new ≡ record tokenizer.old { events = tokenizer.new.events; tokenize_state = unlabelled tokenizer.old.tokenize_state }) }
+    ensures grouped { (b : Brackets) → HasBrackets b tokenizer.old.tokenize_state tokenizer.old.events → OnOk result (tokenizer.new.events ≡ appended_from 0 None (grouped b)) }
+    ensures err { OnErr result (IsTrue tokenizer.new.failed) }
+{
+    let done = group(
+        &mut tokenizer.tokenize_state,
+        &mut tokenizer.events,
+        &mut tokenizer.map,
+    );
+    if done.is_err() {
+        tokenizer.fail();
+    }
+    done?;
+    Ok(None)
+}

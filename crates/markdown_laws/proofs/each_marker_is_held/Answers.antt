@@ -1,5 +1,0 @@
-use Rattle.markdown_laws.proofs.MarkerLaws.{each_marker_is_held}
-use Rattle.markdown_laws.proofs.each_marker_is_held.Goals as goal
-
-pub returns : goal.returns
-returns c = each_marker_is_held

@@ -1,5 +1,0 @@
-use Rattle.markdown_laws.proofs.TextPairs.{each_pair_is_a_group}
-use Rattle.markdown_laws.proofs.each_pair_is_a_group.Goals as goal
-
-pub returns : goal.returns
-returns c = each_pair_is_a_group

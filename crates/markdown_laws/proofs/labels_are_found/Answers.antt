@@ -1,5 +1,0 @@
-use Rattle.markdown_laws.proofs.LinkTexts.{labels_are_found}
-use Rattle.markdown_laws.proofs.labels_are_found.Goals as goal
-
-pub returns : goal.returns
-returns c = labels_are_found

@@ -1,5 +1,0 @@
-use Rattle.markdown_laws.proofs.TextPairs.{pairs_are_even}
-use Rattle.markdown_laws.proofs.pairs_are_even.Goals as goal
-
-pub returns : goal.returns
-returns c = pairs_are_even

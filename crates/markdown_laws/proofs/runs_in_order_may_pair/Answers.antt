@@ -1,5 +1,0 @@
-use Rattle.markdown_emphasis.proofs.InOrder.{in-order-may_pair}
-use Rattle.markdown_laws.proofs.runs_in_order_may_pair.Goals as goal
-
-pub returns : goal.returns
-returns c = in-order-may_pair

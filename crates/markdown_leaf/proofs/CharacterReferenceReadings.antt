@@ -1,0 +1,295 @@
+-- What the definition of a character reference reads, by what stands there.
+use Rattle.std.proofs.Common.{◌≡◌, ℕ, suc, ◌+◌, ◌≤◌, ◌==◌, ◌&&◌, ◌||◌, nat_le, nat_lt, Bool, true, false, if◌then◌else◌, Option, Some, None, List, [], ◌∷◌, ◌++◌, length, refl, sym, ap, subst, ◌∙◌, arith, append_assoc}
+use Rattle.std.specs.Char.{is_ascii_alphanumeric}
+use Rattle.std.specs.Prelude.{codes}
+use Rattle.markdown_util.proofs.WholeReference.{semicolon_stops}
+use Rattle.std.proofs.Math.Bool.{and-false}
+use Rattle.std.proofs.lemmas.Bool.{le-leb, eqb-true}
+use Rattle.markdown_engine_content.specs.Codes.{Code}
+use Rattle.markdown_engine_content.specs.ListFunctions.{rest_of}
+use Rattle.markdown_engine.specs.Operations.{Op, Enter, Exit, Consume}
+use Rattle.markdown_engine.specs.TreeOps.{consumes, ops_of}
+use Rattle.markdown_engine_content.specs.Tree.{Forest}
+use Rattle.markdown_engine_content.specs.declared.event.Name.TheVariants as N
+use Rattle.markdown_model.specs.CodeTests.{is_value, is_among, is_between, is_alphanumeric, is_digit, is_hex_digit, is_empty, next_is}
+use Rattle.markdown_model.specs.Grammar.{Reading, ◌>>◌, ◌>>=◌, either, provided, one, some, span, gives}
+use Rattle.markdown_model.specs.LeafConstructs.{Parts, character_reference, reference_tree, named_parts, decimal_parts, hexadecimal_parts, is_name}
+use Rattle.markdown_util.specs.Reference.{html_5_rows, value_size_max, is_value_byte}
+use Rattle.markdown_leaf.specs.CharacterReference.{opening, number_sign, hexadecimal_sign, value_start, closing, begins_name, is_value_code, is_taken, value_of, value_plan, numeric_plan, named_plan, open_plan}
+use Rattle.markdown_plan.specs.Plan.{preceded, tree_ops, plan_of}
+use Rattle.markdown_leaf.proofs.CharacterReferenceNames.{name-short, length-values, same-code}
+use Rattle.markdown_plan.proofs.PlanSteps.{preceded-twice}
+use Rattle.markdown_model.proofs.GrammarSteps.{bind-some, bind-none, after-some, after-none, provided-true, provided-false, one-here, one-not, some-span, some-nothing, either-first, either-second, switched-on, switched-off, and-left, and-right, left-true, right-true, if-true, if-false, span-takes, span-none}
+use Rattle.markdown_model.proofs.DefinitionSteps.{span-agrees}
+
+-- Values.
+
+between-size : (n max : ℕ) → nat_lt 0 n ≡ true → n ≤ max → is_between 1 max (n + 0) ≡ true
+between-size n max e h = grind arith
+
+pub value-close : (m n : ℕ) (c : Code) (cs : List Code) → (c.value == 59) ≡ true → nat_lt 0 n ≡ true → n ≤ value_size_max m → value_plan m n (c ∷ cs) ≡ Some closing
+value-close m n c cs e h l =
+    let other : is_value_code m c ≡ false = ap (is_value_byte m) (eqb-true c.value 59 e) ∙ semicolon_stops m in
+    ap (value_of m n) (span-none (is_value_code m) (c ∷ cs) other)
+    ∙ if-true _ (Some closing) None (rw (e, between-size n (value_size_max m) h l) refl)
+
+preceded-if : (os : List Op) (b : Bool) (x : List Op) → (if b then Some (os ++ x) else None) ≡ preceded os (if b then Some x else None)
+preceded-if os true x = refl
+preceded-if os false x = refl
+
+pub value-more : (m n : ℕ) (c : Code) (cs : List Code) → is_taken m n c.value ≡ true → value_plan m n (c ∷ cs) ≡ preceded (Consume ∷ []) (value_plan m (n + 1) cs)
+unfolding is_taken
+value-more m n c cs e =
+    let s : List Code × List Code = span (is_value_code m) cs in
+    let size : n + suc (length s.0) ≡ (n + 1) + length s.0 = omega arith in
+    ap (value_of m n) (span-takes (is_value_code m) c cs (and-right _ _ e))
+    ∙ ap (λ k. if is_between 1 (value_size_max m) k && next_is (is_value 59) s.1 then Some (Consume ∷ consumes s.0 ++ closing) else None) size
+    ∙ preceded-if (Consume ∷ []) (is_between 1 (value_size_max m) ((n + 1) + length s.0) && next_is (is_value 59) s.1) (consumes s.0 ++ closing)
+
+too-many : (n max k : ℕ) → nat_lt n max ≡ false → is_between 1 max (n + suc k) ≡ false
+too-many n max k e = grind arith
+
+none-yet : (n max : ℕ) → nat_lt 0 n ≡ false → is_between 1 max (n + 0) ≡ false
+none-yet n max e = grind arith
+
+pub value-end : (m n : ℕ) → value_plan m n [] ≡ None
+value-end m n = if-false _ _ _ (and-false (is_between 1 (value_size_max m) (n + 0)))
+
+pub value-stop : (m n : ℕ) (c : Code) (cs : List Code) → (c.value == 59) && nat_lt 0 n ≡ false → is_taken m n c.value ≡ false → value_plan m n (c ∷ cs) ≡ None
+unfolding is_taken
+value-stop m n c cs e h =
+    elim (is_value_code m c) as (λ b. is_value_code m c ≡ b → value_plan m n (c ∷ cs) ≡ None) [
+      | true ↦ λ k. ap (value_of m n) (span-takes (is_value_code m) c cs k) ∙ if-false _ _ _ (ap (λ b. b && next_is (is_value 59) (span (is_value_code m) cs).1) (too-many n (value_size_max m) (length (span (is_value_code m) cs).0) (right-true _ _ h k)))
+      | false ↦ λ k. ap (value_of m n) (span-none (is_value_code m) (c ∷ cs) k)
+          ∙ (elim (c.value == 59) as (λ b. (c.value == 59) ≡ b → value_of m n ([], c ∷ cs) ≡ None) [
+            | true ↦ λ t. if-false _ _ _ (ap (λ b. b && (c.value == 59)) (none-yet n (value_size_max m) (left-true _ _ e t)))
+            | false ↦ λ t. if-false _ _ _ (ap (λ b. is_between 1 (value_size_max m) (n + 0) && b) t ∙ and-false _)
+          ] refl)
+    ] refl
+
+-- The end of a reference: its value and the `;`.
+
+module _ (p : Code → Bool) (ok : List Code → Bool) (f : List Code → List Code → Parts) where
+  abbrev tail : Reading Parts
+  tail = some p >>= λ value. provided (ok value) >> (one (is_value 59) >>= λ back. gives (f value back))
+
+  tail-nothing : (cs r : List Code) → span p cs ≡ ([], r) → tail cs ≡ None
+  tail-nothing cs r e = bind-none _ _ _ (some-nothing p cs r e)
+
+  tail-refused : (cs : List Code) (v : Code) (vs r : List Code) → span p cs ≡ (v ∷ vs, r) → ok (v ∷ vs) ≡ false → tail cs ≡ None
+  tail-refused cs v vs r e h = bind-some _ _ _ _ _ _ (some-span p cs v vs r e) (after-none _ _ _ (provided-false (ok (v ∷ vs)) r h))
+
+  tail-open : (cs : List Code) (v : Code) (vs r : List Code) → span p cs ≡ (v ∷ vs, r) → ok (v ∷ vs) ≡ true → next_is (is_value 59) r ≡ false → tail cs ≡ None
+  tail-open cs v vs r e h k =
+      bind-some _ _ _ _ _ _ (some-span p cs v vs r e) (after-some _ _ _ _ _ _ (provided-true (ok (v ∷ vs)) r h) (bind-none _ _ _ (one-not (is_value 59) r k)))
+
+  tail-none : (cs w r : List Code) → span p cs ≡ (w, r) → ok w && next_is (is_value 59) r ≡ false → tail cs ≡ None
+  tail-none cs [] r e h = tail-nothing cs r e
+  tail-none cs (v ∷ vs) r e h =
+      elim (ok (v ∷ vs)) as (λ b. ok (v ∷ vs) ≡ b → tail cs ≡ None) [
+        | false ↦ λ k. tail-refused cs v vs r e k
+        | true ↦ λ k. tail-open cs v vs r e k (left-true _ _ h k)
+      ] refl
+
+  tail-whole : (cs : List Code) (v : Code) (vs : List Code) (b : Code) (r : List Code) → span p cs ≡ (v ∷ vs, b ∷ r) → ok (v ∷ vs) ≡ true → (b.value == 59) ≡ true → tail cs ≡ Some (f (v ∷ vs) (b ∷ []), r)
+  unfolding gives
+  tail-whole cs v vs b r e h k =
+      bind-some _ _ _ _ _ _ (some-span p cs v vs (b ∷ r) e) (after-some _ _ _ _ _ _ (provided-true (ok (v ∷ vs)) (b ∷ r) h) (bind-some _ _ _ _ _ _ (one-here (is_value 59) b r k) refl))
+
+-- the operations of the parts
+abbrev part_ops : Option (Parts × List Code) → Option (List Op)
+part_ops None = None
+part_ops (Some r) = Some (ops_of (reference_tree r.0))
+
+-- the parts whose value is not passed yet have these operations
+abbrev Begins : List Op → (List Code → List Code → Parts) → Type 0
+Begins os f = (v : Code) (vs : List Code) (b : Code) → Some (ops_of (reference_tree (f (v ∷ vs) (b ∷ [])))) ≡ preceded os (Some (consumes (v ∷ vs) ++ closing))
+
+between-some : (k max : ℕ) → is_between 1 max (0 + suc k) ≡ nat_le (suc k) max
+between-some k max = grind arith
+
+tail-by : (m : ℕ) (os : List Op) (p : Code → Bool) (ok : List Code → Bool) (f : List Code → List Code → Parts) → Begins os f → (cs w r : List Code) → span p cs ≡ (w, r) → (is_empty w ≡ false → ok w ≡ nat_le (length w) (value_size_max m)) → part_ops (tail p ok f cs) ≡ preceded os (value_of m 0 (w, r))
+tail-by m os p ok f g cs [] r e h = ap part_ops (tail-nothing p ok f cs r e)
+tail-by m os p ok f g cs (v ∷ vs) r e h =
+    let max : ℕ = value_size_max m in
+    let fits : is_between 1 max (0 + suc (length vs)) ≡ ok (v ∷ vs) = between-some (length vs) max ∙ sym (h refl) in
+    elim (ok (v ∷ vs)) as (λ b. ok (v ∷ vs) ≡ b → part_ops (tail p ok f cs) ≡ preceded os (value_of m 0 (v ∷ vs, r))) [
+      | false ↦ λ k. ap part_ops (tail-refused p ok f cs v vs r e k) ∙ ap (preceded os) (sym (if-false _ _ _ (ap (λ b. b && next_is (is_value 59) r) (fits ∙ k))))
+      | true ↦ λ k. elim (next_is (is_value 59) r) as (λ b. next_is (is_value 59) r ≡ b → part_ops (tail p ok f cs) ≡ preceded os (value_of m 0 (v ∷ vs, r))) [
+        | false ↦ λ t. ap part_ops (tail-open p ok f cs v vs r e k t) ∙ ap (preceded os) (sym (if-false _ _ _ (ap (λ b. is_between 1 max (0 + suc (length vs)) && b) t ∙ and-false _)))
+        | true ↦ λ t. closed r e t (fits ∙ k) k
+      ] refl
+    ] refl
+  where
+    closed : (r : List Code) → span p cs ≡ (v ∷ vs, r) → next_is (is_value 59) r ≡ true → is_between 1 (value_size_max m) (0 + suc (length vs)) ≡ true → ok (v ∷ vs) ≡ true → part_ops (tail p ok f cs) ≡ preceded os (value_of m 0 (v ∷ vs, r))
+    closed [] e t i k = cc
+    closed (b ∷ r) e t i k = ap part_ops (tail-whole p ok f cs v vs b r e k t) ∙ g v vs b ∙ ap (preceded os) (sym (if-true _ _ _ (ap (λ x. x && (b.value == 59)) i ∙ t)))
+
+tail-plan : (m : ℕ) (os : List Op) (p : Code → Bool) (ok : List Code → Bool) (f : List Code → List Code → Parts) → Begins os f → (cs : List Code) → ((c : Code) → p c ≡ is_value_code m c) → (is_empty (span p cs).0 ≡ false → ok (span p cs).0 ≡ nat_le (length (span p cs).0) (value_size_max m)) → part_ops (tail p ok f cs) ≡ preceded os (value_plan m 0 cs)
+tail-plan m os p ok f g cs same h =
+    tail-by m os p ok f g cs (span p cs).0 (span p cs).1 refl h ∙ ap (λ s. preceded os (value_of m 0 s)) (span-agrees p (is_value_code m) same cs)
+
+-- The three kinds.
+
+ops-of : (o : Option (Parts × List Code)) → tree_ops (elim o as (λ _. Option (Forest × List Code)) [ None ↦ None | Some r ↦ Some (reference_tree r.0, r.1) ]) ≡ part_ops o
+ops-of None = refl
+ops-of (Some r) = refl
+
+reference-ops : (a : Reading Parts) (cs : List Code) → tree_ops ((a >>= λ parts. gives (reference_tree parts)) cs) ≡ part_ops (a cs)
+unfolding ◌>>=◌ gives
+reference-ops a cs = ops-of (a cs)
+
+abbrev named_by : Code → List Code → List Code → Parts
+named_by c value back = record { front = c ∷ []; number = []; hexadecimal = []; value = value; back = back }
+
+abbrev decimal_by : Code → Code → List Code → List Code → Parts
+decimal_by c d value back = record { front = c ∷ []; number = d ∷ []; hexadecimal = []; value = value; back = back }
+
+abbrev hexadecimal_by : Code → Code → Code → List Code → List Code → Parts
+hexadecimal_by c d x value back = record { front = c ∷ []; number = d ∷ []; hexadecimal = x ∷ []; value = value; back = back }
+
+named-is : (c : Code) (cs : List Code) → (c.value == 38) ≡ true → named_parts html_5_rows (c ∷ cs) ≡ tail is_alphanumeric (is_name html_5_rows) (named_by c) cs
+unfolding named_parts
+named-is c cs e = bind-some _ _ _ _ _ _ (one-here (is_value 38) c cs e) refl
+
+decimal-is : (c d : Code) (cs : List Code) → (c.value == 38) ≡ true → (d.value == 35) ≡ true → decimal_parts (c ∷ d ∷ cs) ≡ tail is_digit (λ v. nat_le (length v) 7) (decimal_by c d) cs
+unfolding decimal_parts
+decimal-is c d cs e h = bind-some _ _ _ _ _ _ (one-here (is_value 38) c (d ∷ cs) e) (bind-some _ _ _ _ _ _ (one-here (is_value 35) d cs h) refl)
+
+hexadecimal-is : (c d x : Code) (cs : List Code) → (c.value == 38) ≡ true → (d.value == 35) ≡ true → is_among (codes "xX") x ≡ true → hexadecimal_parts (c ∷ d ∷ x ∷ cs) ≡ tail is_hex_digit (λ v. nat_le (length v) 6) (hexadecimal_by c d x) cs
+unfolding hexadecimal_parts
+hexadecimal-is c d x cs e h k =
+    bind-some _ _ _ _ _ _ (one-here (is_value 38) c (d ∷ x ∷ cs) e)
+    (bind-some _ _ _ _ _ _ (one-here (is_value 35) d (x ∷ cs) h) (bind-some _ _ _ _ _ _ (one-here (is_among (codes "xX")) x cs k) refl))
+
+no-decimal : (c : Code) (cs : List Code) → (c.value == 38) ≡ true → next_is (is_value 35) cs ≡ false → decimal_parts (c ∷ cs) ≡ None
+unfolding decimal_parts
+no-decimal c cs e h = bind-some _ _ _ _ _ _ (one-here (is_value 38) c cs e) (bind-none _ _ _ (one-not (is_value 35) cs h))
+
+no-hexadecimal : (c : Code) (cs : List Code) → (c.value == 38) ≡ true → next_is (is_value 35) cs ≡ false → hexadecimal_parts (c ∷ cs) ≡ None
+unfolding hexadecimal_parts
+no-hexadecimal c cs e h = bind-some _ _ _ _ _ _ (one-here (is_value 38) c cs e) (bind-none _ _ _ (one-not (is_value 35) cs h))
+
+no-sign : (c d : Code) (cs : List Code) → (c.value == 38) ≡ true → (d.value == 35) ≡ true → next_is (is_among (codes "xX")) cs ≡ false → hexadecimal_parts (c ∷ d ∷ cs) ≡ None
+unfolding hexadecimal_parts
+no-sign c d cs e h k =
+    bind-some _ _ _ _ _ _ (one-here (is_value 38) c (d ∷ cs) e)
+    (bind-some _ _ _ _ _ _ (one-here (is_value 35) d cs h) (bind-none _ _ _ (one-not (is_among (codes "xX")) cs k)))
+
+letter-digit : (v : ℕ) → (v == 120) || (v == 88) ≡ true → nat_le 48 v && nat_le v 57 ≡ false
+letter-digit v e = grind arith
+
+either-eq : (a b : Bool) → (a || (b || false)) ≡ true → a || b ≡ true
+either-eq true b e = refl
+either-eq false true e = refl
+either-eq false false e = cc
+
+-- the last operations in a reference
+abbrev value_end : List Op
+value_end = Exit N.CharacterReferenceValue ∷ Enter N.CharacterReferenceMarkerSemi ∷ Consume ∷ Exit N.CharacterReferenceMarkerSemi ∷ []
+
+begins-named : (c : Code) → Begins (opening ++ value_start) (named_by c)
+begins-named c v vs b = rw (append_assoc (consumes vs) value_end (Exit N.CharacterReference ∷ [])) refl
+
+begins-decimal : (c d : Code) → Begins (opening ++ number_sign ++ value_start) (decimal_by c d)
+begins-decimal c d v vs b = rw (append_assoc (consumes vs) value_end (Exit N.CharacterReference ∷ [])) refl
+
+begins-hexadecimal : (c d x : Code) → Begins (opening ++ number_sign ++ hexadecimal_sign) (hexadecimal_by c d x)
+begins-hexadecimal c d x v vs b = rw (append_assoc (consumes vs) value_end (Exit N.CharacterReference ∷ [])) refl
+
+-- a name of the table and a `;`
+named-here : (c : Code) (cs : List Code) → (c.value == 38) ≡ true → begins_name cs ≡ true → part_ops (named_parts html_5_rows (c ∷ cs)) ≡ preceded opening (preceded value_start (value_plan 38 0 cs))
+named-here c cs e h =
+    let short : nat_le (length (span is_alphanumeric cs).0) 31 ≡ true = le-leb _ 31 (subst (λ n. n ≤ 31) (length-values (span is_alphanumeric cs).0) (name-short _ (and-left _ _ h))) in
+    ap part_ops (named-is c cs e)
+    ∙ tail-plan 38 (opening ++ value_start) is_alphanumeric (is_name html_5_rows) (named_by c) (begins-named c) cs same-code (λ _. and-left _ _ h ∙ sym short)
+    ∙ preceded-twice opening value_start (value_plan 38 0 cs)
+
+no-name : (c : Code) (cs : List Code) → (c.value == 38) ≡ true → begins_name cs ≡ false → named_parts html_5_rows (c ∷ cs) ≡ None
+no-name c cs e h = named-is c cs e ∙ tail-none is_alphanumeric (is_name html_5_rows) (named_by c) cs (span is_alphanumeric cs).0 (span is_alphanumeric cs).1 refl h
+
+decimal-here : (c d : Code) (cs : List Code) → (c.value == 38) ≡ true → (d.value == 35) ≡ true → part_ops (decimal_parts (c ∷ d ∷ cs)) ≡ preceded opening (preceded number_sign (preceded value_start (value_plan 35 0 cs)))
+decimal-here c d cs e h =
+    ap part_ops (decimal-is c d cs e h)
+    ∙ tail-plan 35 (opening ++ number_sign ++ value_start) is_digit (λ v. nat_le (length v) 7) (decimal_by c d) (begins-decimal c d) cs (λ k. refl) (λ _. refl)
+    ∙ preceded-twice opening (number_sign ++ value_start) (value_plan 35 0 cs)
+    ∙ ap (preceded opening) (preceded-twice number_sign value_start (value_plan 35 0 cs))
+
+hexadecimal-here : (c d x : Code) (cs : List Code) → (c.value == 38) ≡ true → (d.value == 35) ≡ true → is_among (codes "xX") x ≡ true → part_ops (hexadecimal_parts (c ∷ d ∷ x ∷ cs)) ≡ preceded opening (preceded number_sign (preceded hexadecimal_sign (value_plan 120 0 cs)))
+hexadecimal-here c d x cs e h k =
+    ap part_ops (hexadecimal-is c d x cs e h k)
+    ∙ tail-plan 120 (opening ++ number_sign ++ hexadecimal_sign) is_hex_digit (λ v. nat_le (length v) 6) (hexadecimal_by c d x) (begins-hexadecimal c d x) cs (λ y. refl) (λ _. refl)
+    ∙ preceded-twice opening (number_sign ++ hexadecimal_sign) (value_plan 120 0 cs)
+    ∙ ap (preceded opening) (preceded-twice number_sign hexadecimal_sign (value_plan 120 0 cs))
+
+-- no digit is an `x`
+no-digits : (c d x : Code) (cs : List Code) → (c.value == 38) ≡ true → (d.value == 35) ≡ true → is_among (codes "xX") x ≡ true → decimal_parts (c ∷ d ∷ x ∷ cs) ≡ None
+no-digits c d x cs e h k =
+    decimal-is c d (x ∷ cs) e h
+    ∙ tail-nothing is_digit (λ v. nat_le (length v) 7) (decimal_by c d) (x ∷ cs) (x ∷ cs) (span-none is_digit (x ∷ cs) (letter-digit x.value (either-eq _ _ k)))
+
+-- a number sign begins no name
+sign-letter : (v : ℕ) → (v == 35) ≡ true → is_ascii_alphanumeric v ≡ false
+sign-letter v e = ap is_ascii_alphanumeric (eqb-true v 35 e)
+
+no-letters : (c d : Code) (cs : List Code) → (c.value == 38) ≡ true → (d.value == 35) ≡ true → named_parts html_5_rows (c ∷ d ∷ cs) ≡ None
+no-letters c d cs e h =
+    named-is c (d ∷ cs) e
+    ∙ tail-nothing is_alphanumeric (is_name html_5_rows) (named_by c) (d ∷ cs) (d ∷ cs) (span-none is_alphanumeric (d ∷ cs) (same-code d ∙ sign-letter d.value h))
+
+abbrev numbered : Reading Parts
+numbered = either decimal_parts hexadecimal_parts
+
+abbrev parts : Reading Parts
+parts = either (named_parts html_5_rows) numbered
+
+-- a number
+number-parts : (c d : Code) (cs : List Code) → (c.value == 38) ≡ true → (d.value == 35) ≡ true → part_ops (parts (c ∷ d ∷ cs)) ≡ preceded opening (preceded number_sign (numeric_plan cs))
+number-parts c d cs e h =
+    ap part_ops (either-second (named_parts html_5_rows) numbered (c ∷ d ∷ cs) (no-letters c d cs e h))
+    ∙ elim (next_is (is_among (codes "xX")) cs) as (λ b. next_is (is_among (codes "xX")) cs ≡ b → part_ops (numbered (c ∷ d ∷ cs)) ≡ preceded opening (preceded number_sign (if b then preceded hexadecimal_sign (value_plan 120 0 (rest_of cs)) else preceded value_start (value_plan 35 0 cs)))) [
+      | true ↦ λ k. signed cs k
+      | false ↦ λ k. ap part_ops (either-first decimal_parts hexadecimal_parts (c ∷ d ∷ cs) (no-sign c d cs e h k)) ∙ decimal-here c d cs e h
+    ] refl
+  where
+    signed : (cs : List Code) → next_is (is_among (codes "xX")) cs ≡ true → part_ops (numbered (c ∷ d ∷ cs)) ≡ preceded opening (preceded number_sign (preceded hexadecimal_sign (value_plan 120 0 (rest_of cs))))
+    signed [] k = cc
+    signed (x ∷ cs) k = ap part_ops (either-second decimal_parts hexadecimal_parts (c ∷ d ∷ x ∷ cs) (no-digits c d x cs e h k)) ∙ hexadecimal-here c d x cs e h k
+
+-- a name, or nothing
+name-parts : (c : Code) (cs : List Code) → (c.value == 38) ≡ true → next_is (is_value 35) cs ≡ false → part_ops (parts (c ∷ cs)) ≡ preceded opening (named_plan cs)
+name-parts c cs e h =
+    ap part_ops (either-first (named_parts html_5_rows) numbered (c ∷ cs) (either-second decimal_parts hexadecimal_parts (c ∷ cs) (no-decimal c cs e h) ∙ no-hexadecimal c cs e h))
+    ∙ elim (begins_name cs) as (λ b. begins_name cs ≡ b → part_ops (named_parts html_5_rows (c ∷ cs)) ≡ preceded opening (if b then preceded value_start (value_plan 38 0 cs) else None)) [
+      | true ↦ λ k. named-here c cs e k
+      | false ↦ λ k. ap part_ops (no-name c cs e k)
+    ] refl
+
+reference-parts : (c : Code) (cs : List Code) → (c.value == 38) ≡ true → part_ops (parts (c ∷ cs)) ≡ preceded opening (open_plan cs)
+reference-parts c cs e =
+    elim (next_is (is_value 35) cs) as (λ b. next_is (is_value 35) cs ≡ b → part_ops (parts (c ∷ cs)) ≡ preceded opening (if b then preceded number_sign (numeric_plan (rest_of cs)) else named_plan cs)) [
+      | true ↦ λ h. numbered-here cs h
+      | false ↦ λ h. name-parts c cs e h
+    ] refl
+  where
+    numbered-here : (cs : List Code) → next_is (is_value 35) cs ≡ true → part_ops (parts (c ∷ cs)) ≡ preceded opening (preceded number_sign (numeric_plan (rest_of cs)))
+    numbered-here [] h = cc
+    numbered-here (d ∷ cs) h = number-parts c d cs e h
+
+pub reference-start : (on : Bool) (c : Code) (cs : List Code) → on ≡ true → (c.value == 38) ≡ true → plan_of (provided on >> character_reference html_5_rows) (c ∷ cs) ≡ preceded opening (open_plan cs)
+unfolding character_reference
+reference-start on c cs o e =
+    ap tree_ops (switched-on (character_reference html_5_rows) on (c ∷ cs) o) ∙ reference-ops parts (c ∷ cs) ∙ reference-parts c cs e
+
+-- no reference begins at another code
+named-other : (cs : List Code) → next_is (is_value 38) cs ≡ false → parts cs ≡ None
+unfolding named_parts decimal_parts hexadecimal_parts
+named-other cs e =
+    either-second (named_parts html_5_rows) numbered cs (bind-none _ _ _ (one-not (is_value 38) cs e))
+    ∙ either-second decimal_parts hexadecimal_parts cs (bind-none _ _ _ (one-not (is_value 38) cs e))
+    ∙ bind-none _ _ _ (one-not (is_value 38) cs e)
+
+pub no-reference : (on : Bool) (cs : List Code) → on && next_is (is_value 38) cs ≡ false → plan_of (provided on >> character_reference html_5_rows) cs ≡ None
+unfolding character_reference
+no-reference false cs e = ap tree_ops (switched-off (character_reference html_5_rows) false cs refl)
+no-reference true cs e = ap tree_ops (switched-on (character_reference html_5_rows) true cs refl) ∙ reference-ops parts cs ∙ ap part_ops (named-other cs e)

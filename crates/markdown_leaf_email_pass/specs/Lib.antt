@@ -1,0 +1,3 @@
+-- What contracts of the email pass speak of.
+pub mod EmailScan
+pub mod EmailEdits

@@ -1,0 +1,124 @@
+// The pass of email literals.
+//
+// GFM 6.9: an address that stands bare in text is a literal, outside links.
+#![tactic(auto)]
+
+ghost use Rattle.std.specs.Prelude.{◌≡◌, ◌<◌, ◌≤◌, ◌+◌, ◌^◌, ◌++◌, [], None, length, drop, OnOk, OnErr, IsTrue};
+ghost use Rattle.markdown_engine_content.specs.Content.{document_limit};
+ghost use Rattle.markdown_engine.specs.PastTree.{appended_from};
+ghost use Rattle.markdown_engine_content.specs.Tree.{Forest};
+ghost use Rattle.markdown_model.specs.Passes.{with_emails_apart};
+ghost use Rattle.markdown_partial.specs.TrimmedEvents.{FirstHasPlaces, HasPlaces, HasParts};
+ghost use Rattle.markdown_leaf_email_pass.specs.EmailEdits.{links_after, mail_first, mails};
+
+use crate::literal::{has_sign, mailed_data};
+use markdown_engine::tokenizer::Tokenizer;
+use markdown_engine_content::event::{Event, Kind, Name};
+use markdown_engine_events::events::Events;
+use markdown_engine_events::util::edit_map::EditMap;
+use markdown_partial::partial_data::opens_data;
+use std::alloc::{AllocError, Global};
+
+// How many links are open behind an event, where so many are open before it. The name is looked at first, since most events have another.
+fn links_after(links: usize, event: &Event) -> usize
+    requires { links + 1 < 2 ^ 64 }
+    ensures after { result ≡ links_after links event.now }
+    ensures few { result ≤ links + 1 }
+{
+    if !matches!(event.name, Name::Link) {
+        return links;
+    }
+    match event.kind {
+        Kind::Enter => links + 1,
+        Kind::Exit => links.saturating_sub(1),
+    }
+}
+
+// Where data with an `@` begins at this event, outside links: puts its events with their literals in place of its own.
+fn mail_first(
+    alloc: Global,
+    bytes: &[u8],
+    events: &Events,
+    map: &mut EditMap,
+    index: usize,
+    links: usize,
+) -> Result<(), AllocError>
+    requires fits { length bytes.now ≤ document_limit }
+    requires within { index < length events.now }
+    requires counted { length events.now < 2 ^ 64 }
+    requires places { FirstHasPlaces bytes.now (drop index events.now) }
+    ensures { OnOk result (map.new ≡ map.old ++ mail_first bytes.now index links (drop index events.now)) }
+{
+    let enter = events.bare_at(index);
+    if opens_data(&enter) && links == 0 {
+        let exit = events.bare_at(index + 1);
+        if has_sign(bytes, enter.point, exit.point) {
+            let mailed = mailed_data(alloc, bytes, enter.point, exit.point)?;
+            map.add(index, 2, mailed)?;
+        }
+    }
+    Ok(())
+}
+
+// Collects the edits of all data.
+fn mail_each(
+    alloc: Global,
+    bytes: &[u8],
+    events: &Events,
+    map: &mut EditMap,
+) -> Result<(), AllocError>
+    requires fits { length bytes.now ≤ document_limit }
+    requires places { HasPlaces bytes.now events.now }
+    requires empty { map.old ≡ [] }
+    ensures { OnOk result (map.new ≡ mails bytes.now 0 0 events.now) }
+{
+    let mut links = 0usize;
+    for index in 0..events.len() {
+        mail_first(alloc, bytes, events, map, index, links)?;
+        links = links_after(links, &events.bare_at(index));
+    }
+    Ok(())
+}
+
+// Sets the literals in a list of events apart.
+fn mail(
+    alloc: Global,
+    bytes: &[u8],
+    events: &mut Events,
+    map: &mut EditMap,
+) -> Result<(), AllocError>
+    requires fits { length bytes.now ≤ document_limit }
+    requires places { HasPlaces bytes.now events.old }
+    requires empty { map.old ≡ [] }
+    ensures mailed { (t : Forest) → HasParts bytes.now t → events.old ≡ appended_from 0 None t → OnOk result (events.new ≡ appended_from 0 None (with_emails_apart t)) }
+    ensures map { OnOk result (map.new ≡ []) }
+{
+    mail_each(alloc, bytes, events, map)?;
+    map.consume(events)
+}
+
+/// Sets email literals apart, in data that carries no link and stands in no link: an address, with `mailto:` or `xmpp:` before it.
+///
+/// The document has at most `usize::MAX / 8` bytes, the edits are empty before and after, and each data stands at places of the
+/// document. The work is that of the events and of the codes of the data. The error comes where memory is refused; then `failed` is
+/// true.
+pub fn resolve(tokenizer: &mut Tokenizer) -> Result<(), AllocError>
+    requires map { tokenizer.old.map ≡ [] }
+    requires fits { length tokenizer.old.parse_state.now.bytes.now ≤ document_limit }
+    requires places { HasPlaces tokenizer.old.parse_state.now.bytes.now tokenizer.old.events }
+    ensures same { OnOk result (tokenizer.new ≡ record tokenizer.old { events = tokenizer.new.events }) }
+    ensures mailed { (t : Forest) → HasParts tokenizer.old.parse_state.now.bytes.now t → tokenizer.old.events ≡ appended_from 0 None t → OnOk result (tokenizer.new.events ≡ appended_from 0 None (with_emails_apart t)) }
+    ensures err { OnErr result (IsTrue tokenizer.new.failed) }
+{
+    let bytes = tokenizer.parse_state.bytes;
+    let mailed = mail(
+        tokenizer.alloc,
+        bytes,
+        &mut tokenizer.events,
+        &mut tokenizer.map,
+    );
+    if mailed.is_err() {
+        tokenizer.fail();
+    }
+    mailed
+}

@@ -1,0 +1,5 @@
+//! The pass that sets email literals apart.
+#![tactic(auto)]
+
+pub mod email;
+mod literal;

@@ -1,0 +1,122 @@
+-- A literal: it is entered, its codes are attempted, and it is exited after them.
+use Rattle.std.proofs.Common.{◌≡◌, ℕ, ◌<◌, ◌≤◌, Bool, true, false, Option, Some, None, List, [], ◌∷◌, ◌++◌, length, length-drop, refl, sym, ap, subst, ◌∙◌, arith}
+use Rattle.markdown_engine_content.specs.Codes.{Code}
+use Rattle.markdown_engine.specs.FailedRun.{Grown}
+use Rattle.markdown_engine_content.specs.ListFunctions.{rest_of}
+use Rattle.markdown_engine.specs.Operations.{Op, Enter, Exit, Consume, IsOpen, ahead, applied, done, frame_of, moves, scratched, attempted}
+use Rattle.markdown_engine.specs.StateRuns.{stepped, restored}
+use Rattle.markdown_engine.specs.TreeOps.{consumes}
+use Rattle.markdown_engine.specs.Weights.{codes_left, weight_at}
+use Rattle.markdown_engine_content.specs.declared.event.Name.{Name}
+use Rattle.markdown_engine.specs.declared.state.State.TheVariants.{Next, Retry, Nok}
+use Rattle.markdown_engine.specs.declared.tokenizer.TokenizeState.{TokenizeState}
+use Rattle.markdown_engine.specs.declared.tokenizer.Tokenizer.{Tokenizer}
+use Rattle.markdown_engine.proofs.ReadingSequences.{scratched-same}
+use Rattle.markdown_engine.proofs.LawSteps.{restored-grown}
+use Rattle.markdown_engine.proofs.OperationFields.{attempts-applied, left-ahead, left-applied, stack-applied}
+use Rattle.markdown_engine.proofs.OperationLemmas.{Grown-done, ahead-done, scratch-done}
+use Rattle.markdown_engine.proofs.TreeEvents.{done-append}
+use Rattle.markdown_model.specs.Grammar.{Reading}
+use Rattle.markdown_plan.specs.Plan.{Plan, preceded, DoesAs}
+use Rattle.markdown_leaf_gfm.specs.GfmAutolinkLiteral.{rested, entered_literal, pass_ops}
+use Rattle.markdown_leaf_gfm.proofs.GfmAutolinkLiteralCovers.{leaf_ops, ops-leaf}
+use Rattle.markdown_engine.specs.StateWords.{Words, GoesIn, StateWords, words_in}
+use Rattle.markdown_plan.proofs.LawStepsOfLayer.{Goes-attempt, follows}
+use Rattle.markdown_engine.specs.declared.state.StateName.{StateName}
+
+stack-consumes : (cs : List Code) (T : Tokenizer) → (done (consumes cs) T).stack ≡ T.stack
+stack-consumes [] T = refl
+stack-consumes (c ∷ cs) T = stack-consumes cs (applied Consume T) ∙ stack-applied Consume T
+
+left-passed : (os : List Op) (T : Tokenizer) → codes_left (done os T) ≤ codes_left T
+left-passed os T = omega (arith, left-ahead T, left-ahead (done os T), ap length (ahead-done os T), length-drop (moves os) (ahead T))
+
+-- what the operations of a reading are
+record IsPassed (o : Option (List Code × List Code)) (os : List Op) : Type 0 where
+  text : List Code
+  rest : List Code
+  read : ◌≡◌ {A = Option (List Code × List Code)} o (Some (text, rest))
+  is : os ≡ consumes text
+
+passed-is : (o : Option (List Code × List Code)) (os : List Op) → pass_ops o ≡ Some os → IsPassed o os
+passed-is None os e = cc
+passed-is (Some r) os e = record { text = r.0; rest = r.1; read = refl; is = cc }
+
+pub passed-none : (o : Option (List Code × List Code)) → pass_ops o ≡ None → o ≡ None
+passed-none None e = refl
+passed-none (Some r) e = cc
+
+-- it begins with a code
+abbrev pub Begins : Option (List Op) → Type 0
+Begins o = (os : List Op) → o ≡ Some os → (more : List Op) × (os ≡ Consume ∷ more)
+
+pub begins-first : (o : Option (List Op)) → Begins (preceded (Consume ∷ []) o)
+begins-first None os e = cc
+begins-first (Some xs) os e = (xs, cc)
+
+enter-same : (name : Name) (T : Tokenizer) → rested T.tokenize_state ≡ T.tokenize_state → scratched (rested T.tokenize_state) (entered_literal name T) ≡ entered_literal name T
+enter-same name T e = ap (λ (x : TokenizeState). scratched x (entered_literal name T)) (e ∙ sym (scratch-done (Enter name ∷ []) T)) ∙ scratched-same (entered_literal name T)
+
+module _ (W : Words) (name : Name) (st last : StateName) (reading : Reading (List Code)) (p : Plan) (T : Tokenizer) (resting : rested T.tokenize_state ≡ T.tokenize_state) (same : p (ahead T) ≡ leaf_ops name (reading (ahead T))) where
+  abbrev inside : Plan
+  inside cs = pass_ops (reading cs)
+
+  -- the codes are passed, and the literal is exited
+  passed-literal : (U V : Tokenizer) → Begins (inside (ahead T)) → DoesAs 0 inside (rested T.tokenize_state) (entered_literal name T) true U → V ≡ done (Exit name ∷ []) U → DoesAs 0 p T.tokenize_state T true V
+  passed-literal U V some k e =
+      let A : Tokenizer = entered_literal name T in
+      let holds : inside (ahead T) ≡ Some k.ops = ap inside (sym (ahead-done (Enter name ∷ []) T)) ∙ k.holds in
+      let r : IsPassed (reading (ahead T)) k.ops = passed-is (reading (ahead T)) k.ops holds in
+      let more = some k.ops holds in
+      let left : U ≡ done (consumes r.text) A = k.left ∙ ap (done k.ops) (enter-same name T resting) ∙ ap (λ os. done os A) r.is in
+      record {
+        ops = Enter name ∷ (consumes r.text ++ Exit name ∷ []);
+        holds = same ∙ ap (leaf_ops name) r.read ∙ ap (λ os. Some os) (ops-leaf name r.text more.0 (sym r.is ∙ more.1));
+        left = e ∙ ap (done (Exit name ∷ [])) left ∙ sym (done-append (consumes r.text) (Exit name ∷ []) A) ∙ ap (done (Enter name ∷ (consumes r.text ++ Exit name ∷ []))) (sym (scratched-same T));
+      }
+
+  opens-still : (U : Tokenizer) → DoesAs 0 inside (rested T.tokenize_state) (entered_literal name T) true U → IsOpen name U
+  opens-still U k =
+      let A : Tokenizer = entered_literal name T in
+      let holds : inside (ahead T) ≡ Some k.ops = ap inside (sym (ahead-done (Enter name ∷ []) T)) ∙ k.holds in
+      let r : IsPassed (reading (ahead T)) k.ops = passed-is (reading (ahead T)) k.ops holds in
+      let left : U ≡ done (consumes r.text) A = k.left ∙ ap (done k.ops) (enter-same name T resting) ∙ ap (λ os. done os A) r.is in
+      let stack : U.stack ≡ name ∷ T.stack = ap (λ (x : Tokenizer). x.stack) left ∙ stack-consumes r.text A ∙ stack-applied (Enter name) T in
+      stack ∙ ap (λ ns. name ∷ rest_of ns) (sym stack)
+
+  left-literal : (U : Tokenizer) → DoesAs 0 inside (rested T.tokenize_state) (entered_literal name T) true U → codes_left U ≤ codes_left T
+  left-literal U k =
+      let A : Tokenizer = entered_literal name T in
+      omega (arith, ap codes_left (k.left ∙ ap (done k.ops) (enter-same name T resting)), left-passed k.ops A, left-applied (Enter name) T refl)
+
+  -- they are not
+  back-literal : (U : Tokenizer) → DoesAs 0 inside (rested T.tokenize_state) (entered_literal name T) false U → restored (frame_of false (Next last) Nok (entered_literal name T)) U ≡ entered_literal name T
+  back-literal U k =
+      let A : Tokenizer = entered_literal name T in
+      restored-grown false (Next last) Nok A U k.grown ∙ ap (λ (x : TokenizeState). scratched x A) k.scratch ∙ enter-same name T resting
+
+  failed-literal : (U V : Tokenizer) → DoesAs 0 inside (rested T.tokenize_state) (entered_literal name T) false U → V ≡ entered_literal name T → DoesAs 0 p T.tokenize_state T false V
+  failed-literal U V k e =
+      let none : inside (ahead T) ≡ None = ap inside (sym (ahead-done (Enter name ∷ []) T)) ∙ k.none in
+      record {
+        none = same ∙ ap (leaf_ops name) (passed-none (reading (ahead T)) none);
+        grown = subst (λ (x : Tokenizer). Grown 0 T x) (sym e) (Grown-done 0 (Enter name ∷ []) T refl);
+        scratch = ap (λ (x : Tokenizer). x.tokenize_state) e ∙ scratch-done (Enter name ∷ []) T;
+      }
+
+  pub literal-law : (k : ℕ) {v w : StateWords} → words_in W st ≡ v → words_in W last ≡ w → T.attempts ≡ [] → v.rank < k → w.rank < k → Begins (inside (ahead T)) → v.ready (entered_literal name T) → ((ok : Bool) (U : Tokenizer) → v.ends (entered_literal name T) ok U → DoesAs 0 inside (rested T.tokenize_state) (entered_literal name T) ok U) → ((U : Tokenizer) → IsOpen name U → w.ready U) → ((U : Tokenizer) (ok : Bool) (V : Tokenizer) → w.ends U ok V → (ok ≡ true) × (V ≡ done (Exit name ∷ []) U)) → GoesIn W (weight_at k T) (DoesAs 0 p T.tokenize_state T) (stepped (Retry st) (attempted false (Next last) Nok (entered_literal name T)))
+  literal-law k {v} {w} say_first say_last alone less one some on closed last_ready last_end =
+      let A : Tokenizer = entered_literal name T in
+      let n : ℕ = weight_at k T in
+      let E : Bool → Tokenizer → Type 0 = DoesAs 0 p T.tokenize_state T in
+      Goes-attempt W n E (Retry st) {w = v} say_first (Next last) Nok A (attempts-applied (Enter name) T ∙ alone) on
+      (omega (arith, less, left-applied (Enter name) T refl))
+      (λ U now x. let y = closed true U x in
+      follows W n E (Next last) {w = w} say_last U (last_ready U (opens-still U y)) (omega (arith, one, left-literal U y))
+      (λ ok V z. (let e = last_end U ok V z in subst (λ b. E b V) (sym e.0) (passed-literal U V some y e.1))))
+      (λ U now x. let y = closed false U x in
+      record {
+        goes_on = tt;
+        falls = omega arith;
+        closed = λ ok V z. subst (λ b. E b V) (sym z.0) (failed-literal U V y (z.1 ∙ back-literal U y));
+      })

@@ -1,0 +1,181 @@
+-- Whole literals: the tree that the definition gives, and the codes that it covers.
+use Rattle.std.proofs.Common.{◌≡◌, ℕ, ◌&&◌, not, Bool, true, false, if◌then◌else◌, Option, Some, None, List, [], ◌∷◌, ◌++◌, refl, sym, ap, ◌∙◌, append_assoc, append-nil}
+use Rattle.std.specs.Prelude.{codes}
+use Rattle.markdown_engine_content.specs.Codes.{Code}
+use Rattle.markdown_engine.specs.Operations.{Op, Enter, Exit, Consume}
+use Rattle.markdown_engine_content.specs.Tree.{Forest, leaf}
+use Rattle.markdown_engine.specs.TreeOps.{consumes, ops_of}
+use Rattle.markdown_engine_content.specs.declared.event.Name.{Name}
+use Rattle.markdown_engine_content.specs.declared.event.Name.TheVariants as N
+use Rattle.markdown_model.specs.CodeTests.{is_letter, is_some_code}
+use Rattle.markdown_model.specs.Grammar.{Reading, ◌>>=◌, ◌>>◌, ◌then_◌, gives, provided}
+use Rattle.markdown_model.specs.GfmAutolinkLiteral.{letters, domain, domain_from, is_domain, path, path_from, ends_path, count_if, gfm_autolink_literal_protocol, www_from_here, gfm_autolink_literal_www, may_precede_www, begins_with_www}
+use Rattle.markdown_model.proofs.LiteralCodes.{domain_split}
+use Rattle.markdown_plan.specs.Plan.{tree_ops, plan_of}
+use Rattle.markdown_plan.specs.PrecededReadings.{after}
+use Rattle.markdown_plan.proofs.PrecededReadingLemmas.{then-after}
+use Rattle.markdown_plan.proofs.PassedByReadings.{Read, Gives, Covers, both-parts, Gives-bind, Gives-either, Gives-gives, Gives-one, Gives-switched, Covers-leaf}
+use Rattle.markdown_leaf_gfm.specs.GfmAutolinkLiteral.{address, schemes, prefix_reading}
+use Rattle.markdown_leaf_gfm.proofs.GfmAutolinkLiteralReadings.{letter_test}
+use Rattle.markdown_model.proofs.GrammarSteps.{bind-some, bind-none, then-none, switched-on, switched-off}
+
+-- Readings in a row give what the parts give.
+
+abbrev Codes : Type 0
+Codes = Option (List Code × List Code)
+
+mapped : (List Code → Forest) → Codes → Option (Forest × List Code)
+mapped f None = None
+mapped f (Some r) = Some (f r.0, r.1)
+
+bind-gives : (a : Reading (List Code)) (f : List Code → Forest) (cs : List Code) → (a >>= λ x. gives (f x)) cs ≡ mapped f (a cs)
+unfolding mapped gives
+bind-gives a f cs = by_what (a cs) refl
+  where
+    by_what : (o : Codes) → a cs ≡ o → (a >>= λ x. gives (f x)) cs ≡ mapped f (a cs)
+    by_what None e = bind-none a (λ x. gives (f x)) cs e ∙ ap (mapped f) (sym e)
+    by_what (Some r) e = bind-some a (λ x. gives (f x)) cs r.0 r.1 (Some (f r.0, r.1)) e refl ∙ ap (mapped f) (sym e)
+
+mapped-after : (f : List Code → Forest) (x : List Code) (o : Codes) → mapped (λ y. f (x ++ y)) o ≡ mapped f (after x o)
+unfolding mapped
+mapped-after f x None = refl
+mapped-after f x (Some r) = refl
+
+bind-then : (a k : Reading (List Code)) (next : List Code → Reading Forest) (f : List Code → Forest) → ((x r : List Code) → next x r ≡ mapped (λ y. f (x ++ y)) (k r)) → (cs : List Code) → (a >>= next) cs ≡ mapped f ((a then_ k) cs)
+unfolding mapped
+bind-then a k next f h cs = by_what (a cs) refl
+  where
+    by_what : (o : Codes) → a cs ≡ o → (a >>= next) cs ≡ mapped f ((a then_ k) cs)
+    by_what None e = bind-none a next cs e ∙ ap (mapped f) (sym (then-none a k cs e))
+    by_what (Some r) e =
+        bind-some a next cs r.0 r.1 (mapped f (after r.0 (k r.1))) e (h r.0 r.1 ∙ mapped-after f r.0 (k r.1))
+        ∙ ap (mapped f) (sym (then-after a k cs r.0 r.1 e))
+
+mapped-same : (f g : List Code → Forest) → ((x : List Code) → f x ≡ g x) → (o : Codes) → mapped f o ≡ mapped g o
+unfolding mapped
+mapped-same f g h None = refl
+mapped-same f g h (Some r) = ap (λ t. Some (t, r.1)) (h r.0)
+
+in-row : (x y z w : List Code) → x ++ y ++ z ++ w ≡ x ++ (y ++ (z ++ w))
+in-row x y z w = append_assoc (x ++ y) z w ∙ append_assoc x y (z ++ w)
+
+-- the operations of a leaf of these codes
+abbrev pub leaf_ops : Name → Codes → Option (List Op)
+leaf_ops name None = None
+leaf_ops name (Some r) = Some (ops_of (leaf name r.0))
+
+mapped-ops : (name : Name) (o : Codes) → tree_ops (mapped (leaf name) o) ≡ leaf_ops name o
+unfolding mapped
+mapped-ops name None = refl
+mapped-ops name (Some r) = refl
+
+pub ops-leaf : (name : Name) (x : List Code) (os : List Op) → consumes x ≡ Consume ∷ os → ops_of (leaf name x) ≡ Enter name ∷ (consumes x ++ Exit name ∷ [])
+ops-leaf name [] os e = cc
+ops-leaf name (c ∷ cs) os e = refl
+
+module _ (bytes : List ℕ) (end : ℕ) where
+  protocol-text : (cs : List Code) → (schemes 0 >>= λ scheme. letters (codes "://") >>= λ slashes. domain bytes end >>= λ host. path bytes end >>= λ further. gives (leaf N.GfmAutolinkLiteralProtocol (scheme ++ slashes ++ host ++ further))) cs ≡ mapped (leaf N.GfmAutolinkLiteralProtocol) (prefix_reading bytes end 0 cs)
+  protocol-text cs =
+      let name : List Code → Forest = leaf N.GfmAutolinkLiteralProtocol in
+      bind-then (schemes 0) (letters (codes "://") then_ address bytes end) _ name (λ x r.
+      bind-then (letters (codes "://")) (address bytes end) _ (λ y. name (x ++ y)) (λ y q.
+      bind-then (domain bytes end) (path bytes end) _ (λ z. name (x ++ (y ++ z))) (λ z t.
+      bind-gives (path bytes end) (λ w. name (x ++ y ++ z ++ w)) t ∙ mapped-same _ (λ w. name (x ++ (y ++ (z ++ w)))) (λ w. ap name (in-row x y z w)) (path bytes end t)) q) r) cs
+
+  -- where no letter stands before
+  protocol-by : (previous : Option Code) (cs : List Code) (b : Bool) → is_some_code is_letter previous ≡ b → tree_ops (gfm_autolink_literal_protocol bytes end previous cs) ≡ (if not b then leaf_ops N.GfmAutolinkLiteralProtocol (prefix_reading bytes end 0 cs) else None)
+  unfolding gfm_autolink_literal_protocol
+  protocol-by previous cs true e = ap tree_ops (switched-off _ _ cs (ap not e))
+  protocol-by previous cs false e =
+      ap tree_ops (switched-on _ _ cs (ap not e) ∙ protocol-text cs) ∙ mapped-ops N.GfmAutolinkLiteralProtocol (prefix_reading bytes end 0 cs)
+
+  pub protocol-is : (on : Bool) (previous : Option Code) (cs : List Code) → plan_of (provided on >> gfm_autolink_literal_protocol bytes end previous) cs ≡ (if on && not (is_some_code is_letter previous) then leaf_ops N.GfmAutolinkLiteralProtocol (prefix_reading bytes end 0 cs) else None)
+  protocol-is true previous cs = ap tree_ops (switched-on (gfm_autolink_literal_protocol bytes end previous) true cs refl) ∙ protocol-by previous cs (is_some_code is_letter previous) refl
+  protocol-is false previous cs = ap tree_ops (switched-off (gfm_autolink_literal_protocol bytes end previous) false cs refl)
+
+-- What they cover.
+
+abbrev Itself : List Code → List Code → Type 0
+Itself x ws = x ≡ ws
+
+gives-letters : (ns : List ℕ) → Gives Itself (letters ns)
+unfolding letters
+gives-letters [] = Gives-gives [] Itself refl
+gives-letters (n ∷ ns) =
+    Gives-bind _ _ _ Itself (Gives-one (letter_test n)) (λ a ws p.
+    Gives-bind _ _ Itself _ (gives-letters ns) (λ b vs q.
+    Gives-gives (a ++ b) _ (ap (λ x. x ++ b) p.0 ∙ ap (λ x. ws ++ x) (q ∙ sym (append-nil vs)))))
+
+module _ (bytes : List ℕ) (end : ℕ) where
+  domain-by : (cs : List Code) (b : Bool) (x rest : List Code) → (elim b as (λ _. Codes) [ true ↦ Some (domain_from bytes end cs) | false ↦ None ]) ≡ Some (x, rest) → Read Itself cs x rest
+  domain-by cs false x rest k = cc
+  domain-by cs true x rest k =
+      let d : List Code × List Code = domain_from bytes end cs in
+      let same = both-parts d.0 x d.1 rest k in
+      record { codes = x; whole = sym (domain_split bytes end cs) ∙ ap (λ y. y ++ d.1) same.0 ∙ ap (λ y. x ++ y) same.1; holds = refl }
+
+  gives-domain : Gives Itself (domain bytes end)
+  unfolding domain
+  gives-domain cs x rest k = domain-by cs (is_domain (domain_from bytes end cs).0) x rest k
+
+  path-by : (c : Code) (cs : List Code) (b : Bool) (s : List Code × List Code) → cs ≡ s.0 ++ s.1 → (let r : List Code × List Code = elim b as (λ _. List Code × List Code) [ true ↦ ([], c ∷ cs) | false ↦ (c ∷ s.0, s.1) ] in c ∷ cs ≡ r.0 ++ r.1)
+  path-by c cs true s e = refl
+  path-by c cs false s e = ap (λ xs. c ∷ xs) e
+
+  path-parts : (o k : ℕ) (cs : List Code) → cs ≡ (path_from bytes end o k cs).0 ++ (path_from bytes end o k cs).1
+  path-parts o k [] = refl
+  path-parts o k (c ∷ cs) = path-by c cs (ends_path bytes end o k (c ∷ cs)) (path_from bytes end (count_if 40 c o) (count_if 41 c k) cs) (path-parts (count_if 40 c o) (count_if 41 c k) cs)
+
+  gives-path : Gives Itself (path bytes end)
+  unfolding path
+  gives-path cs x rest k =
+      let d : List Code × List Code = path_from bytes end 0 0 cs in
+      let same = both-parts d.0 x d.1 rest k in
+      record { codes = x; whole = path-parts 0 0 cs ∙ ap (λ y. y ++ d.1) same.0 ∙ ap (λ y. x ++ y) same.1; holds = refl }
+
+  pub whole-protocol : (on : Bool) (previous : Option Code) → Gives Covers (provided on >> gfm_autolink_literal_protocol bytes end previous)
+  unfolding gfm_autolink_literal_protocol
+  whole-protocol on previous =
+      Gives-switched on (gfm_autolink_literal_protocol bytes end previous) Covers
+      (Gives-switched _ _ Covers
+      (Gives-bind _ _ Itself Covers (Gives-either _ _ Itself (gives-letters (codes "https")) (gives-letters (codes "http"))) (λ a ws p.
+      Gives-bind _ _ Itself _ (gives-letters (codes "://")) (λ b vs q.
+      Gives-bind _ _ Itself _ gives-domain (λ c us r.
+      Gives-bind _ _ Itself _ gives-path (λ d ts t.
+      Gives-gives (leaf N.GfmAutolinkLiteralProtocol (a ++ b ++ c ++ d)) _
+      (Covers-leaf N.GfmAutolinkLiteralProtocol _ _
+      (in-row a b c d ∙ ap (λ x. x ++ (b ++ (c ++ d))) p ∙ ap (λ x. ws ++ (x ++ (c ++ d))) q ∙ ap (λ x. ws ++ (vs ++ (x ++ d))) r ∙ ap (λ x. ws ++ (vs ++ (us ++ x))) (t ∙ sym (append-nil ts))))))))))
+
+  www-text : (cs : List Code) → www_from_here bytes end cs ≡ mapped (leaf N.GfmAutolinkLiteralWww) (address bytes end cs)
+  unfolding www_from_here
+  www-text cs =
+      bind-then (domain bytes end) (path bytes end) _ (leaf N.GfmAutolinkLiteralWww) (λ z t. bind-gives (path bytes end) (λ w. leaf N.GfmAutolinkLiteralWww (z ++ w)) t) cs
+
+  pub from-here-is : (cs : List Code) → plan_of (www_from_here bytes end) cs ≡ leaf_ops N.GfmAutolinkLiteralWww (address bytes end cs)
+  from-here-is cs = ap tree_ops (www-text cs) ∙ mapped-ops N.GfmAutolinkLiteralWww (address bytes end cs)
+
+  whole-from-here : Gives Covers (www_from_here bytes end)
+  unfolding www_from_here
+  whole-from-here =
+      Gives-bind _ _ Itself Covers gives-domain (λ c us r.
+      Gives-bind _ _ Itself _ gives-path (λ d ts t.
+      Gives-gives (leaf N.GfmAutolinkLiteralWww (c ++ d)) _
+      (Covers-leaf N.GfmAutolinkLiteralWww _ _ (ap (λ x. x ++ d) r ∙ ap (λ x. us ++ x) (t ∙ sym (append-nil ts))))))
+
+  pub whole-www : (on : Bool) (previous : Option Code) → Gives Covers (provided on >> gfm_autolink_literal_www bytes end previous)
+  unfolding gfm_autolink_literal_www
+  whole-www on previous =
+      Gives-switched on (gfm_autolink_literal_www bytes end previous) Covers (λ cs x rest k.
+      Gives-switched (may_precede_www previous && begins_with_www cs) (www_from_here bytes end) Covers whole-from-here cs x rest k)
+
+  pub www-is : (on : Bool) (previous : Option Code) (cs : List Code) → on && (may_precede_www previous && begins_with_www cs) ≡ true → plan_of (provided on >> gfm_autolink_literal_www bytes end previous) cs ≡ plan_of (www_from_here bytes end) cs
+  unfolding gfm_autolink_literal_www
+  www-is true previous cs e =
+      ap tree_ops (switched-on (gfm_autolink_literal_www bytes end previous) true cs refl ∙ switched-on (www_from_here bytes end) (may_precede_www previous && begins_with_www cs) cs e)
+  www-is false previous cs e = cc
+
+  pub www-none : (on : Bool) (previous : Option Code) (cs : List Code) → on && (may_precede_www previous && begins_with_www cs) ≡ false → plan_of (provided on >> gfm_autolink_literal_www bytes end previous) cs ≡ None
+  unfolding gfm_autolink_literal_www
+  www-none true previous cs e =
+      ap tree_ops (switched-on (gfm_autolink_literal_www bytes end previous) true cs refl ∙ switched-off (www_from_here bytes end) (may_precede_www previous && begins_with_www cs) cs e)
+  www-none false previous cs e = ap tree_ops (switched-off (gfm_autolink_literal_www bytes end previous) false cs refl)

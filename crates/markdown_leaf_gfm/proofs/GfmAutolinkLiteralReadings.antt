@@ -1,0 +1,373 @@
+-- What autolink literals read, by what stands there.
+use Rattle.std.proofs.Common.{◌≡◌, ℕ, zero, suc, ◌+◌, ◌≤◌, ◌==◌, ◌&&◌, ◌||◌, not, nat_le, Bool, true, false, if◌then◌else◌, Option, Some, None, List, [], ◌∷◌, ◌++◌, reverse, append_assoc, append-nil, refl, sym, ap, subst, ◌∙◌, arith}
+use Rattle.std.specs.Prelude.{codes}
+use Rattle.std.specs.List.{list_any}
+use Rattle.std.proofs.lemmas.List.{reverse-append}
+use Rattle.std.proofs.lemmas.Bool.Decides.{nat_tests}
+use Rattle.std.proofs.Math.Seq.{drop-nil}
+use Rattle.markdown_engine_content.specs.Codes.{Code}
+use Rattle.markdown_engine.specs.Operations.{Op, Consume}
+use Rattle.markdown_engine.specs.TreeOps.{consumes}
+use Rattle.markdown_engine.specs.declared.tokenizer.TokenizeState.{TokenizeState}
+use Rattle.markdown_model.specs.CodeTests.{is_value, is_among, is_letter, is_empty, next_is}
+use Rattle.markdown_model.specs.Grammar.{Reading, ◌>>=◌, ◌then_◌, either, one, gives, with_first}
+use Rattle.markdown_model.specs.GfmAutolinkLiteral.{letters, last_parts_plain, is_domain, domain, domain_from, is_domain_code, path, path_from, ends_path, count_if}
+use Rattle.markdown_plan.specs.ByteTests.{letter_value}
+use Rattle.markdown_plan.specs.Plan.{preceded}
+use Rattle.markdown_plan.proofs.PrecededReadingLemmas.{then-after, after-more, after-none}
+use Rattle.markdown_plan.proofs.PlanSteps.{consumes-append}
+use Rattle.markdown_leaf_gfm.specs.GfmAutolinkLiteral.{scheme_letter, www_letter, www_test, rested, saw, underscored, dotted, is_well, passed_code, fields_after, pass_ops, path_plan, domain_plan, domain_after_plan, address, schemes, slashes_plan, prefix_plan}
+use Rattle.markdown_model.proofs.GrammarSteps.{bind-some, bind-none, one-here, one-not, then-some, then-none, either-some, either-second, and-left, and-right, left-true, if-true, if-false}
+
+-- Domains: their fields, code by code.
+
+-- whether a code of a domain is a character of class other
+abbrev pub is_seen : Code → Bool
+is_seen c = not (is_among (codes "._-") c)
+
+or-here : (a b : Bool) → a || (true || b) ≡ true
+or-here true b = refl
+or-here false b = refl
+
+-- what the fields say of the codes before, the last one first
+record Says (s : TokenizeState) (before : List Code) : Type 0 where
+  last : last_parts_plain 1 before ≡ not (s.marker == 95)
+  both : last_parts_plain 0 before ≡ not (s.marker == 95) && not (s.marker_b == 95)
+
+dot-says : (s : TokenizeState) (c : Code) (before : List Code) → (c.value == 46) ≡ true → Says s before → Says (dotted s) (c ∷ before)
+dot-says s c before e k = record { last = rw (e, last_parts_plain) refl; both = rw (e, last_parts_plain) k.last }
+
+underscore-says : (s : TokenizeState) (c : Code) (before : List Code) → (c.value == 46) ≡ false → (c.value == 95) ≡ true → Says s before → Says (underscored s) (c ∷ before)
+underscore-says s c before e h k = record { last = rw (e, h, last_parts_plain) refl; both = rw (e, h, last_parts_plain) refl }
+
+plain-says : (s : TokenizeState) (c : Code) (before : List Code) → (c.value == 46) ≡ false → (c.value == 95) ≡ false → Says s before → Says s (c ∷ before)
+plain-says s c before e h k = record { last = rw (e, h, last_parts_plain) k.last; both = rw (e, h, last_parts_plain) k.both }
+
+saw-says : (s : TokenizeState) (before : List Code) → Says s before → Says (saw s) before
+saw-says s before k = record { last = k.last; both = k.both }
+
+-- The fold over the codes of a domain is the definition's test.
+
+-- a list the other way round, before another one
+unfoldable pub turned : List Code → List Code → List Code
+turned [] before = before
+turned (c ∷ cs) before = turned cs (c ∷ before)
+
+pub turned-is : (cs before : List Code) → turned cs before ≡ reverse cs ++ before
+unfolding turned
+turned-is [] before = refl
+turned-is (c ∷ cs) before =
+    turned-is cs (c ∷ before)
+    ∙ sym (append_assoc (reverse cs) (c ∷ []) before)
+    ∙ ap (λ xs. xs ++ before) (sym (reverse-append (c ∷ []) cs))
+
+whole-test : TokenizeState → List Code → List Code → Bool
+whole-test s cs before = (s.seen || list_any is_seen cs) && last_parts_plain 0 (turned cs before)
+
+fold-by : (c : Code) (cs before : List Code) (s r : TokenizeState) → passed_code c s ≡ r → is_well (fields_after cs r) ≡ whole-test r cs (c ∷ before) → (r.seen || list_any is_seen cs) ≡ (s.seen || (is_seen c || list_any is_seen cs)) → is_well (fields_after (c ∷ cs) s) ≡ whole-test s (c ∷ cs) before
+unfolding whole-test turned
+fold-by c cs before s r e h k =
+    ap (λ (q : TokenizeState). is_well (fields_after cs q)) e ∙ h ∙ ap (λ b. b && last_parts_plain 0 (turned cs (c ∷ before))) k
+
+end-test : (a b x : Bool) → x ≡ b → a && b ≡ (a || false) && x
+end-test true b x e = sym e
+end-test false b x e = refl
+
+fold-is : (cs before : List Code) (s : TokenizeState) → Says s before → is_well (fields_after cs s) ≡ whole-test s cs before
+unfolding whole-test turned
+fold-is [] before s k = end-test s.seen _ _ k.both
+fold-is (c ∷ cs) before s k =
+    let Goal : Type 0 = is_well (fields_after (c ∷ cs) s) ≡ whole-test s (c ∷ cs) before in
+    let rest : Bool = list_any is_seen cs in
+    elim (c.value == 46) as (λ b. (c.value == 46) ≡ b → Goal) [
+      | true ↦ λ e. fold-by c cs before s (dotted s) (if-true _ _ _ e) (fold-is cs (c ∷ before) (dotted s) (dot-says s c before e k)) (ap (λ b. s.seen || (not (b || (c.value == 95 || (c.value == 45 || false))) || rest)) (sym e))
+      | false ↦ λ e. elim (c.value == 95) as (λ b. (c.value == 95) ≡ b → Goal) [
+        | true ↦ λ h. fold-by c cs before s (underscored s) (if-false _ _ _ e ∙ if-true _ _ _ h) (fold-is cs (c ∷ before) (underscored s) (underscore-says s c before e h k))
+            (ap (λ b. s.seen || (not (false || (b || (c.value == 45 || false))) || rest)) (sym h) ∙ ap (λ b. s.seen || (not (b || (c.value == 95 || (c.value == 45 || false))) || rest)) (sym e))
+        | false ↦ λ h. elim (c.value == 45) as (λ b. (c.value == 45) ≡ b → Goal) [
+          | true ↦ λ f. fold-by c cs before s s (if-false _ _ _ e ∙ if-false _ _ _ h ∙ if-true _ _ _ f) (fold-is cs (c ∷ before) s (plain-says s c before e h k))
+              (ap (λ b. s.seen || (not (false || (false || (b || false))) || rest)) (sym f) ∙ ap (λ b. s.seen || (not (false || (b || (c.value == 45 || false))) || rest)) (sym h) ∙ ap (λ b. s.seen || (not (b || (c.value == 95 || (c.value == 45 || false))) || rest)) (sym e))
+          | false ↦ λ f. fold-by c cs before s (saw s) (if-false _ _ _ e ∙ if-false _ _ _ h ∙ if-false _ _ _ f) (fold-is cs (c ∷ before) (saw s) (saw-says s (c ∷ before) (plain-says s c before e h k)))
+              (sym (or-here s.seen rest) ∙ ap (λ b. s.seen || (not (false || (false || (b || false))) || rest)) (sym f) ∙ ap (λ b. s.seen || (not (false || (b || (c.value == 45 || false))) || rest)) (sym h) ∙ ap (λ b. s.seen || (not (b || (c.value == 95 || (c.value == 45 || false))) || rest)) (sym e))
+        ] refl
+      ] refl
+    ] refl
+
+says-rested : (s : TokenizeState) → rested s ≡ s → Says s []
+says-rested s e = subst (λ (q : TokenizeState). Says q []) e (record { last = refl; both = refl })
+
+domain-test : (s : TokenizeState) (cs : List Code) → rested s ≡ s → is_well (fields_after cs s) ≡ is_domain cs
+unfolding whole-test turned
+domain-test s cs e = fold-is cs [] s (says-rested s e) ∙ ap (λ xs. (s.seen || list_any is_seen cs) && last_parts_plain 0 xs) (turned-is cs [] ∙ append-nil (reverse cs)) ∙ ap (λ (q : TokenizeState). (q.seen || list_any is_seen cs) && last_parts_plain 0 (reverse cs)) (sym e)
+
+-- Domains and paths, code by code.
+
+preceded-if : (o : Op) (b : Bool) (os : List Op) → (if b then Some (o ∷ os) else None) ≡ preceded (o ∷ []) (if b then Some os else None)
+preceded-if o true os = refl
+preceded-if o false os = refl
+
+module _ (bytes : List ℕ) (end : ℕ) where
+  -- the rest of a domain, from its front
+  domain_of : TokenizeState → List Code × List Code → Option (List Op)
+  domain_of s d = if is_well (fields_after d.0 s) then Some (consumes d.0 ++ consumes (path_from bytes end s.size s.size_b d.1).0) else None
+
+  first_of : Bool → Code → List Code → List Code × List Code
+  first_of b c cs = elim b [ true ↦ (c ∷ (domain_from bytes end cs).0, (domain_from bytes end cs).1) | false ↦ ([], c ∷ cs) ]
+
+  more-of : (s r : TokenizeState) (c : Code) (d : List Code × List Code) → passed_code c s ≡ r → r.size ≡ s.size → r.size_b ≡ s.size_b → domain_of s (c ∷ d.0, d.1) ≡ preceded (Consume ∷ []) (domain_of r d)
+  unfolding domain_of
+  more-of s r c d e m n =
+      ap (λ (q : TokenizeState). if is_well (fields_after d.0 q) then Some (Consume ∷ consumes d.0 ++ consumes (path_from bytes end s.size s.size_b d.1).0) else None) e
+      ∙ ap (λ (k : ℕ). if is_well (fields_after d.0 r) then Some (Consume ∷ consumes d.0 ++ consumes (path_from bytes end k s.size_b d.1).0) else None) (sym m)
+      ∙ ap (λ (k : ℕ). if is_well (fields_after d.0 r) then Some (Consume ∷ consumes d.0 ++ consumes (path_from bytes end r.size k d.1).0) else None) (sym n)
+      ∙ preceded-if Consume (is_well (fields_after d.0 r)) _
+
+  pub domain-more : (s r : TokenizeState) (c : Code) (cs : List Code) → is_domain_code bytes end (c ∷ cs) ≡ true → passed_code c s ≡ r → r.size ≡ s.size → r.size_b ≡ s.size_b → domain_plan bytes end s (c ∷ cs) ≡ preceded (Consume ∷ []) (domain_plan bytes end r cs)
+  unfolding domain_of first_of
+  domain-more s r c cs h e m n = ap (λ b. domain_of s (first_of b c cs)) h ∙ more-of s r c (domain_from bytes end cs) e m n
+
+  pub domain-stop : (s : TokenizeState) (c : Code) (cs : List Code) → is_domain_code bytes end (c ∷ cs) ≡ false → domain_plan bytes end s (c ∷ cs) ≡ domain_after_plan bytes end s (c ∷ cs)
+  unfolding domain_of first_of
+  domain-stop s c cs h = ap (λ b. domain_of s (first_of b c cs)) h
+
+  pub domain-end : (s : TokenizeState) → domain_plan bytes end s [] ≡ domain_after_plan bytes end s []
+  domain-end s = refl
+
+  -- a domain and a path, with the fields at rest
+  tried : (s : TokenizeState) (cs : List Code) (b : Bool) → is_domain (domain_from bytes end cs).0 ≡ b → is_well (fields_after (domain_from bytes end cs).0 s) ≡ b → s.size ≡ 0 → s.size_b ≡ 0 → pass_ops (address bytes end cs) ≡ domain_plan bytes end s cs
+  unfolding domain path ◌then_◌
+  tried s cs true e h m n =
+      let d : List Code × List Code = domain_from bytes end cs in
+      let p : ℕ → ℕ → List Code = λ j k. (path_from bytes end j k d.1).0 in
+      ap pass_ops (then-some (domain bytes end) (path bytes end) cs d.0 d.1 (p 0 0) (path_from bytes end 0 0 d.1).1 (rw (e, domain) refl) refl)
+      ∙ ap (λ os. Some os) (consumes-append d.0 (p 0 0))
+      ∙ ap (λ j. Some (consumes d.0 ++ consumes (p j 0))) (sym m)
+      ∙ ap (λ j. Some (consumes d.0 ++ consumes (p s.size j))) (sym n)
+      ∙ sym (if-true _ _ _ h)
+  tried s cs false e h m n = ap pass_ops (then-none (domain bytes end) (path bytes end) cs (rw (e, domain) refl)) ∙ sym (if-false _ _ _ h)
+
+  pub address-is : (s : TokenizeState) (cs : List Code) → rested s ≡ s → pass_ops (address bytes end cs) ≡ domain_plan bytes end s cs
+  address-is s cs e =
+      tried s cs (is_domain (domain_from bytes end cs).0) refl (domain-test s (domain_from bytes end cs).0 e) (ap (λ (q : TokenizeState). q.size) (sym e)) (ap (λ (q : TokenizeState). q.size_b) (sym e))
+
+  path_split_by : Bool → ℕ → ℕ → Code → List Code → List Code × List Code
+  path_split_by b o k c cs =
+      elim b [ true ↦ ([], c ∷ cs) | false ↦ (let s = path_from bytes end (count_if 40 c o) (count_if 41 c k) cs in (c ∷ s.0, s.1)) ]
+
+  pub path-more : (o k : ℕ) (c : Code) (cs : List Code) → ends_path bytes end o k (c ∷ cs) ≡ false → path_plan bytes end o k (c ∷ cs) ≡ preceded (Consume ∷ []) (path_plan bytes end (count_if 40 c o) (count_if 41 c k) cs)
+  unfolding path_split_by
+  path-more o k c cs e = ap (λ b. Some (consumes (path_split_by b o k c cs).0)) e
+
+  pub path-stop : (o k : ℕ) (c : Code) (cs : List Code) → ends_path bytes end o k (c ∷ cs) ≡ true → path_plan bytes end o k (c ∷ cs) ≡ Some []
+  unfolding path_split_by
+  path-stop o k c cs e = ap (λ b. Some (consumes (path_split_by b o k c cs).0)) e
+
+-- Words.
+
+pub then-first : (a b k : Reading (List Code)) (c : Code) (cs : List Code) → a (c ∷ cs) ≡ with_first c (b cs) → (a then_ k) (c ∷ cs) ≡ with_first c ((b then_ k) cs)
+then-first a b k c cs e = by_what (b cs) refl
+  where
+    by_what : (o : Option (List Code × List Code)) → b cs ≡ o → (a then_ k) (c ∷ cs) ≡ with_first c ((b then_ k) cs)
+    by_what None h = then-none a k (c ∷ cs) (e ∙ ap (with_first c) h) ∙ ap (with_first c) (sym (then-none b k cs h))
+    by_what (Some r) h =
+        then-after a k (c ∷ cs) (c ∷ r.0) r.1 (e ∙ ap (with_first c) h)
+        ∙ after-more c r.0 (k r.1)
+        ∙ ap (with_first c) (sym (then-after b k cs r.0 r.1 h))
+
+pub ops-first : (c : Code) (o : Option (List Code × List Code)) → pass_ops (with_first c o) ≡ preceded (Consume ∷ []) (pass_ops o)
+ops-first c None = refl
+ops-first c (Some r) = refl
+
+abbrev pub letter_test : ℕ → Code → Bool
+letter_test n c = c.value == n || (is_letter c && c.value + 32 == n)
+
+letters-given : (c : Code) (o : Option (List Code × List Code)) → (elim o as (λ _. Option (List Code × List Code)) [ None ↦ None | Some r ↦ gives (c ∷ r.0) r.1 ]) ≡ with_first c o
+unfolding gives
+letters-given c None = refl
+letters-given c (Some r) = refl
+
+pub letters-more : (n : ℕ) (ns : List ℕ) (c : Code) (cs : List Code) → letter_test n c ≡ true → letters (n ∷ ns) (c ∷ cs) ≡ with_first c (letters ns cs)
+unfolding letters ◌>>=◌
+letters-more n ns c cs e = bind-some (one (letter_test n)) (λ a. letters ns >>= λ b. gives (a ++ b)) (c ∷ cs) (c ∷ []) cs _ (one-here (letter_test n) c cs e) (letters-given c (letters ns cs))
+
+pub letters-none : (n : ℕ) (ns : List ℕ) (cs : List Code) → next_is (letter_test n) cs ≡ false → letters (n ∷ ns) cs ≡ None
+unfolding letters
+letters-none n ns cs e = bind-none (one (letter_test n)) (λ a. letters ns >>= λ b. gives (a ++ b)) cs (one-not (letter_test n) cs e)
+
+pub letters-nil : (cs : List Code) → letters [] cs ≡ Some ([], cs)
+unfolding letters gives
+letters-nil cs = refl
+
+-- The name of a protocol.
+
+case-h : (v : ℕ) → (v == 104 || v == 72) ≡ (v == 104 || (letter_value v && v + 32 == 104))
+case-h v = grind (arith, nat_tests)
+
+case-t : (v : ℕ) → (v == 116 || v == 84) ≡ (v == 116 || (letter_value v && v + 32 == 116))
+case-t v = grind (arith, nat_tests)
+
+case-p : (v : ℕ) → (v == 112 || v == 80) ≡ (v == 112 || (letter_value v && v + 32 == 112))
+case-p v = grind (arith, nat_tests)
+
+case-s : (v : ℕ) → (v == 115 || v == 83) ≡ (v == 115 || (letter_value v && v + 32 == 115))
+case-s v = grind (arith, nat_tests)
+
+case-colon : (v : ℕ) → (v == 58) ≡ (v == 58 || (letter_value v && v + 32 == 58))
+case-colon v = grind (arith, nat_tests)
+
+case-slash : (v : ℕ) → (v == 47) ≡ (v == 47 || (letter_value v && v + 32 == 47))
+case-slash v = grind (arith, nat_tests)
+
+either-first-code : (a b x y : Reading (List Code)) (c : Code) (cs : List Code) → a (c ∷ cs) ≡ with_first c (x cs) → b (c ∷ cs) ≡ with_first c (y cs) → either a b (c ∷ cs) ≡ with_first c (either x y cs)
+unfolding either
+either-first-code a b x y c cs e h = by_what (x cs) refl
+  where
+    by_what : (o : Option (List Code × List Code)) → x cs ≡ o → either a b (c ∷ cs) ≡ with_first c (either x y cs)
+    by_what None k = either-second a b (c ∷ cs) (e ∙ ap (with_first c) k) ∙ h ∙ ap (with_first c) (sym (either-second x y cs k))
+    by_what (Some r) k = either-some a b (c ∷ cs) (c ∷ r.0, r.1) (e ∙ ap (with_first c) k) ∙ ap (with_first c) (sym (either-some x y cs r k))
+
+-- the same letter of both words
+both-more : (n : ℕ) (xs ys : List ℕ) (c : Code) (cs : List Code) → letter_test n c ≡ true → either (letters (n ∷ xs)) (letters (n ∷ ys)) (c ∷ cs) ≡ with_first c (either (letters xs) (letters ys) cs)
+both-more n xs ys c cs e = either-first-code _ _ (letters xs) (letters ys) c cs (letters-more n xs c cs e) (letters-more n ys c cs e)
+
+both-none : (n : ℕ) (xs ys : List ℕ) (cs : List Code) → next_is (letter_test n) cs ≡ false → either (letters (n ∷ xs)) (letters (n ∷ ys)) cs ≡ None
+both-none n xs ys cs e = either-second (letters (n ∷ xs)) (letters (n ∷ ys)) cs (letters-none n xs cs e) ∙ letters-none n ys cs e
+
+either-nil : (cs : List Code) → either (letters []) (letters []) cs ≡ Some ([], cs)
+either-nil cs = either-some (letters []) (letters []) cs ([], cs) (letters-nil cs)
+
+-- the last letter, which may be left out
+last-more : (c : Code) (cs : List Code) → letter_test 115 c ≡ true → either (letters (115 ∷ [])) (letters []) (c ∷ cs) ≡ with_first c (either (letters []) (letters []) cs)
+last-more c cs e =
+    either-some (letters (115 ∷ [])) (letters []) (c ∷ cs) (c ∷ [], cs) (letters-more 115 [] c cs e ∙ ap (with_first c) (letters-nil cs))
+    ∙ ap (with_first c) (sym (either-nil cs))
+
+last-none : (cs : List Code) → next_is (letter_test 115) cs ≡ false → either (letters (115 ∷ [])) (letters []) cs ≡ Some ([], cs)
+last-none cs e = either-second (letters (115 ∷ [])) (letters []) cs (letters-none 115 [] cs e) ∙ letters-nil cs
+
+no-letter : (n v : ℕ) → 5 ≤ n → scheme_letter n v ≡ false
+no-letter n v h = grind (arith, nat_tests)
+
+next-same : (p q : Code → Bool) → ((c : Code) → p c ≡ q c) → (cs : List Code) → next_is p cs ≡ next_is q cs
+next-same p q h [] = refl
+next-same p q h (c ∷ cs) = h c
+
+schemes-more : (n : ℕ) (c : Code) (cs : List Code) → scheme_letter n c.value ≡ true → schemes n (c ∷ cs) ≡ with_first c (schemes (n + 1) cs)
+schemes-more zero c cs e = both-more 104 _ _ c cs (sym (case-h c.value) ∙ e)
+schemes-more (suc zero) c cs e = both-more 116 _ _ c cs (sym (case-t c.value) ∙ e)
+schemes-more (suc (suc zero)) c cs e = both-more 116 _ _ c cs (sym (case-t c.value) ∙ e)
+schemes-more (suc (suc (suc zero))) c cs e = both-more 112 _ _ c cs (sym (case-p c.value) ∙ e)
+schemes-more (suc (suc (suc (suc zero)))) c cs e = last-more c cs (sym (case-s c.value) ∙ e)
+schemes-more (suc (suc (suc (suc (suc n))))) c cs e = let no : false ≡ true = sym (no-letter (suc (suc (suc (suc (suc n))))) c.value (omega arith)) ∙ e in cc
+
+four-more : (n : ℕ) → nat_le 4 (suc (suc (suc (suc (suc n))))) ≡ true
+four-more n = grind (arith, nat_tests)
+
+-- no letter of the name follows
+schemes-none : (n : ℕ) (cs : List Code) → next_is (λ c. scheme_letter n c.value) cs ≡ false → schemes n cs ≡ (if nat_le 4 n then Some ([], cs) else None)
+schemes-none zero cs e = both-none 104 _ _ cs (next-same (letter_test 104) _ (λ c. sym (case-h c.value)) cs ∙ e)
+schemes-none (suc zero) cs e = both-none 116 _ _ cs (next-same (letter_test 116) _ (λ c. sym (case-t c.value)) cs ∙ e)
+schemes-none (suc (suc zero)) cs e = both-none 116 _ _ cs (next-same (letter_test 116) _ (λ c. sym (case-t c.value)) cs ∙ e)
+schemes-none (suc (suc (suc zero))) cs e = both-none 112 _ _ cs (next-same (letter_test 112) _ (λ c. sym (case-p c.value)) cs ∙ e)
+schemes-none (suc (suc (suc (suc zero)))) cs e = last-none cs (next-same (letter_test 115) _ (λ c. sym (case-s c.value)) cs ∙ e)
+schemes-none (suc (suc (suc (suc (suc n))))) cs e =
+    ap (λ ns. either (letters ns) (letters []) cs) (drop-nil n)
+    ∙ either-nil cs
+    ∙ sym (if-true _ _ _ (four-more n))
+
+letters-here : (n : ℕ) (ns : List ℕ) (k : Reading (List Code)) (c : Code) (cs : List Code) → letter_test n c ≡ true → pass_ops ((letters (n ∷ ns) then_ k) (c ∷ cs)) ≡ preceded (Consume ∷ []) (pass_ops ((letters ns then_ k) cs))
+letters-here n ns k c cs e = ap pass_ops (then-first (letters (n ∷ ns)) (letters ns) k c cs (letters-more n ns c cs e)) ∙ ops-first c ((letters ns then_ k) cs)
+
+letters-other : (n : ℕ) (ns : List ℕ) (k : Reading (List Code)) (cs : List Code) → next_is (letter_test n) cs ≡ false → pass_ops ((letters (n ∷ ns) then_ k) cs) ≡ None
+letters-other n ns k cs e = ap pass_ops (then-none (letters (n ∷ ns)) k cs (letters-none n ns cs e))
+
+then-nothing : (a k : Reading (List Code)) (cs : List Code) → a cs ≡ Some ([], cs) → (a then_ k) cs ≡ k cs
+then-nothing a k cs e = then-after a k cs [] cs e ∙ after-none (k cs)
+
+module _ (bytes : List ℕ) (end : ℕ) where
+  pub prefix-more : (n : ℕ) (c : Code) (cs : List Code) → scheme_letter n c.value ≡ true → prefix_plan bytes end n (c ∷ cs) ≡ preceded (Consume ∷ []) (prefix_plan bytes end (n + 1) cs)
+  prefix-more n c cs e =
+      ap pass_ops (then-first (schemes n) (schemes (n + 1)) (letters (codes "://") then_ address bytes end) c cs (schemes-more n c cs e)) ∙ ops-first c _
+
+  prefix-here : (n : ℕ) (cs : List Code) → next_is (λ c. scheme_letter n c.value) cs ≡ false → nat_le 4 n ≡ true → prefix_plan bytes end n cs ≡ pass_ops ((letters (codes "://") then_ address bytes end) cs)
+  prefix-here n cs e h = ap pass_ops (then-nothing (schemes n) (letters (codes "://") then_ address bytes end) cs (schemes-none n cs e ∙ if-true _ _ _ h))
+
+  pub prefix-colon : (n : ℕ) (c : Code) (cs : List Code) → scheme_letter n c.value ≡ false → nat_le 4 n && (c.value == 58) ≡ true → prefix_plan bytes end n (c ∷ cs) ≡ preceded (Consume ∷ []) (slashes_plan bytes end 0 cs)
+  prefix-colon n c cs e h =
+      prefix-here n (c ∷ cs) e (and-left _ _ h) ∙ letters-here 58 _ (address bytes end) c cs (sym (case-colon c.value) ∙ and-right _ _ h)
+
+  pub prefix-none : (n : ℕ) (cs : List Code) → next_is (λ c. scheme_letter n c.value) cs ≡ false → nat_le 4 n && next_is (is_value 58) cs ≡ false → prefix_plan bytes end n cs ≡ None
+  prefix-none n cs e h =
+      elim (nat_le 4 n) as (λ b. nat_le 4 n ≡ b → prefix_plan bytes end n cs ≡ None) [
+        | true ↦ λ k. prefix-here n cs e k ∙ letters-other 58 _ (address bytes end) cs (next-same (letter_test 58) (is_value 58) (λ c. sym (case-colon c.value)) cs ∙ left-true _ _ h k)
+        | false ↦ λ k. ap pass_ops (then-none (schemes n) (letters (codes "://") then_ address bytes end) cs (schemes-none n cs e ∙ if-false _ _ _ k))
+      ] refl
+
+  slashes-by : (b : Bool) (c : Code) (cs : List Code) → (c.value == 47) ≡ true → pass_ops ((letters (if b then codes "//" else codes "/") then_ address bytes end) (c ∷ cs)) ≡ preceded (Consume ∷ []) (if b then slashes_plan bytes end 1 cs else pass_ops (address bytes end cs))
+  slashes-by true c cs e = letters-here 47 _ (address bytes end) c cs (sym (case-slash c.value) ∙ e)
+  slashes-by false c cs e =
+      letters-here 47 _ (address bytes end) c cs (sym (case-slash c.value) ∙ e)
+      ∙ ap (λ o. preceded (Consume ∷ []) (pass_ops o)) (then-nothing (letters []) (address bytes end) cs (letters-nil cs))
+
+  pub slashes-more : (n : ℕ) (c : Code) (cs : List Code) → (c.value == 47) ≡ true → (n == 0) ≡ true → slashes_plan bytes end n (c ∷ cs) ≡ preceded (Consume ∷ []) (slashes_plan bytes end 1 cs)
+  slashes-more n c cs e h = slashes-by (n == 0) c cs e ∙ ap (preceded (Consume ∷ [])) (if-true _ _ _ h)
+
+  pub slashes-last : (n : ℕ) (c : Code) (cs : List Code) (s : TokenizeState) → (c.value == 47) ≡ true → (n == 0) ≡ false → rested s ≡ s → slashes_plan bytes end n (c ∷ cs) ≡ preceded (Consume ∷ []) (domain_plan bytes end s cs)
+  slashes-last n c cs s e h k = slashes-by (n == 0) c cs e ∙ ap (preceded (Consume ∷ [])) (if-false _ _ _ h ∙ address-is bytes end s cs k)
+
+  none-by : (b : Bool) (cs : List Code) → next_is (is_value 47) cs ≡ false → pass_ops ((letters (if b then codes "//" else codes "/") then_ address bytes end) cs) ≡ None
+  none-by true cs e = letters-other 47 _ (address bytes end) cs (next-same (letter_test 47) (is_value 47) (λ c. sym (case-slash c.value)) cs ∙ e)
+  none-by false cs e = letters-other 47 _ (address bytes end) cs (next-same (letter_test 47) (is_value 47) (λ c. sym (case-slash c.value)) cs ∙ e)
+
+  pub slashes-none : (n : ℕ) (cs : List Code) → next_is (is_value 47) cs ≡ false → slashes_plan bytes end n cs ≡ None
+  slashes-none n cs e = none-by (n == 0) cs e
+
+-- The word `www.`.
+
+case-w : (v : ℕ) → (v == 119 || v == 87) ≡ (v == 119 || (letter_value v && v + 32 == 119))
+case-w v = grind (arith, nat_tests)
+
+case-dot : (v : ℕ) → (v == 46) ≡ (v == 46 || (letter_value v && v + 32 == 46))
+case-dot v = grind (arith, nat_tests)
+
+-- a code is left after it
+left-after : Option (List Code × List Code) → Bool
+left-after None = false
+left-after (Some r) = not (is_empty r.1)
+
+left-same : (o : Option (List Code × List Code)) → elim o as (λ _. Bool) [ None ↦ false | Some r ↦ not (is_empty r.1) ] ≡ left-after o
+unfolding left-after
+left-same None = refl
+left-same (Some r) = refl
+
+left-first : (c : Code) (o : Option (List Code × List Code)) → left-after (with_first c o) ≡ left-after o
+unfolding left-after
+left-first c None = refl
+left-first c (Some r) = refl
+
+word-more : (n : ℕ) (ns : List ℕ) (c : Code) (cs : List Code) → letter_test n c ≡ true → left-after (letters (n ∷ ns) (c ∷ cs)) ≡ left-after (letters ns cs)
+word-more n ns c cs e = ap left-after (letters-more n ns c cs e) ∙ left-first c (letters ns cs)
+
+word-none : (n : ℕ) (ns : List ℕ) (cs : List Code) → next_is (letter_test n) cs ≡ false → left-after (letters (n ∷ ns) cs) ≡ false
+unfolding left-after
+word-none n ns cs e = ap left-after (letters-none n ns cs e)
+
+many-w : (n v : ℕ) → 4 ≤ n → www_letter n v ≡ false
+many-w n v h = grind (arith, nat_tests)
+
+pub www-more : (n : ℕ) (c : Code) (cs : List Code) → www_letter n c.value ≡ true → www_test n (c ∷ cs) ≡ www_test (n + 1) cs
+www-more zero c cs e = left-same _ ∙ word-more 119 _ c cs (sym (case-w c.value) ∙ e) ∙ sym (left-same _)
+www-more (suc zero) c cs e = left-same _ ∙ word-more 119 _ c cs (sym (case-w c.value) ∙ e) ∙ sym (left-same _)
+www-more (suc (suc zero)) c cs e = left-same _ ∙ word-more 119 _ c cs (sym (case-w c.value) ∙ e) ∙ sym (left-same _)
+www-more (suc (suc (suc zero))) c cs e = left-same _ ∙ word-more 46 _ c cs (sym (case-dot c.value) ∙ e) ∙ sym (left-same _)
+www-more (suc (suc (suc (suc n)))) c cs e = let no : false ≡ true = sym (many-w (suc (suc (suc (suc n)))) c.value (omega arith)) ∙ e in cc
+
+pub www-other : (n : ℕ) (cs : List Code) → n ≤ 3 → next_is (λ c. www_letter n c.value) cs ≡ false → www_test n cs ≡ false
+www-other zero cs h e = left-same _ ∙ word-none 119 _ cs (next-same (letter_test 119) _ (λ c. sym (case-w c.value)) cs ∙ e)
+www-other (suc zero) cs h e = left-same _ ∙ word-none 119 _ cs (next-same (letter_test 119) _ (λ c. sym (case-w c.value)) cs ∙ e)
+www-other (suc (suc zero)) cs h e = left-same _ ∙ word-none 119 _ cs (next-same (letter_test 119) _ (λ c. sym (case-w c.value)) cs ∙ e)
+www-other (suc (suc (suc zero))) cs h e = left-same _ ∙ word-none 46 _ cs (next-same (letter_test 46) _ (λ c. sym (case-dot c.value)) cs ∙ e)
+www-other (suc (suc (suc (suc n)))) cs h e = absurd (omega (arith, h))
+
+pub www-left : (cs : List Code) → www_test 4 cs ≡ not (is_empty cs)
+www-left cs = ap (λ (o : Option (List Code × List Code)). elim o as (λ _. Bool) [ None ↦ false | Some r ↦ not (is_empty r.1) ]) (letters-nil cs)

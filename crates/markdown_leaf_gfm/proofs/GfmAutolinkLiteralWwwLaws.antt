@@ -1,0 +1,256 @@
+-- The laws of the states of a literal from `www.` on.
+use Rattle.std.proofs.Common.{◌≡◌, ℕ, ◌+◌, ◌≤◌, ◌==◌, ◌&&◌, ◌||◌, not, Bool, true, false, if◌then◌else◌, Option, Some, None, List, [], ◌∷◌, ◌++◌, refl, sym, ap, subst, ◌∙◌, arith}
+use Rattle.std.proofs.lemmas.Bool.{eqb-true, and_right, and_from}
+use Rattle.std.proofs.lemmas.Bool.Decides.{nat_tests}
+use Rattle.std.specs.Prelude.{codes, reverse}
+use Rattle.std.specs.List.{list_any}
+use Rattle.markdown_engine_content.specs.Codes.{Code}
+use Rattle.markdown_engine.specs.FailedRun.{Grown}
+use Rattle.markdown_engine_content.specs.ListFunctions.{rest_of}
+use Rattle.markdown_engine.specs.Operations.{Op, Exit, Consume, ahead, applied, current_of, previous_of, done, frame_of, scratched}
+use Rattle.markdown_engine_content.specs.Place.{ahead_at, code_before, last_of, value_of}
+use Rattle.markdown_engine.specs.StateRuns.{Stepped, restored}
+use Rattle.markdown_engine.specs.TreeOps.{consumes}
+use Rattle.markdown_engine.specs.Weights.{weight_at}
+use Rattle.markdown_engine_content.specs.declared.event.Name.TheVariants as N
+use Rattle.markdown_engine.specs.declared.state.State.TheVariants.{Next, Retry, Nok}
+use Rattle.markdown_engine.specs.declared.state.StateName.TheVariants.{GfmAutolinkLiteralDomainInside, GfmAutolinkLiteralWwwAfter, GfmAutolinkLiteralWwwPrefixAfter, GfmAutolinkLiteralWwwPrefixInside}
+use Rattle.markdown_engine.specs.declared.tokenizer.TokenizeState.{TokenizeState}
+use Rattle.markdown_engine.specs.declared.tokenizer.Tokenizer.{Tokenizer}
+use Rattle.markdown_engine.proofs.ReadingSequences.{scratched-same}
+use Rattle.markdown_engine.proofs.LawSteps.{if-step, code-step, Grown-refl, restored-grown}
+use Rattle.markdown_engine.proofs.OperationFields.{ahead-none, ahead-some, ahead-consumed, attempts-applied, attempts-scratched, left-consumed, left-scratched, scratch-scratched}
+use Rattle.markdown_engine.proofs.OperationLemmas.{Grown-applied, Grown-scratched}
+use Rattle.markdown_model.specs.CodeTests.{is_empty, is_among}
+use Rattle.markdown_model.specs.GfmAutolinkLiteral.{domain, domain_from, path, path_from, last_parts_plain, may_precede_www, begins_with_www, www_from_here}
+use Rattle.markdown_plan.specs.Plan.{Plan, plan_of, DoesAs}
+use Rattle.markdown_plan.proofs.PlanSteps.{EndsAs-plan}
+use Rattle.markdown_plan.specs.Characters.{bytes_of}
+use Rattle.markdown_leaf_gfm.specs.GfmAutolinkLiteral.{end_of, before_of, is_on, rested, sized, refused, precedes_www, www_letter, may_begin_www, is_ruled_out, KnowsDomains, www_start_at, www_start_step, www_prefix_at, entered_literal, StartReady, LiteralReady, WwwReady, Tries, is_well, fields_after, domain_plan, address, pass_ops, domain_ends, www_test, www_prefix_ends, www_after_ends, www_here, www_start_ends, states, www_after_words, www_prefix_after_words, www_prefix_words, www_start_words}
+use Rattle.markdown_leaf_gfm.proofs.GfmAutolinkLiteralReadings.{address-is, www-more, www-other, www-left}
+use Rattle.markdown_leaf_gfm.specs.DomainOutlook.{is_barred}
+use Rattle.markdown_leaf_gfm.proofs.DomainOutlookLemmas.{ruled-out}
+use Rattle.markdown_leaf_gfm.proofs.GfmAutolinkLiteralCovers.{leaf_ops, from-here-is, whole-www, www-is, www-none}
+use Rattle.markdown_leaf_gfm.proofs.GfmAutolinkLiteralAttempts.{Begins, literal-law}
+use Rattle.markdown_leaf_gfm.proofs.GfmAutolinkLiteralAddressLaws.{does-same, follows-here}
+use Rattle.markdown_model.proofs.GrammarSteps.{if-false, and-left, then-none}
+use Rattle.markdown_engine.specs.StateWords.{Words, Law, GoesIn}
+use Rattle.markdown_plan.proofs.LawStepsOfLayer.{GoesOn-map, Goes-plain, Goes-end, Goes-check, Goes-no}
+use Rattle.markdown_plan.specs.LayerEquation.{Within}
+
+-- In the word.
+
+tries-here : (test : Bool) (T : Tokenizer) (ok : Bool) (U : Tokenizer) → ok ≡ test → U ≡ scratched (rested T.tokenize_state) T → Tries test T ok U
+tries-here test T ok U e h =
+    let s : TokenizeState = rested T.tokenize_state in
+    record {
+      answer = e;
+      grown = subst (λ (x : Tokenizer). Grown 0 T x) (sym h) (Grown-scratched 0 s T (scratched s T) (Grown-refl 0 (scratched s T)));
+      scratch = ap (λ (x : Tokenizer). x.tokenize_state) h ∙ scratch-scratched s T;
+    }
+
+tries-past : (n : ℕ) (test then1 : Bool) (T : Tokenizer) (ok : Bool) (U : Tokenizer) → then1 ≡ test → Tries then1 (scratched (sized n T.tokenize_state) (done (Consume ∷ []) T)) ok U → Tries test T ok U
+tries-past n test then1 T ok U e k =
+    record {
+      answer = k.answer ∙ e;
+      grown = Grown-applied 0 Consume T U refl (Grown-scratched 0 (sized n T.tokenize_state) (done (Consume ∷ []) T) U k.grown);
+      scratch = k.scratch ∙ ap (λ (x : TokenizeState). rested x) (scratch-scratched (sized n T.tokenize_state) (done (Consume ∷ []) T));
+    }
+
+www-then : (n : ℕ) (T : Tokenizer) (ok : Bool) (U : Tokenizer) → www_prefix_ends (scratched (sized n T.tokenize_state) (done (Consume ∷ []) T)) ok U → Tries (www_test n (rest_of (ahead T))) (scratched (sized n T.tokenize_state) (done (Consume ∷ []) T)) ok U
+unfolding scratched
+www-then n T ok U k = subst (λ cs. Tries (www_test n cs) (scratched (sized n T.tokenize_state) (done (Consume ∷ []) T)) ok U) (ahead-consumed T) k
+
+few-letters : (n v : ℕ) → www_letter n v ≡ true → n ≤ 3
+few-letters n v e = grind (arith, nat_tests)
+
+not-four : (n : ℕ) → n ≤ 4 → (n == 4) ≡ false → n ≤ 3
+not-four n h e = grind (arith, nat_tests)
+
+www-ready : (n : ℕ) (T : Tokenizer) → n ≤ 4 → WwwReady (scratched (sized n T.tokenize_state) (done (Consume ∷ []) T))
+unfolding scratched
+www-ready n T h = record { few = h }
+
+-- the word does not end with the content
+www-end : (n : ℕ) (b : Bool) → n ≤ 4 → (n == 4) ≡ b → www_test n [] ≡ false
+www-end n true h e = ap (λ k. www_test k []) (eqb-true n 4 e) ∙ www-left []
+www-end n false h e = www-other n [] (not-four n h e) refl
+
+module _ (W : Words) (within : Within states W) where
+  tries-ended : (T : Tokenizer) (test : Bool) → T.attempts ≡ [] → test ≡ false → GoesIn W (weight_at 1 T) (Tries test T) (refused T)
+  tries-ended T test alone e =
+      Goes-end W (weight_at 1 T) (Tries test T) false (scratched (rested T.tokenize_state) T) (attempts-scratched (rested T.tokenize_state) T ∙ alone) (omega arith) (λ ok U x. tries-here test T ok U (x.0 ∙ sym e) x.1)
+
+  pub www_prefix-law : Law W www_prefix_words
+  www_prefix-law T alone on =
+      let P : Stepped → Type 0 = GoesIn W (weight_at 1 T) (www_prefix_ends T) in
+      let s : TokenizeState = T.tokenize_state in
+      let n : ℕ = s.size in
+      let test : Bool = www_test n (ahead T) in
+      code-step P (current_of T) (λ o. www_prefix_at o T)
+      (λ e. tries-ended T test alone (ap (www_test n) (ahead-none T e) ∙ www-end n (n == 4) on.few refl))
+      (λ c e. let b = ahead-some T c e in
+      let more : List Code = rest_of (ahead T) in
+      if-step P (www_letter n c) _ _
+      (λ h. let V : Tokenizer = scratched (sized (n + 1) s) (done (Consume ∷ []) T) in
+      Goes-plain W (weight_at 1 T) (www_prefix_ends T) (Next GfmAutolinkLiteralWwwPrefixInside) (within GfmAutolinkLiteralWwwPrefixInside) V (attempts-scratched (sized (n + 1) s) (done (Consume ∷ []) T) ∙ attempts-applied Consume T ∙ alone)
+      (www-ready (n + 1) T (omega (arith, few-letters n c h)))
+      (omega (arith, left-scratched (sized (n + 1) s) (done (Consume ∷ []) T), left-consumed T c e))
+      (λ ok U x. tries-past (n + 1) test _ T ok U (sym (ap (www_test n) b.whole ∙ www-more n b.code more (ap (www_letter n) b.value ∙ h))) (www-then (n + 1) T ok U x)))
+      (λ h. if-step P (n == 4) _ _
+      (λ f. Goes-end W (weight_at 1 T) (www_prefix_ends T) true (scratched (rested s) T) (attempts-scratched (rested s) T ∙ alone) (omega arith)
+      (λ ok U x. tries-here test T ok U (x.0 ∙ sym (ap (λ k. www_test k (ahead T)) (eqb-true n 4 f) ∙ www-left (ahead T) ∙ ap (λ cs. not (is_empty cs)) b.whole)) x.1))
+      (λ f. tries-ended T test alone (ap (www_test n) b.whole ∙ www-other n (b.code ∷ more) (not-four n on.few f) (ap (www_letter n) b.value ∙ h)))))
+
+  -- The address.
+
+  begins-by : (s : TokenizeState) (d : List Code) (os : List Op) → s.seen ≡ false → Begins (if is_well (fields_after d s) then Some (consumes d ++ os) else None)
+  begins-by s [] os e xs k = let no : None ≡ Some xs = sym (if-false (is_well s) (Some os) None (ap (λ b. b && (not (s.marker == 95) && not (s.marker_b == 95))) e)) ∙ k in cc
+  begins-by s (c ∷ cs) os e xs k = by_test (is_well (fields_after (c ∷ cs) s)) xs k
+    where
+      by_test : (b : Bool) (xs : List Op) → (if b then Some (Consume ∷ consumes cs ++ os) else None) ≡ Some xs → (more : List Op) × (xs ≡ Consume ∷ more)
+      by_test true xs k = (consumes cs ++ os, cc)
+      by_test false xs k = cc
+
+  begins-address : (bytes : List ℕ) (end : ℕ) (s : TokenizeState) (cs : List Code) → rested s ≡ s → Begins (pass_ops (address bytes end cs))
+  begins-address bytes end s cs e =
+      subst Begins (sym (address-is bytes end s cs e)) (begins-by s (domain_from bytes end cs).0 (consumes (path_from bytes end s.size s.size_b (domain_from bytes end cs).1).0) (ap (λ (x : TokenizeState). x.seen) (sym e)))
+
+  address-ready : (T : Tokenizer) → StartReady T → LiteralReady (entered_literal N.GfmAutolinkLiteralWww T)
+  unfolding applied
+  address-ready T k =
+      let opened : T.tokenize_state.size ≡ 0 = ap (λ (x : TokenizeState). x.size) (sym k.resting) in
+      let closed : T.tokenize_state.size_b ≡ 0 = ap (λ (x : TokenizeState). x.size_b) (sym k.resting) in
+      record { text = k.text; opened = omega (arith, opened, k.short); closed = omega (arith, closed, k.short) }
+
+  address-entered : (T : Tokenizer) → rested T.tokenize_state ≡ T.tokenize_state → (ok : Bool) (U : Tokenizer) → domain_ends (entered_literal N.GfmAutolinkLiteralWww T) ok U → DoesAs 0 (λ cs. pass_ops (address (bytes_of T) (end_of T) cs)) (rested T.tokenize_state) (entered_literal N.GfmAutolinkLiteralWww T) ok U
+  unfolding applied
+  address-entered T e ok U k =
+      let A : Tokenizer = entered_literal N.GfmAutolinkLiteralWww T in
+      does-same (λ cs. pass_ops (address (bytes_of T) (end_of T) cs)) (domain_plan (bytes_of T) (end_of T) T.tokenize_state) (rested T.tokenize_state) A ok U (address-is (bytes_of T) (end_of T) T.tokenize_state (ahead A) e) k
+
+  pub www_prefix_after-law : Law W www_prefix_after_words
+  www_prefix_after-law T alone on =
+      literal-law W N.GfmAutolinkLiteralWww GfmAutolinkLiteralDomainInside GfmAutolinkLiteralWwwAfter (address (bytes_of T) (end_of T)) (plan_of (www_from_here (bytes_of T) (end_of T))) T on.resting
+      (from-here-is (bytes_of T) (end_of T) (ahead T))
+      6 (within GfmAutolinkLiteralDomainInside) (within GfmAutolinkLiteralWwwAfter) alone (omega arith) (omega arith)
+      (begins-address (bytes_of T) (end_of T) T.tokenize_state (ahead T) on.resting)
+      (address-ready T on)
+      (λ ok U k. address-entered T on.resting ok U k)
+      (λ U x. x) (λ U ok V x. x)
+
+  -- The start.
+
+  before-www : (T : Tokenizer) → precedes_www (previous_of T) ≡ may_precede_www (before_of T)
+  unfolding code_before
+  before-www T = by_code (last_of T.cursor.codes T.cursor.at)
+    where
+      by_code : (o : Option Code) → precedes_www (value_of o) ≡ may_precede_www o
+      by_code None = refl
+      by_code (Some c) = refl
+
+  -- the word is looked at, and all is as before
+  back-here : (T U : Tokenizer) (test ok : Bool) → rested T.tokenize_state ≡ T.tokenize_state → Tries test T ok U → restored (frame_of true (Next GfmAutolinkLiteralWwwPrefixAfter) Nok T) U ≡ T
+  back-here T U test ok e k =
+      restored-grown true (Next GfmAutolinkLiteralWwwPrefixAfter) Nok T U k.grown ∙ ap (λ (x : TokenizeState). scratched x T) (k.scratch ∙ e) ∙ scratched-same T
+
+  no-fall : (T : Tokenizer) (p : Plan) → p (ahead T) ≡ None → (ok : Bool) (V : Tokenizer) → (ok ≡ false) × (V ≡ T) → DoesAs 0 p T.tokenize_state T ok V
+  no-fall T p e ok V x =
+      subst (λ b. DoesAs 0 p T.tokenize_state T b V) (sym x.0)
+      (record { none = e; grown = subst (λ (y : Tokenizer). Grown 0 T y) (sym x.1) (Grown-refl 0 T); scratch = ap (λ (y : Tokenizer). y.tokenize_state) x.1 })
+
+  and-three : (a m w : Bool) → a && (m && w) ≡ (a && m) && w
+  and-three true m w = refl
+  and-three false m w = refl
+
+  -- a literal stands here where it may begin and the word is seen
+  may_be : Tokenizer → Bool
+  may_be T = is_on T && precedes_www (previous_of T)
+
+  stands-by : (T : Tokenizer) (cs : List Code) → is_on T && (may_precede_www (before_of T) && begins_with_www cs) ≡ may_be T && www_test 0 cs
+  unfolding may_be
+  stands-by T cs = and-three (is_on T) (may_precede_www (before_of T)) (begins_with_www cs) ∙ ap (λ m. (is_on T && m) && begins_with_www cs) (sym (before-www T))
+
+  -- no domain begins where that is known
+  barred-domain : (bytes : List ℕ) (end : ℕ) (cs : List Code) → is_barred bytes end cs ≡ true → domain bytes end cs ≡ None
+  unfolding domain
+  barred-domain bytes end cs e =
+      ap (λ b. elim b as (λ _. Option (List Code × List Code)) [ true ↦ Some (domain_from bytes end cs) | false ↦ None ])
+      (no-domain (list_any (λ c. not (is_among (codes "._-") c)) (domain_from bytes end cs).0) (last_parts_plain 0 (reverse (domain_from bytes end cs).0)) e)
+    where
+      no-domain : (a b : Bool) → not b ≡ true → a && b ≡ false
+      no-domain true true k = cc
+      no-domain true false k = refl
+      no-domain false b k = refl
+
+  ruled-none : (T : Tokenizer) → KnowsDomains T → is_ruled_out T ≡ true → plan_of (www_from_here (bytes_of T) (end_of T)) (ahead T) ≡ None
+  unfolding ahead_at
+  ruled-none T knows e =
+      from-here-is (bytes_of T) (end_of T) (ahead T)
+      ∙ ap (leaf_ops N.GfmAutolinkLiteralWww) (then-none (domain (bytes_of T) (end_of T)) (path (bytes_of T) (end_of T)) (ahead T) (barred-domain (bytes_of T) (end_of T) (ahead T) (ruled-out (bytes_of T) (end_of T) T.cursor.codes T.tokenize_state.no_domains T.cursor.at knows e)))
+
+  first-part : (a k w : Bool) → (a && not k) && w ≡ true → a && w ≡ true
+  first-part true true w e = cc
+  first-part true false w e = e
+  first-part false k w e = cc
+
+  www-stands : (T : Tokenizer) (cs : List Code) → may_begin_www T && www_test 0 cs ≡ true → plan_of (www_here T) cs ≡ plan_of (www_from_here (bytes_of T) (end_of T)) cs
+  unfolding may_be
+  www-stands T cs e = www-is (bytes_of T) (end_of T) (is_on T) (before_of T) cs (stands-by T cs ∙ first-part (may_be T) (is_ruled_out T) (www_test 0 cs) e)
+
+  fails-by : (T : Tokenizer) (cs : List Code) (b : Bool) → KnowsDomains T → ahead T ≡ cs → may_be T && www_test 0 cs ≡ b → is_ruled_out T ≡ true → plan_of (www_here T) cs ≡ None
+  fails-by T cs true knows here e k =
+      www-is (bytes_of T) (end_of T) (is_on T) (before_of T) cs (stands-by T cs ∙ e) ∙ ap (plan_of (www_from_here (bytes_of T) (end_of T))) (sym here) ∙ ruled-none T knows k
+  fails-by T cs false knows here e k = www-none (bytes_of T) (end_of T) (is_on T) (before_of T) cs (stands-by T cs ∙ e)
+
+  and-same : (a : Bool) → a && true ≡ a
+  and-same true = refl
+  and-same false = refl
+
+  www-fails : (T : Tokenizer) (cs : List Code) → KnowsDomains T → ahead T ≡ cs → may_begin_www T && www_test 0 cs ≡ false → plan_of (www_here T) cs ≡ None
+  unfolding may_be
+  www-fails T cs knows here e = by_known (is_ruled_out T) refl e
+    where
+      by_known : (k : Bool) → is_ruled_out T ≡ k → (may_be T && not k) && www_test 0 cs ≡ false → plan_of (www_here T) cs ≡ None
+      by_known true h f = fails-by T cs (may_be T && www_test 0 cs) knows here refl h
+      by_known false h f = www-none (bytes_of T) (end_of T) (is_on T) (before_of T) cs (stands-by T cs ∙ ap (λ m. m && www_test 0 cs) (sym (and-same (may_be T))) ∙ f)
+
+  no-word : (a b w : Bool) → a && b ≡ false → (b ≡ false → w ≡ false) → a && w ≡ false
+  no-word true b w e h = h e
+  no-word false b w e h = refl
+
+  pub www_start-law : Law W www_start_words
+  www_start-law T alone on =
+      let s : TokenizeState = T.tokenize_state in
+      let p : Plan = plan_of (www_here T) in
+      let q : Plan = plan_of (www_from_here (bytes_of T) (end_of T)) in
+      let n : ℕ = weight_at 7 T in
+      let F : Bool → Tokenizer → Type 0 = DoesAs 0 p s T in
+      let P : Stepped → Type 0 = GoesIn W n F in
+      let size : s.size ≡ 0 = ap (λ (x : TokenizeState). x.size) (sym on.resting) in
+      GoesOn-map W n F (www_start_ends T) (www_start_step T) (λ ok U k. EndsAs-plan (www_here T) (whole-www (bytes_of T) (end_of T) (is_on T) (before_of T)) s T ok U k)
+      (code-step P (current_of T) (λ o. www_start_at (may_begin_www T) o T)
+      (λ e. Goes-no W 7 0 p T alone (ap p (ahead-none T e) ∙ www-fails T [] on.knows (ahead-none T e) (and_right (may_begin_www T) (www_test 0 []) (www-other 0 [] (omega arith) refl))))
+      (λ c e. let b = ahead-some T c e in
+      let more : List Code = rest_of (ahead T) in
+      if-step P (may_begin_www T && (c == 119 || c == 87)) _ _
+      (λ h. let may : may_begin_www T ≡ true = and-left (may_begin_www T) (c == 119 || c == 87) h in
+      Goes-check W n F (Retry GfmAutolinkLiteralWwwPrefixInside) (within GfmAutolinkLiteralWwwPrefixInside) (Next GfmAutolinkLiteralWwwPrefixAfter) Nok T alone (record { few = omega (arith, size) })
+      (omega arith)
+      (λ U now x. let k = x in
+      let seen : www_test 0 (ahead T) ≡ true = ap (λ m. www_test m (ahead T)) (sym size) ∙ sym k.answer in
+      follows-here W 7 p q s T _ GfmAutolinkLiteralWwwPrefixAfter (within GfmAutolinkLiteralWwwPrefixAfter) (back-here T U _ true on.resting k) (omega arith) (www-stands T (ahead T) (and_from (may_begin_www T) (www_test 0 (ahead T)) may seen))
+      on (λ ok U x. x))
+      (λ U now x. let k = x in
+      let seen : www_test 0 (ahead T) ≡ false = ap (λ m. www_test m (ahead T)) (sym size) ∙ sym k.answer in
+      record {
+        goes_on = tt;
+        falls = omega arith;
+        closed = λ ok V z. no-fall T p (www-fails T (ahead T) on.knows refl (and_right (may_begin_www T) (www_test 0 (ahead T)) seen)) ok V (z.0, z.1 ∙ back-here T U _ false on.resting k);
+      }))
+      (λ h. Goes-no W 7 0 p T alone
+      (ap p b.whole ∙ www-fails T (b.code ∷ more) on.knows b.whole (no-word (may_begin_www T) (c == 119 || c == 87) (www_test 0 (b.code ∷ more)) h (λ f. www-other 0 (b.code ∷ more) (omega arith) (ap (λ v. v == 119 || v == 87) b.value ∙ f)))))))
+
+pub www_after-law : (W : Words) → Law W www_after_words
+www_after-law W T alone _ =
+    Goes-end W (weight_at 1 T) (www_after_ends T) true (done (Exit N.GfmAutolinkLiteralWww ∷ []) T) (attempts-applied (Exit N.GfmAutolinkLiteralWww) T ∙ alone) (omega arith) (λ ok U k. k)

@@ -1,0 +1,4 @@
+pub mod GfmTaskListItemCheck
+pub mod DomainOutlook
+pub mod DomainScans
+pub mod GfmAutolinkLiteral

@@ -1,0 +1,13 @@
+pub mod HtmlLineLemmas
+pub mod HtmlLineBreaks
+pub mod HtmlCodeReadings
+pub mod HtmlKindReadings
+pub mod HtmlWithoutEnd
+pub mod HtmlTagReadings
+pub mod HtmlTextReady
+pub mod HtmlLineEndingLaws
+pub mod HtmlTextSteps
+pub mod HtmlTextLaws
+pub mod HtmlTextCovers
+pub mod HtmlTextStartLaw
+pub mod HtmlSteadyLaws

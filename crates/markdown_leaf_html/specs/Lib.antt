@@ -1,0 +1,4 @@
+pub mod HtmlByteTests
+pub mod HtmlLines
+pub mod HtmlTextRests
+pub mod HtmlText

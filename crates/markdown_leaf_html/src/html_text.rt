@@ -1,0 +1,675 @@
+// HTML in text.
+//
+// CommonMark 6.6: an opening tag, a closing tag, a comment, an instruction, a declaration or a CDATA section, over one line or more.
+// Each line has data of its own; the blank codes at the start of a later line are whitespace.
+//
+// Each state answers the error where a growth is refused; then `failed` is true.
+#![tactic(auto, using(markdown_engine::proofs::OperationFields::law_rules), unfolding(markdown_engine::specs::Operations::scratched, markdown_engine::specs::Operations::attempted, markdown_engine::specs::Operations::frame_of))]
+
+ghost use Rattle.std.specs.Prelude.{◌≡◌, ◌<◌, Some, IfOk, OnErr, IsTrue};
+ghost use Rattle.std.specs.Str.{byte};
+ghost use Rattle.markdown_engine.specs.Operations.{HasCode, current_of};
+ghost use Rattle.markdown_engine_content.specs.declared.event.Name.TheVariants.{HtmlText, HtmlTextData};
+ghost use Rattle.markdown_plan.specs.ScratchFields.{AreOpen};
+ghost use Rattle.markdown_leaf_html.specs.HtmlByteTests.{name_value, attribute_first_value, attribute_rest_value, after_value};
+ghost use Rattle.markdown_leaf_html.specs.HtmlText.{stops_in, past_unless, broken, ending_passed, start_step, open_step, declaration_open_step, comment_open_inside_step, comment_step, comment_close_step, comment_end_step, cdata_open_inside_step, cdata_step, cdata_close_step, cdata_end_step, declaration_step, instruction_step, instruction_close_step, tag_close_start_step, tag_close_step, tag_close_between_step, tag_open_step, tag_open_between_step, tag_open_attribute_name_step, tag_open_attribute_name_after_step, tag_open_attribute_value_before_step, tag_open_attribute_value_quoted_step, tag_open_attribute_value_quoted_after_step, tag_open_attribute_value_unquoted_step, end_step, line_ending_before_step, line_ending_after_step, line_ending_after_prefix_step};
+
+use markdown_engine::state::{State, StateName};
+use markdown_engine::tokenizer::{TokenizeState, Tokenizer};
+use markdown_engine_content::byte_set;
+use markdown_engine_content::bytes::ByteSet;
+use markdown_engine_content::event::Name;
+use markdown_engine_index::sequence_index::Sequence;
+use markdown_partial::partial_space_or_tab::space_or_tab;
+use markdown_plan::bytes::{is_alphanumeric, is_letter};
+use markdown_util::util::constant::HTML_CDATA_PREFIX;
+use std::alloc::AllocError;
+
+// Whether a tag's name may go on with it.
+fn is_name(code: u8) -> bool
+    ensures { result ≡ name_value code }
+{
+    is_alphanumeric(code) || code == b'-'
+}
+
+// Whether an attribute's name may start with it.
+fn is_attribute_first(code: u8) -> bool
+    ensures { result ≡ attribute_first_value code }
+{
+    is_letter(code) || matches!(code, b':' | b'_')
+}
+
+// Whether an attribute's name may go on with it.
+fn is_attribute(code: u8) -> bool
+    ensures { result ≡ attribute_rest_value code }
+{
+    is_alphanumeric(code) || matches!(code, b'-' | b'.' | b':' | b'_')
+}
+
+// Whether it may follow a value: whitespace or what ends the tag.
+fn is_after_value(code: u8) -> bool
+    ensures { result ≡ after_value code }
+{
+    matches!(code, b'\t' | b'\n' | b' ' | b'/' | b'>')
+}
+
+/// The bytes at which a state that passes code after code stops, line endings aside; none for the other states. Takes no memory.
+pub fn stop_bytes(name: StateName, fields: &TokenizeState) -> Option<ByteSet>
+    ensures { result ≡ stops_in name fields.now }
+{
+    match (name, fields.marker) {
+        (StateName::HtmlTextComment, _) => Some(byte_set!(b'-')),
+        (StateName::HtmlTextCdata, _) => Some(byte_set!(b']')),
+        (StateName::HtmlTextDeclaration, _) => Some(byte_set!(b'>')),
+        (StateName::HtmlTextInstruction, _) => Some(byte_set!(b'?')),
+        (StateName::HtmlTextTagOpenAttributeValueQuoted, b'"') => Some(byte_set!(b'"')),
+        (StateName::HtmlTextTagOpenAttributeValueQuoted, b'\'') => Some(byte_set!(b'\'')),
+        _ => None,
+    }
+}
+
+// Passes the code at hand and goes on with this state, unless it is known that the sequence does not follow that is to end it.
+fn pass_unless_hopeless(tokenizer: &mut Tokenizer, ending: Sequence, state: StateName) -> State
+    requires { HasCode tokenizer.old }
+    ensures { past_unless ending state tokenizer.old ≡ record { state = result; left = tokenizer.new } }
+{
+    let index = &tokenizer.tokenize_state.sequences;
+    if index.rules_out(ending, tokenizer.cursor.passed()) {
+        return State::Nok;
+    }
+    tokenizer.consume();
+    State::Next(state)
+}
+
+// Goes on with this state after the line ending at hand and the whitespace after it.
+fn break_line(tokenizer: &mut Tokenizer, state: StateName) -> Result<State, AllocError>
+    ensures ok { IfOk result (λ s. broken state tokenizer.old ≡ record { state = s; left = tokenizer.new }) }
+    ensures err { OnErr result (IsTrue tokenizer.new.failed) }
+{
+    tokenizer.attempt(State::Next(state), State::Nok)?;
+    Ok(State::Retry(StateName::HtmlTextLineEndingBefore))
+}
+
+// Passes the line ending at hand.
+fn pass_line_ending(tokenizer: &mut Tokenizer) -> Result<State, AllocError>
+    requires { HasCode tokenizer.old }
+    ensures ok { IfOk result (λ s. ending_passed tokenizer.old ≡ record { state = s; left = tokenizer.new }) }
+    ensures err { OnErr result (IsTrue tokenizer.new.failed) }
+{
+    tokenizer.enter(Name::LineEnding)?;
+    tokenizer.consume();
+    tokenizer.exit(Name::LineEnding)?;
+    Ok(State::Next(StateName::HtmlTextLineEndingAfter))
+}
+
+/// At the start: `<`.
+///
+///     > | x<br>y
+///          ^
+pub fn start(tokenizer: &mut Tokenizer) -> Result<State, AllocError>
+    ensures ok { IfOk result (λ s. start_step tokenizer.old ≡ record { state = s; left = tokenizer.new }) }
+    ensures err { OnErr result (IsTrue tokenizer.new.failed) }
+{
+    if tokenizer.parse_state.options.constructs.html_text && tokenizer.current() == Some(b'<') {
+        tokenizer.enter(Name::HtmlText)?;
+        tokenizer.enter(Name::HtmlTextData)?;
+        tokenizer.consume();
+        Ok(State::Next(StateName::HtmlTextOpen))
+    } else {
+        Ok(State::Nok)
+    }
+}
+
+/// After `<`: which kind it is. An instruction is given up here where it is known that no `?>` follows.
+///
+///     > | x<br>y
+///           ^
+pub fn open(tokenizer: &mut Tokenizer) -> Result<State, AllocError>
+    ensures ok { IfOk result (λ s. open_step tokenizer.old ≡ record { state = s; left = tokenizer.new }) }
+    ensures err { OnErr result (IsTrue tokenizer.new.failed) }
+{
+    match tokenizer.current() {
+        Some(b'!') => {
+            tokenizer.consume();
+            Ok(State::Next(StateName::HtmlTextDeclarationOpen))
+        }
+        Some(b'/') => {
+            tokenizer.consume();
+            Ok(State::Next(StateName::HtmlTextTagCloseStart))
+        }
+        Some(b'?') => Ok(pass_unless_hopeless(
+            tokenizer,
+            Sequence::InstructionEnd,
+            StateName::HtmlTextInstruction,
+        )),
+        Some(code) if is_letter(code) => {
+            tokenizer.consume();
+            Ok(State::Next(StateName::HtmlTextTagOpen))
+        }
+        _ => Ok(State::Nok),
+    }
+}
+
+/// After `<!`: a comment, a declaration or a CDATA section, each of which is given up here where it is known that its end does not follow.
+///
+///     > | x<!DTD 1>y
+///            ^
+pub fn declaration_open(tokenizer: &mut Tokenizer) -> Result<State, AllocError>
+    ensures ok { IfOk result (λ s. declaration_open_step tokenizer.old ≡ record { state = s; left = tokenizer.new }) }
+    ensures err { OnErr result (IsTrue tokenizer.new.failed) }
+{
+    match tokenizer.current() {
+        Some(b'-') => Ok(pass_unless_hopeless(
+            tokenizer,
+            Sequence::CommentEnd,
+            StateName::HtmlTextCommentOpenInside,
+        )),
+        Some(code) if is_letter(code) => Ok(pass_unless_hopeless(
+            tokenizer,
+            Sequence::DeclarationEnd,
+            StateName::HtmlTextDeclaration,
+        )),
+        Some(b'[') => Ok(pass_unless_hopeless(
+            tokenizer,
+            Sequence::SectionEnd,
+            StateName::HtmlTextCdataOpenInside,
+        )),
+        _ => Ok(State::Nok),
+    }
+}
+
+/// After `<!-`: another hyphen.
+///
+///     > | x<!--no-->y
+///             ^
+pub fn comment_open_inside(tokenizer: &mut Tokenizer) -> Result<State, AllocError>
+    ensures ok { IfOk result (λ s. comment_open_inside_step tokenizer.old ≡ record { state = s; left = tokenizer.new }) }
+    ensures err { OnErr result (IsTrue tokenizer.new.failed) }
+{
+    if tokenizer.current() == Some(b'-') {
+        tokenizer.consume();
+        Ok(State::Next(StateName::HtmlTextCommentEnd))
+    } else {
+        Ok(State::Nok)
+    }
+}
+
+/// In a comment.
+///
+///     > | x<!--no-->y
+///              ^^^
+pub fn comment(tokenizer: &mut Tokenizer) -> Result<State, AllocError>
+    ensures ok { IfOk result (λ s. comment_step tokenizer.old ≡ record { state = s; left = tokenizer.new }) }
+    ensures err { OnErr result (IsTrue tokenizer.new.failed) }
+{
+    match tokenizer.current() {
+        None => Ok(State::Nok),
+        Some(b'\n') => break_line(tokenizer, StateName::HtmlTextComment),
+        Some(b'-') => {
+            tokenizer.consume();
+            Ok(State::Next(StateName::HtmlTextCommentClose))
+        }
+        Some(_) => {
+            tokenizer.consume();
+            Ok(State::Next(StateName::HtmlTextComment))
+        }
+    }
+}
+
+/// In a comment, after a hyphen.
+///
+///     > | x<!--n-o-->y
+///                ^ ^
+pub fn comment_close(tokenizer: &mut Tokenizer) -> Result<State, AllocError>
+    ensures ok { IfOk result (λ s. comment_close_step tokenizer.old ≡ record { state = s; left = tokenizer.new }) }
+    ensures err { OnErr result (IsTrue tokenizer.new.failed) }
+{
+    let Some(b'-') = tokenizer.current() else {
+        return Ok(State::Retry(StateName::HtmlTextComment));
+    };
+    tokenizer.consume();
+    Ok(State::Next(StateName::HtmlTextCommentEnd))
+}
+
+/// In a comment, after two hyphens, which may be those that began it.
+///
+///     > | x<!--no-->y
+///              ^   ^
+pub fn comment_end(tokenizer: &mut Tokenizer) -> Result<State, AllocError>
+    ensures ok { IfOk result (λ s. comment_end_step tokenizer.old ≡ record { state = s; left = tokenizer.new }) }
+    ensures err { OnErr result (IsTrue tokenizer.new.failed) }
+{
+    match tokenizer.current() {
+        Some(b'>') => Ok(State::Retry(StateName::HtmlTextEnd)),
+        Some(b'-') => Ok(State::Retry(StateName::HtmlTextCommentClose)),
+        _ => Ok(State::Retry(StateName::HtmlTextComment)),
+    }
+}
+
+/// After `<![`, and so many codes of `CDATA[`.
+///
+///     > | x<![CDATA[2<3]]>y
+///             ^^^^^^
+pub fn cdata_open_inside(tokenizer: &mut Tokenizer) -> Result<State, AllocError>
+    requires { tokenizer.old.tokenize_state.size < 6 }
+    ensures ok { IfOk result (λ s. cdata_open_inside_step tokenizer.old ≡ record { state = s; left = tokenizer.new }) }
+    ensures err { OnErr result (IsTrue tokenizer.new.failed) }
+{
+    let size = tokenizer.tokenize_state.size;
+    if tokenizer.current() != Some(HTML_CDATA_PREFIX[size]) {
+        tokenizer.tokenize_state.size = 0;
+        return Ok(State::Nok);
+    }
+    tokenizer.consume();
+    if size + 1 == HTML_CDATA_PREFIX.len() {
+        tokenizer.tokenize_state.size = 0;
+        Ok(State::Next(StateName::HtmlTextCdata))
+    } else {
+        tokenizer.tokenize_state.size = size + 1;
+        Ok(State::Next(StateName::HtmlTextCdataOpenInside))
+    }
+}
+
+/// In a CDATA section.
+///
+///     > | x<![CDATA[2<3]]>y
+///                   ^^^^
+pub fn cdata(tokenizer: &mut Tokenizer) -> Result<State, AllocError>
+    ensures ok { IfOk result (λ s. cdata_step tokenizer.old ≡ record { state = s; left = tokenizer.new }) }
+    ensures err { OnErr result (IsTrue tokenizer.new.failed) }
+{
+    match tokenizer.current() {
+        None => Ok(State::Nok),
+        Some(b'\n') => break_line(tokenizer, StateName::HtmlTextCdata),
+        Some(b']') => {
+            tokenizer.consume();
+            Ok(State::Next(StateName::HtmlTextCdataClose))
+        }
+        Some(_) => {
+            tokenizer.consume();
+            Ok(State::Next(StateName::HtmlTextCdata))
+        }
+    }
+}
+
+/// In a CDATA section, after `]`.
+///
+///     > | x<![CDATA[2<3]]>y
+///                       ^
+pub fn cdata_close(tokenizer: &mut Tokenizer) -> Result<State, AllocError>
+    ensures ok { IfOk result (λ s. cdata_close_step tokenizer.old ≡ record { state = s; left = tokenizer.new }) }
+    ensures err { OnErr result (IsTrue tokenizer.new.failed) }
+{
+    let Some(b']') = tokenizer.current() else {
+        return Ok(State::Retry(StateName::HtmlTextCdata));
+    };
+    tokenizer.consume();
+    Ok(State::Next(StateName::HtmlTextCdataEnd))
+}
+
+/// In a CDATA section, after `]]`.
+///
+///     > | x<![CDATA[2<3]]>y
+///                        ^
+pub fn cdata_end(tokenizer: &mut Tokenizer) -> Result<State, AllocError>
+    ensures ok { IfOk result (λ s. cdata_end_step tokenizer.old ≡ record { state = s; left = tokenizer.new }) }
+    ensures err { OnErr result (IsTrue tokenizer.new.failed) }
+{
+    match tokenizer.current() {
+        Some(b'>') => Ok(State::Retry(StateName::HtmlTextEnd)),
+        Some(b']') => Ok(State::Retry(StateName::HtmlTextCdataClose)),
+        _ => Ok(State::Retry(StateName::HtmlTextCdata)),
+    }
+}
+
+/// In a declaration.
+///
+///     > | x<!DTD 1>y
+///             ^^^^^
+pub fn declaration(tokenizer: &mut Tokenizer) -> Result<State, AllocError>
+    ensures ok { IfOk result (λ s. declaration_step tokenizer.old ≡ record { state = s; left = tokenizer.new }) }
+    ensures err { OnErr result (IsTrue tokenizer.new.failed) }
+{
+    match tokenizer.current() {
+        None | Some(b'>') => Ok(State::Retry(StateName::HtmlTextEnd)),
+        Some(b'\n') => break_line(tokenizer, StateName::HtmlTextDeclaration),
+        Some(_) => {
+            tokenizer.consume();
+            Ok(State::Next(StateName::HtmlTextDeclaration))
+        }
+    }
+}
+
+/// In an instruction.
+///
+///     > | x<?go?>y
+///            ^^^
+pub fn instruction(tokenizer: &mut Tokenizer) -> Result<State, AllocError>
+    ensures ok { IfOk result (λ s. instruction_step tokenizer.old ≡ record { state = s; left = tokenizer.new }) }
+    ensures err { OnErr result (IsTrue tokenizer.new.failed) }
+{
+    match tokenizer.current() {
+        None => Ok(State::Nok),
+        Some(b'\n') => break_line(tokenizer, StateName::HtmlTextInstruction),
+        Some(b'?') => {
+            tokenizer.consume();
+            Ok(State::Next(StateName::HtmlTextInstructionClose))
+        }
+        Some(_) => {
+            tokenizer.consume();
+            Ok(State::Next(StateName::HtmlTextInstruction))
+        }
+    }
+}
+
+/// In an instruction, after `?`.
+///
+///     > | x<?go?>y
+///               ^
+pub fn instruction_close(tokenizer: &mut Tokenizer) -> Result<State, AllocError>
+    ensures ok { IfOk result (λ s. instruction_close_step tokenizer.old ≡ record { state = s; left = tokenizer.new }) }
+    ensures err { OnErr result (IsTrue tokenizer.new.failed) }
+{
+    match tokenizer.current() {
+        Some(b'>') => Ok(State::Retry(StateName::HtmlTextEnd)),
+        _ => Ok(State::Retry(StateName::HtmlTextInstruction)),
+    }
+}
+
+/// After `</`: the name of a closing tag.
+///
+///     > | x</em>y
+///            ^
+pub fn tag_close_start(tokenizer: &mut Tokenizer) -> Result<State, AllocError>
+    ensures ok { IfOk result (λ s. tag_close_start_step tokenizer.old ≡ record { state = s; left = tokenizer.new }) }
+    ensures err { OnErr result (IsTrue tokenizer.new.failed) }
+{
+    match tokenizer.current() {
+        Some(b'A'..=b'Z' | b'a'..=b'z') => {
+            tokenizer.consume();
+            Ok(State::Next(StateName::HtmlTextTagClose))
+        }
+        _ => Ok(State::Nok),
+    }
+}
+
+/// In the name of a closing tag.
+///
+///     > | x</em>y
+///             ^^
+pub fn tag_close(tokenizer: &mut Tokenizer) -> Result<State, AllocError>
+    ensures ok { IfOk result (λ s. tag_close_step tokenizer.old ≡ record { state = s; left = tokenizer.new }) }
+    ensures err { OnErr result (IsTrue tokenizer.new.failed) }
+{
+    match tokenizer.current() {
+        Some(code) if is_name(code) => {
+            tokenizer.consume();
+            Ok(State::Next(StateName::HtmlTextTagClose))
+        }
+        _ => Ok(State::Retry(StateName::HtmlTextTagCloseBetween)),
+    }
+}
+
+/// In a closing tag, after its name.
+///
+///     > | x</em >y
+///              ^^
+pub fn tag_close_between(tokenizer: &mut Tokenizer) -> Result<State, AllocError>
+    ensures ok { IfOk result (λ s. tag_close_between_step tokenizer.old ≡ record { state = s; left = tokenizer.new }) }
+    ensures err { OnErr result (IsTrue tokenizer.new.failed) }
+{
+    match tokenizer.current() {
+        Some(b'\n') => break_line(tokenizer, StateName::HtmlTextTagCloseBetween),
+        Some(b' ' | b'\t') => {
+            tokenizer.consume();
+            Ok(State::Next(StateName::HtmlTextTagCloseBetween))
+        }
+        _ => Ok(State::Retry(StateName::HtmlTextEnd)),
+    }
+}
+
+/// In the name of an opening tag.
+///
+///     > | x<br>y
+///            ^^
+pub fn tag_open(tokenizer: &mut Tokenizer) -> Result<State, AllocError>
+    ensures ok { IfOk result (λ s. tag_open_step tokenizer.old ≡ record { state = s; left = tokenizer.new }) }
+    ensures err { OnErr result (IsTrue tokenizer.new.failed) }
+{
+    match tokenizer.current() {
+        None => Ok(State::Nok),
+        Some(code) if is_after_value(code) => Ok(State::Retry(StateName::HtmlTextTagOpenBetween)),
+        Some(code) if !is_name(code) => Ok(State::Nok),
+        Some(_) => {
+            tokenizer.consume();
+            Ok(State::Next(StateName::HtmlTextTagOpen))
+        }
+    }
+}
+
+/// In an opening tag, after its name or an attribute, and whitespace.
+///
+///     > | x<br id>y
+///             ^^ ^
+pub fn tag_open_between(tokenizer: &mut Tokenizer) -> Result<State, AllocError>
+    ensures ok { IfOk result (λ s. tag_open_between_step tokenizer.old ≡ record { state = s; left = tokenizer.new }) }
+    ensures err { OnErr result (IsTrue tokenizer.new.failed) }
+{
+    match tokenizer.current() {
+        Some(b'\n') => break_line(tokenizer, StateName::HtmlTextTagOpenBetween),
+        Some(b' ' | b'\t') => {
+            tokenizer.consume();
+            Ok(State::Next(StateName::HtmlTextTagOpenBetween))
+        }
+        Some(b'/') => {
+            tokenizer.consume();
+            Ok(State::Next(StateName::HtmlTextEnd))
+        }
+        Some(code) if is_attribute_first(code) => {
+            tokenizer.consume();
+            Ok(State::Next(StateName::HtmlTextTagOpenAttributeName))
+        }
+        _ => Ok(State::Retry(StateName::HtmlTextEnd)),
+    }
+}
+
+/// In the name of an attribute.
+///
+///     > | x<br id>y
+///               ^^
+pub fn tag_open_attribute_name(tokenizer: &mut Tokenizer) -> Result<State, AllocError>
+    ensures ok { IfOk result (λ s. tag_open_attribute_name_step tokenizer.old ≡ record { state = s; left = tokenizer.new }) }
+    ensures err { OnErr result (IsTrue tokenizer.new.failed) }
+{
+    match tokenizer.current() {
+        Some(code) if is_attribute(code) => {
+            tokenizer.consume();
+            Ok(State::Next(StateName::HtmlTextTagOpenAttributeName))
+        }
+        _ => Ok(State::Retry(StateName::HtmlTextTagOpenAttributeNameAfter)),
+    }
+}
+
+/// After the name of an attribute, and whitespace.
+///
+///     > | x<br id = 78>y
+///                ^^
+pub fn tag_open_attribute_name_after(tokenizer: &mut Tokenizer) -> Result<State, AllocError>
+    ensures ok { IfOk result (λ s. tag_open_attribute_name_after_step tokenizer.old ≡ record { state = s; left = tokenizer.new }) }
+    ensures err { OnErr result (IsTrue tokenizer.new.failed) }
+{
+    match tokenizer.current() {
+        Some(b'\n') => break_line(tokenizer, StateName::HtmlTextTagOpenAttributeNameAfter),
+        Some(b' ' | b'\t') => {
+            tokenizer.consume();
+            Ok(State::Next(StateName::HtmlTextTagOpenAttributeNameAfter))
+        }
+        Some(b'=') => {
+            tokenizer.consume();
+            Ok(State::Next(StateName::HtmlTextTagOpenAttributeValueBefore))
+        }
+        _ => Ok(State::Retry(StateName::HtmlTextTagOpenBetween)),
+    }
+}
+
+/// Before the value of an attribute, after its `=`.
+///
+///     > | x<br id = 78>y
+///                  ^^
+pub fn tag_open_attribute_value_before(tokenizer: &mut Tokenizer) -> Result<State, AllocError>
+    ensures ok { IfOk result (λ s. tag_open_attribute_value_before_step tokenizer.old ≡ record { state = s; left = tokenizer.new }) }
+    ensures err { OnErr result (IsTrue tokenizer.new.failed) }
+{
+    match tokenizer.current() {
+        None | Some(b'<' | b'=' | b'>' | b'`') => Ok(State::Nok),
+        Some(b'\n') => break_line(tokenizer, StateName::HtmlTextTagOpenAttributeValueBefore),
+        Some(b' ' | b'\t') => {
+            tokenizer.consume();
+            Ok(State::Next(StateName::HtmlTextTagOpenAttributeValueBefore))
+        }
+        Some(code @ (b'"' | b'\'')) => {
+            tokenizer.consume();
+            tokenizer.tokenize_state.marker = code;
+            Ok(State::Next(StateName::HtmlTextTagOpenAttributeValueQuoted))
+        }
+        Some(_) => {
+            tokenizer.consume();
+            Ok(State::Next(StateName::HtmlTextTagOpenAttributeValueUnquoted))
+        }
+    }
+}
+
+/// In a quoted value.
+///
+///     > | x<br id='78'>y
+///                  ^^^
+pub fn tag_open_attribute_value_quoted(tokenizer: &mut Tokenizer) -> Result<State, AllocError>
+    ensures ok { IfOk result (λ s. tag_open_attribute_value_quoted_step tokenizer.old ≡ record { state = s; left = tokenizer.new }) }
+    ensures err { OnErr result (IsTrue tokenizer.new.failed) }
+{
+    let marker = tokenizer.tokenize_state.marker;
+    match tokenizer.current() {
+        None => {
+            tokenizer.tokenize_state.marker = 0;
+            Ok(State::Nok)
+        }
+        Some(code) if code == marker => {
+            tokenizer.consume();
+            tokenizer.tokenize_state.marker = 0;
+            Ok(State::Next(StateName::HtmlTextTagOpenAttributeValueQuotedAfter))
+        }
+        Some(b'\n') => break_line(tokenizer, StateName::HtmlTextTagOpenAttributeValueQuoted),
+        Some(_) => {
+            tokenizer.consume();
+            Ok(State::Next(StateName::HtmlTextTagOpenAttributeValueQuoted))
+        }
+    }
+}
+
+/// After a quoted value.
+///
+///     > | x<br id='78'>y
+///                     ^
+pub fn tag_open_attribute_value_quoted_after(tokenizer: &mut Tokenizer) -> Result<State, AllocError>
+    ensures ok { IfOk result (λ s. tag_open_attribute_value_quoted_after_step tokenizer.old ≡ record { state = s; left = tokenizer.new }) }
+    ensures err { OnErr result (IsTrue tokenizer.new.failed) }
+{
+    match tokenizer.current() {
+        None => Ok(State::Nok),
+        Some(code) if !is_after_value(code) => Ok(State::Nok),
+        Some(_) => Ok(State::Retry(StateName::HtmlTextTagOpenBetween)),
+    }
+}
+
+/// In an unquoted value, after its first code.
+///
+///     > | x<br id=78>y
+///                  ^^
+pub fn tag_open_attribute_value_unquoted(tokenizer: &mut Tokenizer) -> Result<State, AllocError>
+    ensures ok { IfOk result (λ s. tag_open_attribute_value_unquoted_step tokenizer.old ≡ record { state = s; left = tokenizer.new }) }
+    ensures err { OnErr result (IsTrue tokenizer.new.failed) }
+{
+    match tokenizer.current() {
+        None | Some(b'"' | b'\'' | b'<' | b'=' | b'`') => Ok(State::Nok),
+        Some(code) if is_after_value(code) => Ok(State::Retry(StateName::HtmlTextTagOpenBetween)),
+        Some(_) => {
+            tokenizer.consume();
+            Ok(State::Next(StateName::HtmlTextTagOpenAttributeValueUnquoted))
+        }
+    }
+}
+
+/// At the `>` that ends it.
+///
+///     > | x<br>y
+///             ^
+pub fn end(tokenizer: &mut Tokenizer) -> Result<State, AllocError>
+    requires { AreOpen HtmlTextData HtmlText tokenizer.old }
+    ensures ok { IfOk result (λ s. end_step tokenizer.old ≡ record { state = s; left = tokenizer.new }) }
+    ensures err { OnErr result (IsTrue tokenizer.new.failed) }
+{
+    match tokenizer.current() {
+        Some(b'>') => {
+            tokenizer.consume();
+            tokenizer.exit(Name::HtmlTextData)?;
+            tokenizer.exit(Name::HtmlText)?;
+            Ok(State::Ok)
+        }
+        _ => Ok(State::Nok),
+    }
+}
+
+/// At a line ending: the data of the line ends.
+///
+///     > | x<br
+///             ^
+///       |   id>y
+pub fn line_ending_before(tokenizer: &mut Tokenizer) -> Result<State, AllocError>
+    requires open { AreOpen HtmlTextData HtmlText tokenizer.old }
+    requires code { current_of tokenizer.old ≡ Some (byte "\n") }
+    ensures ok { IfOk result (λ s. line_ending_before_step tokenizer.old ≡ record { state = s; left = tokenizer.new }) }
+    ensures err { OnErr result (IsTrue tokenizer.new.failed) }
+{
+    tokenizer.exit(Name::HtmlTextData)?;
+    pass_line_ending(tokenizer)
+}
+
+/// After a line ending: the blank codes at the start of the line.
+///
+///       | x<br
+///     > |   id>y
+///         ^
+pub fn line_ending_after(tokenizer: &mut Tokenizer) -> Result<State, AllocError>
+    ensures ok { IfOk result (λ s. line_ending_after_step tokenizer.old ≡ record { state = s; left = tokenizer.new }) }
+    ensures err { OnErr result (IsTrue tokenizer.new.failed) }
+{
+    match tokenizer.current() {
+        Some(b' ' | b'\t') => {
+            let blank = space_or_tab(tokenizer);
+            tokenizer.attempt(
+                State::Next(StateName::HtmlTextLineEndingAfterPrefix),
+                State::Nok,
+            )?;
+            Ok(State::Retry(blank))
+        }
+        _ => Ok(State::Retry(StateName::HtmlTextLineEndingAfterPrefix)),
+    }
+}
+
+/// After the blank codes at the start of a line: its data, or the line ending of a blank line, which has none.
+///
+///       | x<br
+///     > |   id>y
+///           ^
+pub fn line_ending_after_prefix(tokenizer: &mut Tokenizer) -> Result<State, AllocError>
+    ensures ok { IfOk result (λ s. line_ending_after_prefix_step tokenizer.old ≡ record { state = s; left = tokenizer.new }) }
+    ensures err { OnErr result (IsTrue tokenizer.new.failed) }
+{
+    match tokenizer.current() {
+        Some(b'\n') => pass_line_ending(tokenizer),
+        _ => {
+            tokenizer.enter(Name::HtmlTextData)?;
+            Ok(State::Ok)
+        }
+    }
+}

@@ -1,3 +1,0 @@
--- The proofs of what is said of innermost events.
-pub mod LeavesLaws
-pub mod FirstLemmas

@@ -1,6 +1,0 @@
-use Rattle.std.proofs.Common.{sym}
-use Rattle.markdown_mail.proofs.ScanLemmas.{scan-start}
-use Rattle.markdown_mail.proofs.literal.scan_from.Goals as goal
-
-pub returns : goal.returns
-returns c bytes h = sym (scan-start bytes c.args.from h)

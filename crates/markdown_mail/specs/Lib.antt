@@ -1,3 +1,0 @@
--- What contracts of the email pass speak of.
-pub mod Scan
-pub mod Mail

@@ -1,0 +1,19 @@
+-- Worked examples, written by tools/examples.py from tools/examples.txt.
+pub mod Escapes
+pub mod CharacterReferences
+pub mod Whitespace
+pub mod RawText
+pub mod Autolinks
+pub mod HtmlText
+pub mod HtmlTags
+pub mod TaskListItemChecks
+pub mod Emphasis
+pub mod Links
+pub mod Labels
+pub mod References
+pub mod Footnotes
+pub mod GfmAutolinkLiterals
+pub mod Emails
+pub mod Resources
+pub mod Switches
+pub mod Choices

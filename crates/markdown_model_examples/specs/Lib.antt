@@ -1,0 +1,2 @@
+pub mod ExampleNotation
+pub mod Examples

@@ -1,0 +1,230 @@
+#!/usr/bin/env python3
+"""Writes the theorems of tools/examples.txt: specs/Examples/, proofs/examples/ and src/examples.rt.
+
+Run it in the crate's folder. It computes lines, columns and link numbers by itself, from the documents."""
+import os, re
+
+HERE = os.path.dirname(os.path.dirname(os.path.abspath(__file__)))
+SYMBOLS = {'␊': '\n', '␍': '\r', '␉': '\t', '␀': '\0', '␠': ' ', '␋': '\v'}
+READINGS = {'label', 'title', 'destination', 'spacing', 'bounded', 'data'}
+CHAINED = {'ReferenceString', 'ResourceTitleString', 'ResourceDestinationString'}
+SWITCHES = ['attention', 'autolink', 'character_escape', 'character_reference', 'code_text', 'gfm_autolink_literal',
+            'gfm_label_start_footnote', 'gfm_strikethrough', 'gfm_task_list_item', 'hard_break_escape',
+            'hard_break_trailing', 'html_text', 'label_end', 'label_start_image', 'label_start_link', 'math_text']
+WORDS = {'gfm': ['%s = true' % name for name in SWITCHES if name.startswith('gfm_')], 'math': ['math_text = true'],
+         'first': ['first_of_item = true'], 'shortcut': ['shortcut = true'], 'lengths': ['lengths = true'],
+         'no-single-tilde': ['single_tilde = false'], 'no-single-dollar': ['single_dollar = false']}
+
+
+def plain(text):
+    text = re.sub(r'⟦(.*?)×(\d+)⟧', lambda m: m.group(1) * int(m.group(2)), text)
+    text = re.sub(r'⟦U\+([0-9A-F]+)⟧', lambda m: chr(int(m.group(1), 16)), text)
+    return ''.join(SYMBOLS.get(c, c) for c in text)
+
+
+def place(text):
+    index, _, inside = text.partition('.')
+    return int(index), int(inside or 0)
+
+
+def points(data):
+    """Line and column of each place, an index and the codes of its tab before it."""
+    at, line, column, i = {}, 1, 1, 0
+    while i <= len(data):
+        at[(i, 0)] = (line, column)
+        if i == len(data):
+            break
+        if data[i] in (10, 13):
+            i += 2 if data[i:i + 2] == b'\r\n' else 1
+            line, column = line + 1, 1
+        elif data[i] == 9:
+            width = 4 - (column - 1) % 4
+            for k in range(width):
+                at[(i, k)] = (line, column + k)
+            i, column = i + 1, column + width
+        else:
+            i, column = i + 1, column + 1
+    return at
+
+
+def parsed(text):
+    """A list of (name, start, end, children); children are None where none are written."""
+    tokens = re.findall(r'[A-Za-z]+ [\d.]+-[\d.]+|[\[\],]', text)
+    def row():
+        out = []
+        while tokens and tokens[0] != ']':
+            token = tokens.pop(0)
+            if token == ',':
+                continue
+            name, span = token.split(' ')
+            start, end = map(place, span.split('-'))
+            children = None
+            if tokens and tokens[0] == '[':
+                tokens.pop(0)
+                children = row()
+                assert tokens.pop(0) == ']'
+            out.append(expanded(name, start, end, children))
+        return out
+    return row()
+
+
+def expanded(name, start, end, children):
+    if name == 'Raw':
+        inside = None
+        for inner in ('Data', 'ResourceDestinationString', 'ResourceDestinationRaw', 'ResourceDestination'):
+            inside = [(inner, start, end, inside)]
+        return inside[0]
+    if name in ('LabelLink', 'LabelEnd') and children is None:
+        return name, start, end, [('LabelMarker', start, end, None)]
+    return name, start, end, children
+
+
+def events(row, at, number=0, chained=False):
+    """The event terms, with the numbers of the events on a chain."""
+    out, enters, n = [], [], number
+    sizes = []
+    for tree in row:
+        inside = events(tree[3] or [], at, n + 1, tree[0] in CHAINED)
+        sizes.append((n, inside))
+        n += 2 + len(inside)
+    numbers = [first for first, _ in sizes]
+    for i, (name, start, end, _) in enumerate(row):
+        where = lambda p: '%d %d %d %d' % (at[p] + p)
+        if chained:
+            link = lambda k: '(Some %d)' % numbers[k] if 0 <= k < len(numbers) else 'None'
+            out.append('chained Name.%s %s %s %s' % (name, where(start), link(i - 1), link(i + 1)))
+        else:
+            out.append('enter Name.%s %s' % (name, where(start)))
+        out += sizes[i][1]
+        out.append('exit Name.%s %s' % (name, where(end)))
+    return out
+
+
+def listed(terms):
+    return ' ∷ '.join(terms + ['[]'])
+
+
+def literal(data):
+    if all(32 <= b < 127 for b in data):
+        return 'codes "%s"' % data.decode().replace('\\', '\\\\').replace('"', '\\"')
+    return listed([str(b) for b in data])
+
+
+def divided(line):
+    """The parts of an example: how it is read, its words, the document, the pieces and the answer."""
+    kind, words, document, pieces, answer = re.fullmatch(r'([a-z]+) ?(.*?)«(.*)»(.*?):(.*)', line).groups()
+    return kind, words.split(), document, pieces.split(), answer
+
+
+def settings(words):
+    """The fields that the words set, the identifiers that they define, and whether the outermost events are asked for."""
+    fields, definitions, footnotes, outer = [], [], [], False
+    for word in words:
+        if word == 'outer':
+            outer = True
+        elif word.startswith('definition='):
+            definitions.append(plain(word[11:]).encode())
+        elif word.startswith('footnote='):
+            footnotes.append(plain(word[9:]).encode())
+        elif word[:3] == 'no-' and word[3:] in SWITCHES:
+            fields = [f for f in fields if not f.startswith(word[3:] + ' ')] + ['%s = false' % word[3:]]
+        elif word in SWITCHES:
+            fields.append('%s = true' % word)
+        else:
+            fields += WORDS[word]
+    return fields, definitions, footnotes, outer
+
+
+def ends_of(pieces, data):
+    """Where the pieces start and end: without one the content is the whole document."""
+    return [tuple(map(place, p.split('-'))) for p in pieces] or [((0, 0), (len(data), 0))]
+
+
+def statement(line):
+    kind, words, document, pieces, answer = divided(line)
+    data = plain(document).encode()
+    if kind in READINGS:
+        link = 'linked' in words
+        wanted = 'None' if answer == ' no' else 'Some (%s)' % listed(events(parsed(answer), points(data), 0, link))
+        given = dict(word.split('=', 1) for word in words if '=' in word)
+        before = ''
+        if kind in ('spacing', 'bounded'):
+            before = ' (Some Content.String)' if link else ' None'
+        if kind == 'bounded':
+            before += ' %s %s' % (given.get('min', 0), given.get('max', 2 ** 64 - 1))
+        if kind == 'data':
+            before = ' (%s)' % literal(plain(given['upto']).encode())
+        return '%s_answer%s (%s) ≡ %s' % (kind, before, literal(data), wanted)
+    fields, definitions, footnotes, outer = settings(words)
+    for field, names in (('definitions', definitions), ('footnotes', footnotes)):
+        if names:
+            fields.append('%s = %s' % (field, listed(['(%s)' % literal(n) for n in names])))
+    row = 'record default { %s }' % '; '.join(fields) if fields else 'default'
+    content = listed(['piece %d %d %d %d' % (a + b) for a, b in ends_of(pieces, data)])
+    if kind in ('counts', 'looks'):
+        return '%s_answer (%s) (%s) (%s) ≡ (%s)' % (kind, row, literal(data), content, ' ∷ '.join(answer.split() + ['[]']))
+    function = kind + ('_outline' if outer else '_answer')
+    return '%s (%s) (%s) (%s) ≡ (%s)' % (function, row, literal(data), content, listed(events(parsed(answer), points(data))))
+
+
+def groups_of(path):
+    """The examples of a list, by the names of its groups."""
+    groups, name = {}, None
+    for line in open(path, encoding='utf-8').read().split('\n'):
+        if line.startswith('== '):
+            name = line[3:]
+            groups[name] = []
+        elif name and line and not line.startswith('#'):
+            groups[name].append(line)
+    return groups
+
+
+def snake(name):
+    return re.sub('(?<!^)([A-Z])', r'_\1', name).lower()
+
+
+def main():
+    groups = groups_of(HERE + '/tools/examples.txt')
+    for name, lines in groups.items():
+        spec = ['', 'abbrev pub Examples : Type 0', 'Examples =']
+        for number, line in enumerate(lines, 1):
+            spec += ['    -- ' + line, '    (%s)%s' % (statement(line), ' ×' if number < len(lines) else '')]
+        write('specs/Examples/%s.antt' % name, imports(SPEC_USES, spec) + spec)
+        write('proofs/examples/%s/Answers.antt' % snake(name),
+              ['use Rattle.std.proofs.Common.{refl}', 'use Rattle.markdown_model_examples.proofs.Computed.{computed}',
+               'use Rattle.markdown_model_examples.proofs.examples.%s.Goals as goal' % snake(name), '', '-- Both sides of each example compute to one list.',
+               'pub returns : goal.returns', 'unfolding computed', 'returns c = (%s)' % ', '.join(['refl'] * len(lines))])
+    write('specs/Examples.antt', ['pub mod %s' % name for name in groups])
+    write('src/examples.rt', ['ghost use Rattle.markdown_model_examples.specs.Examples.%s.{Examples as %sExamples};' % (name, name) for name in sorted(groups)]
+          + [line for name in groups for line in ['', '/// The examples of `tools/examples.txt` under `%s` hold.' % name,
+             'pub fn %s()' % snake(name), '    ensures { %sExamples }' % name, '{}']], '//')
+
+
+SPEC_USES = [
+    ('Rattle.std.specs.Prelude', ['◌≡◌', 'true', 'false', '[]', '◌∷◌', 'codes', 'Some', 'None']),
+    ('Rattle.markdown_engine_content.specs.declared.event.Name', ['Name']),
+    ('Rattle.markdown_engine_content.specs.declared.event.Content', ['Content']),
+    ('Rattle.markdown_model_examples.specs.ExampleNotation', ['default', 'piece', 'enter', 'exit', 'chained', 'text_answer', 'text_outline', 'string_answer', 'string_outline', 'label_answer', 'title_answer', 'destination_answer', 'spacing_answer', 'bounded_answer', 'data_answer', 'counts_answer', 'looks_answer']),
+]
+
+
+def imports(uses, lines):
+    """The imports of which the lines, comments left out, name something."""
+    text = '\n'.join(line for line in lines if not line.startswith('--'))
+    out = []
+    for module, names in uses:
+        used = [n for n in names if re.search(r'(?<![\w])%s(?![\w])' % re.escape(n.strip('◌')), text)]
+        if used:
+            out.append('use %s.{%s}' % (module, ', '.join(used)))
+    return out
+
+
+def write(path, lines, comment='--'):
+    path = os.path.join(HERE, path)
+    os.makedirs(os.path.dirname(path), exist_ok=True)
+    with open(path, 'w', encoding='utf-8') as file:
+        file.write('\n'.join([comment + ' Worked examples, written by tools/examples.py from tools/examples.txt.'] + lines) + '\n')
+
+
+if __name__ == '__main__':
+    main()

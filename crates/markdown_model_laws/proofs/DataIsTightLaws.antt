@@ -1,0 +1,282 @@
+-- No blank code stands in data beside a line ending, nor first or last in a text.
+use Rattle.std.proofs.Common.{◌≡◌, ℕ, zero, suc, Bool, true, false, ◌&&◌, ◌||◌, List, [], ◌∷◌, ◌++◌, length, reverse, refl, sym, ap, subst, ◌∙◌, append_assoc, append-nil, Option, Some, None}
+use Rattle.std.proofs.Math.Bool.{and-false}
+use Rattle.std.proofs.lemmas.Bool.{both_ways}
+use Rattle.std.proofs.lemmas.List.{reverse-append}
+use Rattle.markdown_model.proofs.GivenNames.{blank-named}
+use Rattle.markdown_engine_content.specs.declared.event.Name.{Name}
+use Rattle.markdown_engine_content.specs.Codes.{Code, is_blank}
+use Rattle.markdown_engine_content.specs.Tree.{Forest, empty, leaf_then, group_then, leaf, ◌⊕◌, leaf_codes}
+use Rattle.markdown_model.specs.CodeTests.{is_empty, next_is, is_some_code, last_code}
+use Rattle.markdown_model.specs.Grammar.{span}
+use Rattle.markdown_model.specs.Elements.{elements_of, string_elements_of}
+use Rattle.markdown_model.specs.Pairs.{pair_list}
+use Rattle.markdown_model.specs.Passes.{begins_line_ending, is_nothing, blank_name, trimmed_data, trimmed, merged, with_emails_apart, labels_of}
+use Rattle.markdown_model.specs.GfmEmailLiteral.{email_at, email_leaves, with_emails}
+use Rattle.markdown_model.specs.InlineTree.{raw_tree, finished_text, finished_string, text_tree, string_tree}
+use Rattle.markdown_model.specs.Laws.{begins_data, IsDataApart}
+use Rattle.markdown_model.proofs.LeafCodes.{span-append}
+use Rattle.markdown_model.proofs.LiteralCodes.{IsFound, found, reverse-first}
+use Rattle.markdown_model.proofs.MergedDataIsApart.{merged_data_is_apart}
+use Rattle.markdown_model.proofs.DefinitionSteps.{span-stops}
+use Rattle.markdown_model_laws.specs.EmailsInData.{is_email}
+use Rattle.markdown_model_laws.specs.DataIsTight.{IsTight, DataIsTight}
+use Rattle.markdown_model_laws.proofs.EmailLeaves.{IsEmailLeaf, AnswerIsEmail, answer-email}
+
+-- Last codes.
+
+last-of-more : (xs : List Code) (y : Code) (ys : List Code) → last_code (xs ++ y ∷ ys) ≡ last_code (y ∷ ys)
+last-of-more [] y ys = refl
+last-of-more (x ∷ []) y ys = refl
+last-of-more (x ∷ z ∷ xs) y ys = last-of-more (z ∷ xs) y ys
+
+-- what the last code of a list fails, the last one of its back fails too
+last-of-back : (xs ys : List Code) → is_some_code is_blank (last_code (xs ++ ys)) ≡ false → is_some_code is_blank (last_code ys) ≡ false
+last-of-back xs [] h = refl
+last-of-back xs (y ∷ ys) h = ap (is_some_code is_blank) (sym (last-of-more xs y ys)) ∙ h
+
+last-reversed : (cs : List Code) → next_is is_blank cs ≡ false → is_some_code is_blank (last_code (reverse cs)) ≡ false
+last-reversed [] h = refl
+last-reversed (c ∷ cs) h = ap (λ x. is_some_code is_blank (last_code x)) (reverse-append (c ∷ []) cs) ∙ ap (is_some_code is_blank) (last-of-more (reverse cs) c []) ∙ h
+
+-- Leaves that are no data and no line ending.
+
+abbrev is_other : Name → Bool
+is_other Name.Data = false
+is_other Name.LineEnding = false
+is_other _ = true
+
+tight-other : (front whole : Bool) (name : Name) (cs : List Code) (f : Forest) → is_other name ≡ true → IsTight false whole f → IsTight front whole (leaf_then name None cs f)
+tight-other front whole Name.Data cs f h k = cc
+tight-other front whole Name.LineEnding cs f h k = cc
+tight-other front whole name cs f h k = k
+
+not-ending : (name : Name) (cs : List Code) (f : Forest) → is_other name ≡ true → begins_line_ending (leaf_then name None cs f) ≡ false
+not-ending Name.LineEnding cs f h = cc
+not-ending name cs f h = refl
+
+blank-other : (hard : Bool) (cs : List Code) → is_other (blank_name hard cs) ≡ true
+blank-other = blank-named (λ name. is_other name ≡ true) refl refl
+
+email-other : (name : Name) → is_email name ≡ true → is_other name ≡ true
+email-other Name.Data h = cc
+email-other Name.LineEnding h = cc
+email-other name h = refl
+
+-- One data.
+
+-- what a row before this one has to end with: the row begins with a line ending, or is nothing at the whole's end
+abbrev ends_before : Bool → Forest → Bool
+ends_before whole f = begins_line_ending f || (whole && is_nothing f)
+
+abbrev NotBlankFirst : Bool → List Code → Type 0
+NotBlankFirst front cs = front ≡ true → next_is is_blank cs ≡ false
+
+abbrev NotBlankLast : Bool → List Code → Type 0
+NotBlankLast back cs = back ≡ true → is_some_code is_blank (last_code cs) ≡ false
+
+never : {A : Type 0} → (b : Bool) → b ≡ false → b ≡ true → A
+never b h k = absurd (both_ways b h k)
+
+-- data, and blank codes behind it or none
+tight-back : (front whole : Bool) (ys zs : List Code) (name : Name) (f : Forest) → is_other name ≡ true → NotBlankFirst front ys → NotBlankLast (ends_before whole f) ys
+    → IsTight front whole f → IsTight false whole f → IsTight front whole ((leaf Name.Data ys ⊕ leaf name zs) ⊕ f)
+tight-back front whole [] [] name f o first last h k = h
+tight-back front whole [] (z ∷ zs) name f o first last h k = tight-other front whole name (z ∷ zs) f o k
+tight-back front whole (y ∷ ys) [] name f o first last h k = (refl, first, last, k)
+tight-back front whole (y ∷ ys) (z ∷ zs) name f o first last h k =
+    (refl, first, never (begins_line_ending (leaf_then name None (z ∷ zs) f) || (whole && false)) (λ i. not-ending name (z ∷ zs) f o i || and-false whole i), tight-other false whole name (z ∷ zs) f o k)
+
+-- blank codes before it or none
+tight-three : (front whole : Bool) (xs ys zs : List Code) (name : Name) (f : Forest) → is_other name ≡ true → NotBlankFirst front ys → NotBlankLast (ends_before whole f) ys
+    → IsTight front whole f → IsTight false whole f → IsTight front whole ((leaf Name.SpaceOrTab xs ⊕ leaf Name.Data ys ⊕ leaf name zs) ⊕ f)
+tight-three front whole [] ys zs name f o first last h k = tight-back front whole ys zs name f o first last h k
+tight-three front whole (x ∷ xs) ys zs name f o first last h k = tight-back false whole ys zs name f o (never false refl) last k k
+
+-- Trimming.
+
+trimmed-next : (hard front whole : Bool) (f : Forest) → begins_data f ≡ false → ends_before whole (trimmed hard front whole f) ≡ ends_before whole f
+unfolding trimmed
+trimmed-next hard front whole empty h = refl
+trimmed-next hard front whole (leaf_then Name.Data None cs rest) h = cc
+trimmed-next hard front whole (leaf_then Name.LineEnding link cs rest) h = refl
+trimmed-next hard front whole (leaf_then name link cs rest) h = refl
+trimmed-next hard front whole (group_then name enter exit inside rest) h = refl
+
+abbrev back_cut : Bool → List Code → List Code × List Code
+back_cut back cs = elim back [ true ↦ span is_blank (reverse cs) | false ↦ ([], reverse cs) ]
+
+abbrev front_cut : Bool → List Code → List Code × List Code
+front_cut front cs = elim front [ true ↦ span is_blank cs | false ↦ ([], cs) ]
+
+front-first : (front : Bool) (cs : List Code) → NotBlankFirst front (front_cut front cs).1
+front-first true cs h = span-stops is_blank cs
+front-first false cs h = cc
+
+front-last : (front : Bool) (cs : List Code) → is_some_code is_blank (last_code cs) ≡ false → is_some_code is_blank (last_code (front_cut front cs).1) ≡ false
+front-last true cs h = last-of-back (span is_blank cs).0 (span is_blank cs).1 (ap (λ x. is_some_code is_blank (last_code x)) (span-append is_blank cs) ∙ h)
+front-last false cs h = h
+
+back-last : (back : Bool) (cs : List Code) → back ≡ true → is_some_code is_blank (last_code (reverse (back_cut back cs).1)) ≡ false
+back-last true cs h = last-reversed (span is_blank (reverse cs)).1 (span-stops is_blank (reverse cs))
+back-last false cs h = cc
+
+tight-data : (front whole back hard : Bool) (cs : List Code) (f : Forest) → ends_before whole f ≡ back → IsTight front whole f → IsTight false whole f → IsTight front whole (trimmed_data front back hard cs ⊕ f)
+tight-data front whole back hard cs f e h k =
+    tight-three front whole (front_cut front kept).0 (front_cut front kept).1 (reverse (back_cut back cs).0) (blank_name hard (reverse (back_cut back cs).0)) f (blank-other hard (reverse (back_cut back cs).0))
+    (front-first front kept) (λ l. front-last front kept (back-last back cs (sym e ∙ l))) h k
+  where
+    kept : List Code
+    kept = reverse (back_cut back cs).1
+
+-- what does not begin with data is tight whatever stands before
+tight-any : (front whole : Bool) (f : Forest) → begins_data f ≡ false → IsTight false whole f → IsTight front whole f
+tight-any front whole empty h k = k
+tight-any front whole (leaf_then Name.Data None cs rest) h k = cc
+tight-any front whole (leaf_then Name.LineEnding link cs rest) h k = k
+tight-any front whole (leaf_then Name.Data (Some link) cs rest) h k = k
+tight-any front whole (leaf_then name link cs rest) h k = k
+tight-any front whole (group_then name enter exit inside rest) h k = k
+
+trimmed-no-data : (hard front whole : Bool) (f : Forest) → begins_data f ≡ false → begins_data (trimmed hard front whole f) ≡ false
+unfolding trimmed
+trimmed-no-data hard front whole empty h = refl
+trimmed-no-data hard front whole (leaf_then Name.Data None cs rest) h = cc
+trimmed-no-data hard front whole (leaf_then Name.LineEnding link cs rest) h = refl
+trimmed-no-data hard front whole (leaf_then Name.Data (Some link) cs rest) h = refl
+trimmed-no-data hard front whole (leaf_then name link cs rest) h = refl
+trimmed-no-data hard front whole (group_then name enter exit inside rest) h = refl
+
+tight-trimmed : (hard front whole : Bool) (f : Forest) → IsDataApart f → IsTight front whole (trimmed hard front whole f)
+unfolding trimmed
+tight-trimmed hard front whole empty h = tt
+tight-trimmed hard front whole (leaf_then Name.Data None cs rest) h =
+    let k = tight-trimmed hard false whole rest h.1 in
+    tight-data front whole (ends_before whole rest) (hard && begins_line_ending rest) cs (trimmed hard false whole rest) (trimmed-next hard false whole rest h.0)
+    (tight-any front whole (trimmed hard false whole rest) (trimmed-no-data hard false whole rest h.0) k) k
+tight-trimmed hard front whole (leaf_then Name.LineEnding link cs rest) h = tight-trimmed hard true whole rest h
+tight-trimmed hard front whole (leaf_then Name.Data (Some link) cs rest) h = tight-trimmed hard false whole rest h
+tight-trimmed hard front whole (leaf_then name link cs rest) h = tight-trimmed hard false whole rest h
+tight-trimmed hard front whole (group_then name enter exit inside rest) h = (tight-trimmed hard false false inside h.0, tight-trimmed hard false whole rest h.1)
+
+-- Emails.
+
+-- there are codes, or nothing is asked of the first
+abbrev Begins : Bool → List Code → Type 0
+Begins front cs = is_empty cs ≡ true → front ≡ false
+
+first-of-more : (y : Code) (ys ds cs : List Code) → (y ∷ ys) ++ ds ≡ cs → next_is is_blank cs ≡ next_is is_blank (y ∷ ys)
+first-of-more y ys ds cs h = ap (next_is is_blank) (sym h)
+
+tight-piece : (front whole : Bool) (cs : List Code) (f : Forest) → Begins front cs → NotBlankFirst front cs → NotBlankLast (ends_before whole f) cs → IsTight false whole f → IsTight front whole (leaf Name.Data cs ⊕ f)
+tight-piece front whole [] f b first last k = subst (λ x. IsTight x whole f) (sym (b refl)) k
+tight-piece front whole (c ∷ cs) f b first last k = (refl, first, last, k)
+
+module _ (whole : Bool) (f : Forest) (k : IsTight false whole f) where
+  abbrev Law : Bool → List Code → Forest → Type 0
+  Law front cs t = Begins front cs → NotBlankFirst front cs → NotBlankLast (ends_before whole f) cs → IsTight front whole (t ⊕ f)
+
+  email-tight : (front : Bool) (xs : List Code) (e more : Forest) → IsEmailLeaf e → NotBlankFirst front xs → IsTight false whole (more ⊕ f) → IsTight front whole ((leaf Name.Data xs ⊕ e ⊕ more) ⊕ f)
+  email-tight front xs e more h first l = subst (λ t. IsTight front whole ((leaf Name.Data xs ⊕ t ⊕ more) ⊕ f)) (sym h.is) (by_codes xs first)
+    where
+      o : is_other h.name ≡ true
+      o = email-other h.name h.named
+
+      by_codes : (ys : List Code) → NotBlankFirst front ys → IsTight front whole ((leaf Name.Data ys ⊕ leaf_then h.name None (h.first ∷ h.more) empty ⊕ more) ⊕ f)
+      by_codes [] g = tight-other front whole h.name (h.first ∷ h.more) (more ⊕ f) o l
+      by_codes (y ∷ ys) g =
+          (refl, g, never (begins_line_ending (leaf_then h.name None (h.first ∷ h.more) (more ⊕ f)) || (whole && false)) (λ i. not-ending h.name (h.first ∷ h.more) (more ⊕ f) o i || and-false whole i), tight-other false whole h.name (h.first ∷ h.more) (more ⊕ f) o l)
+
+  first-part : (front : Bool) (xs ds cs : List Code) → xs ++ ds ≡ cs → NotBlankFirst front cs → NotBlankFirst front xs
+  first-part front [] ds cs e g h = refl
+  first-part front (x ∷ xs) ds cs e g h = sym (first-of-more x xs ds cs e) ∙ g h
+
+  last-part : (b : Bool) (xs ys ds cs : List Code) → xs ++ (ys ++ ds) ≡ cs → NotBlankLast b cs → NotBlankLast b ds
+  last-part b xs ys ds cs e g h = last-of-back (xs ++ ys) ds (ap (λ z. is_some_code is_blank (last_code z)) (append_assoc xs ys ds ∙ e) ∙ g h)
+
+  emails-tight : (n : ℕ) (front : Bool) (before cs : List Code) → Law front (reverse before ++ cs) (email_leaves n before cs)
+  unfolding email_leaves
+  emails-tight n front before [] b first last =
+      let e : reverse before ++ [] ≡ reverse before = append-nil (reverse before) in
+      tight-piece front whole (reverse before) f (subst (Begins front) e b) (subst (NotBlankFirst front) e first) (subst (NotBlankLast (ends_before whole f)) e last) k
+  emails-tight zero front before (c ∷ cs) b first last = tight-piece front whole (reverse before ++ c ∷ cs) f b first last k
+  emails-tight (suc n) front before (c ∷ cs) b first last =
+      by_answer (email_at before c cs) (found before c cs) (answer-email before c cs) (emails-tight n front (c ∷ before) cs) (λ ds. emails-tight n false [] ds)
+    where
+      all : List Code
+      all = reverse before ++ c ∷ cs
+
+      by_answer : (r : Option (List Code × Forest × List Code)) → IsFound before c cs r → AnswerIsEmail r
+          → Law front (reverse (c ∷ before) ++ cs) (email_leaves n (c ∷ before) cs) → ((ds : List Code) → Law false ds (email_leaves n [] ds))
+          → IsTight front whole ((elim r as (λ _. Forest) [ None ↦ email_leaves n (c ∷ before) cs | Some x ↦ leaf Name.Data x.0 ⊕ x.1 ⊕ email_leaves n [] x.2 ]) ⊕ f)
+      by_answer None h l more after =
+          let e : all ≡ reverse (c ∷ before) ++ cs = sym (reverse-first c before cs) in
+          more (subst (Begins front) e b) (subst (NotBlankFirst front) e first) (subst (NotBlankLast (ends_before whole f)) e last)
+      by_answer (Some x) h l more after =
+          email-tight front x.0 x.1 (email_leaves n [] x.2) l (first-part front x.0 (leaf_codes x.1 ++ x.2) all h first)
+          (after x.2 (λ _. refl) (never false refl) (last-part (ends_before whole f) x.0 (leaf_codes x.1) x.2 all h last))
+
+-- a row begins with a leaf that is no line ending
+abbrev pub BeginsLeaf : Forest → Type 0
+BeginsLeaf f = (begins_line_ending f ≡ false) × (is_nothing f ≡ false)
+
+data-begins : (cs : List Code) (f : Forest) → is_empty cs ≡ false → BeginsLeaf (leaf Name.Data cs ⊕ f)
+data-begins [] f h = cc
+data-begins (c ∷ cs) f h = (refl, refl)
+
+pub emails-begin : (n : ℕ) (before cs : List Code) (f : Forest) → is_empty (reverse before ++ cs) ≡ false → BeginsLeaf (email_leaves n before cs ⊕ f)
+unfolding email_leaves
+emails-begin n before [] f h = data-begins (reverse before) f (ap is_empty (sym (append-nil (reverse before))) ∙ h)
+emails-begin zero before (c ∷ cs) f h = data-begins (reverse before ++ c ∷ cs) f h
+emails-begin (suc n) before (c ∷ cs) f h = by_answer (email_at before c cs) (answer-email before c cs) (emails-begin n (c ∷ before) cs f)
+  where
+    email-begins : (xs : List Code) (e more : Forest) → IsEmailLeaf e → BeginsLeaf ((leaf Name.Data xs ⊕ e ⊕ more) ⊕ f)
+    email-begins [] e more l = subst (λ t. BeginsLeaf ((t ⊕ more) ⊕ f)) (sym l.is) (not-ending l.name (l.first ∷ l.more) (more ⊕ f) (email-other l.name l.named), refl)
+    email-begins (x ∷ xs) e more l = (refl, refl)
+
+    by_answer : (r : Option (List Code × Forest × List Code)) → AnswerIsEmail r → (is_empty (reverse (c ∷ before) ++ cs) ≡ false → BeginsLeaf (email_leaves n (c ∷ before) cs ⊕ f))
+        → BeginsLeaf ((elim r as (λ _. Forest) [ None ↦ email_leaves n (c ∷ before) cs | Some x ↦ leaf Name.Data x.0 ⊕ x.1 ⊕ email_leaves n [] x.2 ]) ⊕ f)
+    by_answer None k more = more (ap is_empty (reverse-first c before cs) ∙ h)
+    by_answer (Some x) k more = email-begins x.0 x.1 (email_leaves n [] x.2) k
+
+-- a tight row ends before as it did when its emails are found
+email-next : (whole : Bool) (f : Forest) → IsTight false whole f → ends_before whole (with_emails_apart f) ≡ ends_before whole f
+unfolding with_emails_apart with_emails
+email-next whole empty h = refl
+email-next whole (leaf_then Name.Data None cs rest) h =
+    let b = emails-begin (length cs) [] cs (with_emails_apart rest) h.0 in
+    λ i. b.0 i || (whole && b.1 i)
+email-next whole (leaf_then Name.LineEnding link cs rest) h = refl
+email-next whole (leaf_then Name.Data (Some link) cs rest) h = refl
+email-next whole (leaf_then name link cs rest) h = refl
+email-next whole (group_then Name.Link enter exit inside rest) h = refl
+email-next whole (group_then name enter exit inside rest) h = refl
+
+tight-mailed : (front whole : Bool) (f : Forest) → IsTight front whole f → IsTight front whole (with_emails_apart f)
+unfolding with_emails_apart with_emails
+tight-mailed front whole empty h = tt
+tight-mailed front whole (leaf_then Name.Data None [] rest) h = absurd (both_ways true h.0 refl)
+tight-mailed front whole (leaf_then Name.Data None (c ∷ cs) rest) h =
+    emails-tight whole (with_emails_apart rest) (tight-mailed false whole rest h.3) (length (c ∷ cs)) front [] (c ∷ cs) (λ e. cc) h.1 (λ e. h.2 (sym (email-next whole rest h.3) ∙ e))
+tight-mailed front whole (leaf_then Name.LineEnding link cs rest) h = tight-mailed true whole rest h
+tight-mailed front whole (leaf_then Name.Data (Some link) cs rest) h = tight-mailed false whole rest h
+tight-mailed front whole (leaf_then name link cs rest) h = tight-mailed false whole rest h
+tight-mailed front whole (group_then Name.Link enter exit inside rest) h = (h.0, tight-mailed false whole rest h.1)
+tight-mailed front whole (group_then name enter exit inside rest) h = (tight-mailed false false inside h.0, tight-mailed false whole rest h.1)
+
+pub data_is_tight : DataIsTight
+unfolding text_tree string_tree finished_text finished_string
+data_is_tight s cs = (by_test s.options.constructs.gfm_autolink_literal, tight-trimmed false false false (merged (labels_of (string_elements_of s cs))) (merged_data_is_apart (labels_of (string_elements_of s cs))))
+  where
+    row : Forest
+    row = raw_tree s (pair_list s) (elements_of s cs)
+
+    done : Forest
+    done = trimmed s.options.constructs.hard_break_trailing true true (merged row)
+
+    is_tight : IsTight true true done
+    is_tight = tight-trimmed s.options.constructs.hard_break_trailing true true (merged row) (merged_data_is_apart row)
+
+    by_test : (b : Bool) → IsTight true true (elim b [ true ↦ with_emails_apart done | false ↦ done ])
+    by_test true = tight-mailed true true done is_tight
+    by_test false = is_tight

@@ -1,0 +1,249 @@
+-- The places of trees: wherever the codes that a tree of labels covers stand one after another, so do the places of its groups among them.
+use Rattle.std.proofs.Common.{◌≡◌, ◌==◌, Bool, true, false, ◌&&◌, not, List, [], ◌∷◌, ◌++◌, length, drop, refl, sym, ap, subst, ◌∙◌, append_assoc, append-nil, None}
+use Rattle.std.proofs.lemmas.Bool.{and_parts, eqb-true, not-true}
+use Rattle.markdown_engine_content.specs.Codes.{Code, stop_of, document_start, place_of}
+use Rattle.markdown_engine_content.specs.Tree.{Forest, empty, leaf_then, group_then, leaf, group, text_group, ◌⊕◌, start_of, enter_of, exit_after, leaf_codes}
+use Rattle.markdown_engine_content.specs.declared.event.Name.{Name}
+use Rattle.markdown_engine_content.specs.declared.event.Point.{Point}
+use Rattle.markdown_engine_content.specs.declared.label_kind.LabelKind.{LabelKind}
+use Rattle.markdown_engine_content.proofs.TreeCodes.{leaf_codes-row}
+use Rattle.markdown_model.specs.CodeTests.{is_empty}
+use Rattle.markdown_model.specs.LabelEnd.{Element}
+use Rattle.markdown_model.specs.Passes.{start_marker, start_tree, label_name, label_group, labels_of, is_nothing}
+use Rattle.markdown_model.proofs.LeafCodes.{codes-leaf}
+use Rattle.markdown_model_laws.specs.EmailsInData.{is_email}
+use Rattle.markdown_model_laws.proofs.MadeConstructs.{IsSome, IsMade, is_at, is_single, reaches, made}
+use Rattle.markdown_model_laws.proofs.MadeElements.{AllGood, IsGood}
+use Rattle.markdown_model.proofs.LabelTreeFacts.{labels-have}
+use Rattle.markdown_model_laws.proofs.PlacesInOrder.{Place, last_of, last-join, Allows, allows-itself, allows-then, allows-join, allows-behind, allows-same, allows-around, allows-between}
+
+-- where each code begins and ends
+abbrev pub ends_of : List Code → List Place
+ends_of [] = []
+ends_of (c ∷ cs) = place_of c.start ∷ place_of c.stop ∷ ends_of cs
+
+pub ends-join : (xs ys : List Code) → ends_of (xs ++ ys) ≡ ends_of xs ++ ends_of ys
+ends-join [] ys = refl
+ends-join (c ∷ cs) ys = ap (λ x. place_of c.start ∷ place_of c.stop ∷ x) (ends-join cs ys)
+
+pub ends-last : (p : Point) (cs : List Code) → last_of (place_of p) (ends_of cs) ≡ place_of (stop_of p cs)
+ends-last p [] = refl
+ends-last p (c ∷ cs) = ends-last c.stop cs
+
+-- where each code and each group of a tree begins and ends
+abbrev pub places_of : Forest → List Place
+places_of empty = []
+places_of (leaf_then name link cs rest) = ends_of cs ++ places_of rest
+places_of (group_then name enter exit inside rest) = place_of enter ∷ (places_of inside ++ (place_of exit ∷ places_of rest))
+
+pub places-join : (a b : Forest) → places_of (a ⊕ b) ≡ places_of a ++ places_of b
+places-join empty b = refl
+places-join (leaf_then name link cs rest) b = ap (λ x. ends_of cs ++ x) (places-join rest b) ∙ sym (append_assoc (ends_of cs) (places_of rest) (places_of b))
+places-join (group_then name enter exit inside rest) b =
+    ap (λ x. place_of enter ∷ (places_of inside ++ (place_of exit ∷ x))) (places-join rest b)
+    ∙ ap (λ x. place_of enter ∷ x) (sym (append_assoc (places_of inside) (place_of exit ∷ places_of rest) (places_of b)))
+
+pub places-leaf : (name : Name) (cs : List Code) → places_of (leaf name cs) ≡ ends_of cs
+places-leaf name [] = refl
+places-leaf name (c ∷ cs) = append-nil (ends_of (c ∷ cs))
+
+-- a tree ends at the last of its places
+pub places-last : (p : Point) (f : Forest) → last_of (place_of p) (places_of f) ≡ place_of (exit_after p f)
+places-last p empty = refl
+places-last p (leaf_then name link cs rest) =
+    last-join (place_of p) (ends_of cs) (places_of rest) ∙ ap (λ x. last_of x (places_of rest)) (ends-last p cs) ∙ places-last (stop_of p cs) rest
+places-last p (group_then name enter exit inside rest) = last-join (place_of enter) (places_of inside) (place_of exit ∷ places_of rest) ∙ places-last exit rest
+
+-- and begins at the first
+pub record Begins (f : Forest) : Type 0 where
+  pub more : List Place
+  pub places : places_of f ≡ place_of (enter_of f) ∷ more
+
+begins-made : (texts : Bool) (f : Forest) → made texts f ≡ true → is_nothing f ≡ false → Begins f
+begins-made texts empty h k = cc
+begins-made texts (leaf_then name link [] rest) h k = cc
+begins-made texts (leaf_then name link (c ∷ cs) rest) h k = record { more = place_of c.stop ∷ (ends_of cs ++ places_of rest); places = refl }
+begins-made texts (group_then name enter exit inside rest) h k = record { more = places_of inside ++ (place_of exit ∷ places_of rest); places = refl }
+
+-- Wherever the codes go on, all places do.
+
+abbrev pub IsFit : Forest → Type 0
+IsFit f = Allows (ends_of (leaf_codes f)) (places_of f)
+
+pub fit-join : (a b : Forest) → IsFit a → IsFit b → IsFit (a ⊕ b)
+fit-join a b h k =
+    subst (λ x. Allows x (places_of (a ⊕ b))) (sym (ap ends_of (leaf_codes-row a b) ∙ ends-join (leaf_codes a) (leaf_codes b)))
+    (subst (Allows (ends_of (leaf_codes a) ++ ends_of (leaf_codes b))) (sym (places-join a b)) (allows-join (ends_of (leaf_codes a)) (places_of a) (ends_of (leaf_codes b)) (places_of b) h k))
+
+pub fit-leaf : (name : Name) (cs : List Code) → IsFit (leaf name cs)
+fit-leaf name cs = allows-same (ends_of (leaf_codes (leaf name cs))) (places_of (leaf name cs)) (ap ends_of (codes-leaf name cs) ∙ sym (places-leaf name cs))
+
+-- the places of a group that reaches from the first place inside to the last
+pub places-around : (f : Forest) (enter exit : Point) → Begins f → place_of enter ≡ place_of (enter_of f) → place_of exit ≡ place_of (exit_after (enter_of f) f)
+    → Allows (places_of f) (place_of enter ∷ (places_of f ++ (place_of exit ∷ [])))
+places-around f enter exit b h k =
+    subst (λ x. Allows (places_of f) (x ∷ (places_of f ++ (place_of exit ∷ [])))) (sym h)
+    (subst (λ x. Allows (places_of f) (place_of (enter_of f) ∷ (places_of f ++ (x ∷ [])))) (last ∙ sym k)
+    (subst (λ x. Allows x (place_of (enter_of f) ∷ (x ++ (last_of (place_of (enter_of f)) b.more ∷ [])))) (sym b.places) (allows-around (place_of (enter_of f)) b.more)))
+  where
+    last : last_of (place_of (enter_of f)) b.more ≡ place_of (exit_after (enter_of f) f)
+    last = ap (last_of (place_of (enter_of f))) (sym b.places) ∙ places-last (enter_of f) f
+
+fit-group_then : (name : Name) (enter exit : Point) (f : Forest) → Begins f → place_of enter ≡ place_of (enter_of f) → place_of exit ≡ place_of (exit_after (enter_of f) f) → IsFit f
+    → IsFit (group_then name enter exit f empty)
+fit-group_then name enter exit f b h k g =
+    subst (λ x. Allows (ends_of x) (place_of enter ∷ (places_of f ++ (place_of exit ∷ [])))) (sym (append-nil (leaf_codes f)))
+    (allows-then (ends_of (leaf_codes f)) (places_of f) (place_of enter ∷ (places_of f ++ (place_of exit ∷ []))) g (places-around f enter exit b h k))
+
+pub fit-group : (name : Name) (f : Forest) → Begins f → IsFit f → IsFit (group name f)
+fit-group name f b g = fit-group_then name (enter_of f) (exit_after (enter_of f) f) f b refl refl g
+
+same-place : (p q : Point) → is_at p q ≡ true → place_of p ≡ place_of q
+same-place p q h =
+    let both = and_parts (p.index == q.index) (p.vs == q.vs) h in
+    λ i. (eqb-true p.index q.index both.0 i, eqb-true p.vs q.vs both.1 i)
+
+-- what constructs make is so
+pub fit-made : (f : Forest) → IsMade f → IsFit f
+fit-made empty h = allows-itself []
+fit-made (leaf_then name link cs rest) h =
+    let p = and_parts (not (is_empty cs)) (not (is_email name) && made false rest) h in
+    let q = and_parts (not (is_email name)) (made false rest) p.1 in
+    subst (λ x. Allows x (ends_of cs ++ places_of rest)) (sym (ends-join cs (leaf_codes rest))) (allows-behind (ends_of cs) (ends_of (leaf_codes rest)) (places_of rest) (fit-made rest q.1))
+fit-made (group_then name enter exit inside rest) h =
+    let p = and_parts (reaches enter exit inside) (is_single name inside && (made false inside && made false rest)) h in
+    let q = and_parts (is_single name inside) (made false inside && made false rest) p.1 in
+    let r = and_parts (made false inside) (made false rest) q.1 in
+    let a = and_parts (not (is_nothing inside)) (is_at enter (enter_of inside) && is_at exit (exit_after (enter_of inside) inside)) p.0 in
+    let b = and_parts (is_at enter (enter_of inside)) (is_at exit (exit_after (enter_of inside) inside)) a.1 in
+    fit-join (group_then name enter exit inside empty) rest
+    (fit-group_then name enter exit inside (begins-made false inside r.0 (not-true (is_nothing inside) a.0)) (same-place enter (enter_of inside) b.0) (same-place exit (exit_after (enter_of inside) inside) b.1) (fit-made inside r.0))
+    (fit-made rest r.1)
+
+-- A text between two markers: it begins where the first ends, and ends where the second begins.
+
+pub record EndsAt (f : Forest) (p : Point) : Type 0 where
+  pub first : Place
+  pub more : List Place
+  pub places : places_of f ≡ first ∷ more
+  pub last : last_of first more ≡ place_of p
+
+pub places-between : (name : Name) (a : Forest) (enter exit : Point) (inside b : Forest) → EndsAt a enter → Begins b → enter_of b ≡ exit
+    → Allows (places_of a ++ (places_of inside ++ places_of b)) (places_of (a ⊕ (text_group name enter exit inside ⊕ b)))
+places-between name a enter exit inside b x y e =
+    subst (Allows (places_of a ++ (places_of inside ++ places_of b))) (sym whole)
+    (subst (λ z. Allows (z ++ (places_of inside ++ places_of b)) (z ++ (place_of enter ∷ (places_of inside ++ (place_of exit ∷ places_of b))))) (sym x.places)
+    (subst (λ z. Allows ((x.first ∷ x.more) ++ (places_of inside ++ z)) ((x.first ∷ x.more) ++ (place_of enter ∷ (places_of inside ++ (place_of exit ∷ z))))) (sym front)
+    (subst (λ z. Allows ((x.first ∷ x.more) ++ (places_of inside ++ (place_of exit ∷ y.more))) ((x.first ∷ x.more) ++ (z ∷ (places_of inside ++ (place_of exit ∷ place_of exit ∷ y.more))))) x.last
+    (allows-between x.first x.more (places_of inside) (place_of exit) y.more))))
+  where
+    front : places_of b ≡ place_of exit ∷ y.more
+    front = y.places ∙ ap (λ p. place_of p ∷ y.more) e
+
+    whole : places_of (a ⊕ (text_group name enter exit inside ⊕ b)) ≡ places_of a ++ (place_of enter ∷ (places_of inside ++ (place_of exit ∷ places_of b)))
+    whole = places-join a (text_group name enter exit inside ⊕ b)
+
+fit-between : (name : Name) (a : Forest) (enter exit : Point) (inside b : Forest) → EndsAt a enter → Begins b → enter_of b ≡ exit → IsFit a → IsFit inside → IsFit b
+    → IsFit (a ⊕ (text_group name enter exit inside ⊕ b))
+fit-between name a enter exit inside b x y e f g h =
+    subst (λ z. Allows z (places_of (a ⊕ (text_group name enter exit inside ⊕ b)))) (sym codes)
+    (allows-then (ends_of (leaf_codes a) ++ (ends_of (leaf_codes inside) ++ ends_of (leaf_codes b))) (places_of a ++ (places_of inside ++ places_of b)) (places_of (a ⊕ (text_group name enter exit inside ⊕ b)))
+    (allows-join (ends_of (leaf_codes a)) (places_of a) (ends_of (leaf_codes inside) ++ ends_of (leaf_codes b)) (places_of inside ++ places_of b) f (allows-join (ends_of (leaf_codes inside)) (places_of inside) (ends_of (leaf_codes b)) (places_of b) g h))
+    (places-between name a enter exit inside b x y e))
+  where
+    codes : ends_of (leaf_codes (a ⊕ (text_group name enter exit inside ⊕ b))) ≡ ends_of (leaf_codes a) ++ (ends_of (leaf_codes inside) ++ ends_of (leaf_codes b))
+    codes =
+        ap ends_of (leaf_codes-row a (text_group name enter exit inside ⊕ b))
+        ∙ ends-join (leaf_codes a) (leaf_codes inside ++ leaf_codes b)
+        ∙ ap (λ z. ends_of (leaf_codes a) ++ z) (ends-join (leaf_codes inside) (leaf_codes b))
+
+-- Labels.
+
+exit-leaf : (p : Point) (name : Name) (cs : List Code) → exit_after p (leaf name cs) ≡ stop_of p cs
+exit-leaf p name [] = refl
+exit-leaf p name (c ∷ cs) = refl
+
+group-ends : (name : Name) (f : Forest) (p : Point) → exit_after (enter_of f) f ≡ p → EndsAt (group name f) p
+group-ends name f p e = record {
+  first = place_of (enter_of f);
+  more = places_of f ++ (place_of (exit_after (enter_of f) f) ∷ []);
+  places = refl;
+  last = last-join (place_of (enter_of f)) (places_of f) (place_of (exit_after (enter_of f) f) ∷ []) ∙ ap place_of e;
+}
+
+start-ends : (kind : LabelKind) (cs : List Code) → IsSome cs → EndsAt (start_tree kind cs) (stop_of document_start cs)
+start-ends kind [] h = cc
+start-ends LabelKind.Image (c ∷ cs) h = group-ends Name.LabelImage (leaf_then Name.LabelImageMarker None (c ∷ []) (leaf Name.LabelMarker cs)) (stop_of c.stop cs) (exit-leaf c.stop Name.LabelMarker cs)
+start-ends LabelKind.GfmFootnote (c ∷ cs) h = group-ends Name.GfmFootnoteCallLabel (leaf_then Name.LabelMarker None (c ∷ []) (leaf Name.GfmFootnoteCallMarker cs)) (stop_of c.stop cs) (exit-leaf c.stop Name.GfmFootnoteCallMarker cs)
+start-ends LabelKind.Link (c ∷ cs) h = group-ends Name.LabelLink (leaf_then Name.LabelMarker None (c ∷ cs) empty) (stop_of c.stop cs) refl
+start-ends LabelKind.GfmUndefinedFootnote (c ∷ cs) h = group-ends Name.LabelLink (leaf_then Name.LabelMarker None (c ∷ cs) empty) (stop_of c.stop cs) refl
+
+pub begins-leaf : (name : Name) (c : Code) (cs : List Code) (f : Forest) → Begins (leaf_then name None (c ∷ cs) f)
+begins-leaf name c cs f = record { more = place_of c.stop ∷ (ends_of cs ++ places_of f); places = refl }
+
+fit-start : (kind : LabelKind) (cs : List Code) → IsSome cs → IsFit (start_tree kind cs)
+fit-start kind [] h = cc
+fit-start LabelKind.Image (c ∷ cs) h =
+    fit-group Name.LabelImage (leaf_then Name.LabelImageMarker None (c ∷ []) (leaf Name.LabelMarker cs)) (begins-leaf Name.LabelImageMarker c [] (leaf Name.LabelMarker cs))
+    (fit-join (leaf Name.LabelImageMarker (c ∷ [])) (leaf Name.LabelMarker cs) (fit-leaf Name.LabelImageMarker (c ∷ [])) (fit-leaf Name.LabelMarker cs))
+fit-start LabelKind.GfmFootnote (c ∷ cs) h =
+    fit-group Name.GfmFootnoteCallLabel (leaf_then Name.LabelMarker None (c ∷ []) (leaf Name.GfmFootnoteCallMarker cs)) (begins-leaf Name.LabelMarker c [] (leaf Name.GfmFootnoteCallMarker cs))
+    (fit-join (leaf Name.LabelMarker (c ∷ [])) (leaf Name.GfmFootnoteCallMarker cs) (fit-leaf Name.LabelMarker (c ∷ [])) (fit-leaf Name.GfmFootnoteCallMarker cs))
+fit-start LabelKind.Link (c ∷ cs) h = fit-group Name.LabelLink (leaf Name.LabelMarker (c ∷ cs)) (begins-leaf Name.LabelMarker c cs empty) (fit-leaf Name.LabelMarker (c ∷ cs))
+fit-start LabelKind.GfmUndefinedFootnote (c ∷ cs) h = fit-group Name.LabelLink (leaf Name.LabelMarker (c ∷ cs)) (begins-leaf Name.LabelMarker c cs empty) (fit-leaf Name.LabelMarker (c ∷ cs))
+
+front-some : (kind : LabelKind) (cs : List Code) → IsSome cs → IsSome (start_marker kind cs)
+front-some kind [] h = cc
+front-some LabelKind.Image (c ∷ cs) h = refl
+front-some LabelKind.GfmFootnote (c ∷ cs) h = refl
+front-some LabelKind.Link (c ∷ cs) h = refl
+front-some LabelKind.GfmUndefinedFootnote (c ∷ cs) h = refl
+
+fit-end : (back : List Code) → IsSome back → IsFit (group Name.LabelEnd (leaf Name.LabelMarker back))
+fit-end [] h = cc
+fit-end (c ∷ cs) h = fit-group Name.LabelEnd (leaf Name.LabelMarker (c ∷ cs)) (begins-leaf Name.LabelMarker c cs empty) (fit-leaf Name.LabelMarker (c ∷ cs))
+
+begins-end : (back : List Code) → Begins (group Name.LabelEnd (leaf Name.LabelMarker back))
+begins-end back = record { more = places_of (leaf Name.LabelMarker back) ++ (place_of (exit_after (enter_of (leaf Name.LabelMarker back)) (leaf Name.LabelMarker back)) ∷ []); places = refl }
+
+end-enter : (back : List Code) → IsSome back → enter_of (group Name.LabelEnd (leaf Name.LabelMarker back)) ≡ start_of back
+end-enter [] h = cc
+end-enter (c ∷ cs) h = refl
+
+begins-start : (kind : LabelKind) (cs : List Code) (f : Forest) → Begins (start_tree kind cs ⊕ f)
+begins-start LabelKind.Image cs f = record { more = _; places = refl }
+begins-start LabelKind.GfmFootnote cs f = record { more = _; places = refl }
+begins-start LabelKind.Link cs f = record { more = _; places = refl }
+begins-start LabelKind.GfmUndefinedFootnote cs f = record { more = _; places = refl }
+
+fit-label : (kind : LabelKind) (marker : List Code) (inside : Forest) (back : List Code) (tail : Forest) → IsSome marker → IsFit inside → IsSome back → IsFit tail → IsFit (label_group kind marker inside back tail)
+fit-label kind marker inside back tail h k l m =
+    fit-group (label_name kind) (group Name.Label row ⊕ tail) (record { more = _; places = refl })
+    (fit-join (group Name.Label row) tail (fit-group Name.Label row (begins-start kind front (text ⊕ end)) fit-row) m)
+  where
+    front : List Code
+    front = start_marker kind marker
+
+    inner : Forest
+    inner = leaf Name.Data (drop (length front) marker) ⊕ inside
+
+    end : Forest
+    end = group Name.LabelEnd (leaf Name.LabelMarker back)
+
+    text : Forest
+    text = text_group Name.LabelText (stop_of document_start front) (start_of back) inner
+
+    row : Forest
+    row = start_tree kind front ⊕ text ⊕ end
+
+    fit-row : IsFit row
+    fit-row =
+        fit-between Name.LabelText (start_tree kind front) (stop_of document_start front) (start_of back) inner end (start-ends kind front (front-some kind marker h)) (begins-end back) (end-enter back l)
+        (fit-start kind front (front-some kind marker h)) (fit-join (leaf Name.Data (drop (length front) marker)) inside (fit-leaf Name.Data (drop (length front) marker)) k) (fit-end back l)
+
+-- The tree of labels.
+
+pub fit-labels : (es : List Element) → AllGood es → IsFit (labels_of es)
+fit-labels es h =
+    labels-have IsFit IsGood (allows-itself []) fit-join fit-made (λ kind marker _. fit-leaf Name.Data marker) (λ marker outcome _. fit-leaf Name.Data marker)
+    (λ kind marker inside back outcome m i e. fit-label outcome.0 marker inside back outcome.1 m i e.0 (fit-made outcome.1 e.1)) es h

@@ -1,0 +1,104 @@
+-- Nothing in the inline tree is empty but the texts of labels.
+use Rattle.std.proofs.Common.{◌≡◌, Bool, true, false, ◌&&◌, ◌||◌, List, [], ◌∷◌, ◌++◌, length, refl, sym, ap, ◌∙◌, None}
+use Rattle.std.proofs.lemmas.Bool.{both_ways}
+use Rattle.markdown_engine_content.specs.declared.event.Name.{Name}
+use Rattle.markdown_engine_content.specs.Codes.{Code}
+use Rattle.markdown_engine_content.specs.Tree.{Forest, empty, leaf_then, group_then, ◌⊕◌}
+use Rattle.markdown_model.specs.CodeTests.{is_empty}
+use Rattle.markdown_model.specs.GfmEmailLiteral.{email_leaves, with_emails}
+use Rattle.markdown_model.specs.Elements.{elements_of, string_elements_of}
+use Rattle.markdown_model.specs.BracketGroups.{paired}
+use Rattle.markdown_model.specs.Pairs.{pair_list}
+use Rattle.markdown_model.specs.Passes.{data_onto, merged, begins_line_ending, is_nothing, trimmed_data, trimmed, with_emails_apart, labels_of}
+use Rattle.markdown_model.specs.InlineTree.{raw_tree, finished_text, finished_string, text_tree, string_tree}
+use Rattle.markdown_model.proofs.PassesKeepCodes.{codes-trimmed_data}
+use Rattle.markdown_model.proofs.PassedTrees.{walks-merged, walks-trimmed, walks-mailed, trimmed_data-has, with_emails-has}
+use Rattle.markdown_model_laws.specs.TreesFilled.{IsFilled, TreesAreFilled}
+use Rattle.markdown_model_laws.proofs.FilledTrees.{filled, filled-leaf, filled-join, made-filled, nothing-codes}
+use Rattle.markdown_model_laws.proofs.PairSides.{right-paired}
+use Rattle.markdown_model_laws.proofs.LabelTreeRuns.{apart-text-labels}
+use Rattle.markdown_model_laws.proofs.PairGroupsOfText.{no-groups}
+use Rattle.markdown_model_laws.proofs.MadeElements.{made-text-labels, made-string-labels}
+use Rattle.markdown_model_laws.proofs.DataIsTightLaws.{emails-begin}
+
+-- Merging.
+
+pub more-codes : (cs ds : List Code) → is_empty cs ≡ false → is_empty (cs ++ ds) ≡ false
+more-codes [] ds h = cc
+more-codes (c ∷ cs) ds h = refl
+
+nothing-data_onto : (cs : List Code) (f : Forest) → is_nothing (data_onto cs f) ≡ false
+nothing-data_onto cs (leaf_then Name.Data None more rest) = refl
+nothing-data_onto cs rest = refl
+
+nothing-merged : (f : Forest) → is_nothing (merged f) ≡ is_nothing f
+unfolding merged
+nothing-merged empty = refl
+nothing-merged (leaf_then Name.Data None cs rest) = nothing-data_onto cs (merged rest)
+nothing-merged (leaf_then name link cs rest) = refl
+nothing-merged (group_then name enter exit inside rest) = refl
+
+filled-merged : (f : Forest) → IsFilled f → IsFilled (merged f)
+filled-merged f h = walks-merged filled (λ cs ds k _. more-codes cs ds k) (λ name a b inside _ g e. g (sym (nothing-merged inside) ∙ e)) f h
+
+-- Trimming.
+
+nothing-before : (a f : Forest) → is_nothing (a ⊕ f) ≡ true → is_nothing a ≡ true
+nothing-before empty f h = refl
+nothing-before (leaf_then name link cs rest) f h = h
+nothing-before (group_then name enter exit inside rest) f h = h
+
+nothing-trimmed : (hard front whole : Bool) (f : Forest) → IsFilled f → is_nothing (trimmed hard front whole f) ≡ true → is_nothing f ≡ true
+unfolding trimmed
+nothing-trimmed hard front whole empty h e = refl
+nothing-trimmed hard front whole (leaf_then Name.Data None cs rest) h e =
+    absurd (both_ways (is_empty cs) h.0 (ap is_empty (sym (codes-trimmed_data front back (hard && begins_line_ending rest) cs) ∙ nothing-codes piece (nothing-before piece (trimmed hard false whole rest) e))))
+  where
+    back : Bool
+    back = begins_line_ending rest || (whole && is_nothing rest)
+
+    piece : Forest
+    piece = trimmed_data front back (hard && begins_line_ending rest) cs
+nothing-trimmed hard front whole (leaf_then Name.LineEnding link cs rest) h e = cc
+nothing-trimmed hard front whole (leaf_then name link cs rest) h e = cc
+nothing-trimmed hard front whole (group_then name enter exit inside rest) h e = cc
+
+filled-trimmed : (hard front whole : Bool) (f : Forest) → IsFilled f → IsFilled (trimmed hard front whole f)
+filled-trimmed hard front whole f h =
+    walks-trimmed filled hard (λ x y z cs _. trimmed_data-has IsFilled filled-join (filled-leaf Name.Data) (filled-leaf Name.HardBreakTrailing) (filled-leaf Name.SpaceOrTab) x y z cs)
+    (λ name a b inside k g e. g (nothing-trimmed hard false false inside k e)) front whole f h
+
+-- Emails.
+
+nothing-mailed : (f : Forest) → IsFilled f → is_nothing (with_emails_apart f) ≡ true → is_nothing f ≡ true
+unfolding with_emails_apart with_emails
+nothing-mailed empty h e = refl
+nothing-mailed (leaf_then Name.Data None cs rest) h e =
+    absurd (both_ways (is_nothing (email_leaves (length cs) [] cs ⊕ with_emails_apart rest)) (emails-begin (length cs) [] cs (with_emails_apart rest) h.0).1 e)
+nothing-mailed (leaf_then name link cs rest) h e = cc
+nothing-mailed (group_then Name.Link enter exit inside rest) h e = cc
+nothing-mailed (group_then name enter exit inside rest) h e = cc
+
+filled-mailed : (f : Forest) → IsFilled f → IsFilled (with_emails_apart f)
+filled-mailed f h =
+    walks-mailed filled (λ cs _. with_emails-has IsFilled filled-join (filled-leaf Name.Data) (λ before ds. filled-leaf _ ds) cs) (λ name a b inside k g e. g (nothing-mailed inside k e)) f h
+
+pub trees_are_filled : TreesAreFilled
+unfolding text_tree string_tree finished_text finished_string raw_tree
+trees_are_filled s cs =
+    (by_test s.options.constructs.gfm_autolink_literal, filled-trimmed false false false (merged (labels_of (string_elements_of s cs))) (filled-merged (labels_of (string_elements_of s cs)) (made-filled (labels_of (string_elements_of s cs)) (made-string-labels s cs))))
+  where
+    labels : Forest
+    labels = labels_of (elements_of s cs)
+
+    done : Forest
+    done = trimmed s.options.constructs.hard_break_trailing true true (merged (paired s (pair_list s) labels))
+
+    is_filled : IsFilled done
+    is_filled =
+        filled-trimmed s.options.constructs.hard_break_trailing true true (merged (paired s (pair_list s) labels))
+        (filled-merged (paired s (pair_list s) labels) (right-paired s labels (no-groups labels (made-text-labels s cs)) (made-filled labels (made-text-labels s cs)) (apart-text-labels s cs)).1)
+
+    by_test : (b : Bool) → IsFilled (elim b [ true ↦ with_emails_apart done | false ↦ done ])
+    by_test true = filled-mailed done is_filled
+    by_test false = is_filled

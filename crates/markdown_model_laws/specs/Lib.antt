@@ -1,0 +1,12 @@
+-- The laws.
+pub mod EscapedText
+pub mod PairGroups
+pub mod ProbeBounds
+pub mod DataIsTight
+pub mod EmailsInData
+pub mod TreesFilled
+pub mod MarkersHeld
+pub mod RunsInOrderPair
+pub mod LinkParts
+pub mod ResourceParts
+pub mod EventOrder

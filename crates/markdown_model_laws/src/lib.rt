@@ -1,0 +1,114 @@
+//! Laws on the definitions of the inline layer: facts in the subject's own words that follow from them.
+//!
+//! Nothing here is run. A function of this crate has no parameters and an empty body: its contract is a law, and
+//! the check proves it. The laws of `markdown_model` say that the definitions define something, and what a container, a
+//! label and a pass do; these say more of what a reader of events may rely on.
+#![tactic(auto)]
+
+ghost use Rattle.markdown_model_laws.specs.EscapedText.{Escapes};
+ghost use Rattle.markdown_model_laws.specs.PairGroups.{EachPairIsAGroup, PairsAreEven, PairsTakeTheirMarkers};
+ghost use Rattle.markdown_model_laws.specs.MarkersHeld.{EachMarkerIsHeld};
+ghost use Rattle.markdown_model_laws.specs.ProbeBounds.{ProbesAreFew};
+ghost use Rattle.markdown_model_laws.specs.EmailsInData.{EmailsStandInData, LinksHoldNoEmail};
+ghost use Rattle.markdown_model_laws.specs.DataIsTight.{DataIsTight};
+ghost use Rattle.markdown_model_laws.specs.TreesFilled.{TreesAreFilled};
+ghost use Rattle.markdown_model_laws.specs.RunsInOrderPair.{RunsInOrderMayPair};
+ghost use Rattle.markdown_model_laws.specs.EventOrder.{EventsNeverGoBack};
+ghost use Rattle.markdown_model_laws.specs.LinkParts.{TitlesAreFound, LabelsAreFound, DestinationsAreFound};
+ghost use Rattle.markdown_model_laws.specs.ResourceParts.{ResourcesAreFound, WhatFollowsIsFound};
+
+/// A one-line text with a backslash before each ASCII punctuation character, read as a string with escapes on, is given
+/// back by what is lent for its data and for what its escapes stand for.
+pub fn escapes()
+    ensures { Escapes }
+{}
+
+/// The inline tree of a text has as many groups of emphasis, strong emphasis and strikethrough as its containers have
+/// pairs, so no marker that a pair takes is left alone.
+pub fn each_pair_is_a_group()
+    ensures { EachPairIsAGroup }
+{}
+
+/// There is a probe for each pair within the bound on probes by runs, and the bound by openers, closers and pairs is at most
+/// eleven for each code of the content.
+pub fn probes_are_few()
+    ensures { ProbesAreFew }
+{}
+
+/// Finding emails cuts data and does nothing else.
+pub fn emails_stand_in_data()
+    ensures { EmailsStandInData }
+{}
+
+/// In the inline tree of a text no email literal stands in a link or an autolink, and in that of a string none stands at all.
+pub fn links_hold_no_email()
+    ensures { LinksHoldNoEmail }
+{}
+
+/// No blank code stands in data beside a line ending, nor first or last in a text.
+pub fn data_is_tight()
+    ensures { DataIsTight }
+{}
+
+/// In the inline tree of a text, the group of each pair is two sequences of one name and of equally many markers, with a text between them.
+pub fn pairs_are_even()
+    ensures { PairsAreEven }
+{}
+
+/// In the inline tree of a text, the group of each pair has markers of its opener's run in front and of its closer's run at its back, as many of each
+/// as the pair takes.
+pub fn pairs_take_their_markers()
+    ensures { PairsTakeTheirMarkers }
+{}
+
+/// Each leaf of an inline tree has a code, and a group around nothing is the text of a label; so a pair stands around something.
+pub fn trees_are_filled()
+    ensures { TreesAreFilled }
+{}
+
+/// Each code of a text that a run of markers covers in the tree of labels is covered in the inline tree by a marker of a pair or by data, or, where
+/// email literals are cut from data, by one of these.
+pub fn each_marker_is_held()
+    ensures { EachMarkerIsHeld }
+{}
+
+/// No event of a content, read as text or as a string, stands before an earlier one. So an `Enter` and an `Exit` around nothing, as of an empty label's
+/// text, stand behind the codes before them and not behind those after.
+pub fn events_never_go_back()
+    ensures { EventsNeverGoBack }
+{}
+
+/// Events whose runs stand in order over a document meet all that the pass of emphasis, `attention::resolve_counted`, asks for: behind the `Enter` of a run
+/// stands its `Exit`, both at places of the document and without a link, between them stand one or more equal markers, and no run begins before the
+/// runs in front of it have ended.
+pub fn runs_in_order_may_pair()
+    ensures { RunsInOrderMayPair }
+{}
+
+/// A title is found exactly where codes stand that are a link title: a marker, codes with no closing marker but escaped ones, and a closing marker.
+pub fn titles_are_found()
+    ensures { TitlesAreFound }
+{}
+
+/// A label is found exactly where codes stand that are a link label: brackets around codes with no bracket but escaped ones, some of them no
+/// whitespace, and at most 999 that count.
+pub fn labels_are_found()
+    ensures { LabelsAreFound }
+{}
+
+/// A destination is found exactly where codes stand that are a link destination: in angle brackets, or without them and with balanced parentheses.
+pub fn destinations_are_found()
+    ensures { DestinationsAreFound }
+{}
+
+/// A resource is found exactly where codes stand that are one: parentheses around whitespace, a destination, and a title apart from it, each of
+/// which may be absent.
+pub fn resources_are_found()
+    ensures { ResourcesAreFound }
+{}
+
+/// What follows a label is found exactly where codes stand that may follow it: a resource, the label of a full reference, the brackets of a collapsed one,
+/// or nothing.
+pub fn what_follows_is_found()
+    ensures { WhatFollowsIsFound }
+{}

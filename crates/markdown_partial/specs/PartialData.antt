@@ -1,0 +1,144 @@
+-- What the states of data do, and how runs from them end.
+use Rattle.std.specs.Prelude.{ℕ, Bool, ◌||◌, ◌&&◌, false, not, ◌==◌, if◌then◌else◌, Option, Some, None, List, [], ◌∷◌, codes}
+use Rattle.std.specs.List.{list_any}
+use Rattle.markdown_engine_content.specs.Codes.{Code, is_line_ending}
+use Rattle.markdown_engine_content.specs.ListFunctions.{first_of}
+use Rattle.markdown_engine.specs.Operations.{Op, Enter, Exit, Consume, done, current_of, ahead, exited, IsOpen}
+use Rattle.markdown_engine.specs.PastTree.{EndsAs, TreeReading, passed}
+use Rattle.markdown_engine_content.specs.Place.{code_at, moved, value_of}
+use Rattle.markdown_engine.specs.StateRuns.{Stepped, stepped}
+use Rattle.markdown_model.specs.CodeTests.{next_is}
+use Rattle.markdown_model.specs.Grammar.{until}
+use Rattle.markdown_model.specs.TextLines.{data_up_to, line_leaves, lines_of}
+use Rattle.markdown_engine_content.specs.declared.event.Name.TheVariants as N
+use Rattle.markdown_engine.specs.declared.state.State.TheVariants.{Next, Retry}
+use Rattle.markdown_engine.specs.declared.state.State.TheVariants as State
+use Rattle.markdown_engine.specs.declared.state.StateName.TheVariants.{DataAtBreak, DataInside, DataStart}
+use Rattle.markdown_engine.specs.declared.tokenizer.TokenizeState.{TokenizeState}
+use Rattle.markdown_engine.specs.declared.tokenizer.Tokenizer.{Tokenizer}
+use Rattle.markdown_engine.specs.StateWords.{StateWords}
+use Rattle.markdown_engine.specs.declared.state.StateName.{StateName}
+use Rattle.std.specs.Str.{byte}
+
+-- one of these markers
+abbrev pub marks : List ℕ → ℕ → Bool
+marks markers v = list_any (λ n. v == n) markers
+
+abbrev pub is_some_mark : List ℕ → Option ℕ → Bool
+is_some_mark markers None = false
+is_some_mark markers (Some v) = marks markers v
+
+-- Where data stops.
+
+-- a letter with which a literal may begin, behind which none goes on (GFM 6.9): an `h` before no `t`, or a `w` before no other
+abbrev pub begins_none : ℕ → Option ℕ → Bool
+begins_none v next =
+    if marks (codes "Hh") v then not (is_some_mark (codes "Tt") next) else if marks (codes "Ww") v then not (is_some_mark (codes "Ww") next) else false
+
+-- data stops at its markers, by the value at hand and the one behind it; but it may pass the letters with which no literal begins
+abbrev pub stops_at : Bool → List ℕ → ℕ → Option ℕ → Bool
+stops_at passes markers v next = marks markers v && not (passes && begins_none v next)
+
+abbrev pub stops_by : Bool → List ℕ → List Code → Bool
+stops_by passes markers [] = false
+stops_by passes markers (c ∷ cs) = stops_at passes markers c.value (value_of (first_of cs))
+
+-- what comes, where data stops: at each of its markers, but where it is told to pass such letters, as in a text, not at those
+abbrev pub stops_of : TokenizeState → List Code → Bool
+stops_of s = stops_by s.passes_letters s.markers
+
+-- the value behind the code at hand
+abbrev pub next_of : Tokenizer → Option ℕ
+next_of T = code_at (moved T.cursor)
+
+abbrev pub stops_here : Tokenizer → ℕ → Bool
+stops_here T v = stops_at T.tokenize_state.passes_letters T.tokenize_state.markers v (next_of T)
+
+-- What the states do.
+
+abbrev pub ending : List Op
+ending = Enter N.LineEnding ∷ Consume ∷ Exit N.LineEnding ∷ []
+
+abbrev pub opening : List Op
+opening = Enter N.Data ∷ Consume ∷ []
+
+-- past the code at hand, by its value
+abbrev pub passing : ℕ → Tokenizer → Stepped
+passing v T = if v == byte "\n" then stepped (Next DataAtBreak) (done ending T) else stepped (Next DataInside) (done opening T)
+
+-- by the current code
+abbrev pub start_at : Option ℕ → Tokenizer → Stepped
+start_at None T = stepped State.Ok T
+start_at (Some v) T = passing v T
+
+abbrev pub start_step : Tokenizer → Stepped
+start_step T = start_at (current_of T) T
+
+abbrev pub at_break_at : Option ℕ → Tokenizer → Stepped
+at_break_at None T = stepped State.Ok T
+at_break_at (Some v) T = if stops_here T v then stepped State.Ok T else passing v T
+
+abbrev pub at_break_step : Tokenizer → Stepped
+at_break_step T = at_break_at (current_of T) T
+
+abbrev pub leaving : Tokenizer → Stepped
+leaving T = stepped (Retry DataAtBreak) (done (Exit N.Data ∷ []) T)
+
+abbrev pub inside_at : Option ℕ → Tokenizer → Stepped
+inside_at None T = leaving T
+inside_at (Some v) T =
+    if (v == byte "\n") || stops_here T v then leaving T else stepped (Next DataInside) (done (Consume ∷ []) T)
+
+abbrev pub inside_step : Tokenizer → Stepped
+inside_step T = inside_at (current_of T) T
+
+-- in a stretch, data does other than go on at a marker alone, line endings aside
+abbrev pub inside_stops : TokenizeState → Option (List ℕ)
+inside_stops s = Some s.markers
+
+-- How runs end.
+
+-- all up to the next place where data stops, a leaf for each line and each line ending
+abbrev pub more_data : (List Code → Bool) → TreeReading
+more_data stops cs =
+    let s = until stops cs in
+    Some (line_leaves N.Data (lines_of s.0), s.1)
+
+-- a line ending comes, or data stops
+abbrev pub ends_stretch : (List Code → Bool) → List Code → Bool
+ends_stretch stops cs = next_is is_line_ending cs || stops cs
+
+-- the rest of the stretch at hand
+abbrev pub stretch_of : Tokenizer → List Code
+stretch_of T = (until (ends_stretch (stops_of T.tokenize_state)) (ahead T)).0
+
+-- past the rest of the stretch, and out of it
+abbrev pub past_stretch : Tokenizer → Tokenizer
+past_stretch T = exited N.Data (passed (stretch_of T) T)
+
+abbrev pub start_ends : Tokenizer → Bool → Tokenizer → Type 0
+start_ends T ok U = EndsAs (data_up_to (stops_of T.tokenize_state)) None T.tokenize_state T ok U
+
+abbrev pub at_break_ends : Tokenizer → Bool → Tokenizer → Type 0
+at_break_ends T ok U = EndsAs (more_data (stops_of T.tokenize_state)) None T.tokenize_state T ok U
+
+abbrev pub inside_ends : Tokenizer → Bool → Tokenizer → Type 0
+inside_ends T ok U = at_break_ends (past_stretch T) ok U
+
+-- The states.
+
+abbrev pub start_words : StateWords
+start_words = record { ready = λ T. Unit {0}; step = start_step; ends = start_ends; rank = 1 }
+
+abbrev pub at_break_words : StateWords
+at_break_words = record { ready = λ T. Unit {0}; step = at_break_step; ends = at_break_ends; rank = 1 }
+
+abbrev pub inside_words : StateWords
+inside_words = record { ready = IsOpen N.Data; step = inside_step; ends = inside_ends; rank = 2 }
+
+-- these states as they are said, and any other as it is given
+abbrev pub states : (StateName → StateWords) → StateName → StateWords
+states other DataStart = start_words
+states other DataAtBreak = at_break_words
+states other DataInside = inside_words
+states other s = other s

@@ -1,0 +1,14 @@
+pub mod BoolLemmas
+pub mod LinkedTreeLemmas
+pub mod EscapedTextReadings
+pub mod PartialDestinationReadings
+pub mod PartialDestinationLaws
+pub mod LinkedTextLines
+pub mod LinkedTextReadings
+pub mod LinkedTextLineEnding
+pub mod LinkedTextSteps
+pub mod PartialTitleReadings
+pub mod PartialTitleLaws
+pub mod PartialLabelReadings
+pub mod PartialLabelLaws
+pub mod LinkSteadyLaws

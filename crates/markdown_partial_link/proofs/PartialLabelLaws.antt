@@ -1,0 +1,413 @@
+-- The laws of the states of a label.
+use Rattle.std.proofs.Common.{◌≡◌, ℕ, ◌+◌, ◌*◌, ◌≤◌, ◌<◌, ◌==◌, ◌&&◌, ◌||◌, not, nat_le, codes, Bool, true, false, if◌then◌else◌, Some, None, List, [], ◌∷◌, length, drop, refl, sym, ap, subst, ◌∙◌, arith}
+use Rattle.std.proofs.Math.Bool.{or-true}
+use Rattle.std.proofs.lemmas.Bool.{eqb-true, not-false, not-true, or_parts}
+use Rattle.std.proofs.lemmas.Bool.Decides.{nat_tests}
+use Rattle.std.proofs.lemmas.Grind.{common_steps}
+use Rattle.markdown_engine_content.specs.Codes.{Code, is_line_ending, is_blank}
+use Rattle.markdown_engine_content.specs.ListFunctions.{rest_of}
+use Rattle.markdown_engine.specs.Operations.{Op, Exit, Consume, current_of, ahead, applied, done, scratched}
+use Rattle.markdown_engine.specs.StateRuns.{Stepped, stepped}
+use Rattle.markdown_engine.specs.Weights.{weight_at}
+use Rattle.markdown_engine_content.specs.declared.event.Name.TheVariants as N
+use Rattle.markdown_engine.specs.declared.state.State.TheVariants.{Next, Retry}
+use Rattle.markdown_engine.specs.declared.state.StateName.TheVariants.{LabelAtBreak, LabelEolAfter, LabelInside, LabelEscape, LabelNok, SpaceOrTabEolStart}
+use Rattle.markdown_engine.specs.declared.tokenizer.TokenizeState.{TokenizeState}
+use Rattle.markdown_engine.specs.declared.tokenizer.Tokenizer.{Tokenizer}
+use Rattle.markdown_engine.proofs.LawSteps.{if-step, code-step}
+use Rattle.markdown_engine.proofs.OperationFields.{ahead-none, ahead-some, Begins, attempts-scratched, some-codes}
+use Rattle.markdown_model.specs.CodeTests.{is_value, is_among}
+use Rattle.markdown_model.specs.Resource.{StringNames, label}
+use Rattle.markdown_plan.specs.Plan.{Plan, preceded, DoesAs, KeepsAs}
+use Rattle.markdown_plan.specs.ScratchFields.{with_size}
+use Rattle.markdown_plan.proofs.PlanSteps.{preceded-nil, done-scratched, no-codes}
+use Rattle.markdown_partial.specs.PartialSpaceOrTabEol.{WhitespaceAtRest}
+use Rattle.markdown_partial_link.specs.LinkedTreeOps.{plan_of}
+use Rattle.markdown_partial_link.specs.LinkedText.{ending, names_in, joined, enter_text, text_entered, TextReady, break_ops, inside_ops}
+use Rattle.markdown_partial_link.specs.PartialLabel.{rested, sized, opening, start_at, start_step, closed, refused, next_state, passing, is_short, at_break_at, leaving, inside_at, escapes, escape_at, StartReady, BreakReady, EolAfterReady, InsideReady, EscapeReady, start_ends, text_from, fits, inside_plan, break_plan, at_break_ends, nok_ends, inside_ends, escape_ends, states, at_break_words, eol_after_words, escape_words, inside_words, nok_words, start_words}
+use Rattle.markdown_partial_link.proofs.LinkedTreeLemmas.{EndsAs-linked}
+use Rattle.markdown_partial_link.proofs.PartialLabelReadings.{label-plain, fits-data, fits-ending, fits-none, fits-long, fits-seen, fits-unseen, label-here, label-none, label-covers}
+use Rattle.markdown_partial_link.proofs.LinkedTextLineEnding.{Passed, DoesAs-ending, ending-law}
+use Rattle.markdown_partial_link.proofs.LinkedTextReadings.{answer-none, breaks-end, breaks-stop, breaks-unfit, breaks-refused, breaks-data, breaks-ending, breaks-blank, insides-end, insides-next, insides-taken, insides-bare, leave-end, leave-stop, leave-refused, leave-ending}
+use Rattle.markdown_partial_link.proofs.LinkedTextSteps.{open-append, open-closed, open-rest, text-after, text-same, text-kept, rest-joined, DoesAs-fails, state-by, stays-data, moves-data, depth-data}
+use Rattle.markdown_partial_link.proofs.BoolLemmas.{or-by}
+use Rattle.markdown_model.proofs.GrammarSteps.{and-left, and-right}
+use Rattle.markdown_engine.specs.StateWords.{Words, Law, GoesIn}
+use Rattle.markdown_plan.proofs.LawStepsOfLayer.{GoesOn-map, Goes-plain, Goes-end, Goes-on, Goes-kept, Goes-ok, Goes-no, FollowsIn, follows}
+use Rattle.markdown_plan.specs.LayerEquation.{Within}
+
+-- The conditions.
+
+rest-sized : (c : ℕ) (s : TokenizeState) → WhitespaceAtRest s → WhitespaceAtRest (sized c s)
+rest-sized c s r = record { space = ap (sized c) r.space; eol = ap (sized c) r.eol }
+
+rest-size : (n : ℕ) (s : TokenizeState) → WhitespaceAtRest s → WhitespaceAtRest (with_size n s)
+rest-size n s r = record { space = ap (with_size n) r.space; eol = ap (with_size n) r.eol }
+
+opened-ready : (T : Tokenizer) → 1 ≤ length (ahead T) → StartReady T → BreakReady (done (opening (names_in T.tokenize_state)) T)
+unfolding applied
+opened-ready T more k =
+    let s : TokenizeState = T.tokenize_state in
+    let after : TextReady (done (opening (names_in s)) T) = text-kept (opening (names_in s)) T more refl k.text in
+    let none : s.size ≡ 0 = ap (λ (q : TokenizeState). q.size) (sym k.rest) in
+    let first : s.connect ≡ false = ap (λ (q : TokenizeState). q.connect) (sym k.rest) in
+    record {
+      text = record { short = after.short; resting = after.resting };
+      stand_open = refl;
+      small = omega (arith, none);
+      linked = λ h. let no : false ≡ true = sym first ∙ h in cc;
+    }
+
+left-ready : (T : Tokenizer) → InsideReady T → BreakReady (done (Exit N.Data ∷ []) T)
+unfolding applied
+left-ready T k =
+    let after : TextReady (done (Exit N.Data ∷ []) T) = text-kept (Exit N.Data ∷ []) T (no-codes T) refl k.text in
+    record {
+      text = record { short = after.short; resting = after.resting };
+      stand_open = open-rest N.Data T.tokenize_state.token_3 T.tokenize_state.token_1 T.stack k.stand_open;
+      small = k.small;
+      linked = λ h. open-closed T.events _ k.linked refl;
+    }
+
+below : (n : ℕ) → nat_le n 999 ≡ true → n + 1 ≤ 1000
+below n h = grind (arith, nat_tests, common_steps)
+
+passed-ready : (c : ℕ) (T : Tokenizer) → 1 ≤ length (ahead T) → T.tokenize_state.size + 1 ≤ 1000 → InsideReady T → InsideReady (scratched (sized c T.tokenize_state) (done (Consume ∷ []) T))
+unfolding applied scratched
+passed-ready c T more h k =
+    let after : TextReady (scratched (sized c T.tokenize_state) (done (Consume ∷ []) T)) = text-after (Consume ∷ []) (sized c T.tokenize_state) T more k.text (rest-sized c T.tokenize_state k.text.resting) in
+    record { text = record { short = after.short; resting = after.resting }; stand_open = k.stand_open; small = omega (arith, h); connect = k.connect; linked = k.linked }
+
+taken-ready : (T : Tokenizer) → 1 ≤ length (ahead T) → EscapeReady T → InsideReady (scratched (with_size (T.tokenize_state.size + 1) T.tokenize_state) (done (Consume ∷ []) T))
+unfolding applied scratched
+taken-ready T more k =
+    let s : TokenizeState = T.tokenize_state in
+    let after : TextReady (scratched (with_size (s.size + 1) s) (done (Consume ∷ []) T)) = text-after (Consume ∷ []) (with_size (s.size + 1) s) T more k.inside.text (rest-size (s.size + 1) s k.inside.text.resting) in
+    record { text = record { short = after.short; resting = after.resting }; stand_open = k.inside.stand_open; small = omega (arith, k.fits); connect = k.inside.connect; linked = k.inside.linked }
+
+-- a backslash is no whitespace
+slash-seen : (c : ℕ) (seen : Bool) → (c == 92) ≡ true → (seen || not (c == 32 || c == 9)) ≡ true
+slash-seen c seen h = ap (λ v. seen || not (v == 32 || v == 9)) (eqb-true c 92 h) ∙ or-true seen
+
+slash-ready : (c : ℕ) (T : Tokenizer) → 1 ≤ length (ahead T) → T.tokenize_state.size + 1 ≤ 1000 → (c == 92) ≡ true → InsideReady T → EscapeReady (scratched (sized c T.tokenize_state) (done (Consume ∷ []) T))
+unfolding scratched
+slash-ready c T more h e k = record { inside = passed-ready c T more h k; fits = h; seen = slash-seen c T.tokenize_state.seen e }
+
+data-ready : (b : Bool) (c : ℕ) (T : Tokenizer) → 1 ≤ length (ahead T) → T.tokenize_state.size + 1 ≤ 1000 → BreakReady T → InsideReady (scratched (sized c (joined T.tokenize_state)) (done (enter_text b ∷ Consume ∷ []) T))
+unfolding scratched applied
+data-ready true c T more h k =
+    let r : TokenizeState = sized c (joined T.tokenize_state) in
+    let after : TextReady (scratched r (done (enter_text true ∷ Consume ∷ []) T)) = text-after (enter_text true ∷ Consume ∷ []) r T more k.text (rest-sized c (joined T.tokenize_state) (rest-joined T.tokenize_state k.text.resting)) in
+    record { text = record { short = after.short; resting = after.resting }; stand_open = ap (λ ns. N.Data ∷ ns) k.stand_open; small = omega (arith, h); connect = refl; linked = open-append T.events _ refl }
+data-ready false c T more h k =
+    let r : TokenizeState = sized c (joined T.tokenize_state) in
+    let after : TextReady (scratched r (done (enter_text false ∷ Consume ∷ []) T)) = text-after (enter_text false ∷ Consume ∷ []) r T more k.text (rest-sized c (joined T.tokenize_state) (rest-joined T.tokenize_state k.text.resting)) in
+    record { text = record { short = after.short; resting = after.resting }; stand_open = ap (λ ns. N.Data ∷ ns) k.stand_open; small = omega (arith, h); connect = refl; linked = open-append T.events _ refl }
+
+data-slash : (b : Bool) (c : ℕ) (T : Tokenizer) → 1 ≤ length (ahead T) → T.tokenize_state.size + 1 ≤ 1000 → (c == 92) ≡ true → BreakReady T → EscapeReady (scratched (sized c (joined T.tokenize_state)) (done (enter_text b ∷ Consume ∷ []) T))
+unfolding scratched
+data-slash b c T more h e k = record { inside = data-ready b c T more h k; fits = h; seen = slash-seen c T.tokenize_state.seen e }
+
+eol-ready : (c : Code) (cs : List Code) (T U : Tokenizer) → BreakReady T → Passed T.tokenize_state.connect c cs T U → EolAfterReady U
+eol-ready c cs T U k j =
+    record {
+      text = text-same T U k.text j.fewer j.scratch;
+      stand_open = subst (λ (s : TokenizeState). U.stack ≡ s.token_3 ∷ s.token_1 ∷ drop 2 U.stack) (sym j.scratch) (subst (λ ns. ns ≡ T.tokenize_state.token_3 ∷ T.tokenize_state.token_1 ∷ drop 2 ns) (sym j.stack) k.stand_open);
+      small = subst (λ (s : TokenizeState). s.size ≤ 1001) (sym j.scratch) k.small;
+      linked = j.linked;
+    }
+
+joined-ready : (T : Tokenizer) → EolAfterReady T → BreakReady (scratched (joined T.tokenize_state) T)
+unfolding scratched
+joined-ready T k = record { text = record { short = k.text.short; resting = rest-joined T.tokenize_state k.text.resting }; stand_open = k.stand_open; small = k.small; linked = λ h. k.linked }
+
+-- Tests.
+
+-- one of two tests fails
+and-by : {Q : Type 0} (a b : Bool) → a && b ≡ false → (a ≡ false → Q) → (b ≡ false → Q) → Q
+and-by false b h f g = f refl
+and-by true b h f g = g h
+
+abbrev takes : Code → Bool
+takes c = is_among (codes "[\\]") c
+
+-- a label with too many codes does not hold
+long-breaks : (names : StringNames) (size : ℕ) (seen connect : Bool) (cs : List Code) → nat_le size 999 ≡ false → break_plan names size seen connect cs ≡ None
+long-breaks names size seen connect cs h = answer-none (fits size seen) (break_ops connect) (ending names) [] (text_from false cs) (λ r x. fits-long size seen r.0 h)
+
+long-insides : (names : StringNames) (size : ℕ) (seen slash : Bool) (cs : List Code) → nat_le size 999 ≡ false → inside_plan names size seen slash cs ≡ None
+long-insides names size seen slash cs h = answer-none (fits size seen) inside_ops (ending names) [] (text_from slash cs) (λ r x. fits-long size seen r.0 h)
+
+-- data ends where a break is
+leaves-here : (names : StringNames) (size : ℕ) (seen : Bool) (c : Code) (cs : List Code) → (is_line_ending c || (is_value 91 c || is_value 93 c)) ≡ true → inside_plan names size seen false (c ∷ cs) ≡ preceded (Exit N.Data ∷ []) (break_plan names size seen true (c ∷ cs))
+leaves-here names size seen c cs h =
+    or-by (is_line_ending c) (is_value 91 c || is_value 93 c) h
+    (λ g. leave-ending (is_value 93) takes (is_value 91) label-plain (ending names) (fits size seen) c cs g)
+    (λ g. or-by (is_value 91 c) (is_value 93 c) g
+    (λ f. leave-refused (is_value 93) takes (is_value 91) label-plain (ending names) (fits size seen) c cs (ap (λ v. v == 93) (eqb-true c.value 91 f)) f)
+    (λ f. leave-stop (is_value 93) takes (is_value 91) label-plain (ending names) (fits size seen) c cs f))
+
+leaves-long : (names : StringNames) (size : ℕ) (seen : Bool) (cs : List Code) → nat_le size 999 ≡ false → inside_plan names size seen false cs ≡ preceded (Exit N.Data ∷ []) (break_plan names size seen true cs)
+leaves-long names size seen cs h = long-insides names size seen false cs h ∙ ap (preceded (Exit N.Data ∷ [])) (sym (long-breaks names size seen true cs h))
+
+taken-line : (c : Code) → takes c ≡ true → is_line_ending c ≡ false
+taken-line c h =
+    or-by (c.value == 91) _ h (λ g. ap (λ v. v == 10) (eqb-true c.value 91 g)) (λ g.
+    or-by (c.value == 92) _ g (λ f. ap (λ v. v == 10) (eqb-true c.value 92 f)) (λ f.
+    or-by (c.value == 93) false f (λ e. ap (λ v. v == 10) (eqb-true c.value 93 e)) (λ e. let no : false ≡ true = e in cc)))
+
+module _ (W : Words) (within : Within states W) where
+  pub nok-law : Law W nok_words
+  nok-law T alone _ =
+      Goes-end W (weight_at 1 T) (nok_ends T) false (scratched (rested T.tokenize_state) T) (attempts-scratched _ T ∙ alone) (omega arith) (λ ok U k. k)
+
+  eol-says : (T : Tokenizer) (ok : Bool) (U : Tokenizer) → at_break_ends (scratched (joined T.tokenize_state) T) ok U → DoesAs 2 (break_plan (names_in T.tokenize_state) T.tokenize_state.size T.tokenize_state.seen true) (rested T.tokenize_state) (scratched (joined T.tokenize_state) T) ok U
+  unfolding scratched
+  eol-says T ok U k = k
+
+  pub eol_after-law : Law W eol_after_words
+  eol_after-law T alone k =
+      let s : TokenizeState = T.tokenize_state in
+      let q : Plan = break_plan (names_in s) s.size s.seen true in
+      Goes-on W 10 2 q q [] (rested s) (joined s) T (Retry LabelAtBreak) (within LabelAtBreak) alone refl (no-codes T) (omega arith)
+      (preceded-nil (q (ahead T)))
+      (joined-ready T k)
+      (λ ok U x. eol-says T ok U x)
+
+  -- In a stretch.
+
+  sized-inside : (c : ℕ) (T : Tokenizer) (ok : Bool) (U : Tokenizer) → inside_ends (scratched (sized c T.tokenize_state) (done (Consume ∷ []) T)) ok U → DoesAs 3 (inside_plan (names_in T.tokenize_state) (T.tokenize_state.size + 1) (sized c T.tokenize_state).seen false) (rested T.tokenize_state) (scratched (sized c T.tokenize_state) (done (Consume ∷ []) T)) ok U
+  unfolding scratched
+  sized-inside c T ok U k = k
+
+  sized-escape : (c : ℕ) (T : Tokenizer) (ok : Bool) (U : Tokenizer) → escape_ends (scratched (sized c T.tokenize_state) (done (Consume ∷ []) T)) ok U → DoesAs 3 (inside_plan (names_in T.tokenize_state) (T.tokenize_state.size + 1) (sized c T.tokenize_state).seen true) (rested T.tokenize_state) (scratched (sized c T.tokenize_state) (done (Consume ∷ []) T)) ok U
+  unfolding scratched
+  sized-escape c T ok U k = k
+
+  -- on past a code that passes
+  goes-inside : (T : Tokenizer) → T.attempts ≡ [] → InsideReady T → T.tokenize_state.size + 1 ≤ 1000 → (c : ℕ) → current_of T ≡ Some c → inside_plan (names_in T.tokenize_state) T.tokenize_state.size T.tokenize_state.seen false (ahead T) ≡ preceded (Consume ∷ []) (inside_plan (names_in T.tokenize_state) (T.tokenize_state.size + 1) (sized c T.tokenize_state).seen (c == 92) (drop 1 (ahead T))) → GoesIn W (weight_at 10 T) (inside_ends T) (passing c T)
+  goes-inside T alone k small c h same =
+      let s : TokenizeState = T.tokenize_state in
+      let p : Plan = inside_plan (names_in s) s.size s.seen false in
+      let q : Bool → Plan = inside_plan (names_in s) (s.size + 1) (sized c s).seen in
+      let V : Tokenizer = scratched (sized c s) (done (Consume ∷ []) T) in
+      let more : 1 ≤ length (ahead T) = some-codes T c h in
+      state-by (λ st. GoesIn W (weight_at 10 T) (inside_ends T) (stepped st V)) (c == 92) (Next LabelEscape) (Next LabelInside)
+      (λ f. Goes-on W 10 3 p (q true) (Consume ∷ []) (rested s) (sized c s) T (Next LabelEscape) (within LabelEscape) alone refl more (omega arith)
+      (same ∙ ap (λ b. preceded (Consume ∷ []) (q b (drop 1 (ahead T)))) f)
+      (slash-ready c T more small f k)
+      (λ ok U x. sized-escape c T ok U x))
+      (λ f. Goes-on W 10 3 p (q false) (Consume ∷ []) (rested s) (sized c s) T (Next LabelInside) (within LabelInside) alone refl more (omega arith)
+      (same ∙ ap (λ b. preceded (Consume ∷ []) (q b (drop 1 (ahead T)))) f)
+      (passed-ready c T more small k)
+      (λ ok U x. sized-inside c T ok U x))
+
+  goes-leave : (T : Tokenizer) → T.attempts ≡ [] → InsideReady T → inside_plan (names_in T.tokenize_state) T.tokenize_state.size T.tokenize_state.seen false (ahead T) ≡ preceded (Exit N.Data ∷ []) (break_plan (names_in T.tokenize_state) T.tokenize_state.size T.tokenize_state.seen true (ahead T)) → GoesIn W (weight_at 10 T) (inside_ends T) (leaving T)
+  unfolding applied
+  goes-leave T alone k same =
+      let s : TokenizeState = T.tokenize_state in
+      let q : Plan = break_plan (names_in s) s.size s.seen s.connect in
+      Goes-kept W 10 3 (inside_plan (names_in s) s.size s.seen false) q (Exit N.Data ∷ []) (rested s) T (Retry LabelAtBreak) (within LabelAtBreak) alone refl (no-codes T) (omega arith)
+      (same ∙ ap (λ b. preceded (Exit N.Data ∷ []) (break_plan (names_in s) s.size s.seen b (ahead T))) (sym k.connect))
+      (left-ready T k)
+      (λ ok U x. x)
+
+  pub inside-law : Law W inside_words
+  inside-law T alone k =
+      let s : TokenizeState = T.tokenize_state in
+      let names : StringNames = names_in s in
+      let p : Plan = inside_plan names s.size s.seen false in
+      let P : Stepped → Type 0 = GoesIn W (weight_at 10 T) (inside_ends T) in
+      let here : List Code → Type 0 = λ xs. p xs ≡ preceded (Exit N.Data ∷ []) (break_plan names s.size s.seen true xs) in
+      code-step P (current_of T) (λ o. inside_at o T)
+      (λ e. goes-leave T alone k (subst here (sym (ahead-none T e)) (leave-end (is_value 93) takes (is_value 91) label-plain (ending names) (fits s.size s.seen))))
+      (λ c e.
+      let b : Begins c (ahead T) = ahead-some T c e in
+      let cs : List Code = rest_of (ahead T) in
+      if-step P (not (c == 10 || (c == 91 || c == 93)) && is_short T) _ _
+      (λ h.
+      let goes : (c == 10 || (c == 91 || c == 93)) ≡ false = not-true _ (and-left _ _ h) in
+      let line : is_line_ending b.code ≡ false = ap (λ v. v == 10) b.value ∙ (or_parts _ _ goes).0 in
+      goes-inside T alone k (below s.size (and-right _ _ h)) c e
+      (ap p b.whole
+      ∙ insides-next (is_value 93) takes (is_value 91) label-plain (ending names) (fits s.size s.seen) (fits (s.size + 1) (s.seen || not (is_blank b.code))) (c == 92) b.code cs (ap (λ v. v == 93) b.value ∙ (or_parts _ _ (or_parts _ _ goes).1).1) (ap (λ v. v == 91) b.value ∙ (or_parts _ _ (or_parts _ _ goes).1).0) line (ap (λ v. v == 92) b.value) (λ text. fits-data s.size s.seen b.code text line)
+      ∙ ap (λ v. preceded (Consume ∷ []) (inside_plan names (s.size + 1) (s.seen || not (v == 32 || v == 9)) (c == 92) cs)) b.value))
+      (λ h. and-by (not (c == 10 || (c == 91 || c == 93))) (is_short T) h
+      (λ g. goes-leave T alone k (subst here (sym b.whole) (leaves-here names s.size s.seen b.code cs (ap (λ v. v == 10 || (v == 91 || v == 93)) b.value ∙ not-false _ g))))
+      (λ g. goes-leave T alone k (leaves-long names s.size s.seen (ahead T) g))))
+
+  escape-goes : (T : Tokenizer) → T.attempts ≡ [] → EscapeReady T → inside_plan (names_in T.tokenize_state) T.tokenize_state.size T.tokenize_state.seen true (ahead T) ≡ inside_plan (names_in T.tokenize_state) T.tokenize_state.size T.tokenize_state.seen false (ahead T) → GoesIn W (weight_at 11 T) (escape_ends T) (stepped (Retry LabelInside) T)
+  escape-goes T alone k same =
+      let s : TokenizeState = T.tokenize_state in
+      let q : Bool → Plan = inside_plan (names_in s) s.size s.seen in
+      Goes-kept W 11 3 (q true) (q false) [] (rested s) T (Retry LabelInside) (within LabelInside) alone refl (no-codes T) (omega arith)
+      (same ∙ preceded-nil (q false (ahead T)))
+      k.inside
+      (λ ok U x. x)
+
+  taken-says : (T : Tokenizer) (ok : Bool) (U : Tokenizer) → inside_ends (scratched (with_size (T.tokenize_state.size + 1) T.tokenize_state) (done (Consume ∷ []) T)) ok U → DoesAs 3 (inside_plan (names_in T.tokenize_state) (T.tokenize_state.size + 1) T.tokenize_state.seen false) (rested T.tokenize_state) (scratched (with_size (T.tokenize_state.size + 1) T.tokenize_state) (done (Consume ∷ []) T)) ok U
+  unfolding scratched
+  taken-says T ok U k = k
+
+  pub escape-law : Law W escape_words
+  escape-law T alone k =
+      let s : TokenizeState = T.tokenize_state in
+      let names : StringNames = names_in s in
+      let p : Plan = inside_plan names s.size s.seen true in
+      let q : Plan = inside_plan names (s.size + 1) s.seen false in
+      let P : Stepped → Type 0 = GoesIn W (weight_at 11 T) (escape_ends T) in
+      let same : List Code → Type 0 = λ xs. p xs ≡ inside_plan names s.size s.seen false xs in
+      code-step P (current_of T) (λ o. escape_at o T)
+      (λ e. escape-goes T alone k (subst same (sym (ahead-none T e)) (insides-end (is_value 93) takes (is_value 91) label-plain (ending names) (fits s.size s.seen) true ∙ sym (insides-end (is_value 93) takes (is_value 91) label-plain (ending names) (fits s.size s.seen) false))))
+      (λ c e.
+      let b : Begins c (ahead T) = ahead-some T c e in
+      let cs : List Code = rest_of (ahead T) in
+      if-step P (escapes c) _ _
+      (λ h.
+      let taken : takes b.code ≡ true = ap escapes b.value ∙ h in
+      let line : is_line_ending b.code ≡ false = taken-line b.code taken in
+      let seen : (s.seen || not (is_blank b.code)) ≡ s.seen = ap (λ x. x || not (is_blank b.code)) k.seen ∙ sym k.seen in
+      Goes-on W 11 3 p q (Consume ∷ []) (rested s) (with_size (s.size + 1) s) T (Next LabelInside) (within LabelInside) alone refl (some-codes T c e) (omega arith)
+      (ap p b.whole ∙ insides-taken (is_value 93) takes (is_value 91) label-plain (ending names) (fits s.size s.seen) (fits (s.size + 1) s.seen) b.code cs taken line (λ text. fits-data s.size s.seen b.code text line ∙ ap (λ x. fits (s.size + 1) x text) seen))
+      (taken-ready T (some-codes T c e) k)
+      (λ ok U x. taken-says T ok U x))
+      (λ h. escape-goes T alone k (subst same (sym b.whole) (insides-bare (is_value 93) takes (is_value 91) label-plain (ending names) (fits s.size s.seen) b.code cs (ap escapes b.value ∙ h)))))
+
+  -- Between two stretches.
+
+  nok-says : (T : Tokenizer) → break_plan (names_in T.tokenize_state) T.tokenize_state.size T.tokenize_state.seen T.tokenize_state.connect (ahead T) ≡ None → (ok : Bool) (U : Tokenizer) → nok_ends T ok U → at_break_ends T ok U
+  nok-says T e ok U x = DoesAs-fails 2 (break_plan (names_in T.tokenize_state) T.tokenize_state.size T.tokenize_state.seen T.tokenize_state.connect) (rested T.tokenize_state) T e ok U x
+
+  nok-goes : (T : Tokenizer) → break_plan (names_in T.tokenize_state) T.tokenize_state.size T.tokenize_state.seen T.tokenize_state.connect (ahead T) ≡ None → FollowsIn W (weight_at 9 T) (at_break_ends T) (Next LabelNok) T
+  nok-goes T e = follows W _ _ (Next LabelNok) (within LabelNok) T tt (omega arith) (nok-says T e)
+
+  refuses-here : (T : Tokenizer) → T.attempts ≡ [] → break_plan (names_in T.tokenize_state) T.tokenize_state.size T.tokenize_state.seen T.tokenize_state.connect (ahead T) ≡ None → GoesIn W (weight_at 9 T) (at_break_ends T) (refused T)
+  refuses-here T alone e = Goes-plain W (weight_at 9 T) (at_break_ends T) (Retry LabelNok) (within LabelNok) T alone tt (omega arith) (nok-says T e)
+
+  inside-says : (b : Bool) (c : ℕ) (T : Tokenizer) (ok : Bool) (U : Tokenizer) → inside_ends (scratched (sized c (joined T.tokenize_state)) (done (enter_text b ∷ Consume ∷ []) T)) ok U → DoesAs 3 (inside_plan (names_in T.tokenize_state) (T.tokenize_state.size + 1) (sized c T.tokenize_state).seen false) (rested T.tokenize_state) (scratched (sized c (joined T.tokenize_state)) (done (enter_text b ∷ Consume ∷ []) T)) ok U
+  unfolding scratched
+  inside-says b c T ok U k = k
+
+  escape-says : (b : Bool) (c : ℕ) (T : Tokenizer) (ok : Bool) (U : Tokenizer) → escape_ends (scratched (sized c (joined T.tokenize_state)) (done (enter_text b ∷ Consume ∷ []) T)) ok U → DoesAs 3 (inside_plan (names_in T.tokenize_state) (T.tokenize_state.size + 1) (sized c T.tokenize_state).seen true) (rested T.tokenize_state) (scratched (sized c (joined T.tokenize_state)) (done (enter_text b ∷ Consume ∷ []) T)) ok U
+  unfolding scratched
+  escape-says b c T ok U k = k
+
+  entered-sized : (c : ℕ) (T : Tokenizer) → scratched (sized c (joined T.tokenize_state)) (done (enter_text T.tokenize_state.connect ∷ Consume ∷ []) T) ≡ scratched (sized c (text_entered T).tokenize_state) (done (Consume ∷ []) (text_entered T))
+  unfolding scratched
+  entered-sized c T =
+      ap (λ (x : Tokenizer). scratched (sized c (joined T.tokenize_state)) x) (sym (done-scratched (Consume ∷ []) (joined T.tokenize_state) (done (enter_text T.tokenize_state.connect ∷ []) T)))
+
+  -- data begins
+  data-goes : (T : Tokenizer) → T.attempts ≡ [] → BreakReady T → T.tokenize_state.size + 1 ≤ 1000 → (c : ℕ) → current_of T ≡ Some c → break_plan (names_in T.tokenize_state) T.tokenize_state.size T.tokenize_state.seen T.tokenize_state.connect (ahead T) ≡ preceded (enter_text T.tokenize_state.connect ∷ Consume ∷ []) (inside_plan (names_in T.tokenize_state) (T.tokenize_state.size + 1) (sized c T.tokenize_state).seen (c == 92) (drop 1 (ahead T))) → GoesIn W (weight_at 9 T) (at_break_ends T) (passing c (text_entered T))
+  data-goes T alone k small c e same =
+      let s : TokenizeState = T.tokenize_state in
+      let connect : Bool = s.connect in
+      let os : List Op = enter_text connect ∷ Consume ∷ [] in
+      let p : Plan = break_plan (names_in s) s.size s.seen connect in
+      let q : Bool → Plan = inside_plan (names_in s) (s.size + 1) (sized c s).seen in
+      let more : 1 ≤ length (ahead T) = some-codes T c e in
+      let r : TokenizeState = sized c (joined s) in
+      let V : Tokenizer = scratched r (done os T) in
+      subst (λ (x : Tokenizer). GoesIn W (weight_at 9 T) (at_break_ends T) (stepped (next_state c) x)) (entered-sized c T)
+      (state-by (λ st. GoesIn W (weight_at 9 T) (at_break_ends T) (stepped st V)) (c == 92) (Next LabelEscape) (Next LabelInside)
+      (λ f. Goes-on W 9 2 p (q true) os (rested s) r T (Next LabelEscape) (within LabelEscape) alone (stays-data connect) (moves-data connect (λ n. n ≤ length (ahead T)) more) (moves-data connect (λ n. 11 < 256 * n + 9) (omega arith))
+      (same ∙ ap (λ b. preceded os (q b (drop 1 (ahead T)))) f ∙ moves-data connect (λ n. preceded os (q true (drop 1 (ahead T))) ≡ preceded os (q true (drop n (ahead T)))) refl)
+      (data-slash connect c T more small f k)
+      (λ ok U x. depth-data connect (λ d. DoesAs d (q true) (rested s) V ok U) (escape-says connect c T ok U x)))
+      (λ f. Goes-on W 9 2 p (q false) os (rested s) r T (Next LabelInside) (within LabelInside) alone (stays-data connect) (moves-data connect (λ n. n ≤ length (ahead T)) more) (moves-data connect (λ n. 10 < 256 * n + 9) (omega arith))
+      (same ∙ ap (λ b. preceded os (q b (drop 1 (ahead T)))) f ∙ moves-data connect (λ n. preceded os (q false (drop 1 (ahead T))) ≡ preceded os (q false (drop n (ahead T)))) refl)
+      (data-ready connect c T more small k)
+      (λ ok U x. depth-data connect (λ d. DoesAs d (q false) (rested s) V ok U) (inside-says connect c T ok U x))))
+
+  -- behind a line ending and blank codes
+  eol-goes : (T : Tokenizer) → BreakReady T → (c : Code) (cs : List Code) → ahead T ≡ c ∷ cs → is_line_ending c ≡ true → (U : Tokenizer) → Passed T.tokenize_state.connect c cs T U → FollowsIn W (weight_at 9 T) (at_break_ends T) (Next LabelEolAfter) U
+  eol-goes T k c cs whole line U j =
+      let s : TokenizeState = T.tokenize_state in
+      let names : StringNames = names_in s in
+      let p : Plan = break_plan names s.size s.seen s.connect in
+      let q : Plan = break_plan names s.size s.seen true in
+      let reads : p (ahead T) ≡ _ =
+      ap p whole ∙ breaks-ending (is_value 93) takes (is_value 91) label-plain (ending names) (fits s.size s.seen) s.connect c cs line j.filled (λ ws text w b. fits-ending s.size s.seen c ws text line w b) in
+      follows W _ _ (Next LabelEolAfter) (within LabelEolAfter) U (eol-ready c cs T U k j) (omega (arith, j.fewer))
+      (λ ok V x. DoesAs-ending p q s.connect c cs (rested s) T U j reads ok V (subst (λ (r : TokenizeState). DoesAs 2 (break_plan (names_in r) r.size r.seen true) (rested r) U ok V) j.scratch x))
+
+  -- at the closing bracket
+  closes-by : (seen : Bool) (T : Tokenizer) → T.attempts ≡ [] → T.tokenize_state.seen ≡ seen → nat_le T.tokenize_state.size 999 ≡ true → (c : Code) (cs : List Code) → ahead T ≡ c ∷ cs → is_value 93 c ≡ true → GoesIn W (weight_at 9 T) (at_break_ends T) (if seen then closed T else refused T)
+  closes-by true T alone e short c cs whole h =
+      let s : TokenizeState = T.tokenize_state in
+      let p : Plan = break_plan (names_in s) s.size s.seen s.connect in
+      Goes-ok W 9 2 p (ending (names_in s)) (rested s) T alone
+      (ap p whole ∙ breaks-stop (is_value 93) takes (is_value 91) label-plain (ending (names_in s)) (fits s.size s.seen) s.connect c cs h (ap (λ x. fits s.size x []) e ∙ fits-seen s.size short))
+  closes-by false T alone e short c cs whole h =
+      let s : TokenizeState = T.tokenize_state in
+      refuses-here T alone (ap (break_plan (names_in s) s.size s.seen s.connect) whole
+      ∙ breaks-unfit (is_value 93) takes (is_value 91) label-plain (ending (names_in s)) (fits s.size s.seen) s.connect c cs h (ap (λ x. fits s.size x []) e ∙ fits-unseen s.size))
+
+  pub at_break-law : Law W at_break_words
+  at_break-law T alone k =
+      let s : TokenizeState = T.tokenize_state in
+      let names : StringNames = names_in s in
+      let connect : Bool = s.connect in
+      let p : Plan = break_plan names s.size s.seen connect in
+      let P : Stepped → Type 0 = GoesIn W (weight_at 9 T) (at_break_ends T) in
+      code-step P (current_of T) (λ o. at_break_at o T)
+      (λ e. refuses-here T alone (ap p (ahead-none T e) ∙ breaks-end (is_value 93) takes (is_value 91) label-plain (ending names) (fits s.size s.seen) connect))
+      (λ c e.
+      let b : Begins c (ahead T) = ahead-some T c e in
+      let cs : List Code = rest_of (ahead T) in
+      if-step P (not (c == 91) && is_short T) _ _
+      (λ h.
+      let bare : is_value 91 b.code ≡ false = ap (λ v. v == 91) b.value ∙ not-true (c == 91) (and-left (not (c == 91)) (is_short T) h) in
+      let short : nat_le s.size 999 ≡ true = and-right (not (c == 91)) (is_short T) h in
+      if-step P (c == 93) _ _
+      (λ g. closes-by s.seen T alone refl short b.code cs b.whole (ap (λ v. v == 93) b.value ∙ g))
+      (λ g. if-step P (c == 10) _ _
+      (λ f.
+      let line : is_line_ending b.code ≡ true = ap (λ v. v == 10) b.value ∙ f in
+      ending-law W (within SpaceOrTabEolStart) (weight_at 9 T) (at_break_ends T) LabelEolAfter LabelNok T c b alone k.text k.linked line (omega arith) (
+        λ U now j. eol-goes T k b.code cs b.whole line U j,
+        λ u. nok-goes T (ap p b.whole ∙ breaks-blank (is_value 93) takes (is_value 91) label-plain (ending names) (fits s.size s.seen) connect b.code cs line u (λ ws d text w l. fits-none s.size s.seen b.code ws d text line w l)),
+      ))
+      (λ f.
+      let line : is_line_ending b.code ≡ false = ap (λ v. v == 10) b.value ∙ f in
+      data-goes T alone k (below s.size short) c e
+      (ap p b.whole
+      ∙ breaks-data (is_value 93) takes (is_value 91) label-plain (ending names) (fits s.size s.seen) (fits (s.size + 1) (s.seen || not (is_blank b.code))) connect (c == 92) b.code cs (ap (λ v. v == 93) b.value ∙ g) bare line (ap (λ v. v == 92) b.value) (λ text. fits-data s.size s.seen b.code text line)
+      ∙ ap (λ v. preceded (enter_text connect ∷ Consume ∷ []) (inside_plan names (s.size + 1) (s.seen || not (v == 32 || v == 9)) (c == 92) cs)) b.value))))
+      (λ h. refuses-here T alone (and-by (not (c == 91)) (is_short T) h
+      (λ g.
+      let bare : is_value 91 b.code ≡ true = ap (λ v. v == 91) b.value ∙ not-false _ g in
+      ap p b.whole ∙ breaks-refused (is_value 93) takes (is_value 91) label-plain (ending names) (fits s.size s.seen) connect b.code cs (ap (λ v. v == 93) (eqb-true b.code.value 91 bare)) bare)
+      (λ g. long-breaks names s.size s.seen connect (ahead T) g))))
+
+  -- From the start.
+
+  start-says : (T : Tokenizer) → StartReady T → (ok : Bool) (U : Tokenizer) → at_break_ends (done (opening (names_in T.tokenize_state)) T) ok U → DoesAs 2 (break_plan (names_in T.tokenize_state) 0 false false) T.tokenize_state (done (opening (names_in T.tokenize_state)) T) ok U
+  unfolding applied
+  start-says T k ok U x =
+      let s : TokenizeState = T.tokenize_state in
+      let V : Tokenizer = done (opening (names_in s)) T in
+      let R : TokenizeState → Type 0 = λ q. DoesAs 2 (break_plan (names_in s) q.size q.seen q.connect) (rested s) V ok U in
+      let S : TokenizeState → Type 0 = λ q. DoesAs 2 (break_plan (names_in s) 0 false false) q V ok U in
+      subst S k.rest (subst R (sym k.rest) x)
+
+  pub start-law : Law W start_words
+  start-law T alone k =
+      let s : TokenizeState = T.tokenize_state in
+      let names : StringNames = names_in s in
+      let p : Plan = plan_of (label names) in
+      let E : Bool → Tokenizer → Type 0 = KeepsAs 0 p T in
+      let P : Stepped → Type 0 = GoesIn W (weight_at 11 T) E in
+      GoesOn-map W (weight_at 11 T) E (start_ends T) (start_step T) (λ ok U x. EndsAs-linked (label names) (label-covers names) s T ok U x)
+      (code-step P (current_of T) (λ o. start_at o T)
+      (λ e. Goes-no W 11 0 p T alone (ap p (ahead-none T e) ∙ label-none names [] refl))
+      (λ c e.
+      let b : Begins c (ahead T) = ahead-some T c e in
+      let cs : List Code = rest_of (ahead T) in
+      let more : 1 ≤ length (ahead T) = some-codes T c e in
+      if-step P (c == 91) _ _
+      (λ h. Goes-kept W 11 0 p (break_plan names 0 false false) (opening names) s T (Next LabelAtBreak) (within LabelAtBreak) alone refl more (omega arith)
+      (ap p b.whole ∙ label-here names b.code cs (ap (λ v. v == 91) b.value ∙ h))
+      (opened-ready T more k)
+      (λ ok U x. start-says T k ok U x))
+      (λ h. Goes-no W 11 0 p T alone (ap p b.whole ∙ label-none names (b.code ∷ cs) (ap (λ v. v == 91) b.value ∙ h)))))

@@ -1,0 +1,349 @@
+-- The laws of the states of a title.
+use Rattle.std.proofs.Common.{◌≡◌, ℕ, ◌+◌, ◌*◌, ◌≤◌, ◌<◌, ◌==◌, ◌||◌, Bool, true, false, Some, None, List, [], ◌∷◌, length, drop, refl, sym, ap, subst, ◌∙◌, arith}
+use Rattle.std.proofs.lemmas.Bool.{eqb-true, or_parts}
+use Rattle.markdown_engine_content.specs.Codes.{Code, is_line_ending}
+use Rattle.markdown_engine_content.specs.ListFunctions.{rest_of}
+use Rattle.markdown_engine.specs.Operations.{Op, Enter, Exit, Consume, current_of, ahead, applied, done, scratched}
+use Rattle.markdown_engine.specs.StateRuns.{Stepped, stepped}
+use Rattle.markdown_engine.specs.Weights.{weight_at}
+use Rattle.markdown_engine_content.specs.declared.event.Name.TheVariants as N
+use Rattle.markdown_engine.specs.declared.state.State.TheVariants.{Next, Retry}
+use Rattle.markdown_engine.specs.declared.state.StateName.TheVariants.{TitleBegin, TitleAtBreak, TitleAfterEol, TitleInside, TitleEscape, TitleNok, SpaceOrTabEolStart}
+use Rattle.markdown_engine.specs.declared.tokenizer.TokenizeState.{TokenizeState}
+use Rattle.markdown_engine.specs.declared.tokenizer.Tokenizer.{Tokenizer}
+use Rattle.markdown_engine.proofs.LawSteps.{if-step, code-step}
+use Rattle.markdown_engine.proofs.OperationFields.{ahead-none, ahead-some, Begins, attempts-scratched, some-codes}
+use Rattle.markdown_model.specs.CodeTests.{is_value, is_among, next_is}
+use Rattle.markdown_model.specs.Resource.{StringNames, title}
+use Rattle.markdown_plan.specs.Plan.{Plan, preceded, DoesAs, KeepsAs}
+use Rattle.markdown_plan.proofs.PlanSteps.{preceded-nil, done-scratched, no-codes}
+use Rattle.markdown_partial.specs.PartialSpaceOrTabEol.{WhitespaceAtRest}
+use Rattle.markdown_partial_link.specs.LinkedTreeOps.{plan_of}
+use Rattle.markdown_partial_link.specs.LinkedText.{closing, ending, names_in, joined, enter_text, text_entered, TextReady, ends_filled}
+use Rattle.markdown_partial_link.specs.PartialTitle.{begun, rested, opening, opened, start_at, start_step, beginning, begin_at, next_state, passing, at_break_at, leaving, inside_at, escapes, escape_at, is_closer, StartReady, BeginReady, BreakReady, AfterEolReady, InsideReady, start_ends, inside_plan, break_plan, begin_plan, begin_ends, at_break_ends, nok_ends, inside_ends, escape_ends, states, after_eol_words, at_break_words, begin_words, escape_words, inside_words, nok_words, start_words}
+use Rattle.markdown_partial_link.proofs.LinkedTreeLemmas.{EndsAs-linked}
+use Rattle.markdown_partial_link.proofs.LinkedTextLineEnding.{Passed, DoesAs-ending, ending-law}
+use Rattle.markdown_partial_link.proofs.LinkedTextReadings.{filled-data, filled-ending, filled-none, breaks-end, breaks-stop, breaks-data, breaks-ending, breaks-blank, insides-end, insides-next, insides-taken, insides-bare, leave-end, leave-stop, leave-ending}
+use Rattle.markdown_partial_link.proofs.LinkedTextSteps.{open-append, open-closed, open-rest, text-after, text-same, text-kept, rest-joined, DoesAs-fails, state-by, stays-data, moves-data, depth-data}
+use Rattle.markdown_partial_link.proofs.PartialTitleReadings.{title-plain, closer-line, title-none, title-double, title-single, title-paren, title-covers}
+use Rattle.markdown_partial_link.proofs.BoolLemmas.{or-by}
+use Rattle.markdown_model.proofs.GrammarSteps.{if-true, if-false}
+use Rattle.markdown_engine.specs.StateWords.{Words, Law, GoesIn}
+use Rattle.markdown_plan.proofs.LawStepsOfLayer.{GoesOn-map, Goes-plain, Goes-end, Goes-on, Goes-kept, Goes-ok, Goes-no, FollowsIn, follows}
+use Rattle.markdown_plan.specs.LayerEquation.{Within}
+
+-- The conditions.
+
+rest-begun : (m : ℕ) (s : TokenizeState) → WhitespaceAtRest s → WhitespaceAtRest (begun m s)
+rest-begun m s r = record { space = ap (begun m) r.space; eol = ap (begun m) r.eol }
+
+begun-ready : (m : ℕ) (T : Tokenizer) → 1 ≤ length (ahead T) → is_closer m ≡ true → StartReady T → BeginReady (scratched (begun m T.tokenize_state) (done (opening (names_in T.tokenize_state)) T))
+unfolding scratched applied
+begun-ready m T more h k =
+    let after : TextReady (scratched (begun m T.tokenize_state) (done (opening (names_in T.tokenize_state)) T)) = text-after (opening (names_in T.tokenize_state)) (begun m T.tokenize_state) T more k.text (rest-begun m T.tokenize_state k.text.resting) in
+    record { text = record { short = after.short; resting = after.resting }; closer = h; stand_open = refl; first = ap (λ (s : TokenizeState). s.connect) (sym k.rest) }
+
+entered-ready : (T : Tokenizer) → BeginReady T → BreakReady (done (Enter T.tokenize_state.token_3 ∷ []) T)
+unfolding applied
+entered-ready T k =
+    let after : TextReady (done (Enter T.tokenize_state.token_3 ∷ []) T) = text-kept (Enter T.tokenize_state.token_3 ∷ []) T (no-codes T) refl k.text in
+    record {
+      text = record { short = after.short; resting = after.resting };
+      closer = k.closer;
+      stand_open = ap (λ ns. T.tokenize_state.token_3 ∷ ns) k.stand_open;
+      linked = λ h. let no : false ≡ true = sym k.first ∙ h in cc;
+    }
+
+left-ready : (T : Tokenizer) → InsideReady T → BreakReady (done (Exit N.Data ∷ []) T)
+unfolding applied
+left-ready T k =
+    let after : TextReady (done (Exit N.Data ∷ []) T) = text-kept (Exit N.Data ∷ []) T (no-codes T) refl k.text in
+    record {
+      text = record { short = after.short; resting = after.resting };
+      closer = k.closer;
+      stand_open = open-rest N.Data T.tokenize_state.token_3 T.tokenize_state.token_1 T.stack k.stand_open;
+      linked = λ h. open-closed T.events _ k.linked refl;
+    }
+
+passed-ready : (T : Tokenizer) → 1 ≤ length (ahead T) → InsideReady T → InsideReady (done (Consume ∷ []) T)
+unfolding applied
+passed-ready T more k =
+    let after : TextReady (done (Consume ∷ []) T) = text-kept (Consume ∷ []) T more refl k.text in
+    record { text = record { short = after.short; resting = after.resting }; closer = k.closer; stand_open = k.stand_open; connect = k.connect; linked = k.linked }
+
+data-ready : (b : Bool) (T : Tokenizer) → 1 ≤ length (ahead T) → BreakReady T → InsideReady (scratched (joined T.tokenize_state) (done (enter_text b ∷ Consume ∷ []) T))
+unfolding scratched applied
+data-ready true T more k =
+    let after : TextReady (scratched (joined T.tokenize_state) (done (enter_text true ∷ Consume ∷ []) T)) = text-after (enter_text true ∷ Consume ∷ []) (joined T.tokenize_state) T more k.text (rest-joined T.tokenize_state k.text.resting) in
+    record { text = record { short = after.short; resting = after.resting }; closer = k.closer; stand_open = ap (λ ns. N.Data ∷ ns) k.stand_open; connect = refl; linked = open-append T.events _ refl }
+data-ready false T more k =
+    let after : TextReady (scratched (joined T.tokenize_state) (done (enter_text false ∷ Consume ∷ []) T)) = text-after (enter_text false ∷ Consume ∷ []) (joined T.tokenize_state) T more k.text (rest-joined T.tokenize_state k.text.resting) in
+    record { text = record { short = after.short; resting = after.resting }; closer = k.closer; stand_open = ap (λ ns. N.Data ∷ ns) k.stand_open; connect = refl; linked = open-append T.events _ refl }
+
+eol-ready : (c : Code) (cs : List Code) (T U : Tokenizer) → BreakReady T → Passed T.tokenize_state.connect c cs T U → AfterEolReady U
+eol-ready c cs T U k j =
+    record {
+      text = text-same T U k.text j.fewer j.scratch;
+      closer = ap (λ (s : TokenizeState). is_closer s.marker) j.scratch ∙ k.closer;
+      stand_open = subst (λ (s : TokenizeState). U.stack ≡ s.token_3 ∷ s.token_1 ∷ drop 2 U.stack) (sym j.scratch) (subst (λ ns. ns ≡ T.tokenize_state.token_3 ∷ T.tokenize_state.token_1 ∷ drop 2 ns) (sym j.stack) k.stand_open);
+      linked = j.linked;
+    }
+
+joined-ready : (T : Tokenizer) → AfterEolReady T → BreakReady (scratched (joined T.tokenize_state) T)
+unfolding scratched
+joined-ready T k = record { text = record { short = k.text.short; resting = rest-joined T.tokenize_state k.text.resting }; closer = k.closer; stand_open = k.stand_open; linked = λ h. k.linked }
+
+-- Tests.
+
+module _ (W : Words) (within : Within states W) where
+  pub nok-law : Law W nok_words
+  nok-law T alone _ =
+      Goes-end W (weight_at 1 T) (nok_ends T) false (scratched (rested T.tokenize_state) T) (attempts-scratched _ T ∙ alone) (omega arith) (λ ok U k. k)
+
+  eol-says : (T : Tokenizer) (ok : Bool) (U : Tokenizer) → at_break_ends (scratched (joined T.tokenize_state) T) ok U → DoesAs 2 (break_plan T.tokenize_state.marker (names_in T.tokenize_state) true) (rested T.tokenize_state) (scratched (joined T.tokenize_state) T) ok U
+  unfolding scratched
+  eol-says T ok U k = k
+
+  pub after_eol-law : Law W after_eol_words
+  after_eol-law T alone k =
+      let s : TokenizeState = T.tokenize_state in
+      let q : Plan = break_plan s.marker (names_in s) true in
+      Goes-on W 10 2 q q [] (rested s) (joined s) T (Retry TitleAtBreak) (within TitleAtBreak) alone refl (no-codes T) (omega arith)
+      (preceded-nil (q (ahead T)))
+      (joined-ready T k)
+      (λ ok U x. eol-says T ok U x)
+
+  -- In a stretch.
+
+  -- on past a code that passes
+  goes-inside : (T : Tokenizer) → T.attempts ≡ [] → InsideReady T → (c : ℕ) → current_of T ≡ Some c → inside_plan T.tokenize_state.marker (names_in T.tokenize_state) false (ahead T) ≡ preceded (Consume ∷ []) (inside_plan T.tokenize_state.marker (names_in T.tokenize_state) (c == 92) (drop 1 (ahead T))) → GoesIn W (weight_at 10 T) (inside_ends T) (passing c T)
+  unfolding applied
+  goes-inside T alone k c h same =
+      let s : TokenizeState = T.tokenize_state in
+      let q : Bool → Plan = inside_plan s.marker (names_in s) in
+      let V : Tokenizer = done (Consume ∷ []) T in
+      state-by (λ st. GoesIn W (weight_at 10 T) (inside_ends T) (stepped st V)) (c == 92) (Next TitleEscape) (Next TitleInside)
+      (λ f. Goes-kept W 10 3 (q false) (q true) (Consume ∷ []) (rested s) T (Next TitleEscape) (within TitleEscape) alone refl (some-codes T c h) (omega arith)
+      (same ∙ ap (λ b. preceded (Consume ∷ []) (q b (drop 1 (ahead T)))) f)
+      (passed-ready T (some-codes T c h) k)
+      (λ ok U x. x))
+      (λ f. Goes-kept W 10 3 (q false) (q false) (Consume ∷ []) (rested s) T (Next TitleInside) (within TitleInside) alone refl (some-codes T c h) (omega arith)
+      (same ∙ ap (λ b. preceded (Consume ∷ []) (q b (drop 1 (ahead T)))) f)
+      (passed-ready T (some-codes T c h) k)
+      (λ ok U x. x))
+
+  goes-leave : (T : Tokenizer) → T.attempts ≡ [] → InsideReady T → inside_plan T.tokenize_state.marker (names_in T.tokenize_state) false (ahead T) ≡ preceded (Exit N.Data ∷ []) (break_plan T.tokenize_state.marker (names_in T.tokenize_state) true (ahead T)) → GoesIn W (weight_at 10 T) (inside_ends T) (leaving T)
+  unfolding applied
+  goes-leave T alone k same =
+      let s : TokenizeState = T.tokenize_state in
+      let q : Plan = break_plan s.marker (names_in s) s.connect in
+      Goes-kept W 10 3 (inside_plan s.marker (names_in s) false) q (Exit N.Data ∷ []) (rested s) T (Retry TitleAtBreak) (within TitleAtBreak) alone refl (no-codes T) (omega arith)
+      (same ∙ ap (λ b. preceded (Exit N.Data ∷ []) (break_plan s.marker (names_in s) b (ahead T))) (sym k.connect))
+      (left-ready T k)
+      (λ ok U x. x)
+
+  pub inside-law : Law W inside_words
+  inside-law T alone k =
+      let s : TokenizeState = T.tokenize_state in
+      let m : ℕ = s.marker in
+      let names : StringNames = names_in s in
+      let takes : Code → Bool = is_among (92 ∷ m ∷ []) in
+      let p : Plan = inside_plan m names false in
+      let P : Stepped → Type 0 = GoesIn W (weight_at 10 T) (inside_ends T) in
+      let here : List Code → Type 0 = λ xs. p xs ≡ preceded (Exit N.Data ∷ []) (break_plan m names true xs) in
+      code-step P (current_of T) (λ o. inside_at o T)
+      (λ e. goes-leave T alone k (subst here (sym (ahead-none T e)) (leave-end (is_value m) takes (λ x. false) (title-plain m k.closer) (ending names) (ends_filled true))))
+      (λ c e.
+      let b : Begins c (ahead T) = ahead-some T c e in
+      let cs : List Code = rest_of (ahead T) in
+      if-step P (c == 10 || c == m) _ _
+      (λ h. goes-leave T alone k (subst here (sym b.whole) (or-by (c == 10) (c == m) h
+      (λ g. leave-ending (is_value m) takes (λ x. false) (title-plain m k.closer) (ending names) (ends_filled true) b.code cs (ap (λ v. v == 10) b.value ∙ g))
+      (λ g. leave-stop (is_value m) takes (λ x. false) (title-plain m k.closer) (ending names) (ends_filled true) b.code cs (ap (λ v. v == m) b.value ∙ g)))))
+      (λ h.
+      let line : is_line_ending b.code ≡ false = ap (λ v. v == 10) b.value ∙ (or_parts _ _ h).0 in
+      goes-inside T alone k c e
+      (ap p b.whole ∙ insides-next (is_value m) takes (λ x. false) (title-plain m k.closer) (ending names) (ends_filled true) (ends_filled true) (c == 92) b.code cs (ap (λ v. v == m) b.value ∙ (or_parts _ _ h).1) refl line (ap (λ v. v == 92) b.value) (λ text. filled-data b.code text line))))
+
+  escape-goes : (T : Tokenizer) → T.attempts ≡ [] → InsideReady T → inside_plan T.tokenize_state.marker (names_in T.tokenize_state) true (ahead T) ≡ inside_plan T.tokenize_state.marker (names_in T.tokenize_state) false (ahead T) → GoesIn W (weight_at 11 T) (escape_ends T) (stepped (Retry TitleInside) T)
+  escape-goes T alone k same =
+      let s : TokenizeState = T.tokenize_state in
+      let q : Bool → Plan = inside_plan s.marker (names_in s) in
+      Goes-kept W 11 3 (q true) (q false) [] (rested s) T (Retry TitleInside) (within TitleInside) alone refl (no-codes T) (omega arith)
+      (same ∙ preceded-nil (q false (ahead T)))
+      k
+      (λ ok U x. x)
+
+  pub escape-law : Law W escape_words
+  unfolding applied
+  escape-law T alone k =
+      let s : TokenizeState = T.tokenize_state in
+      let m : ℕ = s.marker in
+      let names : StringNames = names_in s in
+      let takes : Code → Bool = is_among (92 ∷ m ∷ []) in
+      let q : Bool → Plan = inside_plan m names in
+      let P : Stepped → Type 0 = GoesIn W (weight_at 11 T) (escape_ends T) in
+      let same : List Code → Type 0 = λ xs. q true xs ≡ q false xs in
+      code-step P (current_of T) (λ o. escape_at o T)
+      (λ e. escape-goes T alone k (subst same (sym (ahead-none T e)) (insides-end (is_value m) takes (λ x. false) (title-plain m k.closer) (ending names) (ends_filled true) true ∙ sym (insides-end (is_value m) takes (λ x. false) (title-plain m k.closer) (ending names) (ends_filled true) false))))
+      (λ c e.
+      let b : Begins c (ahead T) = ahead-some T c e in
+      let cs : List Code = rest_of (ahead T) in
+      if-step P (escapes m c) _ _
+      (λ h.
+      let taken : takes b.code ≡ true = ap (escapes m) b.value ∙ h in
+      let line : is_line_ending b.code ≡ false = taken-line m k.closer b.code taken in
+      Goes-kept W 11 3 (q true) (q false) (Consume ∷ []) (rested s) T (Next TitleInside) (within TitleInside) alone refl (some-codes T c e) (omega arith)
+      (ap (q true) b.whole ∙ insides-taken (is_value m) takes (λ x. false) (title-plain m k.closer) (ending names) (ends_filled true) (ends_filled true) b.code cs taken line (λ text. filled-data b.code text line))
+      (passed-ready T (some-codes T c e) k)
+      (λ ok U x. x))
+      (λ h. escape-goes T alone k (subst same (sym b.whole) (insides-bare (is_value m) takes (λ x. false) (title-plain m k.closer) (ending names) (ends_filled true) b.code cs (ap (escapes m) b.value ∙ h))))) where
+        taken-line : (m : ℕ) → is_closer m ≡ true → (c : Code) → is_among (92 ∷ m ∷ []) c ≡ true → is_line_ending c ≡ false
+        taken-line m k c h =
+            or-by (c.value == 92) (is_value m c || false) h
+            (λ g. ap (λ v. v == 10) (eqb-true c.value 92 g))
+            (λ g. or-by (is_value m c) false g (λ f. closer-line m k c f) (λ f. let no : false ≡ true = f in cc))
+
+  -- Between two stretches.
+
+  nok-says : (T : Tokenizer) → break_plan T.tokenize_state.marker (names_in T.tokenize_state) T.tokenize_state.connect (ahead T) ≡ None → (ok : Bool) (U : Tokenizer) → nok_ends T ok U → at_break_ends T ok U
+  nok-says T e ok U x = DoesAs-fails 2 (break_plan T.tokenize_state.marker (names_in T.tokenize_state) T.tokenize_state.connect) (rested T.tokenize_state) T e ok U x
+
+  nok-goes : (T : Tokenizer) → break_plan T.tokenize_state.marker (names_in T.tokenize_state) T.tokenize_state.connect (ahead T) ≡ None → FollowsIn W (weight_at 9 T) (at_break_ends T) (Next TitleNok) T
+  nok-goes T e = follows W _ _ (Next TitleNok) (within TitleNok) T tt (omega arith) (nok-says T e)
+
+  inside-says : (b : Bool) (T : Tokenizer) (ok : Bool) (U : Tokenizer) → inside_ends (scratched (joined T.tokenize_state) (done (enter_text b ∷ Consume ∷ []) T)) ok U → DoesAs 3 (inside_plan T.tokenize_state.marker (names_in T.tokenize_state) false) (rested T.tokenize_state) (scratched (joined T.tokenize_state) (done (enter_text b ∷ Consume ∷ []) T)) ok U
+  unfolding scratched
+  inside-says b T ok U k = k
+
+  escape-says : (b : Bool) (T : Tokenizer) (ok : Bool) (U : Tokenizer) → escape_ends (scratched (joined T.tokenize_state) (done (enter_text b ∷ Consume ∷ []) T)) ok U → DoesAs 3 (inside_plan T.tokenize_state.marker (names_in T.tokenize_state) true) (rested T.tokenize_state) (scratched (joined T.tokenize_state) (done (enter_text b ∷ Consume ∷ []) T)) ok U
+  unfolding scratched
+  escape-says b T ok U k = k
+
+  -- data begins
+  data-goes : (T : Tokenizer) → T.attempts ≡ [] → BreakReady T → (c : ℕ) → current_of T ≡ Some c → break_plan T.tokenize_state.marker (names_in T.tokenize_state) T.tokenize_state.connect (ahead T) ≡ preceded (enter_text T.tokenize_state.connect ∷ Consume ∷ []) (inside_plan T.tokenize_state.marker (names_in T.tokenize_state) (c == 92) (drop 1 (ahead T))) → GoesIn W (weight_at 9 T) (at_break_ends T) (passing c (text_entered T))
+  data-goes T alone k c e same =
+      let s : TokenizeState = T.tokenize_state in
+      let connect : Bool = s.connect in
+      let os : List Op = enter_text connect ∷ Consume ∷ [] in
+      let p : Plan = break_plan s.marker (names_in s) connect in
+      let q : Bool → Plan = inside_plan s.marker (names_in s) in
+      let more : 1 ≤ length (ahead T) = some-codes T c e in
+      let V : Tokenizer = scratched (joined s) (done os T) in
+      let there : V ≡ done (Consume ∷ []) (text_entered T) = sym (done-scratched (Consume ∷ []) (joined s) (done (enter_text connect ∷ []) T)) in
+      subst (λ (x : Tokenizer). GoesIn W (weight_at 9 T) (at_break_ends T) (stepped (next_state c) x)) there
+      (state-by (λ st. GoesIn W (weight_at 9 T) (at_break_ends T) (stepped st V)) (c == 92) (Next TitleEscape) (Next TitleInside)
+      (λ f. Goes-on W 9 2 p (q true) os (rested s) (joined s) T (Next TitleEscape) (within TitleEscape) alone (stays-data connect) (moves-data connect (λ n. n ≤ length (ahead T)) more) (moves-data connect (λ n. 11 < 256 * n + 9) (omega arith))
+      (same ∙ ap (λ b. preceded os (q b (drop 1 (ahead T)))) f ∙ moves-data connect (λ n. preceded os (q true (drop 1 (ahead T))) ≡ preceded os (q true (drop n (ahead T)))) refl)
+      (data-ready connect T more k)
+      (λ ok U x. depth-data connect (λ d. DoesAs d (q true) (rested s) V ok U) (escape-says connect T ok U x)))
+      (λ f. Goes-on W 9 2 p (q false) os (rested s) (joined s) T (Next TitleInside) (within TitleInside) alone (stays-data connect) (moves-data connect (λ n. n ≤ length (ahead T)) more) (moves-data connect (λ n. 10 < 256 * n + 9) (omega arith))
+      (same ∙ ap (λ b. preceded os (q b (drop 1 (ahead T)))) f ∙ moves-data connect (λ n. preceded os (q false (drop 1 (ahead T))) ≡ preceded os (q false (drop n (ahead T)))) refl)
+      (data-ready connect T more k)
+      (λ ok U x. depth-data connect (λ d. DoesAs d (q false) (rested s) V ok U) (inside-says connect T ok U x))))
+
+  -- behind a line ending and blank codes
+  eol-goes : (T : Tokenizer) → BreakReady T → (c : Code) (cs : List Code) → ahead T ≡ c ∷ cs → is_line_ending c ≡ true → (U : Tokenizer) → Passed T.tokenize_state.connect c cs T U → FollowsIn W (weight_at 9 T) (at_break_ends T) (Next TitleAfterEol) U
+  eol-goes T k c cs whole line U j =
+      let s : TokenizeState = T.tokenize_state in
+      let m : ℕ = s.marker in
+      let names : StringNames = names_in s in
+      let p : Plan = break_plan m names s.connect in
+      let q : Plan = break_plan m names true in
+      let reads : p (ahead T) ≡ _ =
+      ap p whole ∙ breaks-ending (is_value m) (is_among (92 ∷ m ∷ [])) (λ x. false) (title-plain m k.closer) (ending names) (ends_filled true) s.connect c cs line j.filled (λ ws text w b. filled-ending c ws text line w b) in
+      follows W _ _ (Next TitleAfterEol) (within TitleAfterEol) U (eol-ready c cs T U k j) (omega (arith, j.fewer))
+      (λ ok V x. DoesAs-ending p q s.connect c cs (rested s) T U j reads ok V (subst (λ (r : TokenizeState). DoesAs 2 (break_plan r.marker (names_in r) true) (rested r) U ok V) j.scratch x))
+
+  pub at_break-law : Law W at_break_words
+  at_break-law T alone k =
+      let s : TokenizeState = T.tokenize_state in
+      let m : ℕ = s.marker in
+      let names : StringNames = names_in s in
+      let connect : Bool = s.connect in
+      let takes : Code → Bool = is_among (92 ∷ m ∷ []) in
+      let p : Plan = break_plan m names connect in
+      let P : Stepped → Type 0 = GoesIn W (weight_at 9 T) (at_break_ends T) in
+      code-step P (current_of T) (λ o. at_break_at o T)
+      (λ e. Goes-plain W (weight_at 9 T) (at_break_ends T) (Retry TitleNok) (within TitleNok) T alone tt (omega arith)
+      (nok-says T (ap p (ahead-none T e) ∙ breaks-end (is_value m) takes (λ x. false) (title-plain m k.closer) (ending names) (ends_filled true) connect)))
+      (λ c e.
+      let b : Begins c (ahead T) = ahead-some T c e in
+      let cs : List Code = rest_of (ahead T) in
+      if-step P (c == m) _ _
+      (λ h. Goes-ok W 9 2 p (ending names) (rested s) T alone
+      (ap p b.whole ∙ breaks-stop (is_value m) takes (λ x. false) (title-plain m k.closer) (ending names) (ends_filled true) connect b.code cs (ap (λ v. v == m) b.value ∙ h) refl))
+      (λ h. if-step P (c == 10) _ _
+      (λ g.
+      let line : is_line_ending b.code ≡ true = ap (λ v. v == 10) b.value ∙ g in
+      ending-law W (within SpaceOrTabEolStart) (weight_at 9 T) (at_break_ends T) TitleAfterEol TitleNok T c b alone k.text k.linked line (omega arith) (
+        λ U now j. eol-goes T k b.code cs b.whole line U j,
+        λ u. nok-goes T (ap p b.whole ∙ breaks-blank (is_value m) takes (λ x. false) (title-plain m k.closer) (ending names) (ends_filled true) connect b.code cs line u (λ ws d text w l. filled-none b.code ws d text line w l)),
+      ))
+      (λ g.
+      let line : is_line_ending b.code ≡ false = ap (λ v. v == 10) b.value ∙ g in
+      data-goes T alone k c e
+      (ap p b.whole ∙ breaks-data (is_value m) takes (λ x. false) (title-plain m k.closer) (ending names) (ends_filled true) (ends_filled true) connect (c == 92) b.code cs (ap (λ v. v == m) b.value ∙ h) refl line (ap (λ v. v == 92) b.value) (λ text. filled-data b.code text line)))))
+
+  -- From the start.
+
+  begin-goes : (T : Tokenizer) → T.attempts ≡ [] → BeginReady T → next_is (is_value T.tokenize_state.marker) (ahead T) ≡ false → GoesIn W (weight_at 10 T) (begin_ends T) (beginning T)
+  unfolding applied
+  begin-goes T alone k h =
+      let s : TokenizeState = T.tokenize_state in
+      let names : StringNames = names_in s in
+      Goes-kept W 10 1 (begin_plan s.marker names) (break_plan s.marker names s.connect) (Enter names.text ∷ []) (rested s) T (Retry TitleAtBreak) (within TitleAtBreak) alone refl (no-codes T) (omega arith)
+      (if-false _ _ _ h ∙ ap (λ b. preceded (Enter names.text ∷ []) (break_plan s.marker names b (ahead T))) (sym k.first))
+      (entered-ready T k)
+      (λ ok U x. x)
+
+  pub begin-law : Law W begin_words
+  begin-law T alone k =
+      let s : TokenizeState = T.tokenize_state in
+      let m : ℕ = s.marker in
+      let names : StringNames = names_in s in
+      let P : Stepped → Type 0 = GoesIn W (weight_at 10 T) (begin_ends T) in
+      code-step P (current_of T) (λ o. begin_at o T)
+      (λ e. begin-goes T alone k (ap (next_is (is_value m)) (ahead-none T e)))
+      (λ c e.
+      let b : Begins c (ahead T) = ahead-some T c e in
+      let here : next_is (is_value m) (ahead T) ≡ (c == m) = ap (next_is (is_value m)) b.whole ∙ ap (λ v. v == m) b.value in
+      if-step P (c == m) _ _
+      (λ h. Goes-ok W 10 1 (begin_plan m names) (closing names) (rested s) T alone (if-true _ _ _ (here ∙ h)))
+      (λ h. begin-goes T alone k (here ∙ h)))
+
+  begin-says : (m : ℕ) (T : Tokenizer) → rested T.tokenize_state ≡ T.tokenize_state → (ok : Bool) (U : Tokenizer) → begin_ends (scratched (begun m T.tokenize_state) (done (opening (names_in T.tokenize_state)) T)) ok U → DoesAs 1 (begin_plan m (names_in T.tokenize_state)) T.tokenize_state (scratched (begun m T.tokenize_state) (done (opening (names_in T.tokenize_state)) T)) ok U
+  unfolding scratched
+  begin-says m T e ok U k = subst (λ q. DoesAs 1 (begin_plan m (names_in T.tokenize_state)) q (scratched (begun m T.tokenize_state) (done (opening (names_in T.tokenize_state)) T)) ok U) e k
+
+  opens : (m : ℕ) (T : Tokenizer) → T.attempts ≡ [] → StartReady T → 1 ≤ length (ahead T) → is_closer m ≡ true → plan_of (title (names_in T.tokenize_state)) (ahead T) ≡ preceded (opening (names_in T.tokenize_state)) (begin_plan m (names_in T.tokenize_state) (drop 1 (ahead T))) → GoesIn W (weight_at 11 T) (KeepsAs 0 (plan_of (title (names_in T.tokenize_state))) T) (opened m T)
+  opens m T alone k more h same =
+      let s : TokenizeState = T.tokenize_state in
+      let names : StringNames = names_in s in
+      Goes-on W 11 0 (plan_of (title names)) (begin_plan m names) (opening names) s (begun m s) T (Next TitleBegin) (within TitleBegin) alone refl more (omega arith)
+      same
+      (begun-ready m T more h k)
+      (λ ok U x. begin-says m T k.rest ok U x)
+
+  pub start-law : Law W start_words
+  start-law T alone k =
+      let s : TokenizeState = T.tokenize_state in
+      let names : StringNames = names_in s in
+      let p : Plan = plan_of (title names) in
+      let E : Bool → Tokenizer → Type 0 = KeepsAs 0 p T in
+      let P : Stepped → Type 0 = GoesIn W (weight_at 11 T) E in
+      GoesOn-map W (weight_at 11 T) E (start_ends T) (start_step T) (λ ok U x. EndsAs-linked (title names) (title-covers names) s T ok U x)
+      (code-step P (current_of T) (λ o. start_at o T)
+      (λ e. Goes-no W 11 0 p T alone (ap p (ahead-none T e) ∙ title-none names [] refl refl refl))
+      (λ c e.
+      let b : Begins c (ahead T) = ahead-some T c e in
+      let cs : List Code = rest_of (ahead T) in
+      let more : 1 ≤ length (ahead T) = some-codes T c e in
+      if-step P (c == 34) _ _
+      (λ h. opens 34 T alone k more refl (ap p b.whole ∙ title-double names b.code cs (ap (λ v. v == 34) b.value ∙ h)))
+      (λ h. if-step P (c == 39) _ _
+      (λ g. opens 39 T alone k more refl (ap p b.whole ∙ title-single names b.code cs (ap (λ v. v == 39) b.value ∙ g)))
+      (λ g. if-step P (c == 40) _ _
+      (λ f. opens 41 T alone k more refl (ap p b.whole ∙ title-paren names b.code cs (ap (λ v. v == 40) b.value ∙ f)))
+      (λ f. Goes-no W 11 0 p T alone
+      (ap p b.whole ∙ title-none names (b.code ∷ cs) (ap (λ v. v == 34) b.value ∙ h) (ap (λ v. v == 39) b.value ∙ g) (ap (λ v. v == 40) b.value ∙ f)))))))

@@ -1,0 +1,42 @@
+-- The operations that pass a tree with linked leaves.
+use Rattle.std.specs.Prelude.{◌≡◌, ◌≢◌, Bool, true, false, List, [], ◌∷◌, ◌++◌, Option, Some, None, if◌then◌else◌}
+use Rattle.markdown_engine_content.specs.Codes.{Code, stop_of, document_start}
+use Rattle.markdown_engine.specs.Operations.{Op, Enter, Exit, EnterLink, EnterConnected}
+use Rattle.markdown_engine.specs.PastTree.{TreeReading}
+use Rattle.markdown_engine_content.specs.Tree.{Forest, empty, leaf_then, group_then, leaf_codes, start_of}
+use Rattle.markdown_engine.specs.TreeOps.{consumes}
+use Rattle.markdown_engine_content.specs.declared.event.Content.{Content}
+use Rattle.markdown_engine_content.specs.declared.event.Name.{Name}
+use Rattle.markdown_plan.specs.Plan.{Plan}
+
+-- the Enter of a leaf; `linked` says that a linked leaf of its row stands just before
+abbrev pub enter_op : Bool → Name → Option Content → Op
+enter_op linked name None = Enter name
+enter_op linked name (Some c) = if linked then EnterConnected name c else EnterLink name c
+
+abbrev pub has_content : Option Content → Bool
+has_content None = false
+has_content (Some c) = true
+
+-- the operations of a row
+abbrev pub linked_ops : Bool → Forest → List Op
+linked_ops linked empty = []
+linked_ops linked (leaf_then name link cs rest) = enter_op linked name link ∷ (consumes cs ++ Exit name ∷ linked_ops (has_content link) rest)
+linked_ops linked (group_then name enter exit inside rest) = Enter name ∷ (linked_ops false inside ++ Exit name ∷ linked_ops false rest)
+
+abbrev pub tree_ops : Option (Forest × List Code) → Option (List Op)
+tree_ops None = None
+tree_ops (Some r) = Some (linked_ops false r.0)
+
+-- the plan of the trees that a reading gives
+abbrev pub plan_of : TreeReading → Plan
+plan_of reading cs = tree_ops (reading cs)
+
+-- Behind a linked leaf of a row stand linked leaves alone; no leaf is empty, and each group reaches from its first code to its last.
+abbrev pub IsRow : Bool → Forest → Type 0
+IsRow linked empty = Unit {0}
+IsRow linked (leaf_then name link cs rest) = (linked ≡ true → has_content link ≡ true) × ((cs ≢ []) × IsRow (has_content link) rest)
+IsRow linked (group_then name enter exit inside rest) =
+    (linked ≡ false)
+    × ((leaf_codes inside ≢ [])
+    × ((enter ≡ start_of (leaf_codes inside)) × ((exit ≡ stop_of document_start (leaf_codes inside)) × (IsRow false inside × IsRow false rest))))

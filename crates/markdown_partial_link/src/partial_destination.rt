@@ -1,0 +1,217 @@
+// Destinations of resources and definitions.
+//
+// CommonMark 6.3: between `<` and `>` codes on one line without a bare `<`; or codes without space and control whose parentheses are
+// balanced. The names come from the scratch fields, and `size_b` is the greatest depth of parentheses.
+//
+// Each state answers the error where a growth is refused; then `failed` is true.
+#![tactic(auto, using(markdown_engine::proofs::OperationFields::law_rules), unfolding(markdown_engine::specs::Operations::scratched))]
+
+ghost use Rattle.std.specs.Prelude.{◌≡◌, IfOk, OnErr, IsTrue};
+ghost use Rattle.markdown_engine.specs.Operations.{HasCode};
+ghost use Rattle.markdown_partial_link.specs.PartialDestination.{start_step, enclosed_before_step, enclosed_step, enclosed_escape_step, raw_step, raw_escape_step, closed, refused, finished, stops_in, BeforeReady, EnclosedReady, RawReady};
+
+use markdown_engine::state::{State, StateName};
+use markdown_engine::tokenizer::Tokenizer;
+use markdown_engine_content::byte_set;
+use markdown_engine_content::bytes::ByteSet;
+use markdown_engine_content::event::{Content, Link, Name};
+use std::alloc::AllocError;
+
+// The link of text that is read as a string, the first of its chain.
+const STRING: Link = Link {
+    previous: None,
+    next: None,
+    content: Content::String,
+};
+
+/// The bytes at which a state that passes code after code stops, line endings aside; none for the other states. Takes no memory.
+pub fn stop_bytes(name: StateName) -> Option<ByteSet>
+    ensures { result ≡ stops_in name }
+{
+    match name {
+        StateName::DestinationEnclosed => Some(byte_set!(b'<', b'>', b'\\')),
+        StateName::DestinationRaw => Some(byte_set!(b' ', b'(', b')', b'\\'; controls)),
+        _ => None,
+    }
+}
+
+/// At the start of a destination: a bracket, or its first code.
+///
+///     > | [x](<y>) and [z](w)
+///             ^            ^
+pub fn start(tokenizer: &mut Tokenizer) -> Result<State, AllocError>
+    ensures ok { IfOk result (λ s. start_step tokenizer.old ≡ record { state = s; left = tokenizer.new }) }
+    ensures err { OnErr result (IsTrue tokenizer.new.failed) }
+{
+    match tokenizer.current() {
+        Some(b'<') => {
+            tokenizer.enter(tokenizer.tokenize_state.token_1)?;
+            tokenizer.enter(tokenizer.tokenize_state.token_2)?;
+            tokenizer.enter(tokenizer.tokenize_state.token_3)?;
+            tokenizer.consume();
+            tokenizer.exit(tokenizer.tokenize_state.token_3)?;
+            Ok(State::Next(StateName::DestinationEnclosedBefore))
+        }
+        None | Some(0x01..=0x1F | b' ' | b')' | 0x7F) => Ok(State::Nok),
+        Some(_) => {
+            tokenizer.enter(tokenizer.tokenize_state.token_1)?;
+            tokenizer.enter(tokenizer.tokenize_state.token_4)?;
+            tokenizer.enter(tokenizer.tokenize_state.token_5)?;
+            tokenizer.enter_link(Name::Data, STRING)?;
+            Ok(State::Retry(StateName::DestinationRaw))
+        }
+    }
+}
+
+// Passes the closing bracket, and the destination holds.
+fn close(tokenizer: &mut Tokenizer) -> Result<State, AllocError>
+    requires ready { BeforeReady tokenizer.old }
+    requires code { HasCode tokenizer.old }
+    ensures ok { IfOk result (λ s. closed tokenizer.old ≡ record { state = s; left = tokenizer.new }) }
+    ensures err { OnErr result (IsTrue tokenizer.new.failed) }
+{
+    tokenizer.enter(tokenizer.tokenize_state.token_3)?;
+    tokenizer.consume();
+    tokenizer.exit(tokenizer.tokenize_state.token_3)?;
+    tokenizer.exit(tokenizer.tokenize_state.token_2)?;
+    tokenizer.exit(tokenizer.tokenize_state.token_1)?;
+    Ok(State::Ok)
+}
+
+/// After the opening bracket: the text, or the closing bracket.
+///
+///     > | [x](<a\>b>)
+///              ^
+pub fn enclosed_before(tokenizer: &mut Tokenizer) -> Result<State, AllocError>
+    requires { BeforeReady tokenizer.old }
+    ensures ok { IfOk result (λ s. enclosed_before_step tokenizer.old ≡ record { state = s; left = tokenizer.new }) }
+    ensures err { OnErr result (IsTrue tokenizer.new.failed) }
+{
+    match tokenizer.current() {
+        Some(b'>') => close(tokenizer),
+        _ => {
+            tokenizer.enter(tokenizer.tokenize_state.token_5)?;
+            tokenizer.enter_link(Name::Data, STRING)?;
+            Ok(State::Retry(StateName::DestinationEnclosed))
+        }
+    }
+}
+
+/// Between the brackets.
+///
+///     > | [x](<a\>b>)
+///              ^^ ^^
+pub fn enclosed(tokenizer: &mut Tokenizer) -> Result<State, AllocError>
+    requires { EnclosedReady tokenizer.old }
+    ensures ok { IfOk result (λ s. enclosed_step tokenizer.old ≡ record { state = s; left = tokenizer.new }) }
+    ensures err { OnErr result (IsTrue tokenizer.new.failed) }
+{
+    match tokenizer.current() {
+        None | Some(b'\n' | b'<') => Ok(State::Nok),
+        Some(b'>') => {
+            tokenizer.exit(Name::Data)?;
+            tokenizer.exit(tokenizer.tokenize_state.token_5)?;
+            close(tokenizer)
+        }
+        Some(b'\\') => {
+            tokenizer.consume();
+            Ok(State::Next(StateName::DestinationEnclosedEscape))
+        }
+        Some(_) => {
+            tokenizer.consume();
+            Ok(State::Next(StateName::DestinationEnclosed))
+        }
+    }
+}
+
+/// Between the brackets, after a backslash: it may escape the code at hand.
+///
+///     > | [x](<a\>b>)
+///                ^
+pub fn enclosed_escape(tokenizer: &mut Tokenizer) -> Result<State, AllocError>
+    requires { EnclosedReady tokenizer.old }
+    ensures ok { IfOk result (λ s. enclosed_escape_step tokenizer.old ≡ record { state = s; left = tokenizer.new }) }
+    ensures err { OnErr result (IsTrue tokenizer.new.failed) }
+{
+    match tokenizer.current() {
+        Some(b'<' | b'>' | b'\\') => {
+            tokenizer.consume();
+            Ok(State::Next(StateName::DestinationEnclosed))
+        }
+        _ => Ok(State::Retry(StateName::DestinationEnclosed)),
+    }
+}
+
+// The destination does not hold.
+fn refuse(tokenizer: &mut Tokenizer) -> State
+    ensures { refused tokenizer.old ≡ record { state = result; left = tokenizer.new } }
+{
+    tokenizer.tokenize_state.size = 0;
+    State::Nok
+}
+
+// The destination ends before the code at hand.
+fn finish(tokenizer: &mut Tokenizer) -> Result<State, AllocError>
+    requires { RawReady tokenizer.old }
+    ensures ok { IfOk result (λ s. finished tokenizer.old ≡ record { state = s; left = tokenizer.new }) }
+    ensures err { OnErr result (IsTrue tokenizer.new.failed) }
+{
+    tokenizer.exit(Name::Data)?;
+    tokenizer.exit(tokenizer.tokenize_state.token_5)?;
+    tokenizer.exit(tokenizer.tokenize_state.token_4)?;
+    tokenizer.exit(tokenizer.tokenize_state.token_1)?;
+    tokenizer.tokenize_state.size = 0;
+    Ok(State::Ok)
+}
+
+/// In a destination without brackets; so many parentheses are open as `size` says.
+///
+///     > | [x](a(b\)c))
+///             ^^^^ ^^^
+pub fn raw(tokenizer: &mut Tokenizer) -> Result<State, AllocError>
+    requires { RawReady tokenizer.old }
+    ensures ok { IfOk result (λ s. raw_step tokenizer.old ≡ record { state = s; left = tokenizer.new }) }
+    ensures err { OnErr result (IsTrue tokenizer.new.failed) }
+{
+    let depth = tokenizer.tokenize_state.size;
+    match tokenizer.current() {
+        None | Some(b'\t' | b'\n' | b' ' | b')') if depth == 0 => finish(tokenizer),
+        Some(b'(') if depth < tokenizer.tokenize_state.size_b => {
+            tokenizer.consume();
+            tokenizer.tokenize_state.size = depth + 1;
+            Ok(State::Next(StateName::DestinationRaw))
+        }
+        Some(b')') => {
+            tokenizer.consume();
+            tokenizer.tokenize_state.size = depth - 1;
+            Ok(State::Next(StateName::DestinationRaw))
+        }
+        None | Some(0x01..=0x1F | b' ' | b'(' | 0x7F) => Ok(refuse(tokenizer)),
+        Some(b'\\') => {
+            tokenizer.consume();
+            Ok(State::Next(StateName::DestinationRawEscape))
+        }
+        Some(_) => {
+            tokenizer.consume();
+            Ok(State::Next(StateName::DestinationRaw))
+        }
+    }
+}
+
+/// In a destination without brackets, after a backslash: it may escape the code at hand.
+///
+///     > | [x](a(b\)c))
+///                 ^
+pub fn raw_escape(tokenizer: &mut Tokenizer) -> Result<State, AllocError>
+    requires { RawReady tokenizer.old }
+    ensures ok { IfOk result (λ s. raw_escape_step tokenizer.old ≡ record { state = s; left = tokenizer.new }) }
+    ensures err { OnErr result (IsTrue tokenizer.new.failed) }
+{
+    match tokenizer.current() {
+        Some(b'(' | b')' | b'\\') => {
+            tokenizer.consume();
+            Ok(State::Next(StateName::DestinationRaw))
+        }
+        _ => Ok(State::Retry(StateName::DestinationRaw)),
+    }
+}

@@ -1,0 +1,178 @@
+// Labels of references and definitions.
+//
+// CommonMark 6.3: between `[` and `]` without a bare bracket, over several lines, none of which is blank; with a code that is no
+// whitespace, and with 999 codes at most, of which line endings and the blank codes after them are none. The names come from the
+// scratch fields.
+//
+// Each state answers the error where a growth is refused; then `failed` is true.
+#![tactic(auto, using(markdown_engine::proofs::OperationFields::law_rules), unfolding(markdown_engine::specs::Operations::scratched, markdown_engine::specs::Operations::attempted, markdown_engine::specs::Operations::frame_of))]
+
+ghost use Rattle.std.specs.Prelude.{◌≡◌, ◌≤◌, IfOk, OnErr, IsTrue, true};
+ghost use Rattle.markdown_engine.specs.Operations.{HasCode};
+ghost use Rattle.markdown_partial_link.specs.PartialLabel.{start_step, closed, at_break_step, eol_after_step, nok_step, passing, inside_step, escape_step, BreakReady, InsideReady, EscapeReady};
+
+use crate::linked_text::{ask_for_ending, enter_text};
+use markdown_engine::state::{State, StateName};
+use markdown_engine::tokenizer::Tokenizer;
+use markdown_engine_content::event::Name;
+use markdown_util::util::constant::LINK_REFERENCE_SIZE_MAX;
+use std::alloc::AllocError;
+
+/// At the start of a label: its bracket.
+///
+///     > | [x][y]
+///            ^
+pub fn start(tokenizer: &mut Tokenizer) -> Result<State, AllocError>
+    ensures ok { IfOk result (λ s. start_step tokenizer.old ≡ record { state = s; left = tokenizer.new }) }
+    ensures err { OnErr result (IsTrue tokenizer.new.failed) }
+{
+    match tokenizer.current() {
+        Some(b'[') => {
+            tokenizer.enter(tokenizer.tokenize_state.token_1)?;
+            tokenizer.enter(tokenizer.tokenize_state.token_2)?;
+            tokenizer.consume();
+            tokenizer.exit(tokenizer.tokenize_state.token_2)?;
+            tokenizer.enter(tokenizer.tokenize_state.token_3)?;
+            Ok(State::Next(StateName::LabelAtBreak))
+        }
+        _ => Ok(State::Nok),
+    }
+}
+
+// Passes the closing bracket, and the label holds.
+fn close(tokenizer: &mut Tokenizer) -> Result<State, AllocError>
+    requires ready { BreakReady tokenizer.old }
+    requires code { HasCode tokenizer.old }
+    ensures ok { IfOk result (λ s. closed tokenizer.old ≡ record { state = s; left = tokenizer.new }) }
+    ensures err { OnErr result (IsTrue tokenizer.new.failed) }
+{
+    tokenizer.exit(tokenizer.tokenize_state.token_3)?;
+    tokenizer.enter(tokenizer.tokenize_state.token_2)?;
+    tokenizer.consume();
+    tokenizer.exit(tokenizer.tokenize_state.token_2)?;
+    tokenizer.exit(tokenizer.tokenize_state.token_1)?;
+    tokenizer.tokenize_state.connect = false;
+    tokenizer.tokenize_state.seen = false;
+    tokenizer.tokenize_state.size = 0;
+    Ok(State::Ok)
+}
+
+// Passes a code of the text, and counts it.
+fn pass(tokenizer: &mut Tokenizer, code: u8) -> State
+    requires code { HasCode tokenizer.old }
+    requires small { tokenizer.old.tokenize_state.size ≤ 1000 }
+    ensures { passing code tokenizer.old ≡ record { state = result; left = tokenizer.new } }
+{
+    let passed = tokenizer.tokenize_state.size + 1;
+    let seen = tokenizer.tokenize_state.seen || !(code == b' ' || code == b'\t');
+    tokenizer.consume();
+    tokenizer.tokenize_state.size = passed;
+    tokenizer.tokenize_state.seen = seen;
+    State::Next(if code == b'\\' {
+        StateName::LabelEscape
+    } else {
+        StateName::LabelInside
+    })
+}
+
+/// Between two stretches of the text: at a bracket, a line ending or the end, or where data starts.
+///
+///     > | [x][y
+///             ^^
+///     > |   z]
+///           ^^
+pub fn at_break(tokenizer: &mut Tokenizer) -> Result<State, AllocError>
+    requires { BreakReady tokenizer.old }
+    ensures ok { IfOk result (λ s. at_break_step tokenizer.old ≡ record { state = s; left = tokenizer.new }) }
+    ensures err { OnErr result (IsTrue tokenizer.new.failed) }
+{
+    match tokenizer.current() {
+        Some(code) if code != b'[' && tokenizer.tokenize_state.size <= LINK_REFERENCE_SIZE_MAX =>
+            match code {
+                b']' if tokenizer.tokenize_state.seen => close(tokenizer),
+                b']' => Ok(State::Retry(StateName::LabelNok)),
+                b'\n' => {
+                    let ending = ask_for_ending(tokenizer);
+                    tokenizer.attempt(
+                        State::Next(StateName::LabelEolAfter),
+                        State::Next(StateName::LabelNok),
+                    )?;
+                    Ok(State::Retry(ending))
+                }
+                _ => {
+                    enter_text(tokenizer)?;
+                    Ok(pass(tokenizer, code))
+                }
+            },
+        _ => Ok(State::Retry(StateName::LabelNok)),
+    }
+}
+
+/// After a line ending and the blank codes behind it: the text goes on, with the same chain.
+///
+///     > | [x][y
+///     > |   z]
+///           ^
+pub fn eol_after(tokenizer: &mut Tokenizer) -> Result<State, AllocError>
+    ensures ok { IfOk result (λ s. eol_after_step tokenizer.old ≡ record { state = s; left = tokenizer.new }) }
+    ensures err { OnErr result (IsTrue tokenizer.new.failed) }
+{
+    tokenizer.tokenize_state.connect = true;
+    Ok(State::Retry(StateName::LabelAtBreak))
+}
+
+/// The label does not hold.
+///
+///     > | [x][ ]
+///              ^
+pub fn nok(tokenizer: &mut Tokenizer) -> Result<State, AllocError>
+    ensures ok { IfOk result (λ s. nok_step tokenizer.old ≡ record { state = s; left = tokenizer.new }) }
+    ensures err { OnErr result (IsTrue tokenizer.new.failed) }
+{
+    tokenizer.tokenize_state.connect = false;
+    tokenizer.tokenize_state.seen = false;
+    tokenizer.tokenize_state.size = 0;
+    Ok(State::Nok)
+}
+
+/// In a stretch of the text, which ends before a bracket, a line ending or the end, or where there are too many codes.
+///
+///     > | [x][y\]z]
+///              ^ ^^
+pub fn inside(tokenizer: &mut Tokenizer) -> Result<State, AllocError>
+    requires { InsideReady tokenizer.old }
+    ensures ok { IfOk result (λ s. inside_step tokenizer.old ≡ record { state = s; left = tokenizer.new }) }
+    ensures err { OnErr result (IsTrue tokenizer.new.failed) }
+{
+    match tokenizer.current() {
+        Some(code)
+            if !matches!(code, b'\n' | b'[' | b']')
+                && tokenizer.tokenize_state.size <= LINK_REFERENCE_SIZE_MAX => {
+            Ok(pass(tokenizer, code))
+        }
+        _ => {
+            tokenizer.exit(Name::Data)?;
+            Ok(State::Retry(StateName::LabelAtBreak))
+        }
+    }
+}
+
+/// After a backslash in the text: it may escape the code at hand.
+///
+///     > | [x][y\]z]
+///               ^
+pub fn escape(tokenizer: &mut Tokenizer) -> Result<State, AllocError>
+    requires { EscapeReady tokenizer.old }
+    ensures ok { IfOk result (λ s. escape_step tokenizer.old ≡ record { state = s; left = tokenizer.new }) }
+    ensures err { OnErr result (IsTrue tokenizer.new.failed) }
+{
+    match tokenizer.current() {
+        Some(b'[' | b'\\' | b']') => {
+            let passed = tokenizer.tokenize_state.size + 1;
+            tokenizer.consume();
+            tokenizer.tokenize_state.size = passed;
+            Ok(State::Next(StateName::LabelInside))
+        }
+        _ => Ok(State::Retry(StateName::LabelInside)),
+    }
+}

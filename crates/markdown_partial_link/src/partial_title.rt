@@ -1,0 +1,204 @@
+// Titles of resources and definitions.
+//
+// CommonMark 6.3: between two `"`, two `'`, or `(` and `)`, over several lines, none of which is blank. The names come from the scratch
+// fields.
+//
+// Each state answers the error where a growth is refused; then `failed` is true.
+#![tactic(auto, using(markdown_engine::proofs::OperationFields::law_rules), unfolding(markdown_engine::specs::Operations::scratched, markdown_engine::specs::Operations::attempted, markdown_engine::specs::Operations::frame_of))]
+
+ghost use Rattle.std.specs.Prelude.{◌≡◌, IfOk, OnErr, IsTrue, true};
+ghost use Rattle.markdown_engine.specs.Operations.{HasCode, IsOpen, LinkedBefore, current_of};
+ghost use Rattle.markdown_partial_link.specs.PartialTitle.{opened, start_step, closed, begin_step, at_break_step, after_eol_step, nok_step, passing, inside_step, inside_stops, escape_step, BreakReady, InsideReady};
+
+use crate::linked_text::{ask_for_ending, enter_text};
+use markdown_engine::state::{State, StateName};
+use markdown_engine::tokenizer::{TokenizeState, Tokenizer};
+use markdown_engine_content::byte_set;
+use markdown_engine_content::bytes::ByteSet;
+use markdown_engine_content::event::Name;
+use std::alloc::AllocError;
+
+// Passes the opening marker of a title that this code ends.
+fn open(tokenizer: &mut Tokenizer, closer: u8) -> Result<State, AllocError>
+    requires { HasCode tokenizer.old }
+    ensures ok { IfOk result (λ s. opened closer tokenizer.old ≡ record { state = s; left = tokenizer.new }) }
+    ensures err { OnErr result (IsTrue tokenizer.new.failed) }
+{
+    tokenizer.enter(tokenizer.tokenize_state.token_1)?;
+    tokenizer.enter(tokenizer.tokenize_state.token_2)?;
+    tokenizer.consume();
+    tokenizer.exit(tokenizer.tokenize_state.token_2)?;
+    tokenizer.tokenize_state.marker = closer;
+    Ok(State::Next(StateName::TitleBegin))
+}
+
+/// At the start of a title: its opening marker.
+///
+///     > | [x](y "z")
+///               ^
+pub fn start(tokenizer: &mut Tokenizer) -> Result<State, AllocError>
+    ensures ok { IfOk result (λ s. start_step tokenizer.old ≡ record { state = s; left = tokenizer.new }) }
+    ensures err { OnErr result (IsTrue tokenizer.new.failed) }
+{
+    match tokenizer.current() {
+        Some(b'"') => open(tokenizer, b'"'),
+        Some(b'\'') => open(tokenizer, b'\''),
+        Some(b'(') => open(tokenizer, b')'),
+        _ => Ok(State::Nok),
+    }
+}
+
+// Passes the closing marker, and the title holds.
+fn close(tokenizer: &mut Tokenizer) -> Result<State, AllocError>
+    requires open { IsOpen tokenizer.old.tokenize_state.token_1 tokenizer.old }
+    requires code { HasCode tokenizer.old }
+    ensures ok { IfOk result (λ s. closed tokenizer.old ≡ record { state = s; left = tokenizer.new }) }
+    ensures err { OnErr result (IsTrue tokenizer.new.failed) }
+{
+    tokenizer.enter(tokenizer.tokenize_state.token_2)?;
+    tokenizer.consume();
+    tokenizer.exit(tokenizer.tokenize_state.token_2)?;
+    tokenizer.exit(tokenizer.tokenize_state.token_1)?;
+    tokenizer.tokenize_state.marker = 0;
+    tokenizer.tokenize_state.connect = false;
+    Ok(State::Ok)
+}
+
+/// After the opening marker: the text, or the closing marker.
+///
+///     > | [x](y "z")
+///                ^
+pub fn begin(tokenizer: &mut Tokenizer) -> Result<State, AllocError>
+    requires { IsOpen tokenizer.old.tokenize_state.token_1 tokenizer.old }
+    ensures ok { IfOk result (λ s. begin_step tokenizer.old ≡ record { state = s; left = tokenizer.new }) }
+    ensures err { OnErr result (IsTrue tokenizer.new.failed) }
+{
+    match tokenizer.current() {
+        Some(code) if code == tokenizer.tokenize_state.marker => close(tokenizer),
+        _ => {
+            tokenizer.enter(tokenizer.tokenize_state.token_3)?;
+            Ok(State::Retry(StateName::TitleAtBreak))
+        }
+    }
+}
+
+// Passes a code of the text.
+fn pass(tokenizer: &mut Tokenizer, code: u8) -> State
+    requires { HasCode tokenizer.old }
+    ensures { passing code tokenizer.old ≡ record { state = result; left = tokenizer.new } }
+{
+    tokenizer.consume();
+    State::Next(if code == b'\\' {
+        StateName::TitleEscape
+    } else {
+        StateName::TitleInside
+    })
+}
+
+/// Between two stretches of the text: at the closing marker, a line ending or the end, or where data starts.
+///
+///     > | [x](y "z
+///                ^^
+///     > |   w")
+///           ^^
+pub fn at_break(tokenizer: &mut Tokenizer) -> Result<State, AllocError>
+    requires { BreakReady tokenizer.old }
+    ensures ok { IfOk result (λ s. at_break_step tokenizer.old ≡ record { state = s; left = tokenizer.new }) }
+    ensures err { OnErr result (IsTrue tokenizer.new.failed) }
+{
+    match tokenizer.current() {
+        None => Ok(State::Retry(StateName::TitleNok)),
+        Some(code) if code == tokenizer.tokenize_state.marker => {
+            tokenizer.exit(tokenizer.tokenize_state.token_3)?;
+            close(tokenizer)
+        }
+        Some(b'\n') => {
+            let ending = ask_for_ending(tokenizer);
+            tokenizer.attempt(
+                State::Next(StateName::TitleAfterEol),
+                State::Next(StateName::TitleNok),
+            )?;
+            Ok(State::Retry(ending))
+        }
+        Some(code) => {
+            enter_text(tokenizer)?;
+            Ok(pass(tokenizer, code))
+        }
+    }
+}
+
+/// After a line ending and the blank codes behind it: the text goes on, with the same chain.
+///
+///     > | [x](y "z
+///     > |   w")
+///           ^
+pub fn after_eol(tokenizer: &mut Tokenizer) -> Result<State, AllocError>
+    ensures ok { IfOk result (λ s. after_eol_step tokenizer.old ≡ record { state = s; left = tokenizer.new }) }
+    ensures err { OnErr result (IsTrue tokenizer.new.failed) }
+{
+    tokenizer.tokenize_state.connect = true;
+    Ok(State::Retry(StateName::TitleAtBreak))
+}
+
+/// The title does not hold: at the end, or at a blank line.
+///
+///     > | [x](y "z)
+///                  ^
+pub fn nok(tokenizer: &mut Tokenizer) -> Result<State, AllocError>
+    ensures ok { IfOk result (λ s. nok_step tokenizer.old ≡ record { state = s; left = tokenizer.new }) }
+    ensures err { OnErr result (IsTrue tokenizer.new.failed) }
+{
+    tokenizer.tokenize_state.marker = 0;
+    tokenizer.tokenize_state.connect = false;
+    Ok(State::Nok)
+}
+
+/// The bytes at which alone a stretch of the text does other than go on, line endings aside; none where none is read. Takes no memory.
+pub fn inside_stops(fields: &TokenizeState) -> Option<ByteSet>
+    ensures { result ≡ inside_stops fields.now }
+{
+    match fields.marker {
+        b'"' => Some(byte_set!(b'"', b'\\')),
+        b'\'' => Some(byte_set!(b'\'', b'\\')),
+        b')' => Some(byte_set!(b')', b'\\')),
+        _ => None,
+    }
+}
+
+/// In a stretch of the text, which ends before the closing marker, a line ending or the end.
+///
+///     > | [x](y "z\"w")
+///                 ^ ^^
+pub fn inside(tokenizer: &mut Tokenizer) -> Result<State, AllocError>
+    requires { InsideReady tokenizer.old }
+    ensures ok { IfOk result (λ s. inside_step tokenizer.old ≡ record { state = s; left = tokenizer.new }) }
+    ensures err { OnErr result (IsTrue tokenizer.new.failed) }
+{
+    match tokenizer.current() {
+        Some(code) if code != b'\n' && code != tokenizer.tokenize_state.marker => {
+            Ok(pass(tokenizer, code))
+        }
+        _ => {
+            tokenizer.exit(Name::Data)?;
+            Ok(State::Retry(StateName::TitleAtBreak))
+        }
+    }
+}
+
+/// After a backslash in the text: it may escape the code at hand.
+///
+///     > | [x](y "z\"w")
+///                  ^
+pub fn escape(tokenizer: &mut Tokenizer) -> Result<State, AllocError>
+    requires { InsideReady tokenizer.old }
+    ensures ok { IfOk result (λ s. escape_step tokenizer.old ≡ record { state = s; left = tokenizer.new }) }
+    ensures err { OnErr result (IsTrue tokenizer.new.failed) }
+{
+    match tokenizer.current() {
+        Some(code) if code == b'\\' || code == tokenizer.tokenize_state.marker => {
+            tokenizer.consume();
+            Ok(State::Next(StateName::TitleInside))
+        }
+        _ => Ok(State::Retry(StateName::TitleInside)),
+    }
+}

@@ -1,0 +1,14 @@
+pub mod PrecededReadingLemmas
+pub mod PassedByReadings
+pub mod FirstStretch
+pub mod OpenEvents
+pub mod PassedCodes
+pub mod PlanSteps
+pub mod RenameLemmas
+pub mod LateNameSteps
+pub mod LawStepsOfLayer
+pub mod ContentCharacters
+pub mod ContentEnds
+pub mod CharactersAlongContent
+pub mod CharacterPlaces
+pub mod ByteTestLemmas

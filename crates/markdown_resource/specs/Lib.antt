@@ -1,4 +1,0 @@
--- What contracts of resources speak of.
-pub mod Parts
-pub mod Resource
-pub mod Tails

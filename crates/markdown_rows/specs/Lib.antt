@@ -1,2 +1,0 @@
-pub mod RowWords
-pub mod Rows

@@ -1,7 +1,0 @@
-//! Worked rows of the inline layer: what contents answer, from bytes to events, by the definitions of `markdown_model`.
-//!
-//! Nothing here is run. A function of this crate has no parameters and an empty body: its contract says that rows
-//! hold, and the check proves it.
-#![tactic(auto)]
-
-pub mod rows;

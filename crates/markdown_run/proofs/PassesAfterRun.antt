@@ -1,0 +1,238 @@
+-- The passes of a string and of a text, after a run over a content: they may be called, and leave its tree merged and trimmed.
+use Rattle.std.proofs.Common.{◌≡◌, ℕ, Bool, true, false, List, [], ◌∷◌, length, None, refl, sym, ap, subst, ◌∙◌, ◌≤◌, arith}
+use Rattle.std.specs.Prelude.{IsUtf8}
+use Rattle.markdown_engine_content.specs.Content.{IsContent, content_of, document_limit}
+use Rattle.markdown_engine.specs.Operations.{registered, ahead}
+use Rattle.markdown_engine.specs.PastTree.{appended_from}
+use Rattle.markdown_engine_content.specs.Place.{start_of_content, ahead_at}
+use Rattle.markdown_engine.specs.PassesInOrder.{MayResolve, Resolves}
+use Rattle.markdown_engine_content.specs.Tree.{Forest, leaf_codes}
+use Rattle.markdown_engine_content.specs.declared.event.Event.{Event}
+use Rattle.markdown_engine_content.specs.declared.parser.ParseState.{ParseState}
+use Rattle.markdown_engine_content.specs.declared.parser.Piece.{Piece}
+use Rattle.markdown_engine.specs.declared.resolve.ResolveName.{ResolveName}
+use Rattle.markdown_engine.specs.declared.resolve.ResolveName.TheVariants as R
+use Rattle.markdown_engine.specs.declared.tokenizer.Tokenizer.{Tokenizer}
+use Rattle.markdown_engine.specs.declared.tokenizer.TokenizeState.{TokenizeState}
+use Rattle.markdown_engine.proofs.PlaceBounds.{content_fits}
+use Rattle.markdown_attention.specs.RunsRead.{outermost, runs_from, HaveRunPlaces}
+use Rattle.markdown_attention.specs.RunsOfTree.{IsOf, HasRuns}
+use Rattle.markdown_attention.specs.AttentionPass.{IsSmall, IsProbed}
+use Rattle.markdown_attention.specs.RunEdits.{HaveRunEnds, HaveRunRoom}
+use Rattle.markdown_attention.proofs.LabelTreeMayPair.{tree-small}
+use Rattle.markdown_attention.proofs.AttentionTreeLabels.{IsGood}
+use Rattle.markdown_attention.proofs.RunPlaces.{MeetsPass, good-meets}
+use Rattle.markdown_model.specs.BracketGroups.{paired}
+use Rattle.markdown_model.specs.Pairs.{pair_list}
+use Rattle.markdown_model.specs.Passes.{merged, trimmed}
+use Rattle.markdown_model.specs.Setting.{Setting}
+use Rattle.markdown_model.proofs.PassesKeepCodes.{codes-merged, codes-paired}
+use Rattle.markdown_partial.specs.TrimmedEvents.{HasParts}
+use Rattle.markdown_partial.proofs.TrimPassLaw.{places-of}
+use Rattle.markdown_run_row.specs.RowStart.{passes_of}
+use Rattle.markdown_run_row.specs.RowTreeNames.{HasLines, IsRunless}
+use Rattle.markdown_run_text.specs.ContentPasses.{MayPair, PairsRuns, MergesData, MayFinish, mailed_where, may_resolve_of, resolves_of}
+use Rattle.markdown_run.proofs.DataInDocument.{parts-of, HasLines-merged, HasLines-HasData}
+use Rattle.markdown_run.proofs.PairsKeepLines.{HasLines-paired}
+use Rattle.markdown_run.proofs.TreesWithoutRuns.{paired-runless, unprobed}
+
+-- these passes, before them that of runs if it is registered
+abbrev pub passes_first : Bool → List ResolveName → List ResolveName
+passes_first true ns = R.Attention ∷ ns
+passes_first false ns = ns
+
+-- and before these the pass of labels if it is
+abbrev pub labels_first : Bool → List ResolveName → List ResolveName
+labels_first true ns = R.Label ∷ ns
+labels_first false ns = ns
+
+-- the last pass, and what it leaves of a tree whose data is part of the document
+pub record IsTrimming (last : ResolveName) (finish : ParseState → Forest → Forest) : Type 0 where
+  pub may : (T : Tokenizer) → MayFinish T → may_resolve_of last T
+  pub same : (T U : Tokenizer) → resolves_of last T U → U ≡ record T { events = U.events }
+  pub leaves : (T U : Tokenizer) (t : Forest) → resolves_of last T U → HasParts T.parse_state.now.bytes.now t → T.events ≡ appended_from 0 None t → U.events ≡ appended_from 0 None (finish T.parse_state.now t)
+  pub registers : (a b : Bool) (X : Tokenizer) → X.resolvers ≡ passes_of a b → registered last (registered R.Data X) ≡ record X { resolvers = labels_first a (passes_first b (R.Data ∷ last ∷ [])) }
+
+-- a string is trimmed beside its line endings
+abbrev pub string_finish : ParseState → Forest → Forest
+string_finish p t = trimmed false false false t
+
+pub string-trims : IsTrimming R.String string_finish
+unfolding registered
+string-trims = record {
+  may = λ T h. record { map = h.map; fits = h.fits; places = places-of T.parse_state.now.bytes.now h.tree.0 T.events h.tree.1.0 h.tree.1.1 };
+  same = λ T U h. h.same;
+  leaves = λ T U t h parts e. h.trims t parts e;
+  registers = λ a b X e. subst (λ (rs : List ResolveName). registered R.String (registered R.Data (record X { resolvers = rs })) ≡ record X { resolvers = labels_first a (passes_first b (R.Data ∷ R.String ∷ [])) }) (sym e) (both a b X);
+}
+  where
+    both : (a b : Bool) (X : Tokenizer) → registered R.String (registered R.Data (record X { resolvers = passes_of a b })) ≡ record X { resolvers = labels_first a (passes_first b (R.Data ∷ R.String ∷ [])) }
+    both true true X = refl
+    both true false X = refl
+    both false true X = refl
+    both false false X = refl
+
+-- a text is trimmed at the start and the end of the whole too, with hard breaks found, and then its email literals are set apart, both where
+-- they are looked for
+abbrev pub text_finish : ParseState → Forest → Forest
+text_finish p t = let on = p.options.now.constructs in mailed_where on.gfm_autolink_literal (trimmed on.hard_break_trailing true true t)
+
+pub text-trims : IsTrimming R.Text text_finish
+unfolding registered
+text-trims = record {
+  may = λ T h. h;
+  same = λ T U h. h.same;
+  leaves = λ T U t h parts e. h.trims t parts e;
+  registers = λ a b X e. subst (λ (rs : List ResolveName). registered R.Text (registered R.Data (record X { resolvers = rs })) ≡ record X { resolvers = labels_first a (passes_first b (R.Data ∷ R.Text ∷ [])) }) (sym e) (both a b X);
+}
+  where
+    both : (a b : Bool) (X : Tokenizer) → registered R.Text (registered R.Data (record X { resolvers = passes_of a b })) ≡ record X { resolvers = labels_first a (passes_first b (R.Data ∷ R.Text ∷ [])) }
+    both true true X = refl
+    both true false X = refl
+    both false true X = refl
+    both false false X = refl
+
+-- the events of X are those of a tree over this content, and no edit is left
+pub record IsRead (p : ParseState) (pieces : List Piece) (tree : Forest) (X : Tokenizer) : Type 0 where
+  pub content : IsContent p.bytes.now pieces
+  pub has_lines : HasLines tree
+  pub codes : leaf_codes tree ≡ content_of p.bytes.now pieces
+  pub map : X.map ≡ []
+  pub events : X.events ≡ appended_from 0 None tree
+  pub input : X.parse_state.now ≡ p
+
+merged-parts : (p : ParseState) (pieces : List Piece) (tree : Forest) (X : Tokenizer) → IsRead p pieces tree X → HasParts p.bytes.now (merged tree)
+merged-parts p pieces tree X h = parts-of p.bytes.now pieces (merged tree) h.content (codes-merged tree ∙ h.codes) (HasLines-merged tree h.has_lines)
+
+-- what the first pass leaves
+record IsMerged (p : ParseState) (tree : Forest) (V : Tokenizer) : Type 0 where
+  pub map : V.map ≡ []
+  pub events : V.events ≡ appended_from 0 None (merged tree)
+  pub input : V.parse_state.now ≡ p
+
+after-merging : (p : ParseState) (pieces : List Piece) (tree : Forest) (X V : Tokenizer) → IsRead p pieces tree X → MergesData X V → IsMerged p tree V
+after-merging p pieces tree X V h m = record {
+  map = ap (λ (x : Tokenizer). x.map) m.same ∙ h.map;
+  events = m.merges tree (HasLines-HasData tree h.has_lines) h.events;
+  input = ap (λ (x : Tokenizer). x.parse_state.now) m.same ∙ h.input;
+}
+
+merged-there : (p : ParseState) (pieces : List Piece) (tree : Forest) (X V : Tokenizer) → IsRead p pieces tree X → V.parse_state.now ≡ p → HasParts V.parse_state.now.bytes.now (merged tree)
+merged-there p pieces tree X V h e = subst (λ (x : ParseState). HasParts x.bytes.now (merged tree)) (sym e) (merged-parts p pieces tree X h)
+
+may-finish : (p : ParseState) (pieces : List Piece) (tree : Forest) (X V : Tokenizer) → IsRead p pieces tree X → MergesData X V → MayFinish V
+may-finish p pieces tree X V h m =
+    let k : IsMerged p tree V = after-merging p pieces tree X V h m in
+    record {
+      map = k.map;
+      fits = subst (λ (x : ParseState). length x.bytes.now ≤ document_limit) (sym k.input) h.content.fits;
+      tree = (merged tree, (merged-there p pieces tree X V h k.input, k.events));
+    }
+
+-- the passes may be run
+pub passes-may : (p : ParseState) (pieces : List Piece) (tree : Forest) (last : ResolveName) (finish : ParseState → Forest → Forest) (X : Tokenizer) → IsTrimming last finish → IsRead p pieces tree X → MayResolve may_resolve_of resolves_of (R.Data ∷ last ∷ []) X
+passes-may p pieces tree last finish X t h =
+    (h.map, λ V m. (t.may V (may-finish p pieces tree X V h m), λ W l. tt))
+
+-- what they leave
+pub passes-leave : (p : ParseState) (pieces : List Piece) (tree : Forest) (last : ResolveName) (finish : ParseState → Forest → Forest) (X V : Tokenizer) → IsTrimming last finish → IsRead p pieces tree X → Resolves resolves_of (R.Data ∷ last ∷ []) X V → (V.events ≡ appended_from 0 None (finish p (merged tree))) × (V.tokenize_state ≡ X.tokenize_state)
+passes-leave p pieces tree last finish X V t h r =
+    let W : Tokenizer = r.0 in
+    let U : Tokenizer = r.1.1.0 in
+    let m : MergesData X W = r.1.0 in
+    let same : V ≡ U = r.1.1.1.1 in
+    let k : IsMerged p tree W = after-merging p pieces tree X W h m in (
+      ap (λ (x : Tokenizer). x.events) same ∙ t.leaves W U (merged tree) r.1.1.1.0 (merged-there p pieces tree X W h k.input) k.events ∙ ap (λ (x : ParseState). appended_from 0 None (finish x (merged tree))) k.input,
+      ap (λ (x : Tokenizer). x.tokenize_state) same ∙ ap (λ (x : Tokenizer). x.tokenize_state) (t.same W U r.1.1.1.0) ∙ ap (λ (x : Tokenizer). x.tokenize_state) m.same,
+    )
+
+-- The pass of runs, where it is registered.
+
+-- a setting of what the run is given
+pub record IsGiven (s : Setting) (p : ParseState) : Type 0 where
+  pub bytes : s.bytes ≡ p.bytes.now
+  pub options : s.options ≡ p.options.now
+
+given-of : (s : Setting) (p : ParseState) (X : Tokenizer) → IsGiven s p → X.parse_state.now ≡ p → IsOf s X
+given-of s p X g e = record { bytes = g.bytes ∙ ap (λ (x : ParseState). x.bytes.now) (sym e); options = g.options ∙ ap (λ (x : ParseState). x.options.now) (sym e) }
+
+may-pair : (p : ParseState) (pieces : List Piece) (tree : Forest) (X : Tokenizer) → IsRead p pieces tree X → IsGood p.bytes.now tree → MayPair X
+may-pair p pieces tree X h good =
+    let m : MeetsPass p.bytes.now tree = good-meets p.bytes.now tree h.content.is_text h.content.fits good in
+    let codes : length (leaf_codes tree) ≡ length (content_of p.bytes.now pieces) = ap length h.codes in
+    record {
+      map = h.map;
+      utf8 = subst (λ (x : ParseState). IsUtf8 x.bytes.now) (sym h.input) h.content.is_text;
+      places = subst (λ (x : ParseState). HaveRunPlaces x.bytes.now X.events) (sym h.input) (subst (λ (es : List Event). HaveRunPlaces p.bytes.now es) (sym h.events) m.places);
+      ends = subst (λ (es : List Event). HaveRunEnds es) (sym h.events) m.ends;
+      room = subst (λ (es : List Event). HaveRunRoom es) (sym h.events) m.room;
+      small = subst (λ (x : ParseState). IsSmall (runs_from x.options.now.constructs.gfm_strikethrough x.bytes.now 0 0 outermost X.events)) (sym h.input)
+          (tree-small p.options.now.constructs.gfm_strikethrough p.bytes.now tree X.events m.runs h.events (omega (arith, codes, content_fits p.bytes.now pieces h.content)));
+    }
+
+module _ (p : ParseState) (pieces : List Piece) (tree : Forest) (s : Setting) (given : IsGiven s p) (X V : Tokenizer) (h : IsRead p pieces tree X) (good : IsGood p.bytes.now tree) (m : PairsRuns X V) where
+  meets : MeetsPass p.bytes.now tree
+  meets = good-meets p.bytes.now tree h.content.is_text h.content.fits good
+
+  runs : HasRuns X.parse_state.now.bytes.now tree
+  runs = subst (λ (x : ParseState). HasRuns x.bytes.now tree) (sym h.input) meets.runs
+
+  -- it leaves the events of the paired tree
+  paired-read : IsRead p pieces (paired s (pair_list s) tree) V
+  paired-read = record {
+    content = h.content;
+    has_lines = HasLines-paired s (pair_list s) tree h.has_lines meets.striped.1;
+    codes = codes-paired s (pair_list s) tree ∙ h.codes;
+    map = ap (λ (x : Tokenizer). x.map) m.same ∙ h.map;
+    events = m.paired s tree (given-of s p X given h.input) runs meets.striped h.events;
+    input = ap (λ (x : Tokenizer). x.parse_state.now) m.same ∙ h.input;
+  }
+
+  paired-probes : IsProbed s tree V.tokenize_state.probes
+  paired-probes = m.probed s tree (given-of s p X given h.input) runs h.events
+
+-- what the passes of a run over a content leave of its tree: its pairs grouped, merged and finished, and the number of looks that pairing took
+pub record IsResolved (s : Setting) (finish : Forest → Forest) (tree : Forest) (V : Tokenizer) : Type 0 where
+  pub events : V.events ≡ appended_from 0 None (finish (merged (paired s (pair_list s) tree)))
+  pub probed : IsProbed s tree V.tokenize_state.probes
+
+-- the passes behind that of labels: those of runs, if a run stands somewhere, of data and of the whole
+module _ (p : ParseState) (pieces : List Piece) (tree : Forest) (s : Setting) (given : IsGiven s p) (last : ResolveName) (finish : ParseState → Forest → Forest) (X : Tokenizer) (t : IsTrimming last finish) (read : IsRead p pieces tree X) where
+  pub first-may : (b : Bool) → (b ≡ true → IsGood p.bytes.now tree) → MayResolve may_resolve_of resolves_of (passes_first b (R.Data ∷ last ∷ [])) X
+  first-may true good = (
+    may-pair p pieces tree X read (good refl),
+    λ V m. passes-may p pieces (paired s (pair_list s) tree) last finish V t (paired-read p pieces tree s given X V read (good refl) m),
+  )
+  first-may false good = passes-may p pieces tree last finish X t read
+
+  pub first-leaves : (b : Bool) → (b ≡ true → IsGood p.bytes.now tree) → (b ≡ false → IsRunless tree) → X.tokenize_state.probes ≡ 0 → (V : Tokenizer)
+      → Resolves resolves_of (passes_first b (R.Data ∷ last ∷ [])) X V → IsResolved s (finish p) tree V
+  first-leaves true good runless none V r =
+      let m : PairsRuns X r.0 = r.1.0 in
+      let l = passes-leave p pieces (paired s (pair_list s) tree) last finish r.0 V t (paired-read p pieces tree s given X r.0 read (good refl) m) r.1.1 in
+      record {
+        events = l.0;
+        probed = subst (λ (x : TokenizeState). IsProbed s tree x.probes) (sym l.1) (paired-probes p pieces tree s given X r.0 read (good refl) m);
+      }
+  first-leaves false good runless none V r =
+      let l = passes-leave p pieces tree last finish X V t read r in
+      record {
+        events = l.0 ∙ ap (λ x. appended_from 0 None (finish p (merged x))) (sym (paired-runless s (pair_list s) tree (runless refl)));
+        probed = subst (λ (n : ℕ). IsProbed s tree n) (sym (ap (λ (x : TokenizeState). x.probes) l.1 ∙ none)) (unprobed s tree (runless refl));
+      }
+
+-- At the end of a run.
+
+-- the start of a run over this content
+pub record IsStart (p : ParseState) (pieces : List Piece) (S : Tokenizer) : Type 0 where
+  pub content : IsContent p.bytes.now pieces
+  pub place : S.cursor ≡ start_of_content p.bytes.now pieces
+  pub input : S.parse_state.now ≡ p
+  pub events : S.events ≡ []
+  pub map : S.map ≡ []
+  pub resolvers : S.resolvers ≡ []
+  pub probes : S.tokenize_state.probes ≡ 0
+
+pub codes-ahead : (p : ParseState) (pieces : List Piece) (S : Tokenizer) → S.cursor ≡ start_of_content p.bytes.now pieces → ahead S ≡ content_of p.bytes.now pieces
+unfolding start_of_content ahead_at
+codes-ahead p pieces S e = ap ahead_at e

@@ -1,0 +1,152 @@
+-- A whole run over the elements of a content, from its start to what the passes leave.
+use Rattle.std.proofs.Common.{◌≡◌, true, false, List, [], map, None, refl, sym, ap, subst, ◌∙◌}
+use Rattle.std.specs.Borrow.{Bor}
+use Rattle.std.specs.declared.alloc.Global.{Global}
+use Rattle.markdown_engine.specs.RunStart.{begun}
+use Rattle.markdown_engine_events.specs.EventChains.{chained}
+use Rattle.markdown_engine_content.specs.Codes.{Code}
+use Rattle.markdown_engine_content.specs.Content.{IsContent, content_of}
+use Rattle.markdown_engine.specs.Operations.{ahead, registered}
+use Rattle.markdown_engine_content.specs.Place.{Place, start_of_content, last_of}
+use Rattle.markdown_engine.specs.RestingFields.{at_rest}
+use Rattle.markdown_engine.specs.PassesInOrder.{MayResolve, Resolves, unregistered}
+use Rattle.markdown_engine_content.specs.Tree.{Forest, events_of}
+use Rattle.markdown_engine_content.specs.declared.parser.ParseState.{ParseState}
+use Rattle.markdown_engine_content.specs.declared.parser.Piece.{Piece}
+use Rattle.markdown_engine.specs.declared.resolve.ResolveName.{ResolveName}
+use Rattle.markdown_engine.specs.declared.resolve.ResolveName.TheVariants as R
+use Rattle.markdown_engine.specs.declared.tokenizer.LabelStart.{LabelStart}
+use Rattle.markdown_engine.specs.declared.tokenizer.TokenizeState.{TokenizeState}
+use Rattle.markdown_engine.specs.declared.tokenizer.Tokenizer.{Tokenizer}
+use Rattle.markdown_engine.proofs.TreeChains.{chained-whole}
+use Rattle.markdown_run_row.specs.CutData.{split, HasCodes}
+use Rattle.markdown_run_row.proofs.PairsLeaveNoEmptyData.{merged-paired}
+use Rattle.markdown_attention.specs.AttentionPass.{IsProbed}
+use Rattle.markdown_attention.proofs.AttentionTreeLabels.{IsGood}
+use Rattle.markdown_label.specs.KeptStarts.{StandFor}
+use Rattle.markdown_label_pass.specs.Brackets.{grouped}
+use Rattle.markdown_model.specs.SingleConstructs.{follows_escape}
+use Rattle.markdown_model.specs.Elements.{Choice, AreElementsFrom}
+use Rattle.markdown_model.specs.BracketGroups.{paired}
+use Rattle.markdown_model.specs.LabelEnd.{Element}
+use Rattle.markdown_model.specs.Pairs.{pair_list}
+use Rattle.markdown_model.specs.Passes.{labels_of, merged}
+use Rattle.markdown_model.specs.Setting.{Setting}
+use Rattle.markdown_run_row.specs.RunOverElements.{AllElements, Finishes, StandsAfter}
+use Rattle.markdown_run_row.specs.RowStart.{IsFresh}
+use Rattle.markdown_run_row.specs.OpenStarts.{brackets_of}
+use Rattle.markdown_run_row.specs.Row.{Row, row_has_run, IsRowAt, split_row, row_of_elements}
+use Rattle.markdown_run_row.proofs.RowElements.{grouped-alike}
+use Rattle.markdown_run_row.proofs.RowTreeFacts.{grouped-lines, codes-labels}
+use Rattle.markdown_run_text.specs.ContentPasses.{may_resolve_of, resolves_of}
+use Rattle.markdown_run.proofs.DataInDocument.{HasLines-HasCodes}
+use Rattle.markdown_run.proofs.PassesAfterRun.{IsTrimming, IsStart, IsGiven, IsResolved, codes-ahead}
+use Rattle.markdown_run.proofs.ProbeBoundsOfCutData.{probes-alike}
+use Rattle.markdown_run.proofs.RowPasses.{row-may, row-left}
+
+-- T stands at the start of the content of these pieces, with no events and these scratch fields
+pub record Starts (p : ParseState) (pieces : List Piece) (s : TokenizeState) (T : Tokenizer) : Type 0 where
+  pub input : T.parse_state.now ≡ p
+  pub place : T.cursor ≡ start_of_content p.bytes.now pieces
+  pub events : T.events ≡ []
+  pub map : T.map ≡ []
+  pub resolvers : T.resolvers ≡ []
+  pub fields : T.tokenize_state ≡ s
+
+pub begun-starts : (alloc : Global) (p : Bor ParseState) (pieces : List Piece) (T : Tokenizer) → T ≡ begun alloc p pieces → Starts p.now pieces at_rest T
+begun-starts alloc p pieces T e =
+    record {
+      input = ap (λ (x : Tokenizer). x.parse_state.now) e;
+      place = ap (λ (x : Tokenizer). x.cursor) e;
+      events = ap (λ (x : Tokenizer). x.events) e;
+      map = ap (λ (x : Tokenizer). x.map) e;
+      resolvers = ap (λ (x : Tokenizer). x.resolvers) e;
+      fields = ap (λ (x : Tokenizer). x.tokenize_state) e;
+    }
+
+-- with other scratch fields
+pub start-with : (p : ParseState) (pieces : List Piece) (s r : TokenizeState) (T : Tokenizer) → Starts p pieces s T → Starts p pieces r (record T { tokenize_state = r })
+start-with p pieces s r T k = record { input = k.input; place = k.place; events = k.events; map = k.map; resolvers = k.resolvers; fields = refl }
+
+-- nothing stands before the start
+pub start-stands : (p : ParseState) (pieces : List Piece) (s : TokenizeState) (T : Tokenizer) → s.label_starts ≡ [] → Starts p pieces s T → StandsAfter [] None T
+unfolding start_of_content
+start-stands p pieces s T none k =
+    record {
+      escaped = ap follows_escape k.events;
+      before = ap (λ (x : Place). last_of x.codes x.at) k.place;
+      keeps = subst (λ ls. StandFor T.events [] ls) (sym (ap (λ (x : TokenizeState). x.label_starts) k.fields ∙ none)) tt;
+    }
+
+pub start-ahead : (p : ParseState) (pieces : List Piece) (s : TokenizeState) (T : Tokenizer) → Starts p pieces s T → ahead T ≡ content_of p.bytes.now pieces
+start-ahead p pieces s T k = codes-ahead p pieces T k.place
+
+-- scratch fields without labels and looks, those of ends at rest
+pub record AreFresh (s : TokenizeState) : Type 0 where
+  pub labels : s.labels ≡ []
+  pub starts : s.label_starts ≡ []
+  pub loose : s.label_starts_loose ≡ []
+  pub end : s.end ≡ 0
+  pub seen : s.seen ≡ false
+  pub probes : s.probes ≡ 0
+
+fresh-start : (p : ParseState) (pieces : List Piece) (s : TokenizeState) (T : Tokenizer) → AreFresh s → Starts p pieces s T → IsFresh T
+fresh-start p pieces s T h k = record {
+  events = k.events;
+  labels = ap (λ (x : TokenizeState). x.labels) k.fields ∙ h.labels;
+  starts = ap (λ (x : TokenizeState). x.label_starts) k.fields ∙ h.starts;
+  loose = ap (λ (x : TokenizeState). x.label_starts_loose) k.fields ∙ h.loose;
+  end = ap (λ (x : TokenizeState). x.end) k.fields ∙ h.end;
+  seen = ap (λ (x : TokenizeState). x.seen) k.fields ∙ h.seen;
+}
+
+-- the elements of these codes, after which a row with its labels grouped is the tree of labels but for how data is cut
+pub record IsFound (choice : Choice) (cs : List Code) (row : Row) : Type 0 where
+  pub elements : List Element
+  pub are : AreElementsFrom choice [] None cs elements
+  pub have_codes : HasCodes (labels_of elements)
+  pub alike : split_row row ≡ split_row (row_of_elements elements)
+  pub is_row : IsRowAt [] row
+  pub trees : split (grouped (brackets_of row)) ≡ split (labels_of elements)
+
+module _ (last : ResolveName) (finish : ParseState → Forest → Forest) (trims : IsTrimming last finish) (choice : Choice) (p : ParseState) (pieces : List Piece) (content : IsContent p.bytes.now pieces) (setting : Setting) (is_given : IsGiven setting p) (s : TokenizeState) (fresh : AreFresh s) (T U : Tokenizer) (start : Starts p pieces s T) (k : Finishes choice (λ X. registered last (registered R.Data X)) T U) where
+  -- the row with its labels grouped
+  abbrev pub Grouped : Forest
+  Grouped = grouped (brackets_of k.row)
+
+  begins : IsStart p pieces T
+  begins = record { content = content; place = start.place; input = start.input; events = start.events; map = start.map; resolvers = start.resolvers; probes = ap (λ (x : TokenizeState). x.probes) start.fields ∙ fresh.probes }
+
+  -- no start waits at the run's start
+  is_row : IsRowAt [] k.row
+  is_row = subst (λ ks. IsRowAt ks k.row) (ap (λ (x : TokenizeState). map (λ (l : LabelStart). l.kind) x.label_starts) start.fields ∙ ap (map (λ (l : LabelStart). l.kind)) fresh.starts) k.is_row
+
+  pub finished-elements : IsFound choice (content_of p.bytes.now pieces) k.row
+  finished-elements =
+      let all : AllElements choice [] None k.row (ahead T) = k.elements [] None (start-stands p pieces s T fresh.starts start) in
+      record {
+        elements = all.elements;
+        are = subst (λ cs. AreElementsFrom choice [] None cs all.elements) (start-ahead p pieces s T start) all.are;
+        have_codes = codes-labels all.elements all.have_codes;
+        alike = all.alike;
+        is_row = is_row;
+        trees = grouped-alike k.row all.elements is_row all.alike;
+      }
+
+  module _ (good : row_has_run k.row ≡ true → IsGood p.bytes.now Grouped) where
+    pub finished-may : MayResolve may_resolve_of resolves_of U.resolvers (unregistered U)
+    finished-may = row-may p pieces setting is_given k.row last finish T U trims begins (fresh-start p pieces s T fresh start) is_row k.whole good k.left
+
+    pub finished-left : (V : Tokenizer) → Resolves resolves_of U.resolvers (unregistered U) V → IsResolved setting (finish p) Grouped V
+    finished-left V r = row-left p pieces setting is_given k.row last finish T U trims begins (fresh-start p pieces s T fresh start) is_row k.whole good k.left V r
+
+    -- what the passes leave, of a tree that differs from it only in how data is cut
+    pub finished-events : (V : Tokenizer) (labels : Forest) → HasCodes labels → split Grouped ≡ split labels → Resolves resolves_of U.resolvers (unregistered U) V
+        → chained V.events ≡ events_of (finish p (merged (paired setting (pair_list setting) labels)))
+    finished-events V labels codes alike r =
+        let t : Forest = paired setting (pair_list setting) Grouped in
+        let same : merged t ≡ merged (paired setting (pair_list setting) labels) = merged-paired setting (pair_list setting) Grouped labels (HasLines-HasCodes Grouped (grouped-lines k.row is_row)) codes alike in
+        ap chained (finished-left V r).events ∙ chained-whole (finish p (merged t)) ∙ ap (λ x. events_of (finish p x)) same
+
+    pub finished-probes : (V : Tokenizer) (labels : Forest) → split Grouped ≡ split labels → Resolves resolves_of U.resolvers (unregistered U) V → IsProbed setting labels V.tokenize_state.probes
+    finished-probes V labels alike r = probes-alike setting Grouped labels V.tokenize_state.probes alike (finished-left V r).probed

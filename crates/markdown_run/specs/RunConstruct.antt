@@ -1,0 +1,178 @@
+-- Single constructs: what is read at a tokenizer's place, by the name of the state that starts it.
+use Rattle.std.specs.Prelude.{◌≡◌, ℕ, Bool, true, false, List, Option, Some, None, is_none}
+use Rattle.markdown_engine_content.specs.Codes.{Code}
+use Rattle.markdown_engine.specs.Operations.{ahead, previous_of, registered, scratched}
+use Rattle.markdown_engine.specs.PastTree.{TreeReading, Reads, link_before}
+use Rattle.markdown_engine_content.specs.Place.{last_of}
+use Rattle.markdown_engine_content.specs.Tree.{Forest}
+use Rattle.markdown_engine_content.specs.declared.configuration.ParseOptions.{ParseOptions}
+use Rattle.markdown_engine.specs.declared.resolve.ResolveName.{ResolveName}
+use Rattle.markdown_engine.specs.declared.resolve.ResolveName.TheVariants as R
+use Rattle.markdown_engine.specs.declared.state.StateName.{StateName}
+use Rattle.markdown_engine.specs.declared.state.StateName.TheVariants.{AttentionStart, AutolinkStart, CharacterEscapeStart, CharacterReferenceStart, DataStart, DestinationStart, LabelStart, TitleStart, GfmAutolinkLiteralProtocolStart, GfmAutolinkLiteralWwwStart, GfmLabelStartFootnoteStart, GfmTaskListItemCheckStart, HardBreakEscapeStart, HtmlTextStart, LabelEndStart, LabelStartImageStart, LabelStartLinkStart, RawTextStart, SpaceOrTabStart, SpaceOrTabEolStart}
+use Rattle.markdown_engine_content.specs.declared.label_kind.LabelKind.{LabelKind}
+use Rattle.markdown_engine.specs.declared.tokenizer.TokenizeState.{TokenizeState}
+use Rattle.markdown_engine.specs.declared.tokenizer.Tokenizer.{Tokenizer}
+use Rattle.markdown_attention.specs.Attention as Attention
+use Rattle.markdown_leaf_gfm.specs.GfmAutolinkLiteral as GfmAutolinkLiteral
+use Rattle.markdown_leaf_gfm.specs.GfmTaskListItemCheck as GfmTaskListItemCheck
+use Rattle.markdown_leaf_html.specs.HtmlText as HtmlText
+use Rattle.markdown_label.specs.LabelEnd as LabelEnd
+use Rattle.markdown_leaf.specs.CharacterReference as CharacterReference
+use Rattle.markdown_leaf.specs.RawText as RawText
+use Rattle.markdown_model.specs.Grammar.{Reading}
+use Rattle.markdown_label.specs.LabelEnd.{last_start, lost_fields}
+use Rattle.markdown_run_text.specs.RunSetting.{setting_of}
+use Rattle.markdown_model.specs.LabelEnd.{Element, starts}
+use Rattle.markdown_model.specs.TextLines.{data_up_to}
+use Rattle.markdown_partial.specs.PartialData.{stops_of}
+use Rattle.markdown_model.specs.Resource.{DestinationNames, StringNames, destination, title, label}
+use Rattle.markdown_model.specs.SingleConstructs.{follows_escape}
+use Rattle.markdown_model.specs.SingleConstructs as SingleConstructs
+use Rattle.markdown_model.specs.Whitespace.{space_or_tab, space_or_tab_eol}
+use Rattle.markdown_partial.specs.PartialSpaceOrTabEol as PartialSpaceOrTabEol
+use Rattle.markdown_partial.specs.PartialSpaceOrTab as PartialSpaceOrTab
+use Rattle.markdown_run_row.specs.Row.{begins, makes, past_mark}
+use Rattle.markdown_partial_link.specs.PartialDestination as PartialDestination
+use Rattle.markdown_partial_link.specs.PartialTitle as PartialTitle
+use Rattle.markdown_partial_link.specs.PartialLabel as PartialLabel
+use Rattle.markdown_util.specs.Reference.{html_5_rows}
+
+-- The states that start a construct, each with what it asks for: the scratch fields that it counts in are at rest. A span, whitespace with a
+-- line ending, and a literal ask that fewer codes are left than a `usize` counts, which holds over every content; a span also that what is known
+-- of the runs is right, HTML that what is known of its ends is, an end of a label that what is known of the ends of resources and of the names
+-- that are defined is, and a literal that the content is read as characters, as every content is, and that what is known of where no domain begins
+-- (`no_domains`) is right. Whitespace has the fields of what it reads as
+-- its setter leaves them: where it is to go on with a chain, a linked event stands just before, and where whitespace with a line ending is
+-- linked, no blank code is at hand.
+abbrev pub IsConstruct : StateName → Tokenizer → Type 0
+IsConstruct CharacterEscapeStart T = Unit {0}
+IsConstruct CharacterReferenceStart T = CharacterReference.IsAtRest T
+IsConstruct HardBreakEscapeStart T = Unit {0}
+IsConstruct AutolinkStart T = T.tokenize_state.size ≡ 0
+IsConstruct DestinationStart T = PartialDestination.StartReady T
+IsConstruct TitleStart T = PartialTitle.StartReady T
+IsConstruct LabelStart T = PartialLabel.StartReady T
+IsConstruct HtmlTextStart T = HtmlText.StartReady T
+IsConstruct RawTextStart T = RawText.StartReady T
+IsConstruct DataStart T = Unit {0}
+IsConstruct AttentionStart T = Attention.StartReady T
+IsConstruct GfmTaskListItemCheckStart T = GfmTaskListItemCheck.MayLook T
+IsConstruct GfmAutolinkLiteralProtocolStart T = GfmAutolinkLiteral.StartReady T
+IsConstruct GfmAutolinkLiteralWwwStart T = GfmAutolinkLiteral.StartReady T
+IsConstruct LabelStartImageStart T = Unit {0}
+IsConstruct LabelStartLinkStart T = Unit {0}
+IsConstruct GfmLabelStartFootnoteStart T = Unit {0}
+IsConstruct LabelEndStart T = LabelEnd.StartReady T
+IsConstruct SpaceOrTabStart T = PartialSpaceOrTab.StartReady T
+IsConstruct SpaceOrTabEolStart T = PartialSpaceOrTabEol.StartReady T
+IsConstruct _ T = ⊥
+
+-- What a reading takes of a tokenizer: the options, whether an escape ends right before the place, the code before it, whether that is the content's
+-- first place, the document, and where the content ends.
+
+abbrev pub options_here : Tokenizer → ParseOptions
+options_here T = T.parse_state.now.options.now
+
+abbrev pub escaped_here : Tokenizer → Bool
+escaped_here T = follows_escape T.events
+
+abbrev pub before_here : Tokenizer → Option Code
+before_here T = last_of T.cursor.codes T.cursor.at
+
+abbrev pub is_first_here : Tokenizer → Bool
+is_first_here T = is_none (previous_of T)
+
+abbrev pub bytes_here : Tokenizer → List ℕ
+bytes_here T = T.parse_state.now.bytes.now
+
+abbrev pub end_here : Tokenizer → ℕ
+end_here T = T.cursor.end.index
+
+-- the names that are asked for, of a destination and of another text
+abbrev pub destination_names : TokenizeState → DestinationNames
+destination_names s = record { whole = s.token_1; literal = s.token_2; marker = s.token_3; raw = s.token_4; text = s.token_5 }
+
+abbrev pub string_names : TokenizeState → StringNames
+string_names s = record { whole = s.token_1; marker = s.token_2; text = s.token_3 }
+
+-- what is read: what stands in the standard under the construct's name, where it is looked for; data up to where it stops; or the
+-- whitespace that is asked for
+abbrev pub construct_reading : StateName → Tokenizer → TreeReading
+construct_reading CharacterEscapeStart T = SingleConstructs.character_escape_here (options_here T)
+construct_reading CharacterReferenceStart T = SingleConstructs.character_reference_here (options_here T) html_5_rows
+construct_reading HardBreakEscapeStart T = SingleConstructs.hard_break_escape_here (options_here T)
+construct_reading AutolinkStart T = SingleConstructs.autolink_here (options_here T)
+construct_reading DestinationStart T = destination T.tokenize_state.size_b (destination_names T.tokenize_state)
+construct_reading TitleStart T = title (string_names T.tokenize_state)
+construct_reading LabelStart T = label (string_names T.tokenize_state)
+construct_reading HtmlTextStart T = SingleConstructs.html_text_here (options_here T)
+construct_reading RawTextStart T = SingleConstructs.raw_text_here (options_here T) (escaped_here T) (before_here T)
+construct_reading AttentionStart T = SingleConstructs.attention_here (options_here T)
+construct_reading DataStart T = data_up_to (stops_of T.tokenize_state)
+construct_reading GfmTaskListItemCheckStart T = SingleConstructs.gfm_task_list_item_check_here (options_here T) T.tokenize_state.document_at_first_paragraph_of_list_item (is_first_here T)
+construct_reading GfmAutolinkLiteralProtocolStart T = SingleConstructs.gfm_autolink_literal_protocol_here (options_here T) (bytes_here T) (end_here T) (before_here T)
+construct_reading GfmAutolinkLiteralWwwStart T = SingleConstructs.gfm_autolink_literal_www_here (options_here T) (bytes_here T) (end_here T) (before_here T)
+construct_reading SpaceOrTabStart T =
+    let s : TokenizeState = T.tokenize_state in
+    space_or_tab s.space_or_tab_token s.space_or_tab_content s.space_or_tab_min s.space_or_tab_max
+construct_reading SpaceOrTabEolStart T = space_or_tab_eol T.tokenize_state.space_or_tab_eol_content
+construct_reading _ T = λ cs. None
+
+-- the event of the chain that the first linked event goes on with
+abbrev pub chain_before : StateName → Tokenizer → Option ℕ
+chain_before SpaceOrTabStart T = link_before T.tokenize_state.space_or_tab_connect T
+chain_before SpaceOrTabEolStart T = link_before T.tokenize_state.space_or_tab_eol_connect T
+chain_before _ T = None
+
+-- the scratch fields after: whitespace puts its own to rest, the others leave all as they were
+abbrev pub fields_after : StateName → TokenizeState → TokenizeState
+fields_after SpaceOrTabStart s = PartialSpaceOrTab.rested s
+fields_after SpaceOrTabEolStart s = PartialSpaceOrTabEol.eol_rested s
+fields_after _ s = s
+
+-- the pass that is registered after: that of runs after a run of markers
+abbrev pub pass_after : StateName → Option ResolveName
+pass_after AttentionStart = Some R.Attention
+pass_after _ = None
+
+-- the start of a label that is read (CommonMark 6.3 and 6.4; footnotes)
+abbrev pub start_reading : StateName → Tokenizer → Reading Element
+start_reading LabelStartImageStart T = SingleConstructs.label_start_image_here (options_here T)
+start_reading LabelStartLinkStart T = SingleConstructs.label_start_link_here (options_here T)
+start_reading GfmLabelStartFootnoteStart T = SingleConstructs.gfm_label_start_footnote_here (options_here T)
+start_reading _ T = λ cs. None
+
+-- the end of a label that is read, by the last start kept
+abbrev pub end_reading : Tokenizer → Reading (List Code × (LabelKind × Forest))
+end_reading T = SingleConstructs.label_end_here (setting_of T.parse_state.now) (last_start T.events T.tokenize_state.label_starts)
+
+-- the codes at the place are read so, and U is T past the tree, with these scratch fields and this pass registered
+abbrev pub ReadsWith : Option ResolveName → TreeReading → Option ℕ → TokenizeState → Tokenizer → Tokenizer → Type 0
+ReadsWith None reading previous s T U = Reads reading previous s T U
+ReadsWith (Some pass) reading previous s T U = (there : Tokenizer) × (Reads reading previous s T there × (U ≡ registered pass there))
+
+-- either they are read so, or they are not, and U is T with these scratch fields
+abbrev pub ReadsOrStays : Option ResolveName → TreeReading → Option ℕ → TokenizeState → Tokenizer → Bool → Tokenizer → Type 0
+ReadsOrStays pass reading previous s T true U = ReadsWith pass reading previous s T U
+ReadsOrStays pass reading previous s T false U = (reading (ahead T) ≡ None) × (U ≡ scratched s T)
+
+-- either a start of a label is read so, and U is T past it, which is kept; or none is, and U is T
+abbrev pub BeginsOrStays : Reading Element → Tokenizer → Bool → Tokenizer → Type 0
+BeginsOrStays reading T true U = (kind : LabelKind) × ((marker : List Code) × ((reading (ahead T) ≡ Some (starts kind marker, ahead U)) × (U ≡ past_mark (begins kind marker) T)))
+BeginsOrStays reading T false U = (reading (ahead T) ≡ None) × (U ≡ T)
+
+-- either an end of a label is read, with what follows it, and U is T past the label that it makes of the last start kept; or none is, and U is
+-- T but for the scratch fields: where a `]` stands here and ends are on, the last start is used up
+abbrev pub EndsOrLoses : Tokenizer → Bool → Tokenizer → Type 0
+EndsOrLoses T true U =
+    (back : List Code) × ((kind : LabelKind) × ((tail : Forest) × ((end_reading T (ahead T) ≡ Some ((back, (kind, tail)), ahead U)) × (U ≡ past_mark (makes back kind tail) T))))
+EndsOrLoses T false U = (end_reading T (ahead T) ≡ None) × (U ≡ scratched (lost_fields T) T)
+
+-- how a construct ends
+abbrev pub ConstructEnds : StateName → Tokenizer → Bool → Tokenizer → Type 0
+ConstructEnds LabelStartImageStart T ok U = BeginsOrStays (start_reading LabelStartImageStart T) T ok U
+ConstructEnds LabelStartLinkStart T ok U = BeginsOrStays (start_reading LabelStartLinkStart T) T ok U
+ConstructEnds GfmLabelStartFootnoteStart T ok U = BeginsOrStays (start_reading GfmLabelStartFootnoteStart T) T ok U
+ConstructEnds LabelEndStart T ok U = EndsOrLoses T ok U
+ConstructEnds name T ok U = ReadsOrStays (pass_after name) (construct_reading name T) (chain_before name T) (fields_after name T.tokenize_state) T ok U

@@ -1,0 +1,23 @@
+-- Whole runs: the states from one on, and then the passes that they registered.
+use Rattle.std.specs.Prelude.{◌≡◌, Bool}
+use Rattle.markdown_engine_events.specs.EventChains.{chained}
+use Rattle.markdown_engine.specs.PassesInOrder.{MayResolve, Resolves, unregistered}
+use Rattle.markdown_engine.specs.declared.state.StateName.{StateName}
+use Rattle.markdown_engine.specs.declared.tokenizer.Tokenizer.{Tokenizer}
+use Rattle.markdown_run_text.specs.ContentPasses.{may_resolve_of, resolves_of}
+use Rattle.markdown_run.specs.Layer.{ends_of}
+use Rattle.markdown_run.specs.declared.run.Run.{Run}
+
+-- however a run from this state ends, the passes that it registered may be called
+abbrev pub MayPass : StateName → Tokenizer → Type 0
+MayPass name T = (held : Bool) (left : Tokenizer) → ends_of name T held left → MayResolve may_resolve_of resolves_of left.resolvers (unregistered left)
+
+-- what is found is what a run from this state leaves after its passes: the events, and the looks of pairing
+pub record IsFoundFrom (name : StateName) (T : Tokenizer) (run : Run) : Type 0 where
+  pub held : Bool
+  pub left : Tokenizer
+  pub passed : Tokenizer
+  pub ends : ends_of name T held left
+  pub resolves : Resolves resolves_of left.resolvers (unregistered left) passed
+  pub events : run.events.items ≡ chained passed.events
+  pub probes : run.probes ≡ passed.tokenize_state.probes

@@ -1,0 +1,17 @@
+-- The proofs of what is said of innermost events.
+pub mod InnermostEventsLaws
+pub mod FirstInnermostEvent
+-- The proofs of what is said of leaves on lines.
+pub mod OneLineTrees
+pub mod OneLineLabels
+pub mod OneLinePairs
+pub mod LinesAreInDocument
+pub mod OneLineLeafLemmas
+pub mod OneLineReadings
+pub mod OneLineTexts
+pub mod OneLineConstructs
+pub mod LineEndingsAreSpace
+pub mod OneLineLiterals
+pub mod OneLineElements
+pub mod LeafOrder
+pub mod LeavesAreStretches

@@ -1,0 +1,388 @@
+-- The trees of constructs are on lines.
+use Rattle.std.proofs.Common.{◌≡◌, ◌≢◌, ℕ, zero, suc, ◌-◌, Bool, true, false, ◌&&◌, ◌||◌, ◌==◌, List, [], ◌∷◌, length, Option, Some, None, refl, ap}
+use Rattle.std.specs.Prelude.{codes, nat_lt}
+use Rattle.std.proofs.lemmas.Bool.{or_parts}
+use Rattle.markdown_engine_content.specs.Codes.{Code, is_blank, is_line_ending}
+use Rattle.markdown_engine_content.specs.Tree.{Forest, empty, leaf_then, group_then, leaf, leaf_codes, linked, group, ◌⊕◌}
+use Rattle.markdown_engine_content.specs.declared.event.Content.{Content}
+use Rattle.markdown_engine_content.specs.declared.event.Name.{Name}
+use Rattle.markdown_engine_content.specs.declared.event.Name.TheVariants as N
+use Rattle.markdown_model.specs.CodeTests.{is_value, is_among, next_is, is_whitespace_code, is_control}
+use Rattle.markdown_model.specs.Grammar.{Reading, some, with_first, optional_tree, up_to}
+use Rattle.markdown_model.specs.HtmlText.{html_text}
+use Rattle.markdown_model.specs.LabelEnd.{full_reference, collapsed_reference, shortcut, shortcut_before_bracket, reference_after_label, after_label}
+use Rattle.markdown_model.specs.LeafConstructs.{character_escape, Parts, character_reference, named_parts, decimal_parts, hexadecimal_parts, hard_break_escape, scheme, uri, domain_label, email_address, in_angle_brackets, autolink, closing_run, joined_codes, span_of, span_here, SpanNames, gfm_task_list_item_check}
+use Rattle.markdown_model.specs.TextLines.{stretches, line_leaves, linked_leaf, lines}
+use Rattle.markdown_model.specs.Resource.{string_group, StringNames, between_markers, label, title_between, title, title_names, literal_destination, raw_from, raw_destination, destination, resource_names, spaced_title, destination_and_title, resource, reference_names}
+use Rattle.markdown_model.specs.Setting.{Setting}
+use Rattle.markdown_model.specs.Whitespace.{space_or_tab_eol, spaces_across, spaces_on_line}
+use Rattle.markdown_model.proofs.NoLinkInConstructs.{Passes, Yields, yields_bind, yields_gives, yields_passed, yields_either, yields_before, yields_next, yields_unless, then_any}
+use Rattle.markdown_run_row.specs.RowTreeNames.{makes_data}
+use Rattle.markdown_util.specs.Reference.{Table}
+use Rattle.markdown_run_leaves.specs.OneLineLeaves.{IsLine, IsSomeLine, IsLined, AtStart}
+use Rattle.markdown_run_leaves.proofs.OneLineTrees.{AreLeaves, none-left, lined-row, lined-leaf, lined-one, lined-group}
+use Rattle.markdown_run_leaves.proofs.OneLineTexts.{IsFine, AreFine, fine-stretches, leaves-lines, leaves-linked, lined-linked, lined-line-leaves, lined-lines}
+use Rattle.markdown_run_leaves.proofs.OneLineReadings.{Skips, not-ending, some-any, IsOne, one-one, one-line, some-line, any-line, then-line, repeatedly-line, with-first-line, escaped-lines}
+
+abbrev pub Tree : Forest → Type 0
+Tree t = IsLined AtStart t
+
+abbrev pub Trees : Reading Forest → Type 0
+Trees a = Yields Tree a
+
+-- Leaves and groups.
+
+row : (t u : Forest) → Tree t → Tree u → Tree (t ⊕ u)
+row t u h k = lined-row AtStart t u h k
+
+pub one-leaf : (name : Name) (cs : List Code) → makes_data name ≡ false → IsOne cs → Tree (leaf name cs)
+one-leaf name [] e h = absurd h
+one-leaf name (c ∷ []) e h = lined-one AtStart name c e
+one-leaf name (c ∷ d ∷ cs) e h = absurd h
+
+pub line-leaf : (name : Name) (cs : List Code) → IsLine cs → Tree (leaf name cs)
+line-leaf name cs h = lined-leaf AtStart name cs h
+
+one-some : (cs : List Code) → IsOne cs → cs ≢ []
+one-some [] h e = h
+one-some (c ∷ cs) h e = cc
+
+-- a group that begins with a marker
+marked : (name n : Name) (cs : List Code) (more : Forest) → cs ≢ [] → Tree (leaf n cs) → Tree more → Tree (group name (leaf n cs ⊕ more))
+marked name n cs more some h k = lined-group AtStart name _ _ n cs more some (row (leaf n cs) more h k)
+
+one-marked : (name n : Name) (cs : List Code) (more : Forest) → makes_data n ≡ false → IsOne cs → Tree more → Tree (group name (leaf n cs ⊕ more))
+one-marked name n cs more e h k = marked name n cs more (one-some cs h) (one-leaf n cs e h) k
+
+-- a group around nothing stands at the document's start
+around : (name : Name) (inside : Forest) → (leaf_codes inside ≡ [] → inside ≡ empty) → Tree inside → Tree (group name inside)
+around name empty e h = ((λ k. (refl, refl)), (tt, tt))
+around name (leaf_then n l cs rest) e h = ((λ k. absurd (clash (e k))), (h, tt))
+  where
+    clash : leaf_then n l cs rest ≡ empty → ⊥
+    clash x = cc
+around name (group_then n a b i rest) e h = ((λ k. absurd (clash (e k))), (h, tt))
+  where
+    clash : group_then n a b i rest ≡ empty → ⊥
+    clash x = cc
+
+leaves-none : (t : Forest) → AreLeaves t → leaf_codes t ≡ [] → t ≡ empty
+leaves-none empty h e = refl
+leaves-none (leaf_then n l cs rest) h e = absurd (h.0 (none-left cs (leaf_codes rest) e).0)
+leaves-none (group_then n a b i rest) h e = absurd h
+
+pub leaves-group : (name : Name) (t : Forest) → AreLeaves t → Tree t → Tree (group name t)
+leaves-group name t l h = around name t (leaves-none t l) h
+
+-- Escapes, breaks and references.
+
+pub escape-tree : Trees character_escape
+unfolding character_escape
+escape-tree =
+    yields_bind IsOne _ _ _ (one-one _) λ slash h. yields_bind IsOne _ _ _ (one-one _) λ value k. yields_gives _ _
+    (one-marked N.CharacterEscape N.CharacterEscapeMarker slash (leaf N.CharacterEscapeValue value) refl h (one-leaf N.CharacterEscapeValue value refl k))
+
+pub break-tree : Trees hard_break_escape
+unfolding hard_break_escape
+break-tree = yields_bind IsOne _ _ _ (yields_before _ _ _ (one-one _)) λ slash h. yields_gives _ _ (one-leaf N.HardBreakEscape slash refl h)
+
+record ArePartsLined (p : Parts) : Type 0 where
+  front : IsSomeLine p.front
+  number : IsLine p.number
+  hexadecimal : IsLine p.hexadecimal
+  value : IsLine p.value
+  back : IsLine p.back
+
+named-lined : (table : Table) → Yields ArePartsLined (named_parts table)
+unfolding named_parts
+named-lined table =
+    yields_bind IsSomeLine _ _ _ (one-line _ λ c. refl) λ front f. yields_bind IsSomeLine _ _ _ (some-line _ λ c. refl) λ value v. yields_passed _ _ _ (
+    yields_bind IsSomeLine _ _ _ (one-line _ λ c. refl) λ back b. yields_gives _ _ (record { front = f; number = refl; hexadecimal = refl; value = v.1; back = b.1 })
+    )
+
+decimal-lined : Yields ArePartsLined decimal_parts
+unfolding decimal_parts
+decimal-lined =
+    yields_bind IsSomeLine _ _ _ (one-line _ λ c. refl) λ front f. yields_bind IsSomeLine _ _ _ (one-line _ λ c. refl) λ number n. yields_bind IsSomeLine _ _ _ (some-line _ λ c. refl) λ value v. yields_passed _ _ _ (
+    yields_bind IsSomeLine _ _ _ (one-line _ λ c. refl) λ back b. yields_gives _ _ (record { front = f; number = n.1; hexadecimal = refl; value = v.1; back = b.1 })
+    )
+
+hexadecimal-lined : Yields ArePartsLined hexadecimal_parts
+unfolding hexadecimal_parts
+hexadecimal-lined =
+    yields_bind IsSomeLine _ _ _ (one-line _ λ c. refl) λ front f. yields_bind IsSomeLine _ _ _ (one-line _ λ c. refl) λ number n. yields_bind IsSomeLine _ _ _ (one-line _ λ c. refl) λ x h. yields_bind IsSomeLine _ _ _ (some-line _ λ c. refl) λ value v. yields_passed _ _ _ (
+    yields_bind IsSomeLine _ _ _ (one-line _ λ c. refl) λ back b. yields_gives _ _ (record { front = f; number = n.1; hexadecimal = h.1; value = v.1; back = b.1 })
+    )
+
+pub reference-tree : (table : Table) → Trees (character_reference table)
+unfolding character_reference
+reference-tree table =
+    yields_bind ArePartsLined _ _ _ (yields_either _ _ _ (named-lined table) (yields_either _ _ _ decimal-lined hexadecimal-lined)) λ p h. yields_gives _ _
+    (marked N.CharacterReference N.CharacterReferenceMarker p.front _ h.front.0 (line-leaf N.CharacterReferenceMarker p.front h.front.1)
+    (row (leaf N.CharacterReferenceMarkerNumeric p.number) _ (line-leaf N.CharacterReferenceMarkerNumeric p.number h.number)
+    (row (leaf N.CharacterReferenceMarkerHexadecimal p.hexadecimal) _ (line-leaf N.CharacterReferenceMarkerHexadecimal p.hexadecimal h.hexadecimal)
+    (row (leaf N.CharacterReferenceValue p.value) _ (line-leaf N.CharacterReferenceValue p.value h.value) (line-leaf N.CharacterReferenceMarkerSemi p.back h.back)))))
+
+-- Autolinks.
+
+bracket-tree : (inside : Reading (List Code)) (name : Name) → Yields IsLine inside → Trees (in_angle_brackets inside name)
+unfolding in_angle_brackets
+bracket-tree inside name y =
+    yields_bind IsOne _ _ _ (one-one _) λ front f. yields_bind IsLine _ _ _ y λ text t. yields_bind IsOne _ _ _ (one-one _) λ back b. yields_gives _ _
+    (one-marked N.Autolink N.AutolinkMarker front _ refl f (row (leaf name text) _ (line-leaf name text t) (one-leaf N.AutolinkMarker back refl b)))
+
+scheme-line : Yields IsLine scheme
+unfolding scheme
+scheme-line = yields_bind IsLine _ _ _ (then-line _ _ (some-any _ (one-line _ λ c. refl)) (some-any _ (some-line _ λ c. refl))) λ text h. yields_passed _ _ _ (yields_gives _ _ h)
+
+domain-line : Yields IsLine domain_label
+unfolding domain_label
+domain-line = yields_bind IsSomeLine _ _ _ (some-line _ λ c. refl) λ text h. yields_passed _ _ _ (yields_gives _ _ h.1)
+
+uri-line : Yields IsLine uri
+unfolding uri
+uri-line = then-line _ _ scheme-line (then-line _ _ (some-any _ (one-line _ λ c. refl)) (any-line _ λ c. refl))
+
+email-line : Yields IsLine email_address
+unfolding email_address
+email-line =
+    then-line _ _ (some-any _ (some-line _ λ c. refl)) (then-line _ _ (some-any _ (one-line _ λ c. refl)) (then-line _ _ domain-line (repeatedly-line _ (then-line _ _ (some-any _ (one-line _ λ c. refl)) domain-line))))
+
+pub autolink-tree : Trees autolink
+unfolding autolink
+autolink-tree = yields_either _ _ _ (bracket-tree _ N.AutolinkProtocol uri-line) (bracket-tree _ N.AutolinkEmail email-line)
+
+-- Spans.
+
+abbrev IsClosed : List (List Code) × List Code → Type 0
+IsClosed r = AreFine r.0 × IsLine r.1
+
+marked-line : (p : Code → Bool) → Skips p → (s : List Code) → IsFine s → next_is p s ≡ true → IsLine s
+marked-line p skips [] h e = refl
+marked-line p skips (c ∷ []) h e = ap (λ b. b || false) (not-ending p skips c e)
+marked-line p skips (c ∷ d ∷ cs) h e = h
+
+closing-lined : (p : Code → Bool) → Skips p → (n : ℕ) (ss : List (List Code)) → AreFine ss → Passes IsClosed (closing_run p n ss)
+unfolding closing_run
+closing-lined p skips n [] h = tt
+closing-lined p skips n (s ∷ ss) h = by_test (next_is p s) (length s == n) refl (closing-lined p skips n ss h.1)
+  where
+    by_rest : (r : Option ((List (List Code) × List Code) × List Code)) → Passes IsClosed r → Passes IsClosed (elim r [ None ↦ None | Some r ↦ Some ((s ∷ r.0.0, r.0.1), r.1) ])
+    by_rest None k = tt
+    by_rest (Some r) k = ((h.0, k.0), k.1)
+
+    by_test : (a b : Bool) → next_is p s ≡ a → Passes IsClosed (closing_run p n ss)
+        → Passes IsClosed (elim (a && b) [ true ↦ Some (([], s), joined_codes ss) | false ↦ elim (closing_run p n ss) [ None ↦ None | Some r ↦ Some ((s ∷ r.0.0, r.0.1), r.1) ] ])
+    by_test true true e k = (tt, marked-line p skips s h.0 e)
+    by_test true false e k = by_rest (closing_run p n ss) k
+    by_test false b e k = by_rest (closing_run p n ss) k
+
+span-tree : (marker : ℕ) (names : SpanNames) (allowed : ℕ → Bool) → Skips (is_value marker) → Trees (span_of marker names allowed)
+unfolding span_of
+span-tree marker names allowed skips =
+    yields_bind IsSomeLine _ _ _ (some-line (is_value marker) skips) λ front f. yields_passed _ _ _ (
+    yields_bind IsClosed _ _ _ (record { at = λ cs. closing-lined (is_value marker) skips (length front) (stretches (is_value marker) cs) (fine-stretches (is_value marker) cs) }) λ inside h. yields_gives _ _
+    (marked names.whole names.sequence front _ f.0 (line-leaf names.sequence front f.1)
+    (row (line_leaves names.text inside.0) _ (lined-line-leaves AtStart names.text inside.0 h.0) (line-leaf names.sequence inside.1 h.1)))
+    )
+
+pub span-here-tree : (marker : ℕ) (names : SpanNames) (allowed : ℕ → Bool) (escaped : Bool) (previous : Option Code) → Skips (is_value marker) → Trees (span_here marker names allowed escaped previous)
+unfolding span_here
+span-here-tree marker names allowed escaped previous skips = yields_passed _ _ _ (span-tree marker names allowed skips)
+
+-- HTML and checks.
+
+pub html-tree : Trees html_text
+unfolding html_text
+html-tree = then_any _ _ _ λ text. yields_gives _ _ (leaves-group N.HtmlText (lines N.HtmlTextData None text) (leaves-lines N.HtmlTextData None text) (lined-lines AtStart N.HtmlTextData None text))
+
+check-leaf : (b : Bool) (cs : List Code) → IsOne cs → Tree (leaf (elim b as (λ _. Name) [ true ↦ N.GfmTaskListItemValueChecked | false ↦ N.GfmTaskListItemValueUnchecked ]) cs)
+check-leaf true cs h = one-leaf N.GfmTaskListItemValueChecked cs refl h
+check-leaf false cs h = one-leaf N.GfmTaskListItemValueUnchecked cs refl h
+
+pub check-tree : Trees gfm_task_list_item_check
+unfolding gfm_task_list_item_check
+check-tree =
+    yields_bind IsOne _ _ _ (one-one _) λ front f. yields_bind IsOne _ _ _ (one-one _) λ value v. yields_bind IsOne _ _ _ (yields_before _ _ _ (one-one _)) λ back b. yields_gives _ _
+    (one-marked N.GfmTaskListItemCheck N.GfmTaskListItemMarker front _ refl f (row _ (leaf N.GfmTaskListItemMarker back) (check-leaf (next_is (is_among (codes "xX")) value) value v) (one-leaf N.GfmTaskListItemMarker back refl b)))
+
+-- Whitespace.
+
+optional-tree : (a : Reading Forest) → Trees a → Trees (optional_tree a)
+unfolding optional_tree
+optional-tree a h = yields_either _ _ _ h (yields_gives _ _ tt)
+
+one-linked : (link : Option Content) (cs : List Code) → IsOne cs → Tree (linked_leaf N.LineEnding link cs)
+one-linked link [] h = absurd h
+one-linked link (c ∷ []) h = ((tt, λ e. cc), tt)
+one-linked link (c ∷ d ∷ cs) h = absurd h
+
+spacing-tree : (link : Option Content) → Trees (space_or_tab_eol link)
+unfolding space_or_tab_eol spaces_across spaces_on_line
+spacing-tree link = yields_either _ _ _
+    (yields_bind IsLine _ _ _ (any-line _ λ c. refl) λ front f. yields_bind IsOne _ _ _ (one-one _) λ ending e. yields_bind IsLine _ _ _ (yields_before _ _ _ (any-line _ λ c. refl)) λ back b. yields_gives _ _
+    (row (linked_leaf N.SpaceOrTab link front) _ (lined-linked AtStart N.SpaceOrTab link front f) (row (linked_leaf N.LineEnding link ending) _ (one-linked link ending e) (lined-linked AtStart N.SpaceOrTab link back b))))
+    (yields_bind IsSomeLine _ _ _ (yields_before _ _ _ (some-line _ λ c. refl)) λ blank h. yields_gives _ _ (lined-linked AtStart N.SpaceOrTab link blank h.1))
+
+-- Labels, titles and destinations.
+
+string-tree : (name : Name) (t : Forest) → AreLeaves t → Tree t → Tree (string_group name t)
+string-tree name empty l h = tt
+string-tree name (leaf_then n k cs rest) l h = leaves-group name (leaf_then n k cs rest) l h
+string-tree name (group_then n a b i rest) l h = absurd l
+
+between-tree : (names : StringNames) (front text back : List Code) → makes_data names.marker ≡ false → IsOne front → IsOne back → Tree (between_markers names front text back)
+between-tree names front text back e f b =
+    let inside : Forest = lines N.Data (Some Content.String) text in
+    one-marked names.whole names.marker front _ e f
+    (row (string_group names.text inside) _ (string-tree names.text inside (leaves-lines N.Data (Some Content.String) text) (lined-lines AtStart N.Data (Some Content.String) text)) (one-leaf names.marker back e b))
+
+label-tree : Trees (label reference_names)
+unfolding label
+label-tree =
+    yields_bind IsOne _ _ _ (one-one _) λ front f. then_any _ _ _ λ text. yields_passed _ _ _ (yields_passed _ _ _ (
+    yields_bind IsOne _ _ _ (one-one _) λ back b. yields_passed _ _ _ (yields_gives _ _ (between-tree reference_names front text back refl f b))
+    ))
+
+title-between-tree : (opener closer : ℕ) → Trees (title_between opener closer title_names)
+unfolding title_between
+title-between-tree opener closer =
+    yields_bind IsOne _ _ _ (one-one _) λ front f. then_any _ _ _ λ text. yields_bind IsOne _ _ _ (one-one _) λ back b. yields_passed _ _ _ (yields_gives _ _ (between-tree title_names front text back refl f b))
+
+title-tree : Trees (title title_names)
+unfolding title
+title-tree = yields_either _ _ _ (title-between-tree _ _) (yields_either _ _ _ (title-between-tree _ _) (title-between-tree _ _))
+
+linked-tree : (text : List Code) → IsLine text → AreLeaves (linked N.Data text) × Tree (linked N.Data text)
+linked-tree [] h = (tt, tt)
+linked-tree (c ∷ cs) h = (leaves-linked N.Data (Some Content.String) (c ∷ cs), lined-linked AtStart N.Data (Some Content.String) (c ∷ cs) h)
+
+-- a group around one that holds a code, or around one at the document's start
+wrapped : (outer name n : Name) (front : List Code) (more : Forest) → makes_data n ≡ false → IsOne front → Tree more → Tree (group outer (group name (leaf n front ⊕ more)))
+wrapped outer name n [] more e f h = absurd f
+wrapped outer name n (c ∷ []) more e f h = ((λ k. cc), (one-marked name n (c ∷ []) more e f h, tt))
+wrapped outer name n (c ∷ d ∷ cs) more e f h = absurd f
+
+neither : (a b c : Bool) → a ≡ false → (b || c) ≡ false → c ≡ false
+neither a true c h k = cc
+neither a false c h k = k
+
+literal-tree : Trees (literal_destination resource_names)
+unfolding literal_destination up_to
+literal-tree =
+    yields_bind IsOne _ _ _ (one-one _) λ front f.
+    yields_bind IsLine _ _ _ (record { at = λ cs. escaped-lines (is_value 62) (is_among (codes "<>\\")) (λ c. is_value 60 c || is_line_ending c) (λ c. refl) (λ c h k. neither (is_value 62 c) (is_value 60 c) (is_line_ending c) h k) false cs }) λ text t.
+    yields_bind IsOne _ _ _ (one-one _) λ back b. yields_gives _ _
+    (let l = linked-tree text t in
+    wrapped N.ResourceDestination N.ResourceDestinationLiteral N.ResourceDestinationLiteralMarker front (string_group N.ResourceDestinationString (linked N.Data text) ⊕ leaf N.ResourceDestinationLiteralMarker back) refl f
+    (row (string_group N.ResourceDestinationString (linked N.Data text)) _ (string-tree N.ResourceDestinationString (linked N.Data text) l.0 l.1) (one-leaf N.ResourceDestinationLiteralMarker back refl b)))
+
+-- the codes of a raw destination are none of them whitespace
+module _ (max : ℕ) (c : Code) (cs : List Code) (more : (s : Bool) (d : ℕ) → Passes IsLine (raw_from max s d cs)) where
+  abbrev on : Bool → ℕ → Option (List Code × List Code)
+  on s d = raw_from max s d cs
+
+  abbrev closes : ℕ → Option (List Code × List Code)
+  closes depth = elim depth [ zero ↦ Some ([], c ∷ cs) | suc d ↦ None ]
+
+  abbrev opened : ℕ → Bool → Option (List Code × List Code)
+  opened depth t = elim t [ true ↦ with_first c (on false (suc depth)) | false ↦ None ]
+
+  abbrev others : ℕ → Bool → Option (List Code × List Code)
+  others depth t = elim t [ true ↦ with_first c (on false (depth - 1)) | false ↦ with_first c (on (is_value 92 c) depth) ]
+
+  closes-line : (depth : ℕ) → Passes IsLine (closes depth)
+  closes-line zero = refl
+  closes-line (suc d) = tt
+
+  opened-line : (depth : ℕ) (t : Bool) → is_line_ending c ≡ false → Passes IsLine (opened depth t)
+  opened-line depth true h = with-first-line c (on false (suc depth)) h (more false (suc depth))
+  opened-line depth false h = tt
+
+  others-line : (depth : ℕ) (t : Bool) → is_line_ending c ≡ false → Passes IsLine (others depth t)
+  others-line depth true h = with-first-line c (on false (depth - 1)) h (more false (depth - 1))
+  others-line depth false h = with-first-line c (on (is_value 92 c) depth) h (more (is_value 92 c) depth)
+
+  abbrev passed : ℕ → Bool → Bool → Bool → Option (List Code × List Code)
+  passed depth control o k = elim control [ true ↦ None | false ↦ elim o [ true ↦ opened depth (nat_lt depth max) | false ↦ others depth k ] ]
+
+  passed-line : (depth : ℕ) (control o k : Bool) → is_line_ending c ≡ false → Passes IsLine (passed depth control o k)
+  passed-line depth true o k h = tt
+  passed-line depth false true k h = opened-line depth (nat_lt depth max) h
+  passed-line depth false false k h = others-line depth k h
+
+  abbrev unescaped : ℕ → Bool → Option (List Code × List Code)
+  unescaped depth stops = elim stops [ true ↦ closes depth | false ↦ passed depth (is_control c) (is_value 40 c) (is_value 41 c) ]
+
+  unescaped-line : (depth : ℕ) (white last : Bool) → is_whitespace_code c ≡ white → Passes IsLine (unescaped depth (white || last))
+  unescaped-line depth true last h = closes-line depth
+  unescaped-line depth false true h = closes-line depth
+  unescaped-line depth false false h = passed-line depth (is_control c) (is_value 40 c) (is_value 41 c) (or_parts (is_blank c) (is_line_ending c) h).1
+
+  escaped-line : (depth : ℕ) (slash takes : Bool) → is_among (codes "()\\") c ≡ takes
+      → Passes IsLine (elim (slash && takes) [ true ↦ with_first c (on false depth) | false ↦ unescaped depth (is_whitespace_code c || (is_value 41 c && depth == 0)) ])
+  escaped-line depth true true h = with-first-line c (on false depth) (not-ending (is_among (codes "()\\")) (λ d. refl) c h) (more false depth)
+  escaped-line depth true false h = unescaped-line depth (is_whitespace_code c) (is_value 41 c && depth == 0) refl
+  escaped-line depth false takes h = unescaped-line depth (is_whitespace_code c) (is_value 41 c && depth == 0) refl
+
+raw-lines : (max : ℕ) (slash : Bool) (depth : ℕ) (cs : List Code) → Passes IsLine (raw_from max slash depth cs)
+unfolding raw_from
+raw-lines max slash zero [] = refl
+raw-lines max slash (suc d) [] = tt
+raw-lines max slash depth (c ∷ cs) = escaped-line max c cs (λ s d. raw-lines max s d cs) depth slash (is_among (codes "()\\") c) refl
+
+raw-tree : (max : ℕ) → Trees (raw_destination max resource_names)
+unfolding raw_destination
+raw-tree max = yields_bind IsLine _ _ _ (record { at = raw-lines max false 0 }) λ text t. yields_passed _ _ _ (yields_gives _ _ (by_text text t))
+  where
+    by_text : (text : List Code) → IsLine text → Tree (group N.ResourceDestination (group N.ResourceDestinationRaw (group N.ResourceDestinationString (linked N.Data text))))
+    by_text [] h = ((λ e. (refl, refl)), (((λ e. (refl, refl)), (((λ e. (refl, refl)), (tt, tt)), tt)), tt))
+    by_text (c ∷ cs) h = ((λ e. cc), (((λ e. cc), (leaves-group N.ResourceDestinationString (linked N.Data (c ∷ cs)) (linked-tree (c ∷ cs) h).0 (linked-tree (c ∷ cs) h).1, tt)), tt))
+
+destination-tree : (max : ℕ) → Trees (destination max resource_names)
+unfolding destination
+destination-tree max = yields_next _ _ _ _ literal-tree (raw-tree max)
+
+-- Resources and references.
+
+spaced-tree : Trees spaced_title
+unfolding spaced_title
+spaced-tree =
+    yields_bind Tree _ _ _ (yields_before _ _ _ (spacing-tree None)) λ space h. yields_bind Tree _ _ _ title-tree λ text k.
+    yields_bind Tree _ _ _ (optional-tree _ (spacing-tree None)) λ back l. yields_gives _ _ (row space _ h (row text back k l))
+
+both-tree : Trees destination_and_title
+unfolding destination_and_title
+both-tree =
+    yields_bind Tree _ _ _ (destination-tree 32) λ target h.
+    yields_bind Tree _ _ _ (yields_either _ _ _ spaced-tree (optional-tree _ (spacing-tree None))) λ after k. yields_gives _ _ (row target after h k)
+
+resource-tree : Trees resource
+unfolding resource
+resource-tree =
+    yields_bind IsOne _ _ _ (one-one _) λ front f. yields_bind Tree _ _ _ (optional-tree _ (spacing-tree None)) λ space h.
+    yields_bind Tree _ _ _ (yields_next _ _ _ _ (yields_gives _ _ tt) both-tree) λ inside k.
+    yields_bind IsOne _ _ _ (one-one _) λ back b. yields_gives _ _
+    (one-marked N.Resource N.ResourceMarker front _ refl f (row space _ h (row inside _ k (one-leaf N.ResourceMarker back refl b))))
+
+full-tree : (s : Setting) → Trees (full_reference s)
+unfolding full_reference
+full-tree s = yields_bind Tree _ _ _ label-tree λ tree h. yields_passed _ _ _ (yields_gives _ _ h)
+
+collapsed-tree : Trees collapsed_reference
+unfolding collapsed_reference
+collapsed-tree =
+    yields_bind IsOne _ _ _ (one-one _) λ front f. yields_bind IsOne _ _ _ (one-one _) λ back b. yields_gives _ _
+    (one-marked N.Reference N.ReferenceMarker front (leaf N.ReferenceMarker back) refl f (one-leaf N.ReferenceMarker back refl b))
+
+shortcut-tree : (defined : Bool) → Trees (shortcut defined)
+unfolding shortcut
+shortcut-tree defined = yields_passed _ _ _ (yields_gives _ _ tt)
+
+pub after-tree : (s : Setting) (defined : Bool) → Trees (after_label s defined)
+unfolding after_label reference_after_label shortcut_before_bracket
+after-tree s defined =
+    yields_next _ _ _ _ (yields_either _ _ _ resource-tree (shortcut-tree defined))
+    (yields_next _ _ _ _
+    (yields_either _ _ _ (full-tree s) (yields_either _ _ _ (yields_passed _ _ _ collapsed-tree) (yields_unless _ _ _ (shortcut-tree _))))
+    (shortcut-tree defined))

@@ -1,0 +1,199 @@
+-- The elements of a content are on lines.
+use Rattle.std.proofs.Common.{◌≡◌, ℕ, ◌==◌, ◌||◌, Bool, true, false, List, [], ◌∷◌, ◌++◌, Option, Some, None, refl, sym, ap, subst, ◌∙◌}
+use Rattle.std.specs.List.{list_any}
+use Rattle.markdown_engine_content.specs.Codes.{Code, is_line_ending}
+use Rattle.markdown_engine_content.specs.Tree.{Forest, leaf}
+use Rattle.markdown_engine_content.specs.declared.event.Name.TheVariants as N
+use Rattle.markdown_engine_content.specs.declared.label_kind.LabelKind.{LabelKind}
+use Rattle.markdown_model.specs.CodeTests.{is_value}
+use Rattle.markdown_model.specs.Elements.{as_plain, line_ending, data_code, attention_run, label_start_image, gfm_label_start_footnote, label_start_link, code_text, math_text, Tries, tries, tried, first_check, text_element, string_element, text_choice, string_choice, Choice, AreElementsFrom, AreElements, AreStringElements, code_before}
+use Rattle.markdown_model.specs.Grammar.{Reading, ◌>>=◌, gives, either, one, word}
+use Rattle.markdown_model.specs.LabelEnd.{Element, plain, starts, ends, Label, label_before, outcome_of, label_end}
+use Rattle.markdown_model.specs.LeafConstructs.{code_names, math_names}
+use Rattle.markdown_model.specs.Setting.{Setting}
+use Rattle.markdown_model.proofs.ElementCases.{AllAre, EachConstruct, check_has, either_has, outcome_yields, row_has, string_has}
+use Rattle.markdown_model.proofs.ElementsCover.{covers_text_element, covers_string_element}
+use Rattle.markdown_model.proofs.LabelsCover.{element_codes, unused}
+use Rattle.markdown_model.proofs.NoLinkInConstructs.{Passes, Yields, yields_bind, yields_gives, yields_either, yields_before}
+use Rattle.markdown_model.proofs.ReadingsCover.{At, Covers}
+use Rattle.markdown_run_leaves.specs.OneLineLeaves.{IsSomeLine, IsLined, AtStart, IsLinedElement}
+use Rattle.markdown_run_leaves.proofs.OneLineLiterals.{TreeThere, protocol-tree, www-tree}
+use Rattle.markdown_run_leaves.proofs.OneLineConstructs.{Tree, Trees, one-leaf, line-leaf, escape-tree, break-tree, reference-tree, autolink-tree, span-here-tree, html-tree, check-tree, after-tree}
+use Rattle.markdown_run_leaves.proofs.OneLineReadings.{IsOne, one-one, one-line, some-line, word-some}
+use Rattle.markdown_run_leaves.proofs.LineEndingsAreSpace.{AreSpaced, spaced-both}
+
+module _ (s : Setting) where
+  -- on lines, where whitespace stands at each line ending
+  abbrev IsThere : Element → Type 0
+  IsThere (plain t) = TreeThere s.bytes 0 t
+  IsThere (starts kind marker) = IsSomeLine marker
+  IsThere (ends marker None) = IsSomeLine marker
+  IsThere (ends marker (Some outcome)) = IsSomeLine marker × IsLined AtStart outcome.1
+
+  abbrev There : Reading Element → Type 0
+  There a = Yields IsThere a
+
+  -- Single elements.
+
+  there-plain : (a : Reading Forest) → Trees a → There (as_plain a)
+  unfolding as_plain
+  there-plain a h = yields_bind Tree _ _ _ h λ tree k. yields_gives _ (plain tree) (λ _. k)
+
+  there-literal : (end : ℕ) (a : Reading Forest) → Yields (TreeThere s.bytes end) a → There (as_plain a)
+  unfolding as_plain
+  there-literal end a h = yields_bind (TreeThere s.bytes end) _ _ _ h λ tree k. yields_gives _ (plain tree) k
+
+  there-ending : There line_ending
+  unfolding line_ending
+  there-ending = yields_bind IsOne _ _ _ (one-one _) λ c h. yields_gives _ (plain (leaf N.LineEnding c)) (λ _. one-leaf N.LineEnding c refl h)
+
+  there-run : (m : ℕ) → (10 == m) ≡ false → There (attention_run m)
+  unfolding attention_run
+  there-run m e = yields_bind IsSomeLine _ _ _ (some-line (is_value m) (λ c. e)) λ markers h. yields_gives _ (plain (leaf N.AttentionSequence markers)) (λ _. line-leaf N.AttentionSequence markers h.1)
+
+  there-image : (footnotes : Bool) → There (label_start_image footnotes)
+  unfolding label_start_image word
+  there-image footnotes = yields_bind IsSomeLine _ _ _ (yields_before _ _ _ (word-some 33 (91 ∷ []) refl)) λ marker h. yields_gives _ (starts LabelKind.Image marker) h
+
+  there-footnote : There gfm_label_start_footnote
+  unfolding gfm_label_start_footnote word
+  there-footnote = yields_bind IsSomeLine _ _ _ (word-some 91 (94 ∷ []) refl) λ marker h. yields_gives _ (starts LabelKind.GfmFootnote marker) h
+
+  there-link : There label_start_link
+  unfolding label_start_link
+  there-link = yields_bind IsSomeLine _ _ _ (one-line _ λ c. refl) λ marker h. yields_gives _ (starts LabelKind.Link marker) h
+
+  abbrev LinedOutcome : LabelKind × Forest → Type 0
+  LinedOutcome outcome = IsLined AtStart outcome.1
+
+  lined-outcome : (l : Option Label) (back : List Code) → Yields LinedOutcome (outcome_of s l back)
+  lined-outcome l back = outcome_yields Tree tt s (after-tree s) l back
+
+  there-end : (earlier : List Element) → There (label_end s earlier)
+  unfolding label_end
+  there-end earlier =
+      yields_bind IsSomeLine _ _ _ (one-line _ λ c. refl) λ back b. yields_either _ _ _
+      (yields_bind LinedOutcome _ _ _ (lined-outcome (label_before earlier) back) λ outcome k. yields_gives _ (ends back (Some outcome)) (b, k))
+      (yields_gives _ (ends back None) b)
+
+  there-code : (earlier : List Element) (previous : Option Code) → There (code_text earlier previous)
+  unfolding code_text
+  there-code earlier previous = there-plain _ (span-here-tree 96 code_names _ _ _ (λ c. refl))
+
+  there-math : (single : Bool) (earlier : List Element) (previous : Option Code) → There (math_text single earlier previous)
+  unfolding math_text
+  there-math single earlier previous = there-plain _ (span-here-tree 36 math_names _ _ _ (λ c. refl))
+
+  -- At some codes, and at a code.
+
+  no-data : Passes IsThere (data_code [])
+  unfolding data_code one ◌>>=◌
+  no-data = tt
+
+  module _ (c : Code) (cs : List Code) where
+    abbrev Here : Reading Element → Type 0
+    Here a = Passes IsThere (a (c ∷ cs))
+
+    here-either : (a b : Reading Element) → Here a → Here b → Here (either a b)
+    here-either a b h k = either_has (Passes IsThere) tt (c ∷ cs) a b h k
+
+    -- the first, where it holds
+    here-first : (a b : Reading Element) (e : Element) (rest : List Code) → a (c ∷ cs) ≡ Some (e, rest) → IsThere e → Here (either a b)
+    unfolding either
+    here-first a b e rest k h = subst (λ r. Passes IsThere (elim r as (λ _. Option (Element × List Code)) [ None ↦ b (c ∷ cs) | Some x ↦ Some x ])) (sym k) h
+
+    here-data : is_line_ending c ≡ false → Here data_code
+    unfolding data_code one ◌>>=◌ gives
+    here-data h = λ _. line-leaf N.Data (c ∷ []) (ap (λ b. b || false) h)
+
+    ending-read : is_line_ending c ≡ true → line_ending (c ∷ cs) ≡ Some (plain (leaf N.LineEnding (c ∷ [])), cs)
+    unfolding line_ending one ◌>>=◌ gives
+    ending-read h = ap (λ b. elim (elim b as (λ _. Option (List Code × List Code)) [ true ↦ Some (c ∷ [], cs) | false ↦ None ]) as (λ _. Option (Element × List Code)) [ None ↦ None | Some r ↦ Some (plain (leaf N.LineEnding r.0), r.1) ]) h
+
+    ending-there : IsThere (plain (leaf N.LineEnding (c ∷ [])))
+    ending-there = λ _. one-leaf N.LineEnding (c ∷ []) refl tt
+
+    first-tried : (row : List ℕ × Reading Element) (rows : Tries) (v : ℕ) → list_any (λ n. v == n) row.0 ≡ true → tried (row ∷ rows) v (c ∷ cs) ≡ row.1 (c ∷ cs)
+    unfolding tried
+    first-tried row rows v h = ap (λ b. (elim b as (λ _. Reading Element) [ true ↦ row.1 | false ↦ tried rows v ]) (c ∷ cs)) h
+
+    module _ (end : ℕ) (earlier : List Element) (previous : Option Code) where
+      each-here : EachConstruct s end earlier previous (Passes IsThere) (c ∷ cs)
+      each-here = record {
+        none = tt;
+        ending = there-ending.at (c ∷ cs);
+        image = λ footnotes. (there-image footnotes).at (c ∷ cs);
+        math = λ single. (there-math single earlier previous).at (c ∷ cs);
+        code = (there-code earlier previous).at (c ∷ cs);
+        referred = (there-plain _ (reference-tree s.references)).at (c ∷ cs);
+        stars = λ _. (there-run 42 refl).at (c ∷ cs);
+        underscores = λ _. (there-run 95 refl).at (c ∷ cs);
+        tildes = λ _. (there-run 126 refl).at (c ∷ cs);
+        linked = (there-plain _ autolink-tree).at (c ∷ cs);
+        tagged = (there-plain _ html-tree).at (c ∷ cs);
+        protocol = (there-literal end _ (protocol-tree s.bytes end previous)).at (c ∷ cs);
+        www = (there-literal end _ (www-tree s.bytes end previous)).at (c ∷ cs);
+        footnote = there-footnote.at (c ∷ cs);
+        link = there-link.at (c ∷ cs);
+        escaped = (there-plain _ escape-tree).at (c ∷ cs);
+        broken = (there-plain _ break-tree).at (c ∷ cs);
+        ended = (there-end earlier).at (c ∷ cs);
+        checked = (there-plain _ check-tree).at (c ∷ cs);
+      }
+
+      tried-ending : is_line_ending c ≡ true → tried (tries s end earlier previous) c.value (c ∷ cs) ≡ line_ending (c ∷ cs)
+      unfolding tries
+      tried-ending h = first-tried _ _ c.value (ap (λ b. b || false) h)
+
+      here-row : (b : Bool) → is_line_ending c ≡ b → Here (either (tried (tries s end earlier previous) c.value) data_code)
+      here-row true h = here-first (tried (tries s end earlier previous) c.value) data_code (plain (leaf N.LineEnding (c ∷ []))) cs (tried-ending h ∙ ending-read h) ending-there
+      here-row false h = here-either (tried (tries s end earlier previous) c.value) data_code (row_has s end earlier previous (Passes IsThere) c.value (c ∷ cs) each-here (here-data h)) (here-data h)
+
+      here-text : Here (text_element s end earlier previous)
+      unfolding text_element
+      here-text = here-either (first_check s end earlier previous) (either (tried (tries s end earlier previous) c.value) data_code) (check_has s end earlier previous (Passes IsThere) (c ∷ cs) each-here) (here-row (is_line_ending c) refl)
+
+    here-plain : (b : Bool) → is_line_ending c ≡ b → Here (either line_ending data_code)
+    here-plain true h = here-first line_ending data_code (plain (leaf N.LineEnding (c ∷ []))) cs (ending-read h) ending-there
+    here-plain false h = here-either line_ending data_code (there-ending.at (c ∷ cs)) (here-data h)
+
+    here-string : Here (string_element s)
+    here-string = string_has (Passes IsThere) tt (c ∷ cs) s ((there-plain _ escape-tree).at (c ∷ cs)) ((there-plain _ (reference-tree s.references)).at (c ∷ cs)) (here-plain (is_line_ending c) refl)
+
+  -- Lists of elements.
+
+  lined-there : (d : ℕ) (e : Element) → AreSpaced s.bytes (element_codes d e) → IsThere e → IsLinedElement e
+  lined-there d (plain t) k h = h k
+  lined-there d (starts kind marker) k h = h
+  lined-there d (ends marker None) k h = h
+  lined-there d (ends marker (Some outcome)) k h = h
+
+  -- where each choice covers its codes, and is on lines at any code
+  lined-elements : (choice : Choice) → ((earlier : List Element) (previous : Option Code) → Covers (element_codes (unused earlier)) [] (choice earlier previous))
+      → ((earlier : List Element) (previous : Option Code) (cs : List Code) → Passes IsThere (choice earlier previous cs))
+      → (es earlier : List Element) (previous : Option Code) (cs : List Code) → AreSpaced s.bytes cs → AreElementsFrom choice earlier previous cs es → AllAre IsLinedElement es
+  lined-elements choice covers there [] earlier previous cs k h = tt
+  lined-elements choice covers there (e ∷ es) earlier previous cs k h =
+      let d : ℕ = unused earlier in
+      let whole : element_codes d e ++ h.0 ≡ cs = subst (λ z. At (element_codes d) [] cs z) h.1 ((covers earlier previous).at cs) in
+      let both = spaced-both s.bytes (element_codes d e) h.0 (subst (λ (x : List Code). AreSpaced s.bytes x) (sym whole) k) in
+      (lined-there d e both.0 (subst (λ z. Passes IsThere z) h.1 (there earlier previous cs)), lined-elements choice covers there es (e ∷ earlier) (code_before cs h.0) h.0 both.1 h.2)
+
+  text-there : (end : ℕ) (earlier : List Element) (previous : Option Code) (cs : List Code) → Passes IsThere (text_element s end earlier previous cs)
+  unfolding text_element
+  text-there end earlier previous [] = tt
+  text-there end earlier previous (c ∷ cs) = here-text c cs end earlier previous
+
+  string-none : Passes IsThere (string_element s [])
+  string-none =
+      string_has (Passes IsThere) tt [] s ((there-plain _ escape-tree).at []) ((there-plain _ (reference-tree s.references)).at []) (either_has (Passes IsThere) tt [] line_ending data_code (there-ending.at []) no-data)
+
+  string-there : (earlier : List Element) (previous : Option Code) (cs : List Code) → Passes IsThere (string_choice s earlier previous cs)
+  string-there earlier previous [] = string-none
+  string-there earlier previous (c ∷ cs) = here-string c cs
+
+  pub text-lined : (cs : List Code) (es : List Element) → AreSpaced s.bytes cs → AreElements s cs es → AllAre IsLinedElement es
+  text-lined cs es k h = lined-elements (text_choice s cs) (λ earlier previous. covers_text_element s _ earlier previous) (λ earlier previous ds. text-there _ earlier previous ds) es [] None cs k h
+
+  pub string-lined : (cs : List Code) (es : List Element) → AreSpaced s.bytes cs → AreStringElements s cs es → AllAre IsLinedElement es
+  string-lined cs es k h = lined-elements (string_choice s) (λ earlier previous. covers_string_element s (unused earlier)) string-there es [] None cs k h

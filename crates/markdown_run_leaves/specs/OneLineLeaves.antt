@@ -1,0 +1,60 @@
+-- Trees whose leaves stand on lines, and whose groups around nothing stand at one place.
+use Rattle.std.specs.Prelude.{◌≡◌, ◌≢◌, true, false, List, [], ◌∷◌, ◌++◌, Some, None, ◌⊎◌}
+use Rattle.std.specs.List.{list_any}
+use Rattle.markdown_engine_content.specs.Codes.{Code, document_start, is_line_ending, stop_of}
+use Rattle.markdown_engine_content.specs.Tree.{Forest, empty, leaf_then, group_then, leaf_codes}
+use Rattle.markdown_engine_content.specs.declared.event.Point.{Point}
+use Rattle.markdown_model.specs.LabelEnd.{Element, plain, starts, ends}
+use Rattle.markdown_run_row.specs.RowTreeNames.{makes_data}
+
+-- no line ending stands among these codes
+abbrev pub IsLine : List Code → Type 0
+IsLine cs = list_any is_line_ending cs ≡ false
+
+-- some codes, and no line ending among them
+abbrev pub IsSomeLine : List Code → Type 0
+IsSomeLine cs = (cs ≢ []) × IsLine cs
+
+-- one code, or some codes without a line ending
+abbrev pub IsOnLine : List Code → Type 0
+IsOnLine [] = ⊥
+IsOnLine (c ∷ []) = Unit {0}
+IsOnLine (c ∷ d ∷ cs) = IsLine (c ∷ d ∷ cs)
+
+-- these codes stand in that list one after another
+abbrev pub IsIn : List Code → List Code → Type 0
+IsIn xs cs = (a : List Code) × (b : List Code) × (cs ≡ a ++ (xs ++ b))
+
+-- each leaf stands on a line, data and runs without a line ending, and of each group without a code this is said of its places
+abbrev pub IsLined : (Point → Point → Type 0) → Forest → Type 0
+IsLined E empty = Unit {0}
+IsLined E (leaf_then name link cs rest) = (IsOnLine cs × (makes_data name ≡ true → IsLine cs)) × IsLined E rest
+IsLined E (group_then name enter exit inside rest) = (leaf_codes inside ≡ [] → E enter exit) × (IsLined E inside × IsLined E rest)
+
+-- both are the document's start
+abbrev pub AtStart : Point → Point → Type 0
+AtStart a b = (a ≡ document_start) × (b ≡ document_start)
+
+-- the first is where some codes of the list end that are on a line, and the second where the code behind them begins
+pub record IsBetween (cs : List Code) (a b : Point) : Type 0 where
+  pub front : List Code
+  pub next : Code
+  pub line : IsSomeLine front
+  pub stands : IsIn (front ++ next ∷ []) cs
+  pub from : a ≡ stop_of document_start front
+  pub to : b ≡ next.start
+
+-- this is said of the two, or they stand between codes of the list
+abbrev pub Stands : (Point → Point → Type 0) → List Code → Point → Point → Type 0
+Stands B cs a b = B a b ⊎ IsBetween cs a b
+
+-- a tree whose groups without a code stand so between its own codes
+abbrev pub IsApart : (Point → Point → Type 0) → Forest → Type 0
+IsApart B t = IsLined (Stands B (leaf_codes t)) t
+
+-- an element whose trees and markers are on lines
+abbrev pub IsLinedElement : Element → Type 0
+IsLinedElement (plain t) = IsLined AtStart t
+IsLinedElement (starts kind marker) = IsSomeLine marker
+IsLinedElement (ends marker None) = IsSomeLine marker
+IsLinedElement (ends marker (Some outcome)) = IsSomeLine marker × IsLined AtStart outcome.1

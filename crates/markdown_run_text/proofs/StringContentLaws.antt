@@ -1,0 +1,121 @@
+-- The laws of the states of a string.
+use Rattle.std.proofs.Common.{◌≡◌, ℕ, ◌*◌, ◌<◌, ◌==◌, Bool, true, false, Option, Some, None, [], refl, ap, ◌∙◌, arith}
+use Rattle.std.specs.Str.{byte}
+use Rattle.std.specs.List.{list_any}
+use Rattle.markdown_engine_content.specs.ListFunctions.{rest_of}
+use Rattle.markdown_engine.specs.Operations.{ahead, current_of, registered, scratched}
+use Rattle.markdown_engine.specs.StateRuns.{Stepped}
+use Rattle.markdown_engine.specs.StateWords.{StateWords, Words, GoesIn, Law}
+use Rattle.markdown_engine.specs.Weights.{codes_left, weight_at}
+use Rattle.markdown_engine.specs.declared.resolve.ResolveName.TheVariants as R
+use Rattle.markdown_engine.specs.declared.state.State.TheVariants.{Next, Retry, Nok}
+use Rattle.markdown_engine.specs.declared.state.StateName.{StateName}
+use Rattle.markdown_engine.specs.declared.state.StateName.TheVariants.{CharacterEscapeStart, CharacterReferenceStart, DataStart, StringBefore, StringBeforeData}
+use Rattle.markdown_engine.specs.declared.tokenizer.Tokenizer.{Tokenizer}
+use Rattle.markdown_engine.proofs.ReadingSequences.{scratched-same}
+use Rattle.markdown_engine.proofs.LawSteps.{code-step, restored-fails}
+use Rattle.markdown_engine.proofs.OperationFields.{Begins, ahead-some, attempts-registered, attempts-scratched, left-scratched}
+use Rattle.markdown_plan.specs.LayerEquation.{Within}
+use Rattle.markdown_plan.proofs.LawStepsOfLayer.{FollowsIn, Goes-plain, Goes-end, Goes-attempt, follows}
+use Rattle.markdown_leaf.specs.CharacterEscape as CharacterEscape
+use Rattle.markdown_leaf.specs.CharacterEscape.{escape_here}
+use Rattle.markdown_leaf.specs.CharacterReference as CharacterReference
+use Rattle.markdown_leaf.specs.CharacterReference.{reference_here}
+use Rattle.markdown_partial.specs.PartialData as PartialData
+use Rattle.markdown_run_text.specs.StringContent.{is_on, string_tries, string_markers, string_marked, string_passed, string_here, tries_at, before_at, StartReady, BeforeReady, before_ends, start_words, before_words, before_data_words}
+use Rattle.markdown_run_text.specs.TryTable.{said_at}
+use Rattle.markdown_run_text.proofs.TryTableLemmas.{by-row, none-of}
+use Rattle.markdown_run_row.proofs.ElementSteps.{finishes-end}
+use Rattle.markdown_run_text.proofs.StringElements.{no-backslash, no-ampersand}
+use Rattle.markdown_run_text.proofs.TextElements.{data-holds}
+use Rattle.markdown_partial.specs.PartialData.{stops_of}
+use Rattle.markdown_run_text.proofs.TextSteps.{some-none}
+use Rattle.markdown_run_text.proofs.StringSteps.{Passes, passes-ready, passes-ends, escape-past, reference-past, data-past}
+
+-- those of these states with which another goes on, and the starts of what is tried, as they are said, and any other as it is given
+abbrev pub states : (StateName → StateWords) → StateName → StateWords
+states other StringBefore = before_words
+states other StringBeforeData = before_data_words
+states other CharacterReferenceStart = CharacterReference.start_words
+states other CharacterEscapeStart = CharacterEscape.start_words
+states other DataStart = PartialData.start_words
+states other s = other s
+
+at-end : (T : Tokenizer) → current_of T ≡ None → (ok : Bool) (U : Tokenizer) → (ok ≡ true) × (U ≡ string_passed T) → before_ends T ok U
+at-end T e true U k = finishes-end (string_here T) string_passed T U e k.1
+at-end T e false U k = cc
+
+no-escape : (T : Tokenizer) (v : ℕ) → current_of T ≡ Some v → v == byte "\\" ≡ false → escape_here T (ahead T) ≡ None
+no-escape T v e h =
+    let b : Begins v (ahead T) = ahead-some T v e in
+    ap (escape_here T) b.whole ∙ no-backslash (is_on T).character_escape b.code (rest_of (ahead T)) (ap (λ x. x == byte "\\") b.value ∙ h)
+
+no-reference : (T : Tokenizer) (v : ℕ) → current_of T ≡ Some v → v == byte "&" ≡ false → reference_here T (ahead T) ≡ None
+no-reference T v e h =
+    let b : Begins v (ahead T) = ahead-some T v e in
+    ap (reference_here T) b.whole ∙ no-ampersand (is_on T).character_reference b.code (rest_of (ahead T)) (ap (λ x. x == byte "&") b.value ∙ h)
+
+passed-attempts : (T : Tokenizer) → T.attempts ≡ [] → (string_passed T).attempts ≡ []
+passed-attempts T alone = attempts-registered R.String (registered R.Data T) ∙ attempts-registered R.Data T ∙ alone
+
+marked-ready : (T : Tokenizer) → StartReady T → BeforeReady (string_marked T)
+unfolding scratched
+marked-ready T r = record { marked = refl; rest = record { marker = r.rest.marker; size = r.rest.size }; ends = record { end = r.ends.end; seen = r.ends.seen } }
+
+module _ (W : Words) (within : Within states W) where
+  -- past an element the run goes on before the next
+  on-before : (n : ℕ) (T U : Tokenizer) → codes_left T * 256 < n → BeforeReady T → Passes T U → FollowsIn W n (before_ends T) (Next StringBefore) U
+  on-before n T U room marked p =
+      let less : codes_left U < codes_left T = p.less in
+      follows W n (before_ends T) (Next StringBefore) (within StringBefore) U (passes-ready T U p marked) (omega (arith, less)) (λ ok V h. passes-ends T U p ok V h)
+
+  module _ (T : Tokenizer) (alone : T.attempts ≡ []) (marked : BeforeReady T) where
+    abbrev Before : Stepped → Type 0
+    Before r = GoesIn W (weight_at 6 T) (before_ends T) r
+
+    to-data : (v : ℕ) → current_of T ≡ Some v → escape_here T (ahead T) ≡ None → reference_here T (ahead T) ≡ None → FollowsIn W (weight_at 6 T) (before_ends T) (Next StringBeforeData) T
+    to-data v e none plain_code =
+        follows W (weight_at 6 T) (before_ends T) (Next StringBeforeData) (within StringBeforeData) T
+        (record { before = marked; some_code = some-none (current_of T) v e; no_escape = none; no_reference = plain_code })
+        (omega arith) (λ ok V h. h)
+
+    tries-escape : current_of T ≡ Some (byte "\\") → Before (tries_at (Some CharacterEscapeStart) T)
+    tries-escape e =
+        Goes-attempt W (weight_at 6 T) (before_ends T) (Retry CharacterEscapeStart) (within CharacterEscapeStart) (Next StringBefore) (Next StringBeforeData) T alone tt (omega arith)
+        (λ U now k. on-before (weight_at 6 T) T U (omega arith) marked (escape-past T U k))
+        (λ U now k. let r : CharacterEscape.start_ends T false U = k in
+        rw (restored-fails false (Next StringBefore) (Next StringBeforeData) T.tokenize_state T U r.fails, scratched-same T) (to-data (byte "\\") e r.refused (no-reference T (byte "\\") e refl)))
+
+    tries-reference : current_of T ≡ Some (byte "&") → Before (tries_at (Some CharacterReferenceStart) T)
+    tries-reference e =
+        Goes-attempt W (weight_at 6 T) (before_ends T) (Retry CharacterReferenceStart) (within CharacterReferenceStart) (Next StringBefore) (Next StringBeforeData) T alone marked.rest (omega arith)
+        (λ U now k. on-before (weight_at 6 T) T U (omega arith) marked (reference-past T U (no-escape T (byte "&") e refl) k))
+        (λ U now k. let r : CharacterReference.start_ends T false U = k in
+        rw (restored-fails false (Next StringBefore) (Next StringBeforeData) T.tokenize_state T U r.fails, scratched-same T) (to-data (byte "&") e (no-escape T (byte "&") e refl) r.refused))
+
+    tries-none : (v : ℕ) → current_of T ≡ Some v → list_any (λ n. v == n) string_markers ≡ false → Before (tries_at None T)
+    tries-none v e h =
+        Goes-plain W (weight_at 6 T) (before_ends T) (Retry StringBeforeData) (within StringBeforeData) T alone
+        (record { before = marked; some_code = some-none (current_of T) v e; no_escape = no-escape T v e (none-of string_markers v (byte "\\") h refl); no_reference = no-reference T v e (none-of string_markers v (byte "&") h refl) })
+        (omega arith) (λ ok V k. k)
+
+    tries : (v : ℕ) → current_of T ≡ Some v → Before (tries_at (said_at string_tries v) T)
+    tries v = by-row (λ (n : ℕ) (o : Option StateName). current_of T ≡ Some n → Before (tries_at o T)) string_tries v ((tries-reference, tt), ((tries-escape, tt), tt)) (λ h e. tries-none v e h)
+
+  pub before-law : Law W before_words
+  before-law T alone marked =
+      code-step (GoesIn W (weight_at 6 T) (before_ends T)) (current_of T) (λ o. before_at o T)
+      (λ e. Goes-end W (weight_at 6 T) (before_ends T) true (string_passed T) (passed-attempts T alone) (omega arith) (at-end T e))
+      (λ v e. tries T alone marked v e)
+
+  pub before_data-law : Law W before_data_words
+  before_data-law T alone r =
+      Goes-attempt W (weight_at 5 T) (before_ends T) (Retry DataStart) (within DataStart) (Next StringBefore) Nok T alone tt (omega arith)
+      (λ U now k. on-before (weight_at 5 T) T U (omega arith) r.before (data-past T U r.before.marked r.some_code r.no_escape r.no_reference k))
+      (λ U now k. absurd (data-holds (stops_of T.tokenize_state) (ahead T) k.refused))
+
+  pub start-law : Law W start_words
+  start-law T alone rest =
+      let M : Tokenizer = string_marked T in
+      Goes-plain W (weight_at 7 T) (before_ends M) (Retry StringBefore) (within StringBefore) M (attempts-scratched _ T ∙ alone) (marked-ready T rest)
+      (omega (arith, left-scratched (record T.tokenize_state { markers = string_markers }) T)) (λ ok U k. k)

@@ -1,0 +1,83 @@
+-- From one element of a string to the next.
+use Rattle.std.proofs.Common.{◌≡◌, ◌≢◌, ℕ, Bool, true, false, not, ◌&&◌, List, ◌∷◌, Option, None, refl, sym, ap, subst, ◌∙◌}
+use Rattle.markdown_engine_content.specs.ListFunctions.{first_of}
+use Rattle.markdown_engine.specs.Operations.{ahead, current_of}
+use Rattle.markdown_engine_content.specs.Place.{value_of}
+use Rattle.markdown_engine.specs.PastTree.{Reads}
+use Rattle.markdown_engine.specs.declared.tokenizer.TokenizeState.{TokenizeState}
+use Rattle.markdown_engine.specs.declared.tokenizer.Tokenizer.{Tokenizer}
+use Rattle.markdown_leaf.specs.CharacterEscape.{escape_here}
+use Rattle.markdown_leaf.specs.CharacterReference.{reference_here}
+use Rattle.markdown_model.specs.Elements.{string_choice}
+use Rattle.markdown_model.specs.TextLines.{data_up_to}
+use Rattle.markdown_partial.specs.PartialData.{begins_none, marks, stops_at, stops_by, stops_of}
+use Rattle.markdown_util.specs.Reference.{html_5_rows}
+use Rattle.markdown_run_row.specs.RunOverElements.{Advances, Finishes}
+use Rattle.markdown_run_row.specs.Row.{kinds_of}
+use Rattle.markdown_run_text.specs.RunSetting.{setting_of}
+use Rattle.markdown_run_text.specs.StringContent.{is_on, string_markers, string_passed, string_here, BeforeReady, before_ends}
+use Rattle.markdown_run_row.proofs.ElementSteps.{advances-finishes, node-advances, data-advances, some-ahead}
+use Rattle.markdown_run_row.proofs.ConstructNodes.{escape-node, reference-node}
+use Rattle.markdown_run_row.proofs.RowFields.{relisted, row-fields, row-input}
+use Rattle.markdown_run_text.proofs.TryTableLemmas.{one-of}
+use Rattle.markdown_run_text.proofs.StringElements.{escaped-element, referenced-element, single-element, unmarked-element}
+
+-- U stands past the first elements of the codes from T on
+abbrev pub Passes : Tokenizer → Tokenizer → Type 0
+Passes T U = Advances (string_here T) T U
+
+same-string : (T U : Tokenizer) → Passes T U → string_here U ≡ string_here T
+same-string T U p = ap (λ (b : _). string_choice (setting_of b.now)) (ap (λ (x : Tokenizer). x.parse_state) p.left ∙ row-input p.row T)
+
+-- the scratch fields past them
+same-fields : (T U : Tokenizer) → Passes T U → BeforeReady T → U.tokenize_state ≡ relisted U.tokenize_state T.tokenize_state
+same-fields T U p r = subst (λ (x : Tokenizer). x.tokenize_state ≡ relisted x.tokenize_state T.tokenize_state) (sym p.left) (row-fields (kinds_of T) p.row T refl p.is_row r.ends)
+
+ready-past : (T U : Tokenizer) → U.tokenize_state ≡ relisted U.tokenize_state T.tokenize_state → BeforeReady T → BeforeReady U
+ready-past T U e r =
+    record {
+      marked = ap (λ (s : TokenizeState). s.markers) e ∙ r.marked;
+      rest = record { marker = ap (λ (s : TokenizeState). s.marker) e ∙ r.rest.marker; size = ap (λ (s : TokenizeState). s.size) e ∙ r.rest.size };
+      ends = record { end = ap (λ (s : TokenizeState). s.end) e ∙ r.ends.end; seen = ap (λ (s : TokenizeState). s.seen) e ∙ r.ends.seen };
+    }
+
+pub passes-ready : (T U : Tokenizer) → Passes T U → BeforeReady T → BeforeReady U
+passes-ready T U p r = ready-past T U (same-fields T U p r) r
+
+-- what follows some elements, follows from before them
+pub passes-ends : (T U : Tokenizer) → Passes T U → (ok : Bool) (V : Tokenizer) → before_ends U ok V → before_ends T ok V
+passes-ends T U p true V k =
+    advances-finishes (string_here T) string_passed T U V p (subst (λ c. Finishes c string_passed U V) (same-string T U p) k)
+passes-ends T U p false V k = k
+
+pub escape-past : (T U : Tokenizer) → Reads (escape_here T) None T.tokenize_state T U → Passes T U
+escape-past T U k =
+    let node = escape-node (is_on T).character_escape (ahead T) k.tree k.rest k.holds in
+    node-advances (string_here T) (escape_here T) T U k node.0 node.1 (λ earlier previous stands. escaped-element (setting_of T.parse_state.now) (ahead T) k.tree k.rest k.holds)
+
+pub reference-past : (T U : Tokenizer) → escape_here T (ahead T) ≡ None → Reads (reference_here T) None T.tokenize_state T U → Passes T U
+reference-past T U none k =
+    let node = reference-node (is_on T).character_reference html_5_rows (ahead T) k.tree k.rest k.holds in
+    node-advances (string_here T) (reference_here T) T U k node.0 node.1 (λ earlier previous stands. referenced-element (setting_of T.parse_state.now) (ahead T) k.tree k.rest none k.holds)
+
+-- no marker of strings is a letter of literals, so data stops at each of them
+marker-stops : (passes : Bool) (v : ℕ) (next : Option ℕ) → stops_at passes string_markers v next ≡ false → marks string_markers v ≡ false
+marker-stops passes v next h = by_mark (marks string_markers v) refl h
+  where
+    stops : (b : Bool) → not (b && false) ≡ false → true ≡ false
+    stops true k = k
+    stops false k = k
+
+    by_mark : (b : Bool) → marks string_markers v ≡ b → (b && not (passes && begins_none v next)) ≡ false → b ≡ false
+    by_mark false e k = refl
+    by_mark true e k =
+        let none : begins_none v next ≡ false = one-of (λ n. begins_none n next ≡ false) string_markers v (refl, (refl, tt)) e in
+        stops passes (ap (λ b. not (passes && b)) (sym none) ∙ k)
+
+pub data-past : (T U : Tokenizer) → T.tokenize_state.markers ≡ string_markers → current_of T ≢ None → escape_here T (ahead T) ≡ None → reference_here T (ahead T) ≡ None → Reads (data_up_to (stops_of T.tokenize_state)) None T.tokenize_state T U → Passes T U
+data-past T U marked some none plain_code k =
+    let a = some-ahead T (ahead T) refl some in
+    data-advances (string_here T) (stops_of T.tokenize_state) T U a.0 a.1.0 a.1.1 k
+    (λ earlier previous stands. single-element (setting_of T.parse_state.now) a.0 a.1.0 (ap (escape_here T) (sym a.1.1) ∙ none) (ap (reference_here T) (sym a.1.1) ∙ plain_code))
+    (λ front earlier previous c cs w free. unmarked-element T.parse_state.now c cs
+    (marker-stops T.tokenize_state.passes_letters c.value (value_of (first_of cs)) (ap (λ (ms : List ℕ). stops_by T.tokenize_state.passes_letters ms (c ∷ cs)) (sym marked) ∙ free)))

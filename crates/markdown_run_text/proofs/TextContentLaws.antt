@@ -1,0 +1,303 @@
+-- The laws of the states of a text.
+use Rattle.std.proofs.Common.{◌≡◌, ◌≢◌, ℕ, ◌*◌, ◌<◌, ◌==◌, ◌||◌, Bool, true, false, Option, Some, None, List, [], refl, sym, ap, subst, ◌∙◌, arith}
+use Rattle.std.specs.List.{list_any}
+use Rattle.std.specs.Prelude.{codes}
+use Rattle.std.specs.Str.{byte}
+use Rattle.markdown_engine_content.specs.Codes.{Code}
+use Rattle.markdown_engine.specs.Operations.{ahead, current_of, scratched}
+use Rattle.markdown_engine.specs.PastTree.{past, EndsAs, Reads, Refuses, TreeReading}
+use Rattle.markdown_engine.specs.StateRuns.{Stepped, stepped}
+use Rattle.markdown_engine.specs.StateWords.{StateWords, Words, words_in, GoesIn, Law}
+use Rattle.markdown_engine_content.specs.Tree.{leaf_codes}
+use Rattle.markdown_engine.specs.Weights.{codes_left, weight_at}
+use Rattle.markdown_engine.specs.declared.state.State.TheVariants.{Next, Retry, Nok}
+use Rattle.markdown_engine.specs.declared.state.StateName.{StateName}
+use Rattle.markdown_engine.specs.declared.state.StateName.TheVariants.{AttentionStart, AutolinkStart, CharacterEscapeStart, CharacterReferenceStart, DataStart, GfmAutolinkLiteralProtocolStart, GfmAutolinkLiteralWwwStart, GfmLabelStartFootnoteStart, GfmTaskListItemCheckStart, HardBreakEscapeStart, HtmlTextStart, LabelEndStart, LabelStartImageStart, LabelStartLinkStart, RawTextStart, TextBefore, TextBeforeData, TextBeforeHardBreakEscape, TextBeforeHtml, TextBeforeLabelStartLink}
+use Rattle.markdown_engine.specs.declared.tokenizer.TokenizeState.{TokenizeState}
+use Rattle.markdown_engine.specs.declared.tokenizer.Tokenizer.{Tokenizer}
+use Rattle.markdown_engine.proofs.ReadingSequences.{scratched-same}
+use Rattle.markdown_engine.proofs.LawSteps.{code-step, restored-fails}
+use Rattle.markdown_engine.proofs.OperationFields.{attempts-scratched}
+use Rattle.markdown_leaf_gfm.specs.GfmAutolinkLiteral as GfmAutolinkLiteral
+use Rattle.markdown_leaf_gfm.specs.GfmTaskListItemCheck as GfmTaskListItemCheck
+use Rattle.markdown_leaf_html.specs.HtmlText as HtmlText
+use Rattle.markdown_attention.specs.Attention as Attention
+use Rattle.markdown_attention.specs.Attention.{ReadsRun, run_tree}
+use Rattle.markdown_plan.specs.Characters.{bytes_of}
+use Rattle.markdown_plan.specs.LayerEquation.{Within}
+use Rattle.markdown_plan.proofs.LawStepsOfLayer.{FollowsIn, Goes-plain, Goes-end, Goes-attempt, follows}
+use Rattle.markdown_label.specs.LabelEnd as LabelEnd
+use Rattle.markdown_label.specs.LabelEnd.{AreWithin}
+use Rattle.markdown_label.specs.LabelStarts.{image_ends, footnote_ends, link_ends, image_words, footnote_words, link_words}
+use Rattle.markdown_label.proofs.BegunStartPlaces.{link-within, footnote-within, image-within}
+use Rattle.markdown_leaf.specs.Autolink as Autolink
+use Rattle.markdown_leaf.specs.Autolink.{link_here}
+use Rattle.markdown_leaf.specs.CharacterEscape as CharacterEscape
+use Rattle.markdown_leaf.specs.CharacterEscape.{escape_here}
+use Rattle.markdown_leaf.specs.CharacterReference as CharacterReference
+use Rattle.markdown_leaf.specs.CharacterReference.{reference_here}
+use Rattle.markdown_leaf.specs.HardBreakEscape as HardBreakEscape
+use Rattle.markdown_leaf.specs.HardBreakEscape.{break_here}
+use Rattle.markdown_leaf.specs.RawText as RawText
+use Rattle.markdown_model.specs.TextLines.{data_up_to}
+use Rattle.markdown_partial.specs.PartialData as PartialData
+use Rattle.markdown_partial.specs.PartialData.{stops_of}
+use Rattle.markdown_util.specs.Reference.{html_5_rows}
+use Rattle.markdown_run_row.specs.RunOverElements.{Advances, DataFinishes, Finishes}
+use Rattle.markdown_run_row.specs.Row.{loses, row_end, past_mark, kinds_of}
+use Rattle.markdown_run_row.proofs.RowFields.{row-cursor, tree-within, lost-within}
+use Rattle.markdown_run_text.specs.StringContent.{is_on}
+use Rattle.markdown_run_text.specs.TextContent.{text_tries, text_markers, marked_fields, text_marked, text_passed, attempt_step, start_step, first_try, tries_at, before_at, before_step, text_choice_of, IsMarked, BeforeReady, StandsAlone, before_ends, data_ends, start_words, before_words, before_html_words, before_hard_break_escape_words, before_label_start_link_words, before_data_words}
+use Rattle.markdown_run_text.proofs.TryTableLemmas.{EachOf, by-row}
+use Rattle.markdown_run_row.proofs.ConstructNodes.{protocol-node, www-node, check-node, html-node, escape-node, reference-node, break-node, autolink-node, span-node}
+use Rattle.markdown_run_text.proofs.TextElements.{is_marker, data-holds}
+use Rattle.markdown_run_text.proofs.TextTries.{ReadsNodes, ReadsElements, reference-reads, reference-alone, autolink-reads, html-reads, html-alone, escape-reads, break-reads, break-alone, span-reads, span-alone, run-reads, run-alone, run-leaf, protocol-reads, protocol-alone, www-reads, www-alone, other-alone}
+use Rattle.markdown_run_row.proofs.ElementSteps.{DataRead, data-read, some-ahead, advances-finishes, node-advances, run-advances}
+use Rattle.markdown_run_text.proofs.TextLabelTries.{image-advances, image-alone, footnote-advances, link-advances, bracket-alone, made-advances, failed-advances, end-alone}
+use Rattle.markdown_run_text.proofs.TextSteps.{IsSame, same-row, choice-same, stops-same, marked-past, no-check-behind, no-check-past, advances-ends, alone-ends, tree-kept, registered-kept, made-kept, some-none, weight-marked, at-rest-reference, run-ready, passed-attempts, at-end, ends-on, lost-there, not-lost, lost-left, lost-current, same-lost, html-ready, marked-start, check-elements}
+
+-- those of these states with which another goes on, and the starts of what is tried, as they are said, and any other as it is given
+abbrev pub states : (StateName → StateWords) → StateName → StateWords
+states other TextBefore = before_words
+states other TextBeforeHtml = before_html_words
+states other TextBeforeHardBreakEscape = before_hard_break_escape_words
+states other TextBeforeLabelStartLink = before_label_start_link_words
+states other TextBeforeData = before_data_words
+states other GfmTaskListItemCheckStart = GfmTaskListItemCheck.start_words
+states other LabelStartImageStart = image_words
+states other RawTextStart = RawText.start_words
+states other CharacterReferenceStart = CharacterReference.start_words
+states other AttentionStart = Attention.start_words
+states other AutolinkStart = Autolink.start_words
+states other HtmlTextStart = HtmlText.start_words
+states other GfmAutolinkLiteralProtocolStart = GfmAutolinkLiteral.protocol_start_words
+states other GfmAutolinkLiteralWwwStart = GfmAutolinkLiteral.www_start_words
+states other GfmLabelStartFootnoteStart = footnote_words
+states other LabelStartLinkStart = link_words
+states other CharacterEscapeStart = CharacterEscape.start_words
+states other HardBreakEscapeStart = HardBreakEscape.start_words
+states other LabelEndStart = LabelEnd.start_words
+states other DataStart = PartialData.start_words
+states other s = other s
+
+-- what is said of a construct that is tried: it ends with its reading
+abbrev EndsOf : StateWords → TreeReading → Tokenizer → Type 0
+EndsOf w reading T = (ok : Bool) (U : Tokenizer) → w.ends T ok U → EndsAs reading None T.tokenize_state T ok U
+
+module _ (W : Words) (within : Within states W) where
+  -- past an element the run goes on before the next
+  on-before : (n : ℕ) (T U : Tokenizer) → codes_left T * 256 < n → IsMarked T → AreWithin U U.tokenize_state.label_starts → Advances (text_choice_of T) T U → FollowsIn W n (before_ends T) (Next TextBefore) U
+  on-before n T U room r kept a =
+      let e : IsSame T U = same-row a.row T U a.left a.is_row r.ends in
+      let less : codes_left U < codes_left T = a.less in
+      follows W n (before_ends T) (Next TextBefore) (within TextBefore) U
+      (record { marked = marked-past T U e (omega (arith, less)) kept r; unchecked = no-check-past T U a })
+      (omega (arith, less, room))
+      (λ ok V h. advances-ends T U e a ok V h)
+
+  -- A construct is tried: it holds and is an element, or the run goes on with another state at the same place.
+
+  try-law : (rank : ℕ) (T : Tokenizer) (construct otherwise : StateName) {w : StateWords} → words_in W construct ≡ w → (reading : TreeReading) → T.attempts ≡ [] → w.ready T → weight_at w.rank T < weight_at rank T → IsMarked T → EndsOf w reading T → ReadsNodes reading T → ReadsElements reading T → (reading (ahead T) ≡ None → FollowsIn W (weight_at rank T) (before_ends T) (Next otherwise) T) → GoesIn W (weight_at rank T) (before_ends T) (attempt_step construct otherwise T)
+  try-law rank T construct otherwise {w} say reading alone on falls ready ends nodes elements fails =
+      Goes-attempt W (weight_at rank T) (before_ends T) (Retry construct) {w = w} say (Next TextBefore) (Next otherwise) T alone on falls
+      (λ U now h.
+      let k : Reads reading None T.tokenize_state T U = ends true U h in
+      let node = nodes k.tree k.rest k.holds in
+      on-before (weight_at rank T) T U (omega arith) ready (tree-kept T U k.tree (k.left ∙ ap (past None k.tree) (scratched-same T)) ready.ends.within)
+      (node-advances (text_choice_of T) reading T U k node.0 node.1 (elements k.tree k.rest k.holds)))
+      (λ U now h.
+      let k : Refuses reading T.tokenize_state T U = ends false U h in
+      rw (restored-fails false (Next TextBefore) (Next otherwise) T.tokenize_state T U k.fails, scratched-same T) (fails k.refused))
+
+  to-data : (rank : ℕ) (T : Tokenizer) (v : ℕ) → 5 < rank → BeforeReady T → current_of T ≡ Some v → StandsAlone T → FollowsIn W (weight_at rank T) (before_ends T) (Next TextBeforeData) T
+  to-data rank T v l ready e alone =
+      let some : current_of T ≢ None = some-none (current_of T) v e in
+      follows W (weight_at rank T) (before_ends T) (Next TextBeforeData) (within TextBeforeData) T (record { marked = ready.marked; some_code = some }) (omega (arith, l)) (λ ok V h. alone-ends T ready.marked.stops some alone ok V h)
+
+  module _ (T : Tokenizer) (alone : T.attempts ≡ []) (ready : BeforeReady T) where
+    abbrev Before : Stepped → Type 0
+    Before r = GoesIn W (weight_at 8 T) (before_ends T) r
+
+    tries-span : (v : ℕ) → current_of T ≡ Some v → (v == byte "$" || v == byte "`") ≡ true → Before (attempt_step RawTextStart TextBeforeData T)
+    tries-span v e h =
+        try-law 8 T RawTextStart TextBeforeData (within RawTextStart) (RawText.span_at T) alone ready.marked.spans (omega arith) ready.marked (λ ok U g. g) (λ t rest g. span-node T (ahead T) t rest g) (span-reads T v e h) (λ none. to-data 8 T v (omega arith) ready e (span-alone T v e h none))
+
+    tries-reference : current_of T ≡ Some (byte "&") → Before (attempt_step CharacterReferenceStart TextBeforeData T)
+    tries-reference d =
+        try-law 8 T CharacterReferenceStart TextBeforeData (within CharacterReferenceStart) (reference_here T) alone (at-rest-reference T ready.marked) (omega arith) ready.marked (λ ok U g. g) (λ t rest g. reference-node (is_on T).character_reference html_5_rows (ahead T) t rest g) (reference-reads T d) (λ none. to-data 8 T (byte "&") (omega arith) ready d (reference-alone T d none))
+
+    tries-autolink : current_of T ≡ Some (byte "<") → Before (attempt_step AutolinkStart TextBeforeHtml T)
+    tries-autolink d =
+        try-law 8 T AutolinkStart TextBeforeHtml (within AutolinkStart) (link_here T) alone (at-rest-reference T ready.marked).size (omega arith) ready.marked (λ ok U g. g) (λ t rest g. autolink-node (is_on T).autolink (ahead T) t rest g) (autolink-reads T d)
+        (λ none. follows W (weight_at 8 T) (before_ends T) (Next TextBeforeHtml) (within TextBeforeHtml) T (record { before = ready; angle = d; no_autolink = none }) (omega arith) (λ ok V h. h))
+
+    tries-escape : current_of T ≡ Some (byte "\\") → Before (attempt_step CharacterEscapeStart TextBeforeHardBreakEscape T)
+    tries-escape d =
+        try-law 8 T CharacterEscapeStart TextBeforeHardBreakEscape (within CharacterEscapeStart) (escape_here T) alone tt (omega arith) ready.marked (λ ok U g. g) (λ t rest g. escape-node (is_on T).character_escape (ahead T) t rest g) (escape-reads T d)
+        (λ none. follows W (weight_at 8 T) (before_ends T) (Next TextBeforeHardBreakEscape) (within TextBeforeHardBreakEscape) T (record { before = ready; slash = d; no_escape = none }) (omega arith) (λ ok V h. h))
+
+    -- a run of markers, past which its pass is registered
+    tries-run : (v : ℕ) → current_of T ≡ Some v → is_marker v ≡ true → Before (attempt_step AttentionStart TextBeforeData T)
+    tries-run v e h =
+        Goes-attempt W (weight_at 8 T) (before_ends T) (Retry AttentionStart) (within AttentionStart) (Next TextBefore) (Next TextBeforeData) T alone (run-ready T ready.marked) (omega arith)
+        (λ U now k. let r : ReadsRun T U = k in
+        on-before (weight_at 8 T) T U (omega arith) ready.marked
+        (registered-kept T U r.there r.reads.tree (r.reads.left ∙ ap (past None r.reads.tree) (scratched-same T)) r.left ready.marked.ends.within)
+        (run-advances (text_choice_of T) (run_tree T) T U r.there r.reads r.left (run-leaf T v r.reads.tree r.reads.rest e h r.reads.holds) (run-reads T v e h r.reads.tree r.reads.rest r.reads.holds)))
+        (λ U now k. let r : Refuses (run_tree T) T.tokenize_state T U = k in
+        rw (restored-fails false (Next TextBefore) (Next TextBeforeData) T.tokenize_state T U r.fails, scratched-same T) (to-data 8 T v (omega arith) ready e (run-alone T v e h r.refused)))
+
+    tries-protocol : (v : ℕ) → current_of T ≡ Some v → (v == byte "H" || v == byte "h") ≡ true → Before (attempt_step GfmAutolinkLiteralProtocolStart TextBeforeData T)
+    tries-protocol v e h =
+        try-law 8 T GfmAutolinkLiteralProtocolStart TextBeforeData (within GfmAutolinkLiteralProtocolStart) (GfmAutolinkLiteral.protocol_here T) alone ready.marked.literals (omega arith) ready.marked (λ ok U g. g)
+        (λ t rest g. protocol-node (GfmAutolinkLiteral.is_on T) (bytes_of T) (GfmAutolinkLiteral.end_of T) (GfmAutolinkLiteral.before_of T) (ahead T) t rest g) (protocol-reads T v ready.marked.last e h)
+        (λ none. to-data 8 T v (omega arith) ready e (protocol-alone T v ready.marked.last e h none))
+
+    tries-www : (v : ℕ) → current_of T ≡ Some v → (v == byte "W" || v == byte "w") ≡ true → Before (attempt_step GfmAutolinkLiteralWwwStart TextBeforeData T)
+    tries-www v e h =
+        try-law 8 T GfmAutolinkLiteralWwwStart TextBeforeData (within GfmAutolinkLiteralWwwStart) (GfmAutolinkLiteral.www_here T) alone ready.marked.literals (omega arith) ready.marked (λ ok U g. g)
+        (λ t rest g. www-node (GfmAutolinkLiteral.is_on T) (bytes_of T) (GfmAutolinkLiteral.end_of T) (GfmAutolinkLiteral.before_of T) (ahead T) t rest g) (www-reads T v ready.marked.last e h)
+        (λ none. to-data 8 T v (omega arith) ready e (www-alone T v ready.marked.last e h none))
+
+    tries-image : current_of T ≡ Some (byte "!") → Before (attempt_step LabelStartImageStart TextBeforeData T)
+    tries-image d =
+        Goes-attempt W (weight_at 8 T) (before_ends T) (Retry LabelStartImageStart) (within LabelStartImageStart) (Next TextBefore) (Next TextBeforeData) T alone tt (omega arith)
+        (λ U now k. let r : image_ends T true U = k in
+        on-before (weight_at 8 T) T U (omega arith) ready.marked
+        (subst (λ (x : Tokenizer). AreWithin x x.tokenize_state.label_starts) (sym r.left) (image-within T ready.marked.ends.text ready.marked.ends.within r.holds)) (image-advances T U r))
+        (λ U now k. let r : image_ends T false U = k in
+        rw (restored-fails false (Next TextBefore) (Next TextBeforeData) T.tokenize_state T U (record { grown = r.grown; scratch = r.scratch }), scratched-same T) (to-data 8 T (byte "!") (omega arith) ready d (image-alone T d r.refused)))
+
+    tries-footnote : current_of T ≡ Some (byte "[") → Before (attempt_step GfmLabelStartFootnoteStart TextBeforeLabelStartLink T)
+    tries-footnote d =
+        Goes-attempt W (weight_at 8 T) (before_ends T) (Retry GfmLabelStartFootnoteStart) (within GfmLabelStartFootnoteStart) (Next TextBefore) (Next TextBeforeLabelStartLink) T alone tt (omega arith)
+        (λ U now k. let r : footnote_ends T true U = k in
+        on-before (weight_at 8 T) T U (omega arith) ready.marked
+        (subst (λ (x : Tokenizer). AreWithin x x.tokenize_state.label_starts) (sym r.left) (footnote-within T ready.marked.ends.text ready.marked.ends.within r.holds)) (footnote-advances T U ready.unchecked r))
+        (λ U now k. let r : footnote_ends T false U = k in
+        rw (restored-fails false (Next TextBefore) (Next TextBeforeLabelStartLink) T.tokenize_state T U (record { grown = r.grown; scratch = r.scratch }), scratched-same T)
+        (follows W (weight_at 8 T) (before_ends T) (Next TextBeforeLabelStartLink) (within TextBeforeLabelStartLink) T (record { before = ready; bracket = d; no_footnote = r.refused }) (omega arith) (λ ok V h. h)))
+
+    -- an end that makes no label uses up its start, and its `]` begins data
+    to-lost : current_of T ≡ Some (byte "]") → LabelEnd.is_on T ≡ true → LabelEnd.end_reading T (ahead T) ≡ None → (let F : Tokenizer = past_mark loses T in FollowsIn W (weight_at 8 T) (before_ends T) (Next TextBeforeData) F)
+    to-lost d on none =
+        let F : Tokenizer = past_mark loses T in
+        let e : IsSame T F = same-lost T ready.marked.ends in
+        follows W (weight_at 8 T) (before_ends T) (Next TextBeforeData) (within TextBeforeData) F
+        (record { marked = marked-past T F e (lost-left T) (lost-within T ready.marked.ends.within) ready.marked; some_code = λ h. some-none (current_of T) (byte "]") d (sym (lost-current T) ∙ h) })
+        (omega (arith, lost-left T))
+        (λ ok V h. lost-ends e ok V h)
+      where
+        lost-ends : (let F : Tokenizer = past_mark loses T in IsSame T F → (ok : Bool) (V : Tokenizer) → data_ends F ok V → before_ends T ok V)
+        lost-ends e true V k =
+            let F : Tokenizer = past_mark loses T in
+            let stops : List Code → Bool = stops_of T.tokenize_state in
+            let there : DataFinishes (text_choice_of T) (data_up_to stops) text_passed F V =
+            subst (λ c. DataFinishes c (data_up_to stops) text_passed F V) (choice-same T F e) (subst (λ stop. DataFinishes (text_choice_of F) (data_up_to stop) text_passed F V) (stops-same T F e) k) in
+            advances-finishes (text_choice_of T) text_passed T there.behind V (failed-advances T d on there.behind ready.marked.stops none there.data_read) there.finishes
+        lost-ends e false V k = k
+
+    tries-end : current_of T ≡ Some (byte "]") → Before (attempt_step LabelEndStart TextBeforeData T)
+    tries-end d =
+        Goes-attempt W (weight_at 8 T) (before_ends T) (Retry LabelEndStart) (within LabelEndStart) (Next TextBefore) (Next TextBeforeData) T alone ready.marked.ends (omega arith)
+        (λ U now k. let r : LabelEnd.Ends T U = k in
+        on-before (weight_at 8 T) T U (omega arith) ready.marked (made-kept T U r ready.marked.ends.within) (made-advances T d (ends-on T U r) U r))
+        (λ U now k. let r : LabelEnd.EndFails T U = k in
+        subst (λ (x : Tokenizer). FollowsIn W (weight_at 8 T) (before_ends T) (Next TextBeforeData) x) (sym (restored-fails false (Next TextBefore) (Next TextBeforeData) (LabelEnd.lost_fields T) T U r.fails))
+        (by_switch (LabelEnd.is_on T) refl r.refused))
+      where
+        by_switch : (b : Bool) → LabelEnd.is_on T ≡ b → LabelEnd.end_reading T (ahead T) ≡ None → FollowsIn W (weight_at 8 T) (before_ends T) (Next TextBeforeData) (scratched (LabelEnd.lost_fields T) T)
+        by_switch true on none = subst (λ (x : Tokenizer). FollowsIn W (weight_at 8 T) (before_ends T) (Next TextBeforeData) x) (sym (lost-there T d on)) (to-lost d on none)
+        by_switch false off none =
+            subst (λ (x : Tokenizer). FollowsIn W (weight_at 8 T) (before_ends T) (Next TextBeforeData) x) (sym (not-lost T off)) (to-data 8 T (byte "]") (omega arith) ready d (end-alone T d off))
+
+    tries-none : (v : ℕ) → current_of T ≡ Some v → list_any (λ n. v == n) text_markers ≡ false → Before (stepped (Retry TextBeforeData) T)
+    tries-none v e h =
+        let f = to-data 8 T v (omega arith) ready e (other-alone T v e h) in
+        Goes-plain W (weight_at 8 T) (before_ends T) (Retry TextBeforeData) {w = words_in W TextBeforeData} refl T alone f.goes_on f.falls f.closed
+
+    -- By the rows of the table.
+
+    abbrev IsTried : StateName → StateName → ℕ → Type 0
+    IsTried construct otherwise v = current_of T ≡ Some v → Before (attempt_step construct otherwise T)
+
+    at-spans : EachOf (IsTried RawTextStart TextBeforeData) (codes "$`")
+    at-spans = (λ e. tries-span (byte "$") e refl, (λ e. tries-span (byte "`") e refl, tt))
+
+    at-runs : EachOf (IsTried AttentionStart TextBeforeData) (codes "*_~")
+    at-runs = (λ e. tries-run (byte "*") e refl, (λ e. tries-run (byte "_") e refl, (λ e. tries-run (byte "~") e refl, tt)))
+
+    at-protocols : EachOf (IsTried GfmAutolinkLiteralProtocolStart TextBeforeData) (codes "Hh")
+    at-protocols = (λ e. tries-protocol (byte "H") e refl, (λ e. tries-protocol (byte "h") e refl, tt))
+
+    at-www : EachOf (IsTried GfmAutolinkLiteralWwwStart TextBeforeData) (codes "Ww")
+    at-www = (λ e. tries-www (byte "W") e refl, (λ e. tries-www (byte "w") e refl, tt))
+
+    tries : (v : ℕ) → current_of T ≡ Some v → Before (tries_at (first_try v) T)
+    tries v =
+        by-row (λ (n : ℕ) (o : Option (StateName × StateName)). current_of T ≡ Some n → Before (tries_at o T)) text_tries v
+        ((tries-image, tt), (at-spans, ((tries-reference, tt), (at-runs, ((tries-autolink, tt), (at-protocols, (at-www, ((tries-footnote, tt), ((tries-escape, tt), ((tries-end, tt), tt))))))))))
+        (λ h e. tries-none v e h)
+
+    before-goes : GoesIn W (weight_at 8 T) (before_ends T) (before_step T)
+    before-goes =
+        code-step Before (current_of T) (λ o. before_at o T)
+        (λ e. Goes-end W (weight_at 8 T) (before_ends T) true (text_passed T) (passed-attempts T alone) (omega arith) (at-end T e))
+        (λ v e. tries v e)
+
+  pub before-law : Law W before_words
+  before-law T alone ready = before-goes T alone ready
+
+  pub before_html-law : Law W before_html_words
+  before_html-law T alone r =
+      try-law 6 T HtmlTextStart TextBeforeData (within HtmlTextStart) (HtmlText.html_here T) alone (html-ready T r.before.marked) (omega arith) r.before.marked (λ ok U g. g) (λ t rest g. html-node (is_on T).html_text (ahead T) t rest g) (html-reads T r.angle r.no_autolink)
+      (λ none. to-data 6 T (byte "<") (omega arith) r.before r.angle (html-alone T r.angle r.no_autolink none))
+
+  pub before_label_start_link-law : Law W before_label_start_link_words
+  before_label_start_link-law T alone r =
+      Goes-attempt W (weight_at 6 T) (before_ends T) (Retry LabelStartLinkStart) (within LabelStartLinkStart) (Next TextBefore) (Next TextBeforeData) T alone tt (omega arith)
+      (λ U now k. let h : link_ends T true U = k in
+      on-before (weight_at 6 T) T U (omega arith) r.before.marked
+      (subst (λ (x : Tokenizer). AreWithin x x.tokenize_state.label_starts) (sym h.left) (link-within T r.before.marked.ends.text r.before.marked.ends.within h.holds)) (link-advances T U r.before.unchecked r.no_footnote h))
+      (λ U now k. let h : link_ends T false U = k in
+      rw (restored-fails false (Next TextBefore) (Next TextBeforeData) T.tokenize_state T U (record { grown = h.grown; scratch = h.scratch }), scratched-same T)
+      (to-data 6 T (byte "[") (omega arith) r.before r.bracket (bracket-alone T r.before.unchecked r.bracket r.no_footnote h.refused)))
+
+  pub before_hard_break_escape-law : Law W before_hard_break_escape_words
+  before_hard_break_escape-law T alone r =
+      try-law 6 T HardBreakEscapeStart TextBeforeData (within HardBreakEscapeStart) (break_here T) alone tt (omega arith) r.before.marked (λ ok U g. g) (λ t rest g. break-node (is_on T).hard_break_escape (ahead T) t rest g) (break-reads T r.slash r.no_escape)
+      (λ none. to-data 6 T (byte "\\") (omega arith) r.before r.slash (break-alone T r.slash r.no_escape none))
+
+  pub before_data-law : Law W before_data_words
+  before_data-law T alone r =
+      let a = some-ahead T (ahead T) refl r.some_code in
+      Goes-attempt W (weight_at 5 T) (data_ends T) (Retry DataStart) (within DataStart) (Next TextBefore) Nok T alone tt (omega arith)
+      (λ U now k.
+      let stops : List Code → Bool = stops_of T.tokenize_state in
+      let read : Reads (data_up_to stops) None T.tokenize_state T U = k in
+      let d : DataRead stops T U a.0 a.1.0 = data-read stops T U a.0 a.1.0 a.1.1 read in
+      let e : IsSame T U = same-row (row_end d.tree) T U d.left d.part r.marked.ends in
+      let kept : AreWithin U U.tokenize_state.label_starts = subst (λ (x : Tokenizer). AreWithin x x.tokenize_state.label_starts) (sym d.left) (tree-within d.tree T r.marked.ends.within) in
+      let less : codes_left U < codes_left T = d.less in
+      follows W (weight_at 5 T) (data_ends T) (Next TextBefore) (within TextBefore) U
+      (record {
+        marked = marked-past T U e (omega (arith, less)) kept r.marked;
+        unchecked = no-check-behind (leaf_codes d.tree) T U (ap (λ (x : Tokenizer). x.cursor) d.left ∙ row-cursor (kinds_of T) (row_end d.tree) T d.part) d.whole less;
+      })
+      (omega (arith, less))
+      (λ ok V h. data-then T U e read ok V h))
+      (λ U now k. absurd (data-holds (stops_of T.tokenize_state) (ahead T) k.refused))
+    where
+      data-then : (T U : Tokenizer) → IsSame T U → Reads (data_up_to (stops_of T.tokenize_state)) None T.tokenize_state T U → (ok : Bool) (V : Tokenizer) → before_ends U ok V → data_ends T ok V
+      data-then T U e read true V h = record { behind = U; data_read = read; finishes = subst (λ c. Finishes c text_passed U V) (choice-same T U e) h }
+      data-then T U e read false V h = h
+
+  pub start-law : Law W start_words
+  start-law T alone r =
+      let M : Tokenizer = text_marked T in
+      let s : TokenizeState = marked_fields T.cursor T.parse_state.now T.tokenize_state in
+      let marked : IsMarked M = marked-start T r in
+      subst (λ n. GoesIn W n (before_ends M) (start_step T)) (weight-marked T)
+      (try-law 9 M GfmTaskListItemCheckStart TextBefore (within GfmTaskListItemCheckStart) (GfmTaskListItemCheck.check_here M) (attempts-scratched s T ∙ alone) marked.look (omega arith) marked (λ ok U g. g)
+      (λ t rest g. check-node (GfmTaskListItemCheck.may_begin M) (ahead M) t rest g) (check-elements M (current_of M) refl)
+      (λ none. follows W (weight_at 9 M) (before_ends M) (Next TextBefore) (within TextBefore) M (record { marked = marked; unchecked = none }) (omega arith) (λ ok V h. h)))

@@ -1,0 +1,327 @@
+-- What is known of a text at a place is known past what is read there.
+use Rattle.markdown_model.specs.LeafConstructs.{gfm_task_list_item_check}
+use Rattle.markdown_model.specs.CodeTests.{is_value, last_code, next_is}
+use Rattle.std.proofs.Common.{◌≡◌, ◌≢◌, ℕ, ◌+◌, ◌*◌, ◌<◌, ◌≤◌, ◌==◌, Bool, true, false, if◌then◌else◌, Option, Some, None, List, [], ◌∷◌, refl, sym, ap, subst, ◌∙◌, arith, length, length-append, is_none, ◌&&◌, ◌++◌, append-nil}
+use Rattle.std.specs.Prelude.{codes}
+use Rattle.std.specs.Str.{byte}
+use Rattle.markdown_engine_content.specs.Codes.{Code, stop_of, document_start}
+use Rattle.markdown_engine_index.specs.BracketIndex.{BracketPlaces, brackets_between}
+use Rattle.markdown_engine_index.specs.NameIndex.{names_in_order}
+use Rattle.markdown_engine_index.specs.declared.name_index.Names.{Names}
+use Rattle.markdown_engine_content.specs.declared.parser.ParseState.{ParseState}
+use Rattle.markdown_engine_content.specs.declared.event.Point.{Point}
+use Rattle.markdown_engine.specs.Operations.{ahead, current_of, is_registered, registered, scratched, previous_of}
+use Rattle.markdown_engine.specs.PastTree.{past, moved_by}
+use Rattle.markdown_engine_content.specs.Place.{Place, moved, code_before, last_of, point_of, value_of}
+use Rattle.markdown_engine_index.specs.RunIndex.{LastRuns, last_runs}
+use Rattle.markdown_engine_index.specs.SequenceIndex.{last_begins}
+use Rattle.markdown_engine_index.specs.TitleIndex.{closers_of}
+use Rattle.markdown_engine_content.specs.Tree.{Forest, empty}
+use Rattle.markdown_engine.specs.Weights.{codes_left, weight_at}
+use Rattle.markdown_engine.specs.declared.resolve.ResolveName.TheVariants as R
+use Rattle.markdown_engine.specs.declared.tokenizer.TokenizeState.{TokenizeState}
+use Rattle.markdown_engine.specs.declared.tokenizer.Tokenizer.{Tokenizer}
+use Rattle.markdown_engine.proofs.ReadingSequences.{scratched-same}
+use Rattle.markdown_engine_index.proofs.SequenceIndexLemmas.{right-made}
+use Rattle.markdown_engine.proofs.OperationFields.{Begins, ahead-some, attempts-registered, left-scratched, left-ahead}
+use Rattle.markdown_leaf_gfm.specs.GfmAutolinkLiteral as GfmAutolinkLiteral
+use Rattle.markdown_leaf_gfm.specs.GfmTaskListItemCheck as GfmTaskListItemCheck
+use Rattle.markdown_leaf_html.specs.HtmlText as HtmlText
+use Rattle.markdown_attention.specs.Attention as Attention
+use Rattle.markdown_leaf_gfm.specs.DomainOutlook.{no_domains}
+use Rattle.markdown_partial.specs.PartialSpaceOrTab as PartialSpaceOrTab
+use Rattle.markdown_plan.specs.Characters.{bytes_of, ReadsText}
+use Rattle.markdown_plan.proofs.CharactersAlongContent.{text-scratched}
+use Rattle.markdown_label.specs.LabelEnd as LabelEnd
+use Rattle.markdown_label.specs.LabelEnd.{AreWithin}
+use Rattle.markdown_model.specs.Setting.{Setting}
+use Rattle.markdown_label.specs.LabelSetting.{setting_of, setting_in, AreListed, IsListed}
+use Rattle.markdown_label.proofs.KeptStartPlaces.{within-grown}
+use Rattle.markdown_partial.specs.PartialSpaceOrTabEol as PartialSpaceOrTabEol
+use Rattle.markdown_label.specs.AfterLabelParts as AfterLabelParts
+use Rattle.markdown_label.specs.AfterLabelParts.{PartReady}
+use Rattle.markdown_label.proofs.NextCodeTests.{same-codes}
+use Rattle.markdown_label.proofs.ResourceLaws.{indexed-same, titled-same}
+use Rattle.markdown_leaf.specs.CharacterReference.{IsAtRest}
+use Rattle.markdown_leaf.specs.RawText as RawText
+use Rattle.markdown_model.specs.Elements.{text_choice}
+use Rattle.markdown_partial.specs.PartialData.{stops_of}
+use Rattle.markdown_run_row.specs.RunOverElements.{AreSingle, Advances, Finishes}
+use Rattle.markdown_run_row.specs.Row.{EndsRest, Row, loses, row_end, row_then, past_mark, past_row, row_codes, kinds_of, IsRowAt}
+use Rattle.markdown_run_row.proofs.LabelSteps.{empty-part, mark-alone}
+use Rattle.markdown_run_row.proofs.RowFields.{relisted, row-cursor, row-input, row-text, row-fields, made-within}
+use Rattle.markdown_run_text.specs.StringContent.{is_on}
+use Rattle.markdown_run_text.specs.TextContent.{order_pays, titles_pay, marked_fields, text_marked, text_passed, text_choice_of, EndsWithCodes, StartReady, IsMarked, StandsAlone, before_ends, data_ends, text_setting, StopsAtElements, domains_pay, names_in}
+use Rattle.markdown_run_text.proofs.TextDataStops.{stops-where}
+use Rattle.markdown_run_text.proofs.TextTries.{end_in, ReadsElements, none-valued, check-reads, no-check-at-end, other-data}
+use Rattle.markdown_run_row.proofs.ElementSteps.{last-some, some-ahead, advances-finishes, finishes-end, data-advances}
+use Rattle.markdown_model.proofs.GrammarSteps.{if-true, if-false, switched-off}
+use Rattle.markdown_run_text.specs.RunSetting.{text_setting_of}
+
+-- Past a row the choice is as it was, and so are the scratch fields but for the lists of labels.
+
+pub same-end : (cs : List Code) (p : Place) → (moved_by cs p).end ≡ p.end
+unfolding moved
+same-end [] p = refl
+same-end (c ∷ cs) p = same-end cs (moved p)
+
+-- what stays as it was
+pub record IsSame (T U : Tokenizer) : Type 0 where
+  pub fields : U.tokenize_state ≡ relisted U.tokenize_state T.tokenize_state
+  pub input : U.parse_state ≡ T.parse_state
+  pub codes : U.cursor.codes ≡ T.cursor.codes
+  pub end : U.cursor.end ≡ T.cursor.end
+  pub text : ReadsText U
+
+pub ends-rest : (T : Tokenizer) → LabelEnd.StartReady T → EndsRest T.tokenize_state
+ends-rest T r = record { end = r.resting; seen = sym (ap (λ (s : TokenizeState). s.seen) r.part.rest) }
+
+pub same-row : (row : Row) (T U : Tokenizer) → U ≡ past_row row T → IsRowAt (kinds_of T) row → LabelEnd.StartReady T → IsSame T U
+same-row row T U left is r =
+    subst (λ (x : Tokenizer). IsSame T x) (sym left)
+    (record {
+      fields = row-fields (kinds_of T) row T refl is (ends-rest T r);
+      input = row-input row T;
+      codes = ap (λ (p : Place). p.codes) (row-cursor (kinds_of T) row T is) ∙ same-codes (row_codes row) T.cursor;
+      end = ap (λ (p : Place). p.end) (row-cursor (kinds_of T) row T is) ∙ same-end (row_codes row) T.cursor;
+      text = row-text (kinds_of T) row T is r.text;
+    })
+
+pub choice-same : (T U : Tokenizer) → IsSame T U → text_choice_of U ≡ text_choice_of T
+choice-same T U k =
+    (λ i. text_choice (text_setting_of (k.input i).now U.tokenize_state.document_at_first_paragraph_of_list_item) (k.codes i))
+    ∙ ap (λ (s : TokenizeState). text_choice (text_setting_of T.parse_state.now s.document_at_first_paragraph_of_list_item) T.cursor.codes) k.fields
+
+-- what is known of the runs stays right
+pub indexed-past : (T U : Tokenizer) → IsSame T U → RawText.IsIndexed T → RawText.IsIndexed U
+indexed-past T U e k =
+    let runs : U.tokenize_state.runs ≡ T.tokenize_state.runs = ap (λ (s : TokenizeState). s.runs) e.fields in
+    runs ∙ k ∙ ap (λ (x : LastRuns). last_runs x.asked T.cursor.codes) (sym runs) ∙ ap (λ cs. last_runs U.tokenize_state.runs.asked cs) (sym e.codes)
+
+-- and so do what is known of sequences, and of names
+pub sequences-past : (T U : Tokenizer) → IsSame T U → HtmlText.IsIndexed T → HtmlText.IsIndexed U
+sequences-past T U e k = indexed-same T U e.codes (ap (λ (s : TokenizeState). s.sequences) e.fields) k
+
+pub listed-past : (T U : Tokenizer) → IsSame T U → IsListed T → IsListed U
+listed-past T U e k names known = subst (λ (p : ParseState). AreListed (setting_of p) names) (λ i. (sym e.input i).now) (k names (ap (λ (s : TokenizeState). s.names) (sym e.fields) ∙ known))
+
+pub domains-past : (T U : Tokenizer) → IsSame T U → GfmAutolinkLiteral.KnowsDomains T → GfmAutolinkLiteral.KnowsDomains U
+domains-past T U e k places known = k places (ap (λ (s : TokenizeState). s.no_domains) (sym e.fields) ∙ known) ∙ (λ i. no_domains (sym e.input i).now.bytes.now (sym e.end i).index (sym e.codes i))
+
+pub part-past : (T U : Tokenizer) → IsSame T U → codes_left U ≤ codes_left T → PartReady T → PartReady U
+part-past T U e l k =
+    let u : TokenizeState = U.tokenize_state in
+    record {
+      short = omega (arith, l, k.short);
+      indexed = sequences-past T U e k.indexed;
+      titled = titled-same T U e.codes (ap (λ (s : TokenizeState). s.titles) e.fields) k.titled;
+      spaces = record { space = ap PartialSpaceOrTab.rested e.fields ∙ ap (relisted u) k.spaces.space ∙ sym e.fields; eol = ap PartialSpaceOrTabEol.eol_rested e.fields ∙ ap (relisted u) k.spaces.eol ∙ sym e.fields };
+      rest = ap AfterLabelParts.rested e.fields ∙ ap (relisted u) k.rest ∙ sym e.fields;
+    }
+
+-- the content ends with its last code
+pub last-past : (T U : Tokenizer) → IsSame T U → EndsWithCodes T.cursor → EndsWithCodes U.cursor
+last-past T U e last =
+    λ some. ap (λ (p : Point). p.index) e.end ∙ last (subst (λ cs. cs ≢ []) e.codes some) ∙ ap (λ cs. (stop_of document_start cs).index) (sym e.codes)
+
+-- data stops at the same places
+pub stops-same : (T U : Tokenizer) → IsSame T U → stops_of U.tokenize_state ≡ stops_of T.tokenize_state
+stops-same T U e = ap (λ (s : TokenizeState). stops_of s) e.fields
+
+pub stops-past : (T U : Tokenizer) → IsSame T U → StopsAtElements T → StopsAtElements U
+stops-past T U e stops front earlier previous c cs w free =
+    (λ i. choice-same T U e i earlier previous (c ∷ cs)) ∙ stops front earlier previous c cs (sym e.codes ∙ w) (ap (λ (stop : List Code → Bool). stop (c ∷ cs)) (sym (stops-same T U e)) ∙ free)
+
+pub marked-past : (T U : Tokenizer) → IsSame T U → codes_left U ≤ codes_left T → AreWithin U U.tokenize_state.label_starts → IsMarked T → IsMarked U
+marked-past T U e l within r =
+    let u : TokenizeState = U.tokenize_state in
+    record {
+      stops = stops-past T U e r.stops;
+      spans = record { rest = e.fields ∙ ap (relisted u) r.spans.rest ∙ ap RawText.rested (sym e.fields); fits = omega (arith, l, r.spans.fits); indexed = indexed-past T U e r.spans.indexed };
+      look = record { resting = ap PartialSpaceOrTab.rested e.fields ∙ ap (relisted u) r.look.resting ∙ sym e.fields; short = omega (arith, l, r.look.short) };
+      literals = record { text = e.text; resting = ap GfmAutolinkLiteral.rested e.fields ∙ ap (relisted u) r.literals.resting ∙ sym e.fields; short = omega (arith, l, r.literals.short); knows = domains-past T U e r.literals.knows };
+      ends = record { part = part-past T U e l r.ends.part; listed = listed-past T U e r.ends.listed; text = e.text; within = within; resting = ap (λ (s : TokenizeState). s.end) e.fields ∙ r.ends.resting };
+      last = last-past T U e r.last;
+    }
+
+-- past an element no check may begin
+
+pub some-last : (cs : List Code) → 1 ≤ length cs → is_none (last_code cs) ≡ false
+some-last [] h = absurd (omega arith)
+some-last (c ∷ []) h = refl
+some-last (c ∷ d ∷ cs) h = some-last (d ∷ cs) (omega arith)
+
+pub and-none : (a b : Bool) (o : Option ℕ) → is_none o ≡ false → a && (b && is_none o) ≡ false
+and-none true true o e = e
+and-none true false o e = refl
+and-none false b o e = refl
+
+pub no-check-behind : (cs : List Code) (T U : Tokenizer) → U.cursor ≡ moved_by cs T.cursor → ahead T ≡ cs ++ ahead U → codes_left U < codes_left T → GfmTaskListItemCheck.check_here U (ahead U) ≡ None
+unfolding code_before
+no-check-behind cs T U place whole less =
+    let size : 1 ≤ length cs = omega (arith, less, left-ahead T, left-ahead U, ap length whole, length-append cs (ahead U)) in
+    let before : is_none (previous_of U) ≡ false = ap (λ o. is_none (value_of o)) (ap (λ (p : Place). last_of p.codes p.at) place ∙ last-some cs (ahead U) T.cursor size whole) ∙ none-valued (last_code cs) ∙ some-last cs size in
+    switched-off gfm_task_list_item_check (GfmTaskListItemCheck.may_begin U) (ahead U) (and-none U.parse_state.now.options.now.constructs.gfm_task_list_item U.tokenize_state.document_at_first_paragraph_of_list_item (previous_of U) before)
+
+pub no-check-past : (T U : Tokenizer) (a : Advances (text_choice_of T) T U) → GfmTaskListItemCheck.check_here U (ahead U) ≡ None
+no-check-past T U a = no-check-behind (row_codes a.row) T U (ap (λ (x : Tokenizer). x.cursor) a.left ∙ row-cursor (kinds_of T) a.row T a.is_row) a.whole a.less
+
+-- what follows an element, follows from before it
+pub advances-ends : (T U : Tokenizer) → IsSame T U → Advances (text_choice_of T) T U → (ok : Bool) (V : Tokenizer) → before_ends U ok V → before_ends T ok V
+advances-ends T U e a true V k = advances-finishes (text_choice_of T) text_passed T U V a (subst (λ c. Finishes c text_passed U V) (choice-same T U e) k)
+advances-ends T U e a false V k = k
+
+-- Data, where the code at hand is an element by itself.
+
+pub alone-ends : (T : Tokenizer) → StopsAtElements T → current_of T ≢ None → StandsAlone T → (ok : Bool) (V : Tokenizer) → data_ends T ok V → before_ends T ok V
+alone-ends T stops some alone true V k =
+    let a = some-ahead T (ahead T) refl some in
+    advances-finishes (text_choice_of T) text_passed T k.behind V
+    (data-advances (text_choice_of T) (stops_of T.tokenize_state) T k.behind a.0 a.1.0 a.1.1 k.data_read (λ earlier previous stands. alone earlier previous a.0 a.1.0 stands a.1.1)
+    (subst (λ xs. AreSingle (text_choice_of T) (stops_of T.tokenize_state) xs) a.1.1 (other-data T stops)))
+    k.finishes
+alone-ends T stops some alone false V k = k
+
+-- The starts that are kept, past what holds.
+
+pub tree-kept : (T U : Tokenizer) (t : Forest) → U ≡ past None t T → AreWithin T T.tokenize_state.label_starts → AreWithin U U.tokenize_state.label_starts
+unfolding past
+tree-kept T U t left k = subst (λ (x : Tokenizer). AreWithin x x.tokenize_state.label_starts) (sym left) (within-grown T (past None t T) _ refl refl T.tokenize_state.label_starts k)
+
+pub registered-within : (b : Bool) (V W : Tokenizer) → W ≡ record V { resolvers = W.resolvers } → AreWithin V V.tokenize_state.label_starts → AreWithin (if b then V else W) (if b then V else W).tokenize_state.label_starts
+registered-within true V W e k = k
+registered-within false V W e k = subst (λ (x : Tokenizer). AreWithin x x.tokenize_state.label_starts) (sym e) (within-grown V (record V { resolvers = W.resolvers }) [] refl (sym (append-nil V.events)) V.tokenize_state.label_starts k)
+
+pub registered-kept : (T U V : Tokenizer) (t : Forest) → V ≡ past None t T → U ≡ registered R.Attention V → AreWithin T T.tokenize_state.label_starts → AreWithin U U.tokenize_state.label_starts
+unfolding registered
+registered-kept T U V t left e k =
+    subst (λ (x : Tokenizer). AreWithin x x.tokenize_state.label_starts) (sym e)
+    (registered-within (is_registered R.Attention V.resolvers) V (record V { resolvers = V.resolvers ++ R.Attention ∷ [] }) refl (tree-kept T V t left k))
+
+pub made-kept : (T U : Tokenizer) → LabelEnd.Ends T U → AreWithin T T.tokenize_state.label_starts → AreWithin U U.tokenize_state.label_starts
+unfolding past_mark
+made-kept T U r k = subst (λ (x : Tokenizer). AreWithin x x.tokenize_state.label_starts) (sym r.left) (made-within r.back r.kind r.tail T k)
+
+-- Going on where a construct does not hold.
+
+pub some-none : (o : Option ℕ) (v : ℕ) → o ≡ Some v → o ≢ None
+some-none o v e = λ h. cc
+
+-- The laws.
+
+pub weight-marked : (T : Tokenizer) → weight_at 9 (text_marked T) ≡ weight_at 9 T
+weight-marked T = ap (λ n. 256 * n + 9 + 1) (left-scratched (marked_fields T.cursor T.parse_state.now T.tokenize_state) T)
+
+pub at-rest-reference : (T : Tokenizer) → IsMarked T → IsAtRest T
+at-rest-reference T r = record { marker = ap (λ (s : TokenizeState). s.marker) r.spans.rest; size = ap (λ (s : TokenizeState). s.size) r.spans.rest }
+
+pub run-ready : (T : Tokenizer) → IsMarked T → Attention.StartReady T
+run-ready T r = r.spans.rest ∙ ap (Attention.with_marker 0) (sym r.spans.rest)
+
+pub passed-attempts : (T : Tokenizer) → T.attempts ≡ [] → (text_passed T).attempts ≡ []
+passed-attempts T alone = attempts-registered R.Text (registered R.Data T) ∙ attempts-registered R.Data T ∙ alone
+
+pub at-end : (T : Tokenizer) → current_of T ≡ None → (ok : Bool) (U : Tokenizer) → (ok ≡ true) × (U ≡ text_passed T) → before_ends T ok U
+at-end T e true U k = finishes-end (text_choice_of T) text_passed T U e k.1
+at-end T e false U k = cc
+
+-- Ends of labels.
+
+-- where one makes a label, ends are on
+pub ends-on : (T U : Tokenizer) → LabelEnd.Ends T U → LabelEnd.is_on T ≡ true
+ends-on T U r = by_switch (LabelEnd.is_on T) refl
+  where
+    by_switch : (b : Bool) → LabelEnd.is_on T ≡ b → LabelEnd.is_on T ≡ true
+    by_switch true e = e
+    by_switch false e = absurd (no-reading _ (switched-off _ (LabelEnd.is_on T) (ahead T) e) r.holds)
+      where
+        no-reading : {A : Type 0} {x : A} (o : Option A) → o ≡ None → o ≡ Some x → ⊥
+        no-reading None h k = cc
+        no-reading (Some y) h k = cc
+
+-- where one makes none, its start is used up
+pub lost-there : (T : Tokenizer) → current_of T ≡ Some (byte "]") → LabelEnd.is_on T ≡ true → scratched (LabelEnd.lost_fields T) T ≡ past_mark loses T
+unfolding past_mark
+lost-there T d on = ap (λ s. scratched s T) (if-true _ _ _ (ap (λ b. b && next_is (is_value (byte "]")) (ahead T)) on ∙ there))
+  where
+    there : next_is (is_value (byte "]")) (ahead T) ≡ true
+    there = let b : Begins (byte "]") (ahead T) = ahead-some T (byte "]") d in ap (next_is (is_value (byte "]"))) b.whole ∙ ap (λ v. v == byte "]") b.value
+
+pub not-lost : (T : Tokenizer) → LabelEnd.is_on T ≡ false → scratched (LabelEnd.lost_fields T) T ≡ T
+not-lost T off = ap (λ s. scratched s T) (if-false _ _ _ (ap (λ b. b && next_is (is_value (byte "]")) (ahead T)) off)) ∙ scratched-same T
+
+pub lost-left : (T : Tokenizer) → codes_left (past_mark loses T) ≤ codes_left T
+unfolding past_mark
+lost-left T = omega (arith, left-scratched (LabelEnd.lost_by T.tokenize_state.label_starts T.tokenize_state) T)
+
+pub lost-current : (T : Tokenizer) → current_of (past_mark loses T) ≡ current_of T
+unfolding past_mark scratched
+lost-current T = refl
+
+pub same-lost : (T : Tokenizer) → LabelEnd.StartReady T → IsSame T (past_mark loses T)
+same-lost T r =
+    let row : Row = row_then empty loses (row_end empty) in
+    same-row row T (past_mark loses T) (mark-alone loses T) (empty-part, (tt, empty-part)) r
+
+pub html-ready : (T : Tokenizer) → IsMarked T → HtmlText.StartReady T
+html-ready T r = record { spaces = record { resting = r.look.resting; short = r.look.short }; indexed = r.ends.part.indexed; rest = sym (html-rest T r) }
+  where
+    html-rest : (T : Tokenizer) → IsMarked T → T.tokenize_state ≡ HtmlText.rested T.tokenize_state
+    html-rest T r = r.spans.rest ∙ ap HtmlText.rested (sym r.spans.rest)
+
+pub spans-marked : (T : Tokenizer) → RawText.StartReady T → RawText.StartReady (text_marked T)
+unfolding scratched
+spans-marked T r = record { rest = ap {A = TokenizeState} (λ s. marked_fields T.cursor T.parse_state.now s) r.rest; fits = r.fits; indexed = refl }
+
+pub look-marked : (T : Tokenizer) → GfmTaskListItemCheck.MayLook T → GfmTaskListItemCheck.MayLook (text_marked T)
+unfolding scratched
+look-marked T r = record { resting = ap {A = TokenizeState} (λ s. marked_fields T.cursor T.parse_state.now s) r.resting; short = r.short }
+
+-- what is known is what was made, where that pays
+pub made-known : {A : Type 0} (pays : Bool) (made known : A) → (if pays then Some made else None) ≡ Some known → known ≡ made
+made-known true made known e = cc
+made-known false made known e = cc
+
+pub literals-marked : (T : Tokenizer) → GfmAutolinkLiteral.StartReady T → GfmAutolinkLiteral.StartReady (text_marked T)
+unfolding scratched
+literals-marked T r =
+    let s : TokenizeState → TokenizeState = marked_fields T.cursor T.parse_state.now in
+    record { text = text-scratched (s T.tokenize_state) T r.text; resting = ap s r.resting; short = r.short; knows = λ places. made-known (domains_pay T.cursor.codes T.parse_state.now) (no_domains (bytes_of T) (GfmAutolinkLiteral.end_of T) T.cursor.codes) places }
+
+-- and of the names, whichever part of the document the brackets are of
+pub listed-made : (s : Setting) (start end : ℕ) (names : Names) → names ≡ names_in_order s.definitions s.footnotes (brackets_between s.bytes start end) → AreListed s names
+listed-made s start end names e =
+    e ∙ ap (λ (b : BracketPlaces). names_in_order s.definitions s.footnotes (brackets_between s.bytes b.start b.end)) (sym (ap (λ (x : Names). x.brackets) e))
+
+pub ends-marked : (T : Tokenizer) → LabelEnd.StartReady T → LabelEnd.StartReady (text_marked T)
+unfolding scratched
+ends-marked T r =
+    let M : Tokenizer = text_marked T in
+    let s : TokenizeState → TokenizeState = marked_fields T.cursor T.parse_state.now in
+    record {
+      part = record { short = r.part.short; indexed = right-made T.cursor.codes (Some (last_begins T.cursor.codes)) refl; titled = λ closers. made-known (titles_pay T.cursor.codes) (closers_of T.cursor.codes) closers; spaces = record { space = ap s r.part.spaces.space; eol = ap s r.part.spaces.eol }; rest = ap s r.part.rest };
+      listed = λ names known. listed-made (setting_in T) (point_of (record T.cursor { at = 0 })).index T.cursor.end.index names (made-known (order_pays T.cursor.codes T.parse_state.now) (names_in T.cursor T.parse_state.now) names known);
+      text = text-scratched (s T.tokenize_state) T r.text;
+      within = within-grown T M [] refl (sym (append-nil T.events)) T.tokenize_state.label_starts r.within;
+      resting = r.resting;
+    }
+
+pub stops-marked : (T : Tokenizer) → StopsAtElements (text_marked T)
+unfolding scratched
+stops-marked T = stops-where (text_setting T) (end_in T) T.cursor.codes T.parse_state.now refl
+
+pub marked-start : (T : Tokenizer) → StartReady T → IsMarked (text_marked T)
+unfolding scratched
+marked-start T r =
+    record {
+      stops = stops-marked T;
+      spans = spans-marked T r.spans;
+      look = look-marked T r.look;
+      literals = literals-marked T r.literals;
+      ends = ends-marked T r.ends;
+      last = r.last;
+    }
+
+pub check-elements : (T : Tokenizer) (o : Option ℕ) → current_of T ≡ o → ReadsElements (GfmTaskListItemCheck.check_here T) T
+check-elements T None e = no-check-at-end T e
+check-elements T (Some v) e = check-reads T v e

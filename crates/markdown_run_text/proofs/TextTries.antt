@@ -1,0 +1,259 @@
+-- What is tried at a code of a text: where it holds, it is the element at hand, and where nothing holds, the code is one by itself.
+use Rattle.markdown_model.specs.Elements.{first_check}
+use Rattle.markdown_model.specs.Grammar.{◌>>◌, provided, one}
+use Rattle.std.proofs.Common.{◌≡◌, ℕ, zero, suc, drop, ◌+◌, ◌≤◌, ◌==◌, ◌||◌, true, false, Option, Some, None, List, ◌∷◌, length, refl, sym, ap, ◌∙◌, Bool, ◌&&◌, is_none, [], take, ◌++◌, append_assoc}
+use Rattle.std.proofs.lemmas.Option.{same_Some}
+use Rattle.std.specs.Str.{byte}
+use Rattle.std.specs.List.{list_any}
+use Rattle.std.proofs.lemmas.List.{take-append-drop}
+use Rattle.markdown_engine_content.specs.Codes.{Code, stop_of, document_start}
+use Rattle.markdown_engine_content.specs.ListFunctions.{first_of, rest_of}
+use Rattle.markdown_engine.specs.Operations.{ahead, current_of}
+use Rattle.markdown_engine.specs.PastTree.{TreeReading}
+use Rattle.markdown_engine_content.specs.Place.{ahead_at, value_of, code_before}
+use Rattle.markdown_engine_content.specs.Tree.{Forest}
+use Rattle.markdown_engine.specs.declared.tokenizer.Tokenizer.{Tokenizer}
+use Rattle.markdown_engine.proofs.OperationFields.{Begins, ahead-some, current-ahead, ahead-none}
+use Rattle.markdown_plan.specs.Characters.{bytes_of}
+use Rattle.markdown_leaf_gfm.specs.GfmAutolinkLiteral.{is_on, end_of, protocol_here, www_here}
+use Rattle.markdown_leaf_gfm.specs.GfmTaskListItemCheck.{check_here, may_begin}
+use Rattle.markdown_leaf_html.specs.HtmlText.{html_here}
+use Rattle.markdown_leaf.specs.Autolink.{link_here}
+use Rattle.markdown_leaf.specs.CharacterEscape.{escape_here}
+use Rattle.markdown_leaf.specs.CharacterReference.{reference_here}
+use Rattle.markdown_leaf.specs.HardBreakEscape.{break_here}
+use Rattle.markdown_leaf.specs.RawText.{span_at, code_just_before}
+use Rattle.markdown_model.specs.TextLines.{code_leaf}
+use Rattle.markdown_model.specs.CodeTests.{is_value}
+use Rattle.markdown_model.specs.LeafConstructs.{gfm_task_list_item_check}
+use Rattle.markdown_model.specs.GfmAutolinkLiteral.{gfm_autolink_literal_protocol, gfm_autolink_literal_www}
+use Rattle.markdown_model.specs.LabelEnd.{Element, plain}
+use Rattle.markdown_model.specs.Setting.{Setting}
+use Rattle.markdown_partial.specs.PartialData.{stops_of}
+use Rattle.markdown_run_row.specs.RunOverElements.{AreSingle, StandsAfter}
+use Rattle.markdown_run_row.specs.RowTreeNames.{IsNode, IsRunLeaf}
+use Rattle.markdown_run_text.proofs.TryTableLemmas.{one-of}
+use Rattle.markdown_run_text.specs.TextContent.{text_markers, text_setting, text_choice_of, EndsWithCodes, StandsAlone, StopsAtElements}
+use Rattle.markdown_attention.specs.Attention.{switches_of, run_tree}
+use Rattle.markdown_model.specs.SingleConstructs.{begins_run}
+use Rattle.markdown_attention.proofs.AttentionLaws.{run-some, run-none, run-at, run-ahead}
+use Rattle.markdown_run_row.proofs.ConstructNodes.{run-node}
+use Rattle.markdown_run_text.proofs.TextElements.{is_marker, run_markers, run-element, run-off, plain_of, plain-switched, off-or-none, check-element, span-element, reference-element, autolink-element, html-element, escape-element, break-element, other-element, protocol-element, www-element}
+use Rattle.markdown_model.proofs.GrammarSteps.{bind-none}
+
+-- what a construct reads is a tree that stands by itself
+abbrev pub ReadsNodes : TreeReading → Tokenizer → Type 0
+ReadsNodes reading T = (t : Forest) (rest : List Code) → reading (ahead T) ≡ Some (t, rest) → IsNode t × (1 + length rest ≤ length (ahead T))
+
+-- and it is the element at hand
+abbrev pub ReadsElements : TreeReading → Tokenizer → Type 0
+ReadsElements reading T =
+    (t : Forest) (rest : List Code) → reading (ahead T) ≡ Some (t, rest) → (earlier : List Element) (previous : Option Code) → StandsAfter earlier previous T → text_choice_of T earlier previous (ahead T) ≡ Some (plain t, rest)
+
+-- where it does not hold, the code is an element by itself
+abbrev pub OrStandsAlone : TreeReading → Tokenizer → Type 0
+OrStandsAlone reading T = reading (ahead T) ≡ None → StandsAlone T
+
+-- where the content of a tokenizer ends
+abbrev pub end_in : Tokenizer → ℕ
+end_in T = (stop_of document_start T.cursor.codes).index
+
+pub value-here : (T : Tokenizer) (v : ℕ) (c : Code) (cs : List Code) → current_of T ≡ Some v → ahead T ≡ c ∷ cs → c.value ≡ v
+value-here T v c cs e w = same_Some c.value v (sym (current-ahead T ∙ ap (λ xs. value_of (first_of xs)) w) ∙ e)
+
+-- from the codes ahead as they begin, to those codes
+at-hand : (reading : TreeReading) (T : Tokenizer) (v : ℕ) → current_of T ≡ Some v
+    → ((c : Code) (cs : List Code) (t : Forest) (rest : List Code) → c.value ≡ v → reading (c ∷ cs) ≡ Some (t, rest) → (earlier : List Element) (previous : Option Code) → StandsAfter earlier previous T → text_choice_of T earlier previous (c ∷ cs) ≡ Some (plain t, rest))
+    → ReadsElements reading T
+at-hand reading T v e h t rest holds earlier previous stands =
+    let b : Begins v (ahead T) = ahead-some T v e in
+    ap (text_choice_of T earlier previous) b.whole ∙ h b.code (rest_of (ahead T)) t rest b.value (ap reading (sym b.whole) ∙ holds) earlier previous stands
+
+alone-at : (reading : TreeReading) (T : Tokenizer) (v : ℕ) → current_of T ≡ Some v
+    → ((c : Code) (cs : List Code) → c.value ≡ v → reading (c ∷ cs) ≡ None → (earlier : List Element) (previous : Option Code) → StandsAfter earlier previous T → text_choice_of T earlier previous (c ∷ cs) ≡ Some (plain (code_leaf c), cs))
+    → OrStandsAlone reading T
+alone-at reading T v e h none earlier previous c cs stands w =
+    h c cs (value-here T v c cs e w) (ap reading (sym w) ∙ none) earlier previous stands
+
+-- References, autolinks, escapes and hard breaks.
+
+pub reference-reads : (T : Tokenizer) → current_of T ≡ Some (byte "&") → ReadsElements (reference_here T) T
+reference-reads T e =
+    at-hand (reference_here T) T (byte "&") e (λ c cs t rest v holds earlier previous stands. reference-element (text_setting T) (end_in T) earlier previous c cs (Some (t, rest)) v holds)
+
+pub reference-alone : (T : Tokenizer) → current_of T ≡ Some (byte "&") → OrStandsAlone (reference_here T) T
+reference-alone T e =
+    alone-at (reference_here T) T (byte "&") e (λ c cs v none earlier previous stands. reference-element (text_setting T) (end_in T) earlier previous c cs None v none)
+
+pub autolink-reads : (T : Tokenizer) → current_of T ≡ Some (byte "<") → ReadsElements (link_here T) T
+autolink-reads T e =
+    at-hand (link_here T) T (byte "<") e (λ c cs t rest v holds earlier previous stands. autolink-element (text_setting T) (end_in T) earlier previous c cs t rest v holds)
+
+-- HTML where no autolink is
+no-link-at : (T : Tokenizer) (c : Code) (cs : List Code) → link_here T (ahead T) ≡ None → ahead T ≡ c ∷ cs → link_here T (c ∷ cs) ≡ None
+no-link-at T c cs none w = ap (link_here T) (sym w) ∙ none
+
+pub html-reads : (T : Tokenizer) → current_of T ≡ Some (byte "<") → link_here T (ahead T) ≡ None → ReadsElements (html_here T) T
+html-reads T e none t rest holds earlier previous stands =
+    let b : Begins (byte "<") (ahead T) = ahead-some T (byte "<") e in
+    ap (text_choice_of T earlier previous) b.whole
+    ∙ html-element (text_setting T) (end_in T) earlier previous b.code (rest_of (ahead T)) (Some (t, rest)) b.value (no-link-at T b.code (rest_of (ahead T)) none b.whole) (ap (html_here T) (sym b.whole) ∙ holds)
+
+pub html-alone : (T : Tokenizer) → current_of T ≡ Some (byte "<") → link_here T (ahead T) ≡ None → OrStandsAlone (html_here T) T
+html-alone T e none refused earlier previous c cs stands w =
+    html-element (text_setting T) (end_in T) earlier previous c cs None (value-here T (byte "<") c cs e w) (no-link-at T c cs none w) (ap (html_here T) (sym w) ∙ refused)
+
+pub escape-reads : (T : Tokenizer) → current_of T ≡ Some (byte "\\") → ReadsElements (escape_here T) T
+escape-reads T e =
+    at-hand (escape_here T) T (byte "\\") e (λ c cs t rest v holds earlier previous stands. escape-element (text_setting T) (end_in T) earlier previous c cs t rest v holds)
+
+-- a hard break where no escape is
+no-escape-at : (T : Tokenizer) (c : Code) (cs : List Code) → escape_here T (ahead T) ≡ None → ahead T ≡ c ∷ cs → escape_here T (c ∷ cs) ≡ None
+no-escape-at T c cs none w = ap (escape_here T) (sym w) ∙ none
+
+pub break-reads : (T : Tokenizer) → current_of T ≡ Some (byte "\\") → escape_here T (ahead T) ≡ None → ReadsElements (break_here T) T
+break-reads T e none t rest holds earlier previous stands =
+    let b : Begins (byte "\\") (ahead T) = ahead-some T (byte "\\") e in
+    ap (text_choice_of T earlier previous) b.whole
+    ∙ break-element (text_setting T) (end_in T) earlier previous b.code (rest_of (ahead T)) (Some (t, rest)) b.value (no-escape-at T b.code (rest_of (ahead T)) none b.whole) (ap (break_here T) (sym b.whole) ∙ holds)
+
+pub break-alone : (T : Tokenizer) → current_of T ≡ Some (byte "\\") → escape_here T (ahead T) ≡ None → OrStandsAlone (break_here T) T
+break-alone T e none refused earlier previous c cs stands w =
+    break-element (text_setting T) (end_in T) earlier previous c cs None (value-here T (byte "\\") c cs e w) (no-escape-at T c cs none w) (ap (break_here T) (sym w) ∙ refused)
+
+-- Spans.
+
+is-span : (v n : ℕ) → v ≡ n → (n == byte "$" || n == byte "`") ≡ true → (v == byte "$" || v == byte "`") ≡ true
+is-span v n e h = ap (λ x. x == byte "$" || x == byte "`") e ∙ h
+
+pub span-reads : (T : Tokenizer) (v : ℕ) → current_of T ≡ Some v → (v == byte "$" || v == byte "`") ≡ true → ReadsElements (span_at T) T
+span-reads T v e h =
+    at-hand (span_at T) T v e (λ c cs t rest k holds earlier previous stands.
+    span-element (text_setting T) (end_in T) earlier previous T c cs (Some (t, rest)) refl stands (is-span c.value v k h) holds)
+
+pub span-alone : (T : Tokenizer) (v : ℕ) → current_of T ≡ Some v → (v == byte "$" || v == byte "`") ≡ true → OrStandsAlone (span_at T) T
+span-alone T v e h =
+    alone-at (span_at T) T v e (λ c cs k none earlier previous stands.
+    span-element (text_setting T) (end_in T) earlier previous T c cs None refl stands (is-span c.value v k h) none)
+
+-- Literals.
+
+-- where a code is at hand, the content ends with its last code
+end-here : (T : Tokenizer) (v : ℕ) → EndsWithCodes T.cursor → current_of T ≡ Some v → end_of T ≡ end_in T
+unfolding ahead_at
+end-here T v last e = last (λ none. no-code T.cursor.at T.cursor.codes none (ahead-some T v e).whole)
+  where
+    no-code : {b : Code} {rest : List Code} (n : ℕ) (cs : List Code) → cs ≡ [] → drop n cs ≡ b ∷ rest → ⊥
+    no-code zero [] none h = cc
+    no-code (suc n) [] none h = cc
+    no-code n (c ∷ cs) none h = cc
+
+-- what is read of a literal, as the definition reads it
+protocol-so : (T : Tokenizer) (v : ℕ) (earlier : List Element) (previous : Option Code) (cs : List Code) → EndsWithCodes T.cursor → current_of T ≡ Some v → StandsAfter earlier previous T
+    → (provided (is_on T) >> gfm_autolink_literal_protocol (bytes_of T) (end_in T) previous) cs ≡ protocol_here T cs
+protocol-so T v earlier previous cs last e k = λ i. (provided (is_on T) >> gfm_autolink_literal_protocol (bytes_of T) (sym (end-here T v last e) i) (sym k.before i)) cs
+
+pub protocol-reads : (T : Tokenizer) (v : ℕ) → EndsWithCodes T.cursor → current_of T ≡ Some v → (v == byte "H" || v == byte "h") ≡ true → ReadsElements (protocol_here T) T
+protocol-reads T v last e h =
+    at-hand (protocol_here T) T v e (λ c cs t rest k holds earlier previous stands.
+    protocol-element (text_setting T) (end_in T) earlier previous v c cs (Some (t, rest)) k h (protocol-so T v earlier previous (c ∷ cs) last e stands ∙ holds))
+
+pub protocol-alone : (T : Tokenizer) (v : ℕ) → EndsWithCodes T.cursor → current_of T ≡ Some v → (v == byte "H" || v == byte "h") ≡ true → OrStandsAlone (protocol_here T) T
+protocol-alone T v last e h =
+    alone-at (protocol_here T) T v e (λ c cs k none earlier previous stands.
+    protocol-element (text_setting T) (end_in T) earlier previous v c cs None k h (protocol-so T v earlier previous (c ∷ cs) last e stands ∙ none))
+
+www-so : (T : Tokenizer) (v : ℕ) (earlier : List Element) (previous : Option Code) (cs : List Code) → EndsWithCodes T.cursor → current_of T ≡ Some v → StandsAfter earlier previous T
+    → (provided (is_on T) >> gfm_autolink_literal_www (bytes_of T) (end_in T) previous) cs ≡ www_here T cs
+www-so T v earlier previous cs last e k = λ i. (provided (is_on T) >> gfm_autolink_literal_www (bytes_of T) (sym (end-here T v last e) i) (sym k.before i)) cs
+
+pub www-reads : (T : Tokenizer) (v : ℕ) → EndsWithCodes T.cursor → current_of T ≡ Some v → (v == byte "W" || v == byte "w") ≡ true → ReadsElements (www_here T) T
+www-reads T v last e h =
+    at-hand (www_here T) T v e (λ c cs t rest k holds earlier previous stands.
+    www-element (text_setting T) (end_in T) earlier previous v c cs (Some (t, rest)) k h (www-so T v earlier previous (c ∷ cs) last e stands ∙ holds))
+
+pub www-alone : (T : Tokenizer) (v : ℕ) → EndsWithCodes T.cursor → current_of T ≡ Some v → (v == byte "W" || v == byte "w") ≡ true → OrStandsAlone (www_here T) T
+www-alone T v last e h =
+    alone-at (www_here T) T v e (λ c cs k none earlier previous stands.
+    www-element (text_setting T) (end_in T) earlier previous v c cs None k h (www-so T v earlier previous (c ∷ cs) last e stands ∙ none))
+
+-- Runs of markers.
+
+pub run-reads : (T : Tokenizer) (v : ℕ) → current_of T ≡ Some v → is_marker v ≡ true → ReadsElements (run_tree T) T
+run-reads T v e m =
+    at-hand (run_tree T) T v e (λ c cs t rest k holds earlier previous stands.
+    run-element (text_setting T) (end_in T) earlier previous v c cs t rest m k (run-some t rest v (begins_run (switches_of T) v) (c ∷ cs) (sym (run-at T v c cs k) ∙ holds)))
+
+pub run-alone : (T : Tokenizer) (v : ℕ) → current_of T ≡ Some v → is_marker v ≡ true → OrStandsAlone (run_tree T) T
+run-alone T v e m =
+    alone-at (run_tree T) T v e (λ c cs k none earlier previous stands.
+    run-off (text_setting T) (end_in T) earlier previous v c cs m k (run-none v (begins_run (switches_of T) v) (c ∷ cs) (sym (run-at T v c cs k) ∙ none)))
+
+-- and it is a leaf that stands by itself
+pub run-leaf : (T : Tokenizer) (v : ℕ) (t : Forest) (rest : List Code) → current_of T ≡ Some v → is_marker v ≡ true → run_tree T (ahead T) ≡ Some (t, rest) → IsRunLeaf t
+run-leaf T v t rest e m holds =
+    run-node v (begins_run (switches_of T) v) (ahead T) t rest (no-ending v m) (run-some t rest v (begins_run (switches_of T) v) (ahead T) (sym (run-ahead T v e) ∙ holds))
+  where
+    no-ending : (n : ℕ) → is_marker n ≡ true → (n == byte "\n") ≡ false
+    no-ending n h = one-of (λ x. (x == byte "\n") ≡ false) run_markers n (refl, (refl, (refl, tt))) h
+
+-- Checks.
+
+and-turned : (a b c : Bool) → (a && b) && c ≡ c && (b && a)
+and-turned true true true = refl
+and-turned true true false = refl
+and-turned true false true = refl
+and-turned true false false = refl
+and-turned false true true = refl
+and-turned false true false = refl
+and-turned false false true = refl
+and-turned false false false = refl
+
+pub none-valued : (o : Option Code) → is_none (value_of o) ≡ is_none o
+none-valued None = refl
+none-valued (Some c) = refl
+
+-- where a check may begin
+check-is : (T : Tokenizer) (earlier : List Element) (previous : Option Code) → StandsAfter earlier previous T → (is_none previous && (text_setting T).first_of_item) && (text_setting T).options.constructs.gfm_task_list_item ≡ may_begin T
+unfolding code_before
+check-is T earlier previous k =
+    let s : Setting = text_setting T in
+    and-turned (is_none previous) s.first_of_item s.options.constructs.gfm_task_list_item
+    ∙ ap (λ o. s.options.constructs.gfm_task_list_item && (s.first_of_item && is_none o)) (sym k.before)
+    ∙ ap (λ b. s.options.constructs.gfm_task_list_item && (s.first_of_item && b)) (sym (none-valued (code_just_before T)))
+
+checks-so : (T : Tokenizer) (earlier : List Element) (previous : Option Code) (cs : List Code) → StandsAfter earlier previous T → (provided ((is_none previous && (text_setting T).first_of_item) && (text_setting T).options.constructs.gfm_task_list_item) >> gfm_task_list_item_check) cs ≡ check_here T cs
+checks-so T earlier previous cs k = ap (λ b. (provided b >> gfm_task_list_item_check) cs) (check-is T earlier previous k)
+
+pub check-reads : (T : Tokenizer) (v : ℕ) → current_of T ≡ Some v → ReadsElements (check_here T) T
+check-reads T v e =
+    at-hand (check_here T) T v e (λ c cs t rest k holds earlier previous stands.
+    check-element (text_setting T) (end_in T) earlier previous c cs t rest (checks-so T earlier previous (c ∷ cs) stands ∙ holds))
+
+-- no check is read at no code
+pub no-check-at-end : (T : Tokenizer) → current_of T ≡ None → ReadsElements (check_here T) T
+unfolding gfm_task_list_item_check one
+no-check-at-end T e t rest holds earlier previous stands = absurd (no-end (check_here T []) (off-or-none (may_begin T) gfm_task_list_item_check [] (bind-none (one (is_value (byte "["))) _ [] refl)) (ap (check_here T) (sym (ahead-none T e)) ∙ holds))
+  where
+    no-end : (o : Option (Forest × List Code)) → o ≡ None → o ≡ Some (t, rest) → ⊥
+    no-end None h k = cc
+    no-end (Some r) h k = cc
+
+-- no check stands here
+pub first-none : (T : Tokenizer) (earlier : List Element) (previous : Option Code) (c : Code) (cs : List Code) → check_here T (ahead T) ≡ None → StandsAfter earlier previous T → ahead T ≡ c ∷ cs → first_check (text_setting T) (end_in T) earlier previous (c ∷ cs) ≡ None
+unfolding first_check plain_of
+first-none T earlier previous c cs none k w =
+    plain-switched _ gfm_task_list_item_check (c ∷ cs) ∙ ap plain_of (checks-so T earlier previous (c ∷ cs) k ∙ ap (check_here T) (sym w) ∙ none)
+
+-- Codes at which nothing is tried.
+
+pub other-alone : (T : Tokenizer) (v : ℕ) → current_of T ≡ Some v → list_any (λ n. v == n) text_markers ≡ false → StandsAlone T
+other-alone T v e h earlier previous c cs stands w =
+    other-element (text_setting T) (end_in T) earlier previous c cs (ap (λ x. list_any (λ n. x == n) text_markers) (value-here T v c cs e w) ∙ h)
+
+-- each other code of data
+pub other-data : (T : Tokenizer) → StopsAtElements T → AreSingle (text_choice_of T) (stops_of T.tokenize_state) (ahead T)
+unfolding ahead_at
+other-data T stops front earlier previous c cs w free =
+    stops (take T.cursor.at T.cursor.codes ++ front) earlier previous c cs
+    (sym (take-append-drop T.cursor.at T.cursor.codes) ∙ ap (λ xs. take T.cursor.at T.cursor.codes ++ xs) w ∙ sym (append_assoc (take T.cursor.at T.cursor.codes) front (c ∷ cs))) free

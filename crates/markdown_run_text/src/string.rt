@@ -1,0 +1,94 @@
+//! String content: escapes, character references and data.
+//!
+//! Each state answers the error where a growth is refused; then `failed` is true.
+#![tactic(auto, using(markdown_engine::proofs::OperationFields::op_rules))]
+
+ghost use Rattle.std.specs.Prelude.{◌≡◌, IfOk, OnErr, IsTrue, None, false};
+ghost use Rattle.markdown_run_text.specs.ContentPasses.{MayTrim, TrimsData};
+ghost use Rattle.markdown_run_text.specs.StringContent.{string_markers, start_step, before_step, before_data_step};
+
+use markdown_engine::resolve::ResolveName;
+use markdown_engine::state::{State, StateName};
+use markdown_engine::tokenizer::Tokenizer;
+use markdown_engine_content::byte_set;
+use markdown_engine_content::bytes::ByteSet;
+use markdown_engine_events::subtokenize::Subresult;
+use markdown_partial::partial_whitespace;
+use std::alloc::AllocError;
+
+// The bytes at which data of a string stops: those at which something is tried.
+fn markers() -> ByteSet
+    ensures { result ≡ string_markers }
+{
+    byte_set!(b'&', b'\\')
+}
+
+/// At the start of a string.
+///
+///     > | R\&D &gt; x
+///         ^
+#[tactic(auto, using(markdown_engine::proofs::OperationFields::op_rules), unfolding(markdown_engine::specs::Operations::scratched))]
+pub fn start(tokenizer: &mut Tokenizer) -> Result<State, AllocError>
+    ensures ok { IfOk result (λ s. start_step tokenizer.old ≡ record { state = s; left = tokenizer.new }) }
+    ensures err { OnErr result (IsTrue tokenizer.new.failed) }
+{
+    tokenizer.tokenize_state.markers = markers();
+    Ok(State::Retry(StateName::StringBefore))
+}
+
+/// Before an element of the string, or at its end.
+///
+///     > | R\&D &gt; x
+///         ^^ ^ ^   ^ ^
+pub fn before(tokenizer: &mut Tokenizer) -> Result<State, AllocError>
+    ensures ok { IfOk result (λ s. before_step tokenizer.old ≡ record { state = s; left = tokenizer.new }) }
+    ensures err { OnErr result (IsTrue tokenizer.new.failed) }
+{
+    match tokenizer.current() {
+        None => {
+            tokenizer.register_resolver(ResolveName::Data)?;
+            tokenizer.register_resolver(ResolveName::String)?;
+            Ok(State::Ok)
+        }
+        Some(b'\\') => {
+            tokenizer.attempt(
+                State::Next(StateName::StringBefore),
+                State::Next(StateName::StringBeforeData),
+            )?;
+            Ok(State::Retry(StateName::CharacterEscapeStart))
+        }
+        Some(b'&') => {
+            tokenizer.attempt(
+                State::Next(StateName::StringBefore),
+                State::Next(StateName::StringBeforeData),
+            )?;
+            Ok(State::Retry(StateName::CharacterReferenceStart))
+        }
+        _ => Ok(State::Retry(StateName::StringBeforeData)),
+    }
+}
+
+/// Before data of the string.
+///
+///     > | R\&D &gt; x
+///         ^  ^     ^
+pub fn before_data(tokenizer: &mut Tokenizer) -> Result<State, AllocError>
+    ensures ok { IfOk result (λ s. before_data_step tokenizer.old ≡ record { state = s; left = tokenizer.new }) }
+    ensures err { OnErr result (IsTrue tokenizer.new.failed) }
+{
+    tokenizer.attempt(State::Next(StateName::StringBefore), State::Nok)?;
+    Ok(State::Retry(StateName::DataStart))
+}
+
+/// After the run over a string: sets whitespace beside line endings apart.
+///
+/// The error comes where memory is refused; then `failed` is true.
+pub fn resolve(tokenizer: &mut Tokenizer) -> Result<Option<Subresult>, AllocError>
+    requires { MayTrim tokenizer.old }
+    ensures none { IfOk result (λ r. r ≡ None) }
+    ensures ok { IfOk result (λ _. TrimsData false false false tokenizer.old tokenizer.new) }
+    ensures err { OnErr result (IsTrue tokenizer.new.failed) }
+{
+    partial_whitespace::resolve_whitespace(tokenizer, false, false)?;
+    Ok(None)
+}

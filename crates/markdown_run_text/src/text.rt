@@ -1,0 +1,424 @@
+//! Text content: what stands in paragraphs and headings.
+//!
+//! Each state answers the error where a growth is refused; then `failed` is true.
+#![tactic(auto, using(markdown_engine::proofs::OperationFields::op_rules))]
+
+ghost use Rattle.std.specs.Prelude.{◌≡◌, nat_le, IfOk, OnOk, OnErr, IsTrue, None, Some, length, string_bytes, true};
+ghost use Rattle.std.specs.List.{list_any};
+ghost use Rattle.markdown_engine.specs.Operations.{scratched};
+ghost use Rattle.markdown_engine_index.specs.RunIndex.{last_runs};
+ghost use Rattle.markdown_engine_index.specs.SequenceIndex.{last_begins};
+ghost use Rattle.markdown_plan.specs.Characters.{ReadsText};
+ghost use Rattle.markdown_run_text.specs.ContentPasses.{MayFinish, FinishesText};
+ghost use Rattle.markdown_run_text.specs.TextContent.{names_for, names_in, names_pay, order_pays, titles_for, titles_pay, domains_for, domains_pay, span_markers, may_hold_literals, markers_for, first_try, attempt_step, start_step, before_step, before_html_step, before_hard_break_escape_step, before_label_start_link_step, before_data_step};
+
+use markdown_engine::resolve::ResolveName;
+use markdown_engine::state::{State, StateName};
+use markdown_engine::tokenizer::Tokenizer;
+use markdown_engine_content::byte_set;
+use markdown_engine_content::bytes::ByteSet;
+use markdown_engine_content::cursor::Cursor;
+use markdown_engine_events::subtokenize::Subresult;
+use markdown_engine_index::bracket_index::BracketIndex;
+use markdown_engine_index::name_index::Names;
+use markdown_engine_index::run_index::RunIndex;
+use markdown_engine_index::sequence_index::{Sequence, SequenceIndex};
+use markdown_engine_index::title_index::TitleIndex;
+use markdown_leaf_email_pass::email;
+use markdown_leaf_gfm::domain_outlook;
+use markdown_partial::partial_whitespace;
+use std::alloc::AllocError;
+
+// Where so many names are defined, and so many labels may end, an order of the names pays; where so many titles may begin, to note
+// where they may end; and where so many literals may begin behind a `_`, to note where no domain does.
+const MANY: usize = 16;
+
+// Where a name has so many bytes, labels are read past their first front, so that an order of the names pays.
+const LONG: usize = 64;
+
+// What is tried at which bytes: the start of what is tried first, and the state to go on with where that does not hold. The rows are
+// handed to the macro that is named, behind the words that come after its name.
+macro_rules! tries {
+    ($of_rows:ident $($more:tt)*) => {
+        $of_rows! {
+            $($more)*
+            [b'!'] LabelStartImageStart, TextBeforeData;
+            [b'$' b'`'] RawTextStart, TextBeforeData;
+            [b'&'] CharacterReferenceStart, TextBeforeData;
+            [b'*' b'_' b'~'] AttentionStart, TextBeforeData;
+            [b'<'] AutolinkStart, TextBeforeHtml;
+            [b'H' b'h'] GfmAutolinkLiteralProtocolStart, TextBeforeData;
+            [b'W' b'w'] GfmAutolinkLiteralWwwStart, TextBeforeData;
+            [b'['] GfmLabelStartFootnoteStart, TextBeforeLabelStartLink;
+            [b'\\'] CharacterEscapeStart, TextBeforeHardBreakEscape;
+            [b']'] LabelEndStart, TextBeforeData;
+        }
+    };
+}
+
+// The bytes of all rows.
+macro_rules! bytes_of {
+    ($([$($of_row:literal)*] $construct:ident, $otherwise:ident;)*) => {
+        byte_set!($($($of_row),*),*)
+    };
+}
+
+// The bytes of the rows but for those of literals.
+macro_rules! plain_bytes_of {
+    (@of ($($plain:literal)*)) => { byte_set!($($plain),*) };
+    (@of $plain:tt [$($of_row:literal)*] GfmAutolinkLiteralProtocolStart, $otherwise:ident; $($rest:tt)*) => {
+        plain_bytes_of!(@of $plain $($rest)*)
+    };
+    (@of $plain:tt [$($of_row:literal)*] GfmAutolinkLiteralWwwStart, $otherwise:ident; $($rest:tt)*) => {
+        plain_bytes_of!(@of $plain $($rest)*)
+    };
+    (@of ($($plain:literal)*) [$($of_row:literal)*] $construct:ident, $otherwise:ident; $($rest:tt)*) => {
+        plain_bytes_of!(@of ($($plain)* $($of_row)*) $($rest)*)
+    };
+    ($($rows:tt)*) => { plain_bytes_of!(@of () $($rows)*) };
+}
+
+// What the row of a byte says, if it has one.
+macro_rules! row_of {
+    ($byte:ident $([$($of_row:literal)*] $construct:ident, $otherwise:ident;)*) => {
+        match $byte {
+            $($($of_row)|* => Some((StateName::$construct, StateName::$otherwise)),)*
+            _ => None,
+        }
+    };
+}
+
+// Whether a literal may begin in the content. The sequences are those of the content.
+fn may_hold_literals(tokenizer: &Tokenizer) -> bool
+    requires { tokenizer.now.tokenize_state.sequences ≡ Some (last_begins tokenizer.now.cursor.codes) }
+    ensures { result ≡ may_hold_literals tokenizer.now.cursor.codes tokenizer.now.parse_state.now }
+{
+    let constructs = &tokenizer.parse_state.options.constructs;
+    let sequences = &tokenizer.tokenize_state.sequences;
+    constructs.gfm_autolink_literal
+        && !(sequences.rules_out(Sequence::ProtocolSlash, 0)
+            && sequences.rules_out(Sequence::WwwDot, 0))
+}
+
+// The bytes at which data of a text may stop: those at which something is tried, but for the letters of literals where none may begin. The
+// sequences are those of the content.
+fn markers(tokenizer: &Tokenizer) -> ByteSet
+    requires { tokenizer.now.tokenize_state.sequences ≡ Some (last_begins tokenizer.now.cursor.codes) }
+    ensures { result ≡ markers_for tokenizer.now.cursor.codes tokenizer.now.parse_state.now }
+{
+    if may_hold_literals(tokenizer) {
+        tries!(bytes_of)
+    } else {
+        tries!(plain_bytes_of)
+    }
+}
+
+// Answers the start of what is tried first at this byte, and the state to go on with where that does not hold.
+fn first_try(byte: u8) -> Option<(StateName, StateName)>
+    ensures { result ≡ first_try byte }
+{
+    tries!(row_of byte)
+}
+
+// Tries a construct from this state, and goes on with another where it does not hold.
+fn attempt(
+    tokenizer: &mut Tokenizer,
+    construct: StateName,
+    otherwise: StateName,
+) -> Result<State, AllocError>
+    ensures ok { IfOk result (λ s. attempt_step construct otherwise tokenizer.old ≡ record { state = s; left = tokenizer.new }) }
+    ensures err { OnErr result (IsTrue tokenizer.new.failed) }
+{
+    tokenizer.attempt(State::Next(StateName::TextBefore), State::Next(otherwise))?;
+    Ok(State::Retry(construct))
+}
+
+// Makes known where the last runs begin at which spans may close; without a walk, where no mark of a span stands in the content. The
+// sequences are those of the content.
+#[tactic(auto, unfolding(markdown_engine::specs::Operations::scratched))]
+fn index_runs(tokenizer: &mut Tokenizer) -> Result<(), AllocError>
+    requires { tokenizer.old.tokenize_state.sequences ≡ Some (last_begins tokenizer.old.cursor.codes) }
+    ensures ok { OnOk result (tokenizer.new ≡ scratched (record tokenizer.old.tokenize_state { runs = last_runs span_markers tokenizer.old.cursor.codes }) tokenizer.old) }
+    ensures err { OnErr result (IsTrue tokenizer.new.failed) }
+{
+    let marks = byte_set!(b'`', b'$');
+    let sequences = &tokenizer.tokenize_state.sequences;
+    if sequences.rules_out(Sequence::SpanMark, 0) {
+        tokenizer.tokenize_state.runs = RunIndex::without(tokenizer.alloc, marks);
+        return Ok(());
+    }
+    match RunIndex::over(tokenizer.alloc, &tokenizer.cursor, marks) {
+        Ok(runs) => {
+            tokenizer.tokenize_state.runs = runs;
+            Ok(())
+        }
+        Err(refused) => {
+            tokenizer.fail();
+            Err(refused)
+        }
+    }
+}
+
+// Whether one of these names is so long that an order of them pays.
+fn one_is_long(names: &[String]) -> bool
+    ensures { result ≡ list_any (λ name. nat_le 64 (length (string_bytes name))) names.now }
+{
+    names.iter().any(|name| name.len() >= LONG)
+}
+
+// Whether these names are so many, or one of them is so long, that an order of them pays.
+fn names_pay(names: &[String]) -> bool
+    ensures { result ≡ names_pay names.now }
+{
+    names.len() >= MANY || one_is_long(names)
+}
+
+// Whether the names that are defined pay, and so many labels may end.
+fn order_pays(tokenizer: &Tokenizer) -> bool
+    ensures { result ≡ order_pays tokenizer.now.cursor.codes tokenizer.now.parse_state.now }
+{
+    let state = tokenizer.parse_state;
+    (names_pay(state.definitions.as_slice())
+        || names_pay(state.gfm_footnote_definitions.as_slice()))
+        && tokenizer.cursor.holds(&byte_set!(b']'), MANY)
+}
+
+// The names of what is defined, in order, and the brackets of the document from where the content begins to where it ends.
+fn names_in(tokenizer: &Tokenizer) -> Result<Names, AllocError>
+    ensures { IfOk result (λ names. names ≡ names_in tokenizer.now.cursor tokenizer.now.parse_state.now) }
+{
+    let state = tokenizer.parse_state;
+    let first = tokenizer.cursor.restart();
+    let start = first.point().index;
+    let end = tokenizer.cursor.end_index();
+    let brackets = BracketIndex::over(tokenizer.alloc, state.bytes, start, end)?;
+    let definitions = state.definitions.as_slice();
+    let footnotes = state.gfm_footnote_definitions.as_slice();
+    Names::over(tokenizer.alloc, definitions, footnotes, brackets)
+}
+
+// Makes known the names of what is defined, where their order pays.
+#[tactic(auto, unfolding(markdown_engine::specs::Operations::scratched))]
+fn index_names(tokenizer: &mut Tokenizer) -> Result<(), AllocError>
+    ensures ok { OnOk result (tokenizer.new ≡ scratched (record tokenizer.old.tokenize_state { names = names_for tokenizer.old.cursor tokenizer.old.parse_state.now }) tokenizer.old) }
+    ensures err { OnErr result (IsTrue tokenizer.new.failed) }
+{
+    if !order_pays(tokenizer) {
+        tokenizer.tokenize_state.names = None;
+        return Ok(());
+    }
+    match names_in(tokenizer) {
+        Ok(names) => {
+            tokenizer.tokenize_state.names = Some(names);
+            Ok(())
+        }
+        Err(refused) => {
+            tokenizer.fail();
+            Err(refused)
+        }
+    }
+}
+
+// Whether so many titles in parentheses may begin, behind some of which a resource may end, that to note where each may end pays. The
+// sequences are those of the content.
+fn titles_pay(tokenizer: &Tokenizer) -> bool
+    requires { tokenizer.now.tokenize_state.sequences ≡ Some (last_begins tokenizer.now.cursor.codes) }
+    ensures { result ≡ titles_pay tokenizer.now.cursor.codes }
+{
+    let sequences = &tokenizer.tokenize_state.sequences;
+    !sequences.rules_out(Sequence::ResourceEnd, 0) && tokenizer.cursor.holds(&byte_set!(b'('), MANY)
+}
+
+// Makes known where titles in parentheses may end, where that pays.
+#[tactic(auto, unfolding(markdown_engine::specs::Operations::scratched))]
+fn index_titles(tokenizer: &mut Tokenizer) -> Result<(), AllocError>
+    requires { tokenizer.old.tokenize_state.sequences ≡ Some (last_begins tokenizer.old.cursor.codes) }
+    ensures ok { OnOk result (tokenizer.new ≡ scratched (record tokenizer.old.tokenize_state { titles = titles_for tokenizer.old.cursor.codes }) tokenizer.old) }
+    ensures err { OnErr result (IsTrue tokenizer.new.failed) }
+{
+    if !titles_pay(tokenizer) {
+        tokenizer.tokenize_state.titles = None;
+        return Ok(());
+    }
+    match TitleIndex::over(tokenizer.alloc, &tokenizer.cursor) {
+        Ok(titles) => {
+            tokenizer.tokenize_state.titles = Some(titles);
+            Ok(())
+        }
+        Err(refused) => {
+            tokenizer.fail();
+            Err(refused)
+        }
+    }
+}
+
+// Whether literals are on, and so many from `www.` on may begin behind a `_` that to note where no domain begins pays. The sequences are
+// those of the content.
+fn domains_pay(tokenizer: &Tokenizer) -> bool
+    requires { tokenizer.now.tokenize_state.sequences ≡ Some (last_begins tokenizer.now.cursor.codes) }
+    ensures { result ≡ domains_pay tokenizer.now.cursor.codes tokenizer.now.parse_state.now }
+{
+    let constructs = &tokenizer.parse_state.options.constructs;
+    let sequences = &tokenizer.tokenize_state.sequences;
+    constructs.gfm_autolink_literal
+        && !sequences.rules_out(Sequence::WwwDot, 0)
+        && domain_outlook::opens_often(&tokenizer.cursor, MANY)
+}
+
+// Makes known where no domain begins behind a `_`, where that pays.
+#[tactic(auto, unfolding(markdown_engine::specs::Operations::scratched))]
+fn index_domains(tokenizer: &mut Tokenizer) -> Result<(), AllocError>
+    requires text { ReadsText tokenizer.old }
+    requires sequences { tokenizer.old.tokenize_state.sequences ≡ Some (last_begins tokenizer.old.cursor.codes) }
+    ensures ok { OnOk result (tokenizer.new ≡ scratched (record tokenizer.old.tokenize_state { no_domains = domains_for tokenizer.old.cursor.codes tokenizer.old.cursor.end.index tokenizer.old.parse_state.now }) tokenizer.old) }
+    ensures err { OnErr result (IsTrue tokenizer.new.failed) }
+{
+    if !domains_pay(tokenizer) {
+        tokenizer.tokenize_state.no_domains = None;
+        return Ok(());
+    }
+    let bytes = tokenizer.parse_state.bytes;
+    match domain_outlook::no_domains(tokenizer.alloc, bytes, &tokenizer.cursor) {
+        Ok(places) => {
+            tokenizer.tokenize_state.no_domains = Some(places);
+            Ok(())
+        }
+        Err(refused) => {
+            tokenizer.fail();
+            Err(refused)
+        }
+    }
+}
+
+/// At the start of a text, where the check of a task may stand.
+///
+/// One walk over the content finds the sequences that end HTML and resources, so that none is looked for in vain; and whether literals may
+/// begin, so that data need not look behind each of their letters, and spans. The others are made only where that walk has seen what they look
+/// for. Where a mark of a span stands, one finds the runs at which spans may close. Where many titles in parentheses may begin, and a
+/// resource may end behind one, one finds where each may end. Where many literals from `www.` on may begin behind a `_`, one finds at which
+/// of these places no domain begins. Where many names are defined and many labels may end, the names are put in order, so that each is
+/// found by a search.
+///
+///     > | [ ] do *it*
+///         ^
+#[tactic(auto, using(markdown_engine::proofs::OperationFields::op_rules), unfolding(markdown_engine::specs::Operations::scratched))]
+pub fn start(tokenizer: &mut Tokenizer) -> Result<State, AllocError>
+    requires { ReadsText tokenizer.old }
+    ensures ok { IfOk result (λ s. start_step tokenizer.old ≡ record { state = s; left = tokenizer.new }) }
+    ensures err { OnErr result (IsTrue tokenizer.new.failed) }
+{
+    tokenizer.tokenize_state.sequences = SequenceIndex::over(&tokenizer.cursor);
+    tokenizer.tokenize_state.markers = markers(tokenizer);
+    tokenizer.tokenize_state.passes_letters = true;
+    index_titles(tokenizer)?;
+    index_runs(tokenizer)?;
+    index_domains(tokenizer)?;
+    index_names(tokenizer)?;
+    attempt(
+        tokenizer,
+        StateName::GfmTaskListItemCheckStart,
+        StateName::TextBefore,
+    )
+}
+
+/// Before an element of the text, or at its end.
+///
+///     > | a *b* c
+///         ^ ^^^^ ^
+pub fn before(tokenizer: &mut Tokenizer) -> Result<State, AllocError>
+    ensures ok { IfOk result (λ s. before_step tokenizer.old ≡ record { state = s; left = tokenizer.new }) }
+    ensures err { OnErr result (IsTrue tokenizer.new.failed) }
+{
+    match tokenizer.current() {
+        None => {
+            tokenizer.register_resolver(ResolveName::Data)?;
+            tokenizer.register_resolver(ResolveName::Text)?;
+            Ok(State::Ok)
+        }
+        Some(byte) => match first_try(byte) {
+            Some((construct, otherwise)) => attempt(tokenizer, construct, otherwise),
+            None => Ok(State::Retry(StateName::TextBeforeData)),
+        },
+    }
+}
+
+/// At a `<` that begins no autolink: before HTML.
+///
+///     > | a <b> c
+///           ^
+pub fn before_html(tokenizer: &mut Tokenizer) -> Result<State, AllocError>
+    ensures ok { IfOk result (λ s. before_html_step tokenizer.old ≡ record { state = s; left = tokenizer.new }) }
+    ensures err { OnErr result (IsTrue tokenizer.new.failed) }
+{
+    attempt(
+        tokenizer,
+        StateName::HtmlTextStart,
+        StateName::TextBeforeData,
+    )
+}
+
+/// At a backslash that escapes nothing: before a hard break.
+///
+///     > | one\
+///            ^
+///     > | two
+pub fn before_hard_break_escape(tokenizer: &mut Tokenizer) -> Result<State, AllocError>
+    ensures ok { IfOk result (λ s. before_hard_break_escape_step tokenizer.old ≡ record { state = s; left = tokenizer.new }) }
+    ensures err { OnErr result (IsTrue tokenizer.new.failed) }
+{
+    attempt(
+        tokenizer,
+        StateName::HardBreakEscapeStart,
+        StateName::TextBeforeData,
+    )
+}
+
+/// At a `[` that begins no footnote call: before the start of a link.
+///
+///     > | see [that](x)
+///             ^
+pub fn before_label_start_link(tokenizer: &mut Tokenizer) -> Result<State, AllocError>
+    ensures ok { IfOk result (λ s. before_label_start_link_step tokenizer.old ≡ record { state = s; left = tokenizer.new }) }
+    ensures err { OnErr result (IsTrue tokenizer.new.failed) }
+{
+    attempt(
+        tokenizer,
+        StateName::LabelStartLinkStart,
+        StateName::TextBeforeData,
+    )
+}
+
+/// Before data, which holds everywhere.
+///
+///     > | 2 & 3
+///         ^ ^
+pub fn before_data(tokenizer: &mut Tokenizer) -> Result<State, AllocError>
+    ensures ok { IfOk result (λ s. before_data_step tokenizer.old ≡ record { state = s; left = tokenizer.new }) }
+    ensures err { OnErr result (IsTrue tokenizer.new.failed) }
+{
+    tokenizer.attempt(State::Next(StateName::TextBefore), State::Nok)?;
+    Ok(State::Retry(StateName::DataStart))
+}
+
+/// After the run over a text: sets whitespace beside line endings, and at the start and the end of the whole, apart; where they are on, finds
+/// hard breaks by spaces (CommonMark 6.7) and sets email literals apart (GFM 6.9).
+///
+/// The error comes where memory is refused; then `failed` is true.
+pub fn resolve(tokenizer: &mut Tokenizer) -> Result<Option<Subresult>, AllocError>
+    requires { MayFinish tokenizer.old }
+    ensures none { IfOk result (λ r. r ≡ None) }
+    ensures ok { IfOk result (λ _. FinishesText tokenizer.old tokenizer.new) }
+    ensures err { OnErr result (IsTrue tokenizer.new.failed) }
+{
+    let hard_break = tokenizer.parse_state.options.constructs.hard_break_trailing;
+    partial_whitespace::resolve_whitespace(tokenizer, hard_break, true)?;
+    if tokenizer
+        .parse_state
+        .options
+        .constructs
+        .gfm_autolink_literal
+    {
+        email::resolve(tokenizer)?;
+    }
+    Ok(None)
+}

@@ -1,3 +1,0 @@
--- What is said of leaves on lines.
-pub mod Lined
-pub mod Laws

@@ -1,0 +1,182 @@
+// The calls that take no memory: they answer as ever, however much is refused.
+ghost use Rattle.std.specs.Prelude.{◌≡◌, None};
+
+use crate::Came;
+use crate::runs::piece;
+use markdown_engine::state::StateName;
+use markdown_engine::tokenizer::Tokenizer;
+use markdown_engine_content::event::{Content, Event, Kind, Name, Point};
+use markdown_engine_content::parser::ParseState;
+use markdown_engine_content::util::skip::to_back;
+use markdown_engine_content::util::slice::{Position, Slice};
+use markdown_engine_content::walk::walk_to;
+use markdown_inline::options::ALL_CONSTRUCTS;
+use markdown_inline::run::{Piece, is_content, is_text};
+use markdown_inline::util::char::{
+    Kind as Class, after_index, before_index, classify_opt, kind_after_index,
+};
+use markdown_inline::util::character_reference::{
+    decode_named, decode_numeric, value_max, value_test,
+};
+use markdown_inline::{partial_space_or_tab, partial_space_or_tab_eol};
+use std::alloc::Global;
+
+// The place before all codes.
+const DOCUMENT_START: Point = Point {
+    line: 1,
+    column: 1,
+    index: 0,
+    vs: 0,
+};
+
+// Whether references have their values.
+fn are_decoded() -> bool {
+    let named = decode_named("ngE", true) == Some("\u{2267}\u{338}")
+        && decode_named("lang", false) == Some("\u{2329}")
+        && decode_named("nosuch", true).is_none();
+    let numeric = decode_numeric("123", 10) == '{' && decode_numeric("FFFE", 16) == '\u{FFFD}';
+    let bounds = value_max(b'&') == 31 && value_max(b'#') == 7 && value_max(b'x') == 6;
+    let tests = value_test(b'&', b'z') && value_test(b'x', b'F') && !value_test(b'#', b'a');
+    named && numeric && bounds && tests
+}
+
+// Whether characters have their neighbours and classes.
+fn are_classified() -> bool {
+    let bytes = "é*".as_bytes();
+    let neighbours = before_index(bytes, 2) == Some('é') && after_index(bytes, 2) == Some('*');
+    let ends = before_index(bytes, 0).is_none() && after_index(bytes, 3).is_none();
+    let classes = kind_after_index(bytes, 0) == Class::Other
+        && kind_after_index(bytes, 2) == Class::Punctuation
+        && classify_opt(Some('\u{A0}')) == Class::Whitespace
+        && classify_opt(None) == Class::Whitespace;
+    neighbours && ends && classes
+}
+
+// Whether contents and texts are told from what is none.
+fn are_contents() -> bool {
+    let lines = [piece(2, 5), piece(7, 11)];
+    let halves = [piece(0, 1)];
+    let blank = [piece(0, 4)];
+    is_content(b"> [a\n> ](b)", &lines)
+        && is_text(b"> [a\n> ](b)", &lines)
+        && !is_content("é".as_bytes(), &halves)
+        && is_content(b"a\n\nb", &blank)
+        && !is_text(b"a\n\nb", &blank)
+}
+
+// An event of this name at the start.
+fn event(kind: Kind, name: Name) -> Event
+    ensures { result ≡ record { kind = kind; name = name; point = DOCUMENT_START; link = None } }
+{
+    Event {
+        kind,
+        name,
+        point: DOCUMENT_START,
+        link: None,
+    }
+}
+
+// Whether events are found by their names, and where they begin.
+fn are_found() -> bool {
+    let events = [
+        event(Kind::Enter, Name::Label),
+        event(Kind::Enter, Name::Data),
+        event(Kind::Exit, Name::Data),
+        event(Kind::Exit, Name::Label),
+    ];
+    let whole = Position::from_exit_event(events.as_slice(), 3);
+    let label = to_back(events.as_slice(), 1, [Name::Label].as_slice());
+    whole.start == DOCUMENT_START && whole.end == DOCUMENT_START && label == 0
+}
+
+// Whether texts are lent.
+fn are_lent() -> bool {
+    let text = "aéb".as_bytes();
+    let slice = Slice::from_indices(text, 0, 4);
+    slice.as_str() == "aéb" && Slice::from_indices(text, 1, 3).bytes.len() == 2
+}
+
+// Whether part of a tab is lent.
+#[tactic(auto, using(markdown_engine_content::proofs::DocumentPlaces::point_start))]
+fn is_tab_lent() -> bool {
+    let bytes = b"a\tb";
+    let pieces = [Piece {
+        start: (0, 0),
+        end: (1, 2),
+    }];
+    if !is_content(bytes, &pieces) {
+        return false;
+    }
+    let start = walk_to(bytes, DOCUMENT_START, (0, 0));
+    let end = walk_to(bytes, start, (1, 2));
+    let slice = Slice::from_position(bytes, &Position { start, end });
+    slice.bytes.len() == 2 && slice.before == 0 && slice.after == 1
+}
+
+// Whether whitespace is asked for.
+fn is_space_asked(tokenizer: &mut Tokenizer) -> bool {
+    let one = partial_space_or_tab::space_or_tab(tokenizer) == StateName::SpaceOrTabStart
+        && tokenizer.tokenize_state.space_or_tab_min == 1;
+    let some = partial_space_or_tab::space_or_tab_min_max(tokenizer, 2, 3);
+    let bounds = tokenizer.tokenize_state.space_or_tab_min == 2
+        && tokenizer.tokenize_state.space_or_tab_max == 3;
+    let options = partial_space_or_tab::Options {
+        min: 4,
+        max: 5,
+        kind: Name::Data,
+        connect: false,
+        content: None,
+    };
+    let other = partial_space_or_tab::space_or_tab_with_options(tokenizer, options);
+    let name = tokenizer.tokenize_state.space_or_tab_token == Name::Data;
+    one && bounds && name && some == other
+}
+
+// Whether whitespace with a line ending is asked for.
+fn is_spacing_asked(tokenizer: &mut Tokenizer) -> bool {
+    let plain = partial_space_or_tab_eol::space_or_tab_eol(tokenizer);
+    let unlinked = tokenizer.tokenize_state.space_or_tab_eol_content.is_none();
+    let options = partial_space_or_tab_eol::Options {
+        connect: false,
+        content: Some(Content::String),
+    };
+    let linked = partial_space_or_tab_eol::space_or_tab_eol_with_options(tokenizer, options);
+    let content = tokenizer.tokenize_state.space_or_tab_eol_content == Some(Content::String);
+    plain == StateName::SpaceOrTabEolStart && unlinked && linked == plain && content
+}
+
+// Whether a tokenizer passes its first code, and keeps in mind that it has failed.
+fn is_passed(tokenizer: &mut Tokenizer) -> bool {
+    if tokenizer.current() != Some(b'a') || tokenizer.previous().is_some() {
+        return false;
+    }
+    tokenizer.consume();
+    let place = tokenizer.point();
+    let is_behind = tokenizer.previous() == Some(b'a') && place.index == 1 && place.column == 2;
+    let was_well = !tokenizer.failed();
+    tokenizer.fail();
+    is_behind && was_well && tokenizer.failed()
+}
+
+// Whether a new tokenizer stands at its first code.
+fn is_begun(alloc: Global) -> bool {
+    let parse_state = ParseState {
+        bytes: b"a b",
+        options: &ALL_CONSTRUCTS,
+        definitions: Vec::new(alloc),
+        gfm_footnote_definitions: Vec::new(alloc),
+    };
+    let pieces = [piece(0, 3)];
+    if !is_content(parse_state.bytes, &pieces) {
+        return false;
+    }
+    let mut tokenizer = Tokenizer::new(alloc, &parse_state, &pieces);
+    is_space_asked(&mut tokenizer) && is_spacing_asked(&mut tokenizer) && is_passed(&mut tokenizer)
+}
+
+// What comes of all calls.
+pub(crate) fn all(alloc: Global) -> Came {
+    let values = are_decoded() && are_classified();
+    let events = are_found() && are_lent() && is_tab_lent();
+    Came::of(values && are_contents() && events && is_begun(alloc))
+}

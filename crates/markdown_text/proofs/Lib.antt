@@ -1,3 +1,0 @@
-pub mod FinishTexts
-pub mod TableLemmas
-pub mod SpanLemmas
