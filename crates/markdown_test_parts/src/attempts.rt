@@ -6,46 +6,24 @@
 ghost use Rattle.std.specs.Prelude.{◌≡◌, OnOk};
 ghost use Rattle.markdown_engine.specs.Operations.{LinkedBefore};
 
-use crate::case::{Case, whole};
+use crate::document::{push_count, push_state};
 use markdown_engine::resolve::ResolveName;
 use markdown_engine::run::resume;
 use markdown_engine::state::{State, StateName};
 use markdown_engine::tokenizer::{Attempt, Tokenizer};
-use markdown_engine_content::configuration::ParseOptions;
-use markdown_engine_content::content::is_content;
 use markdown_engine_content::event::{Content, Event, Link, Name};
-use markdown_engine_content::parser::ParseState;
-use std::alloc::{AllocError, Global};
+use std::alloc::AllocError;
 
-// Appends what a case answers.
-pub(crate) fn answer(alloc: Global, case: &Case, out: &mut String) -> Result<(), AllocError> {
-    let options = ParseOptions::default();
-    let parse_state = document(alloc, &case.text, &options);
-    let pieces = whole(parse_state.bytes);
-    if !is_content(parse_state.bytes, &pieces) {
-        return out.push_str(" no content");
-    }
-    let mut tokenizer = Tokenizer::new(alloc, &parse_state, &pieces);
-    match case.call {
-        "fail" => fail_both(&mut tokenizer, out),
-        "register" => register_twice(&mut tokenizer, out),
+// Appends what a call answers.
+pub(crate) fn answer(
+    tokenizer: &mut Tokenizer,
+    call: &str,
+    out: &mut String,
+) -> Result<(), AllocError> {
+    match call {
+        "fail" => fail_both(tokenizer, out),
+        "register" => register_twice(tokenizer, out),
         _ => out.push_str(" no such call"),
-    }
-}
-
-// A document of these bytes, without definitions.
-pub(crate) fn document<'a>(
-    alloc: Global,
-    bytes: &'a [u8],
-    options: &'a ParseOptions,
-) -> ParseState<'a>
-    ensures { result.bytes ≡ bytes.entry }
-{
-    ParseState {
-        bytes,
-        options,
-        definitions: Vec::new(alloc),
-        gfm_footnote_definitions: Vec::new(alloc),
     }
 }
 
@@ -98,29 +76,43 @@ fn opened<'a>(tokenizer: &mut Tokenizer<'a>, nok: StateName) -> Result<Attempt<'
     tokenizer.attempts.pop().ok_or(AllocError)
 }
 
-// Appends a state, how many events there are, and where the first is linked on to.
-fn push_row(out: &mut String, state: State, events: &[Event]) -> Result<(), AllocError> {
-    let next = events
-        .first()
-        .and_then(|event| event.link)
-        .and_then(|link| link.next);
-    write!(out, " {state:?} {} {next:?},", events.len())
+// The event that the first is linked on to.
+fn next_of(events: &[Event]) -> Option<usize> {
+    events.first()?.link?.next
 }
 
-// An attempt inside an attempt, with a link from the one across to what stood before: both fail.
-fn fail_both(tokenizer: &mut Tokenizer, out: &mut String) -> Result<(), AllocError> {
-    pass_linked(tokenizer)?;
-    let outer = opened(tokenizer, StateName::DataStart)?;
+// Appends a state, how many events there are, and where the first is linked on to.
+fn push_row(out: &mut String, state: State, events: &[Event]) -> Result<(), AllocError> {
+    push_state(out, state)?;
+    push_count(out, events.len())?;
+    write!(out, " {:?},", next_of(events))
+}
+
+// A check inside the attempt, with a link from the one across to what stood before: it fails.
+fn fail_inner(tokenizer: &mut Tokenizer, out: &mut String) -> Result<(), AllocError>
+    requires { LinkedBefore tokenizer.old }
+{
     pass_connected(tokenizer)?;
     let inner = checked(tokenizer, StateName::DataInside)?;
     tokenizer.enter(Name::LineEnding)?;
-    let after_inner = resume(tokenizer, &inner, false);
-    push_row(out, after_inner, tokenizer.events.as_slice())?;
-    let after_outer = resume(tokenizer, &outer, false);
-    push_row(out, after_outer, tokenizer.events.as_slice())?;
-    let code = tokenizer.current().map(char::from);
-    let before = tokenizer.previous().map(char::from);
-    write!(out, " {code:?} {before:?}")
+    let after = resume(tokenizer, &inner, false);
+    push_row(out, after, tokenizer.events.as_slice())
+}
+
+// Appends the codes at and before the place.
+fn push_codes(out: &mut String, tokenizer: &Tokenizer) -> Result<(), AllocError> {
+    write!(out, " {:?}", tokenizer.current().map(char::from))?;
+    write!(out, " {:?}", tokenizer.previous().map(char::from))
+}
+
+// A check inside an attempt: both fail.
+fn fail_both(tokenizer: &mut Tokenizer, out: &mut String) -> Result<(), AllocError> {
+    pass_linked(tokenizer)?;
+    let outer = opened(tokenizer, StateName::DataStart)?;
+    fail_inner(tokenizer, out)?;
+    let after = resume(tokenizer, &outer, false);
+    push_row(out, after, tokenizer.events.as_slice())?;
+    push_codes(out, tokenizer)
 }
 
 // Whichever call asks for it.

@@ -24,10 +24,7 @@ impl<'a> Case<'a> {
     pub(crate) fn read(alloc: Global, line: &'a str) -> Result<Case<'a>, AllocError> {
         let (head, written) = line.split_once(" | ").unwrap_or((line, ""));
         let (call, words) = head.split_once(' ').unwrap_or((head, ""));
-        let mut text = Vec::new(alloc);
-        for part in written.split(" | ") {
-            push_part(&mut text, part)?;
-        }
+        let text = text_of(alloc, written)?;
         Ok(Case { call, words, text })
     }
 
@@ -64,6 +61,15 @@ impl<'a> Case<'a> {
     pub(crate) fn characters(&self) -> &str {
         str::from_utf8(&self.text).unwrap_or("")
     }
+}
+
+// The text that is written here.
+fn text_of(alloc: Global, written: &str) -> Result<Vec<u8>, AllocError> {
+    let mut text = Vec::new(alloc);
+    for part in written.split(" | ") {
+        push_part(&mut text, part)?;
+    }
+    Ok(text)
 }
 
 // Appends the bytes of a part of a text.

@@ -7,7 +7,7 @@
 ghost use Rattle.std.specs.Prelude.{◌≡◌};
 
 use crate::case::Case;
-use markdown_util::util::char::{after_index, before_index, classify_opt, kind_after_index};
+use markdown_util::util::char::{Kind, after_index, before_index, classify_opt, kind_after_index};
 use std::alloc::AllocError;
 
 // Appends what a case answers.
@@ -19,28 +19,29 @@ pub(crate) fn answer(case: &Case, out: &mut String) -> Result<(), AllocError> {
     }
 }
 
+// Appends a class.
+fn push_class(out: &mut String, class: Kind) -> Result<(), AllocError> {
+    write!(out, " {class:?}")
+}
+
 // The neighbours of an index.
 fn beside(text: &str, index: usize, out: &mut String) -> Result<(), AllocError> {
     if !text.is_char_boundary(index) {
         return out.push_str(" no boundary");
     }
     let bytes = text.as_bytes();
-    let before = before_index(bytes, index);
-    let after = after_index(bytes, index);
-    write!(
-        out,
-        " {before:?} {after:?} {:?}",
-        kind_after_index(bytes, index)
-    )
+    write!(out, " {:?}", before_index(bytes, index))?;
+    write!(out, " {:?}", after_index(bytes, index))?;
+    push_class(out, kind_after_index(bytes, index))
 }
 
 // The classes of the characters of a text.
 fn classes(text: &str, out: &mut String) -> Result<(), AllocError> {
     if text.is_empty() {
-        return write!(out, " {:?}", classify_opt(None));
+        return push_class(out, classify_opt(None));
     }
     for c in text.chars() {
-        write!(out, " {:?}", classify_opt(Some(c)))?;
+        push_class(out, classify_opt(Some(c)))?;
     }
     Ok(())
 }

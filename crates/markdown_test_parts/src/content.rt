@@ -10,6 +10,7 @@
 ghost use Rattle.std.specs.Prelude.{◌≡◌};
 
 use crate::case::Case;
+use crate::document::{push_count, push_flag};
 use markdown_engine_content::content::{is_content, is_text};
 use markdown_engine_content::event::Point;
 use markdown_engine_content::parser::Piece;
@@ -30,8 +31,8 @@ pub(crate) fn answer(alloc: Global, case: &Case, out: &mut String) -> Result<(),
     let pieces = case.pieces(alloc)?;
     let bytes = case.text.as_slice();
     match case.call {
-        "is_content" => write!(out, " {}", is_content(bytes, &pieces)),
-        "is_text" => write!(out, " {}", is_text(bytes, &pieces)),
+        "is_content" => push_flag(out, is_content(bytes, &pieces)),
+        "is_text" => push_flag(out, is_text(bytes, &pieces)),
         "walk" => walk(bytes, case.number(0), case.number(1), out),
         "lend" => lend(bytes, &pieces, out),
         "lend_between" => lend_between(bytes, case.number(0), case.number(1), out),
@@ -41,11 +42,10 @@ pub(crate) fn answer(alloc: Global, case: &Case, out: &mut String) -> Result<(),
 
 // Appends a place.
 pub(crate) fn push_place(out: &mut String, place: Point) -> Result<(), AllocError> {
-    write!(
-        out,
-        " {} {} {} {}",
-        place.line, place.column, place.index, place.vs
-    )
+    push_count(out, place.line)?;
+    push_count(out, place.column)?;
+    push_count(out, place.index)?;
+    push_count(out, place.vs)
 }
 
 // Walks to an index, and from there to a later one and past one code.
@@ -78,7 +78,9 @@ fn walk(bytes: &[u8], from: usize, to: usize, out: &mut String) -> Result<(), Al
 // Appends what is lent.
 fn push_slice(out: &mut String, slice: Slice) -> Result<(), AllocError> {
     let text = str::from_utf8(slice.bytes).unwrap_or("no text");
-    write!(out, " {} {text:?} {}", slice.before, slice.after)
+    push_count(out, slice.before)?;
+    write!(out, " {text:?}")?;
+    push_count(out, slice.after)
 }
 
 // Lends the codes of the only piece.

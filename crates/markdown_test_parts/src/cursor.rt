@@ -4,7 +4,7 @@
 //                                      ends that ends before it, the code before it, and the code as a saved cursor has it
 //     stretch PIECE.. | DOCUMENT       the index where the content ends, and a line for each stretch without `-`: how many codes are passed,
 //                                      the column, the code before, and the code that the stretch stops at, which is passed then
-//     holds SET TIMES PIECE.. | DOCUMENT   whether so many codes of the content are in the set, `]` or `abc`, asked behind the first code
+//     holds SET TIMES PIECE.. | DOCUMENT   whether so many codes of the content are in the set, `]` or else `abc`, asked behind the first code
 //     restart PIECE.. | DOCUMENT       how many codes are passed at the end, how many at the start again, and the code there
 //
 // A place is printed as its line, column, index and codes of the tab there.
@@ -12,6 +12,7 @@ ghost use Rattle.std.specs.Prelude.{◌≡◌, ◌≤◌, codes};
 
 use crate::case::Case;
 use crate::content::push_place;
+use crate::document::{push_count, push_flag};
 use markdown_engine_content::byte_set;
 use markdown_engine_content::content::is_content;
 use markdown_engine_content::cursor::Cursor;
@@ -33,9 +34,9 @@ pub(crate) fn answer(alloc: Global, case: &Case, out: &mut String) -> Result<(),
     }
 }
 
-// A code as a character.
-fn shown(code: Option<u8>) -> Option<char> {
-    code.map(char::from)
+// Appends a code as a character.
+fn push_code(out: &mut String, code: Option<u8>) -> Result<(), AllocError> {
+    write!(out, " {:?}", code.map(char::from))
 }
 
 // Passes a code, if there is one.
@@ -53,16 +54,15 @@ fn most_codes(cursor: &Cursor) -> usize {
 // Appends what is known at a place.
 fn push_row(cursor: &Cursor, out: &mut String) -> Result<(), AllocError> {
     let end = cursor.exit_point();
-    write!(out, "\n    {:?}", shown(cursor.current()))?;
+    out.push_str("\n   ")?;
+    push_code(out, cursor.current())?;
     push_place(out, cursor.point())?;
-    write!(
-        out,
-        ", {} {}, {:?} {:?}",
-        end.column,
-        end.index,
-        shown(cursor.previous()),
-        shown(cursor.save().current())
-    )
+    out.push(',')?;
+    push_count(out, end.column)?;
+    push_count(out, end.index)?;
+    out.push(',')?;
+    push_code(out, cursor.previous())?;
+    push_code(out, cursor.save().current())
 }
 
 // Reads a content, a line for each code.
@@ -77,16 +77,23 @@ fn read(cursor: &mut Cursor, out: &mut String) -> Result<(), AllocError> {
     push_row(cursor, out)
 }
 
+// Appends what is known where a stretch stops.
+fn push_stop(cursor: &Cursor, out: &mut String) -> Result<(), AllocError> {
+    out.push_str("\n   ")?;
+    push_count(out, cursor.passed())?;
+    push_count(out, cursor.point().column)?;
+    push_code(out, cursor.previous())?;
+    push_code(out, cursor.current())
+}
+
 // Reads a content, a line for each stretch.
 fn stretch(cursor: &mut Cursor, out: &mut String) -> Result<(), AllocError> {
     let stops = byte_set!(b'-');
-    write!(out, " {}", cursor.end_index())?;
+    push_count(out, cursor.end_index())?;
     for _ in 0..most_codes(cursor) {
         cursor.consume_stretch(&stops);
-        let (passed, column) = (cursor.passed(), cursor.point().column);
-        let (before, code) = (shown(cursor.previous()), shown(cursor.current()));
-        write!(out, "\n    {passed} {column} {before:?} {code:?}")?;
-        if code.is_none() {
+        push_stop(cursor, out)?;
+        if cursor.current().is_none() {
             break;
         }
         pass(cursor);
@@ -97,12 +104,12 @@ fn stretch(cursor: &mut Cursor, out: &mut String) -> Result<(), AllocError> {
 // Counts codes in a set.
 fn holds(cursor: &mut Cursor, set: &str, times: usize, out: &mut String) -> Result<(), AllocError> {
     pass(cursor);
-    let holds = match set {
-        "]" => cursor.holds(&byte_set!(b']'), times),
-        "abc" => cursor.holds(&byte_set!(b'a', b'b', b'c'), times),
-        _ => return out.push_str(" no such set"),
+    let set = if set == "]" {
+        byte_set!(b']')
+    } else {
+        byte_set!(b'a', b'b', b'c')
     };
-    write!(out, " {holds}")
+    push_flag(out, cursor.holds(&set, times))
 }
 
 // Passes all codes, and starts over.
@@ -111,6 +118,8 @@ fn restart(cursor: &mut Cursor, out: &mut String) -> Result<(), AllocError> {
         pass(cursor);
     }
     let again = cursor.restart();
-    let first = shown(again.current());
-    write!(out, " {} {} {first:?}", cursor.passed(), again.passed())
+    let first = again.current();
+    push_count(out, cursor.passed())?;
+    push_count(out, again.passed())?;
+    push_code(out, first)
 }

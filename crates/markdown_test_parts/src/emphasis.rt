@@ -5,6 +5,7 @@
 //                                       where the rule of three reads whole lengths, or `last`. An event is printed as `(Data 0 1)`, with
 //                                       the indices where it begins and ends
 //     none LENGTHS PAIRS BOUND | TEXT   whether the pass leaves no emphasis and no strikethrough, and the same of its looks
+//     take | TEXT                       whether the first two runs, of three markers each, lose one each where one is taken of both
 //     run | TEXT                        the state that follows the start and each of three steps, each of which finds a run open; the
 //                                       registered passes, and the events
 ghost use Rattle.std.specs.Prelude.{◌≡◌, ◌<◌, ◌≤◌, ◌+◌, ◌^◌, length, slice_index_or, IsTrue, IsUtf8, OnOk, true, []};
@@ -17,39 +18,37 @@ ghost use Rattle.markdown_engine_content.specs.declared.event.Name.TheVariants.{
 ghost use Rattle.markdown_attention.specs.AttentionPass.{IsSmall};
 ghost use Rattle.markdown_test_parts.specs.Fixtures.{HaveRuns};
 
-use crate::attempts::document;
 use crate::case::{Case, whole};
+use crate::document::{self, document, options, push_flag, push_state};
 use markdown_attention::attention::runs::{Runs, Sequence};
 use markdown_attention::attention::{inside, resolve, resolve_counted, start};
 use markdown_engine::tokenizer::Tokenizer;
-use markdown_engine_content::configuration::{Constructs, ParseOptions};
 use markdown_engine_content::content::is_content;
 use markdown_engine_content::event::{Event, Kind, Name, Point};
+use markdown_engine_content::parser::{ParseState, Piece};
 use markdown_engine_events::events::Events;
 use std::alloc::{AllocError, Global};
+
+// What is called of the pass.
+#[derive(Clone, Copy)]
+enum How {
+    Counted,
+    ByName,
+    // One pair, as it takes it.
+    Taken,
+}
 
 // Appends what a case answers.
 pub(crate) fn answer(alloc: Global, case: &Case, out: &mut String) -> Result<(), AllocError> {
     match case.call {
         "pass" => {
-            pass(alloc, case, false, out)?;
-            pass(alloc, case, true, out)
+            pass(alloc, case, How::Counted, out)?;
+            pass(alloc, case, How::ByName, out)
         }
+        "take" => take(alloc, case, out),
         "none" => find_none(alloc, case, out),
-        "run" => read_run(alloc, &case.text, out),
+        "run" => document::answer(alloc, "emphasis", case, out),
         _ => out.push_str(" no such call"),
-    }
-}
-
-// With strikethrough; the rule of three reads whole lengths where it is asked to.
-fn options(attention_first_lengths: bool) -> ParseOptions {
-    ParseOptions {
-        constructs: Constructs {
-            gfm_strikethrough: true,
-            ..Constructs::default()
-        },
-        attention_first_lengths,
-        ..ParseOptions::default()
     }
 }
 
@@ -164,16 +163,38 @@ fn are_small(list: &[Sequence]) -> bool
 fn push_events(out: &mut String, events: &[Event]) -> Result<(), AllocError> {
     for event in events {
         let index = event.point.index;
-        match event.kind {
-            Kind::Enter => write!(out, "({:?} {index}", event.name)?,
-            Kind::Exit => write!(out, " {index})")?,
+        if event.kind == Kind::Enter {
+            write!(out, "({:?} {index}", event.name)?;
+        } else {
+            write!(out, " {index})")?;
         }
     }
     Ok(())
 }
 
-// Appends the leaves of the text, and calls the pass, by itself or by its name. Answers the number of looks, and none where there are too many runs.
-fn pair(tokenizer: &mut Tokenizer, by_name: bool) -> Result<Option<u128>, AllocError>
+// Whether the first two runs of three markers, of a text with no other, lose one each where one is taken of both.
+fn are_taken(mut runs: Runs) -> bool
+    requires first { runs.turn ≡ 0 }
+    requires unseen { runs.probes ≡ 0 }
+{
+    if runs.closer().is_none() {
+        return false;
+    }
+    runs.advance();
+    let Some(closer) = runs.closer() else {
+        return false;
+    };
+    if runs.look(0).remaining < 1 || closer.remaining < 1 {
+        return false;
+    }
+    runs.take(0, 1);
+    let is_counted = runs.probes() == 1;
+    let list = runs.finish();
+    is_counted && list.len() == 2 && list.iter().all(|run| run.size == 3 && run.remaining == 2)
+}
+
+// Appends the leaves of the text, calls the pass, and prints what it leaves. Answers the number of looks, and none where there are too many runs.
+fn pair(tokenizer: &mut Tokenizer, how: How, out: &mut String) -> Result<Option<u128>, AllocError>
     requires ascii { IsAscii tokenizer.old.parse_state.now.bytes.now }
     requires utf8 { IsUtf8 tokenizer.old.parse_state.now.bytes.now }
     requires fits { length tokenizer.old.parse_state.now.bytes.now + 1 < 2 ^ 64 }
@@ -182,37 +203,56 @@ fn pair(tokenizer: &mut Tokenizer, by_name: bool) -> Result<Option<u128>, AllocE
 {
     let bytes = tokenizer.parse_state.bytes;
     push_leaves(&mut tokenizer.events, bytes)?;
-    let runs = Runs::new(tokenizer)?.finish();
-    if !are_small(&runs) {
+    let runs = Runs::new(tokenizer)?;
+    if matches!(how, How::Taken) {
+        push_flag(out, are_taken(runs))?;
         return Ok(None);
     }
-    if by_name {
-        resolve(tokenizer)?;
-        return Ok(Some(tokenizer.tokenize_state.probes));
+    if !are_small(&runs.finish()) {
+        return Ok(None);
     }
     let mut probes = 0;
-    resolve_counted(tokenizer, &mut probes)?;
+    if matches!(how, How::Counted) {
+        resolve_counted(tokenizer, &mut probes)?;
+    } else {
+        resolve(tokenizer)?;
+        probes = tokenizer.tokenize_state.probes;
+    }
+    push_events(out, tokenizer.events.as_slice())?;
     Ok(Some(probes))
+}
+
+// Makes the tokenizer, and calls the pass.
+fn group_at(
+    alloc: Global,
+    parse_state: &ParseState,
+    pieces: &[Piece],
+    how: How,
+    out: &mut String,
+) -> Result<Option<u128>, AllocError>
+    requires content { IsContent parse_state.now.bytes.now pieces.now }
+    requires ascii { IsAscii parse_state.now.bytes.now }
+    requires fits { length parse_state.now.bytes.now + 1 < 2 ^ 64 }
+{
+    let mut tokenizer = Tokenizer::new(alloc, parse_state, pieces);
+    pair(&mut tokenizer, how, out)
 }
 
 // Appends what the pass leaves of a text. Answers the number of looks, and none where the text is not in ASCII, or has too many runs.
 fn group(
     alloc: Global,
-    bytes: &[u8],
-    first_lengths: bool,
-    by_name: bool,
+    case: &Case,
+    how: How,
     out: &mut String,
 ) -> Result<Option<u128>, AllocError> {
+    let bytes = case.text.as_slice();
     let pieces = whole(bytes);
     if !is_content(bytes, &pieces) || !bytes.is_ascii() {
         return Ok(None);
     }
-    let options = options(first_lengths);
+    let options = options(case.word(0) == "first");
     let parse_state = document(alloc, bytes, &options);
-    let mut tokenizer = Tokenizer::new(alloc, &parse_state, &pieces);
-    let probes = pair(&mut tokenizer, by_name)?;
-    push_events(out, tokenizer.events.as_slice())?;
-    Ok(probes)
+    group_at(alloc, &parse_state, &pieces, how, out)
 }
 
 // Whether there are as many looks as pairs at least, and no more than the bound.
@@ -222,24 +262,25 @@ fn is_within(probes: Option<u128>, case: &Case) -> bool {
 }
 
 // What the pass leaves of a text, by itself or by its name, on a line of its own.
-fn pass(alloc: Global, case: &Case, by_name: bool, out: &mut String) -> Result<(), AllocError> {
+fn pass(alloc: Global, case: &Case, how: How, out: &mut String) -> Result<(), AllocError> {
     out.push_str("\n    ")?;
-    let probes = group(alloc, &case.text, case.word(0) == "first", by_name, out)?;
-    write!(out, " {}", is_within(probes, case))
+    let probes = group(alloc, case, how, out)?;
+    push_flag(out, is_within(probes, case))
+}
+
+// Whether one pair is taken.
+fn take(alloc: Global, case: &Case, out: &mut String) -> Result<(), AllocError> {
+    let _ = group(alloc, case, How::Taken, out)?;
+    Ok(())
 }
 
 // Whether the pass leaves no group in a text.
 fn find_none(alloc: Global, case: &Case, out: &mut String) -> Result<(), AllocError> {
     let mut events = String::new(alloc);
-    let probes = group(
-        alloc,
-        &case.text,
-        case.word(0) == "first",
-        false,
-        &mut events,
-    )?;
+    let probes = group(alloc, case, How::Counted, &mut events)?;
     let has_group = events.contains("Emphasis") || events.contains("Strikethrough");
-    write!(out, " {} {}", !has_group, is_within(probes, case))
+    push_flag(out, !has_group)?;
+    push_flag(out, is_within(probes, case))
 }
 
 // Whether the innermost open event is a run.
@@ -253,28 +294,14 @@ fn is_in_run(tokenizer: &Tokenizer) -> bool
 }
 
 // Calls the states of a run over two markers and a letter.
-fn pass_run(tokenizer: &mut Tokenizer, out: &mut String) -> Result<(), AllocError> {
-    let started = start(tokenizer)?;
-    write!(out, " {started:?}")?;
+pub(crate) fn pass_run(tokenizer: &mut Tokenizer, out: &mut String) -> Result<(), AllocError> {
+    push_state(out, start(tokenizer)?)?;
     for _ in 0..3 {
         if !is_in_run(tokenizer) {
             return out.push_str(" no run");
         }
-        let state = inside(tokenizer)?;
-        write!(out, " {state:?}")?;
+        push_state(out, inside(tokenizer)?)?;
     }
     write!(out, " {:?} ", tokenizer.resolvers.as_slice())?;
     push_events(out, tokenizer.events.as_slice())
-}
-
-// What the states of a run leave of a text.
-fn read_run(alloc: Global, bytes: &[u8], out: &mut String) -> Result<(), AllocError> {
-    let pieces = whole(bytes);
-    if !is_content(bytes, &pieces) {
-        return out.push_str(" no content");
-    }
-    let options = options(false);
-    let parse_state = document(alloc, bytes, &options);
-    let mut tokenizer = Tokenizer::new(alloc, &parse_state, &pieces);
-    pass_run(&mut tokenizer, out)
 }

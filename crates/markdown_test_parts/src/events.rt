@@ -13,6 +13,7 @@ ghost use Rattle.markdown_engine_content.specs.declared.event.Kind.TheVariants a
 
 use crate::case::Case;
 use crate::content::{DOCUMENT_START, push_place};
+use crate::document::{push_count, push_flag};
 use markdown_engine_content::event::{Content, Event, Kind, Link, Name, Point};
 use markdown_engine_content::util::skip::to_back;
 use markdown_engine_content::util::slice::Position;
@@ -33,17 +34,21 @@ pub(crate) fn answer(alloc: Global, case: &Case, out: &mut String) -> Result<(),
     }
 }
 
+// Appends a link.
+fn push_link(out: &mut String, link: Link) -> Result<(), AllocError> {
+    write!(out, " link {:?}", link.content)?;
+    write!(out, " {:?}", link.previous)?;
+    write!(out, " {:?}", link.next)
+}
+
 // Appends events, a line each.
 fn push_events(out: &mut String, events: &[Event]) -> Result<(), AllocError> {
     for event in events {
-        write!(out, "\n    {:?} {:?}", event.kind, event.name)?;
+        write!(out, "\n    {:?}", event.kind)?;
+        write!(out, " {:?}", event.name)?;
         push_place(out, event.point)?;
         if let Some(link) = event.link {
-            write!(
-                out,
-                " link {:?} {:?} {:?}",
-                link.content, link.previous, link.next
-            )?;
+            push_link(out, link)?;
         }
     }
     Ok(())
@@ -114,7 +119,8 @@ fn find_names(out: &mut String) -> Result<(), AllocError> {
     let names = [Name::Label, Name::Resource];
     let nearest = to_back(events.as_slice(), 3, names.as_slice());
     let other = to_back(events.as_slice(), 1, names.as_slice());
-    write!(out, " {nearest} {other}")
+    push_count(out, nearest)?;
+    push_count(out, other)
 }
 
 // An emphasis in an emphasis, and one beside it.
@@ -128,28 +134,42 @@ fn find_enters(out: &mut String) -> Result<(), AllocError> {
         at(6, Kind::Exit),
     ];
     let outer = Position::from_exit_event(events.as_slice(), 5);
-    write!(out, " {} {}", outer.start.column, outer.end.column)?;
     let second = Position::from_exit_event(events.as_slice(), 4);
-    write!(out, ", {} {}", second.start.column, second.end.column)
+    push_count(out, outer.start.column)?;
+    push_count(out, outer.end.column)?;
+    out.push(',')?;
+    push_count(out, second.start.column)?;
+    push_count(out, second.end.column)
+}
+
+// A chain of three events.
+fn chain(events: &mut Events) -> Result<(), AllocError>
+    requires { events.old ≡ [] }
+{
+    events.push(linked(Name::Data, None, Content::Text))?;
+    events.push(plain(Kind::Exit, Name::Data))?;
+    events.push(linked(Name::Data, None, Content::Text))?;
+    events.push(plain(Kind::Exit, Name::Data))?;
+    events.push(linked(Name::Data, None, Content::Text))?;
+    link(events, 2);
+    link(events, 4);
+    Ok(())
+}
+
+// What is left of so many events.
+fn push_first(out: &mut String, events: &mut Events, count: usize) -> Result<(), AllocError> {
+    events.truncate(count);
+    write!(out, "\n    of {count}:")?;
+    push_events(out, events.as_slice())
 }
 
 // The link on to an event goes with it.
 fn truncate(alloc: Global, out: &mut String) -> Result<(), AllocError> {
     let mut events = Events::new(alloc);
-    events.push(linked(Name::Data, None, Content::Text))?;
-    events.push(plain(Kind::Exit, Name::Data))?;
-    events.push(linked(Name::Data, None, Content::Text))?;
-    events.push(plain(Kind::Exit, Name::Data))?;
-    events.push(linked(Name::Data, None, Content::Text))?;
-    link(&mut events, 2);
-    link(&mut events, 4);
+    chain(&mut events)?;
     push_events(out, events.as_slice())?;
-    events.truncate(4);
-    out.push_str("\n    of 4:")?;
-    push_events(out, events.as_slice())?;
-    events.truncate(1);
-    out.push_str("\n    of 1:")?;
-    push_events(out, events.into_vec().as_slice())
+    push_first(out, &mut events, 4)?;
+    push_first(out, &mut events, 1)
 }
 
 // An event that comes with its link back; an event of another chain stands between.
@@ -181,10 +201,17 @@ fn edit_one_place(alloc: Global, events: &mut Events, map: &mut EditMap) -> Resu
     map.consume(events)
 }
 
+// Appends whether no edit is left, and the events.
+fn push_edited(out: &mut String, events: &Events, map: &EditMap) -> Result<(), AllocError> {
+    push_flag(out, map.is_empty())?;
+    push_events(out, events.as_slice())
+}
+
 fn edit(alloc: Global, out: &mut String) -> Result<(), AllocError> {
     let mut events = Events::new(alloc);
     let mut map = EditMap::new(alloc);
-    edit_one_place(alloc, &mut events, &mut map)?;
-    write!(out, " {}", map.is_empty())?;
-    push_events(out, events.as_slice())
+    match edit_one_place(alloc, &mut events, &mut map) {
+        Ok(()) => push_edited(out, &events, &map),
+        Err(AllocError) => Err(AllocError),
+    }
 }

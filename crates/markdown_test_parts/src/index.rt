@@ -13,6 +13,7 @@
 ghost use Rattle.std.specs.Prelude.{◌≡◌};
 
 use crate::case::{Case, number_of, whole};
+use crate::document::{push_count, push_flag};
 use markdown_engine_content::byte_set;
 use markdown_engine_content::content::is_content;
 use markdown_engine_content::cursor::Cursor;
@@ -52,16 +53,20 @@ fn answer_over(alloc: Global, case: &Case, out: &mut String) -> Result<(), Alloc
     }
 }
 
+// The index that is asked for.
+fn runs_of(alloc: Global, cursor: &Cursor, how: &str) -> Result<RunIndex, AllocError> {
+    match how {
+        "over" => RunIndex::over(alloc, cursor, byte_set!(b'`', b'$')),
+        "without" => Ok(RunIndex::without(alloc, byte_set!(b'`'))),
+        _ => Ok(RunIndex::new(alloc)),
+    }
+}
+
 // The last run of each size.
 fn runs(alloc: Global, cursor: &Cursor, case: &Case, out: &mut String) -> Result<(), AllocError> {
-    let runs = match case.word(0) {
-        "over" => RunIndex::over(alloc, cursor, byte_set!(b'`', b'$'))?,
-        "without" => RunIndex::without(alloc, byte_set!(b'`')),
-        _ => RunIndex::new(alloc),
-    };
+    let runs = runs_of(alloc, cursor, case.word(0))?;
     let byte = case.word(1).bytes().next().unwrap_or(0);
-    let ruled_out = runs.rules_out(byte, case.number(2), case.number(3));
-    write!(out, " {ruled_out}")
+    push_flag(out, runs.rules_out(byte, case.number(2), case.number(3)))
 }
 
 // The sequence of a name.
@@ -85,8 +90,10 @@ fn sequence(cursor: &Cursor, case: &Case, out: &mut String) -> Result<(), AllocE
     } else {
         SequenceIndex::new()
     };
-    let ruled_out = index.rules_out(sequence_of(case.word(1)), case.number(2));
-    write!(out, " {ruled_out}")
+    push_flag(
+        out,
+        index.rules_out(sequence_of(case.word(1)), case.number(2)),
+    )
 }
 
 // Where titles in parentheses may end, and resources behind them.
@@ -108,7 +115,7 @@ fn push_kept(
 ) -> Result<(), AllocError> {
     for at in from..=to {
         if !index.rules_out(at) {
-            write!(out, " {at}")?;
+            push_count(out, at)?;
         }
     }
     Ok(())
@@ -134,13 +141,14 @@ fn names_from(alloc: Global, case: &Case, from: usize) -> Result<NameIndex, Allo
 fn names(alloc: Global, case: &Case, out: &mut String) -> Result<(), AllocError> {
     let index = names_from(alloc, case, 0)?;
     let front = case.characters();
-    write!(out, " {} {}", index.has(front), index.begins(front))
+    push_flag(out, index.has(front))?;
+    push_flag(out, index.begins(front))
 }
 
 // How many brackets names have.
 fn names_with(alloc: Global, case: &Case, out: &mut String) -> Result<(), AllocError> {
     let index = names_from(alloc, case, 1)?;
-    write!(out, " {}", index.has_brackets(case.number(0)))
+    push_flag(out, index.has_brackets(case.number(0)))
 }
 
 // A word, as the only name.
@@ -150,21 +158,26 @@ fn only(alloc: Global, word: &str) -> Result<Vec<String>, AllocError> {
     Ok(names)
 }
 
+// The first word as the only definition, the second as the only footnote, and the brackets of a text.
+fn names_in(alloc: Global, case: &Case) -> Result<Names, AllocError> {
+    let definitions = only(alloc, case.word(0))?;
+    let notes = only(alloc, case.word(1))?;
+    let brackets = BracketIndex::over(alloc, &case.text, 0, case.text.len())?;
+    Names::over(alloc, definitions.as_slice(), notes.as_slice(), brackets)
+}
+
+// Appends which of the first two words are names.
+fn push_names(out: &mut String, names: &NameIndex, case: &Case) -> Result<(), AllocError> {
+    let has = (names.has(case.word(0)), names.has(case.word(1)));
+    write!(out, " {has:?}")
+}
+
 // The names of definitions and of footnotes, and the brackets of a text.
 fn names_of(alloc: Global, case: &Case, out: &mut String) -> Result<(), AllocError> {
-    let (definition, note) = (case.word(0), case.word(1));
-    let length = case.text.len();
-    let brackets = BracketIndex::over(alloc, &case.text, 0, length)?;
-    let definitions = only(alloc, definition)?;
-    let notes = only(alloc, note)?;
-    let names = Names::over(alloc, definitions.as_slice(), notes.as_slice(), brackets)?;
-    write!(out, " {:?}", names.brackets.between(0, length))?;
-    let of_definitions = (
-        names.definitions.has(definition),
-        names.definitions.has(note),
-    );
-    let of_notes = (names.footnotes.has(definition), names.footnotes.has(note));
-    write!(out, " {of_definitions:?} {of_notes:?}")
+    let names = names_in(alloc, case)?;
+    write!(out, " {:?}", names.brackets.between(0, case.text.len()))?;
+    push_names(out, &names.definitions, case)?;
+    push_names(out, &names.footnotes, case)
 }
 
 // Some places of a content.
@@ -175,7 +188,7 @@ fn places(alloc: Global, case: &Case, out: &mut String) -> Result<(), AllocError
     }
     places.sort_unstable();
     let index = PlaceIndex::new(places);
-    write!(out, " {}", index.holds(case.number(0)))
+    push_flag(out, index.holds(case.number(0)))
 }
 
 // A set of bytes.
@@ -184,6 +197,7 @@ fn bytes(case: &Case, out: &mut String) -> Result<(), AllocError> {
     let Ok(byte) = u8::try_from(case.number(0)) else {
         return out.push_str(" no byte");
     };
-    let plain = set.again().is_plain(byte);
-    write!(out, " {:?} {} {plain}", set.as_slice(), set.contains(byte))
+    write!(out, " {:?}", set.as_slice())?;
+    push_flag(out, set.contains(byte))?;
+    push_flag(out, set.again().is_plain(byte))
 }

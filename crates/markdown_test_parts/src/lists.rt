@@ -17,12 +17,17 @@ pub(crate) fn answer(alloc: Global, case: &Case, out: &mut String) -> Result<(),
     }
 }
 
+// Appends an item, if it is one.
+fn push_item(out: &mut String, item: Option<u8>) -> Result<(), AllocError> {
+    write!(out, " {item:?}")
+}
+
 fn grow_list(alloc: Global, out: &mut String) -> Result<(), AllocError> {
     let mut list = Seq::new(alloc);
     list.push(1u8)?;
     list.extend_from_slice(&[2, 3])?;
     write!(out, " {:?}", list.as_slice())?;
-    write!(out, " {:?}", list.pop())
+    push_item(out, list.pop())
 }
 
 fn fill_stacks(low: &mut Stack<u8>, high: &mut Stack<u8>) -> Result<(), AllocError>
@@ -41,14 +46,16 @@ fn fill_stacks(low: &mut Stack<u8>, high: &mut Stack<u8>) -> Result<(), AllocErr
 fn empty_stack(low: &mut Stack<u8>, out: &mut String) -> Result<(), AllocError>
     requires { low.old ≡ 3 ∷ 2 ∷ 1 ∷ [] }
 {
-    write!(out, " {:?} {} {}", low.top(), *low.at(0), *low.at(2))?;
+    push_item(out, low.top().copied())?;
+    write!(out, " {} {}", *low.at(0), *low.at(2))?;
     low.put(1, 4);
-    write!(out, ", {} {} {}", *low.at(0), *low.at(1), *low.at(2))?;
-    write!(out, ", {:?}", low.pop())?;
+    write!(out, ", {} {} {},", *low.at(0), *low.at(1), *low.at(2))?;
+    push_item(out, low.pop())?;
     low.truncate(1);
-    write!(out, ", {:?}", low.pop())?;
-    write!(out, " {:?}", low.pop())?;
-    write!(out, " {:?}", low.top())
+    out.push(',')?;
+    push_item(out, low.pop())?;
+    push_item(out, low.pop())?;
+    push_item(out, low.top().copied())
 }
 
 fn stacks(alloc: Global, out: &mut String) -> Result<(), AllocError> {

@@ -14,17 +14,17 @@ ghost use Rattle.markdown_engine_content.specs.declared.event.Kind.{Kind};
 ghost use Rattle.markdown_partial.specs.MergedEvents.{is_data};
 ghost use Rattle.markdown_partial.specs.TrimmedEvents.{HasPlaces};
 
-use crate::attempts::document;
 use crate::case::Case;
 use crate::content::DOCUMENT_START;
+use crate::document::{document, options, push_count};
 use markdown_engine::tokenizer::Tokenizer;
-use markdown_engine_content::configuration::ParseOptions;
 use markdown_engine_content::content::is_content;
 use markdown_engine_content::event::{Content, Event, Kind, Link, Name, Point};
-use markdown_engine_content::parser::Piece;
+use markdown_engine_content::parser::{ParseState, Piece};
 use markdown_engine_content::walk::walk_to;
 use markdown_engine_events::events::Events;
 use markdown_leaf_email_pass::email::resolve;
+use markdown_run_leaves::leaf::Leaf;
 use markdown_run_leaves::leaves;
 use std::alloc::{AllocError, Global};
 
@@ -110,6 +110,23 @@ fn push_innermost(out: &mut String, events: &[Event]) -> Result<(), AllocError> 
     Ok(())
 }
 
+// What the pass leaves of these events.
+fn push_found(
+    alloc: Global,
+    parse_state: &ParseState,
+    pieces: &[Piece],
+    events: Events,
+    out: &mut String,
+) -> Result<(), AllocError>
+    requires content { IsContent parse_state.now.bytes.now pieces.now }
+    requires places { HasPlaces parse_state.now.bytes.now events }
+{
+    let mut tokenizer = Tokenizer::new(alloc, parse_state, pieces);
+    tokenizer.events = events;
+    resolve(&mut tokenizer)?;
+    push_innermost(out, tokenizer.events.as_slice())
+}
+
 // What the pass leaves of data that is the whole document, in such a group.
 fn find(
     alloc: Global,
@@ -127,12 +144,20 @@ fn find(
     if !is_content(bytes, &pieces) {
         return out.push_str(" no content");
     }
-    let options = ParseOptions::default();
+    let events = data_in(alloc, bytes, group, content)?;
+    let options = options(false);
     let parse_state = document(alloc, bytes, &options);
-    let mut tokenizer = Tokenizer::new(alloc, &parse_state, &pieces);
-    tokenizer.events = data_in(alloc, bytes, group, content)?;
-    resolve(&mut tokenizer)?;
-    push_innermost(out, tokenizer.events.as_slice())
+    push_found(alloc, &parse_state, &pieces, events, out)
+}
+
+// Appends what is lent for an innermost event.
+fn push_leaf(out: &mut String, leaf: &Leaf) -> Result<(), AllocError> {
+    write!(out, " {:?}", leaf.name)?;
+    push_count(out, leaf.slice.before)?;
+    push_count(out, leaf.start.index)?;
+    write!(out, "-{}", leaf.end.index)?;
+    push_count(out, leaf.slice.after)?;
+    out.push(',')
 }
 
 // What is lent for the events of an emphasis, where data is on both sides of the empty text of a label.
@@ -162,12 +187,7 @@ fn lend_leaves(bytes: &[u8], out: &mut String) -> Result<(), AllocError> {
         exit(Name::Emphasis, end),
     ];
     for leaf in leaves(bytes, &events) {
-        let slice = leaf.slice;
-        write!(
-            out,
-            " {:?} {} {}-{} {},",
-            leaf.name, slice.before, leaf.start.index, leaf.end.index, slice.after
-        )?;
+        push_leaf(out, &leaf)?;
     }
     Ok(())
 }

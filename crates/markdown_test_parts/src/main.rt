@@ -4,7 +4,8 @@
 //! Each module says which calls it knows, and what is printed for them; `case` says how numbers, pieces and texts are written. A line that
 //! begins with `#`, and an empty one, is no case.
 //!
-//! Printed is the line, and behind ` =>` what was answered. To add a row, add its line to `stdin`, and the line with its answer to `stdout`.
+//! Printed is the line, and behind ` =>` what was answered. To add a case, add its line to `stdin`, and the line with its answer to `stdout`. Where
+//! memory is refused, the answers end there, and the status is 3.
 #![tactic(auto)]
 
 mod attempts;
@@ -12,6 +13,7 @@ mod case;
 mod character;
 mod content;
 mod cursor;
+mod document;
 mod emphasis;
 mod events;
 mod index;
@@ -23,13 +25,13 @@ mod spaces;
 
 use crate::case::Case;
 use std::alloc::{AllocError, Global};
-use std::io::Read;
+use std::io;
 use std::process::ExitCode;
 
 // Appends what a case answers, where its part is known.
 fn answer(alloc: Global, part: &str, case: &Case, out: &mut String) -> Result<(), AllocError> {
     match part {
-        "attempts" => attempts::answer(alloc, case, out),
+        "attempts" | "parts" | "spaces" => document::answer(alloc, part, case, out),
         "character" => character::answer(case, out),
         "content" => content::answer(alloc, case, out),
         "cursor" => cursor::answer(alloc, case, out),
@@ -38,9 +40,7 @@ fn answer(alloc: Global, part: &str, case: &Case, out: &mut String) -> Result<()
         "index" => index::answer(alloc, case, out),
         "lists" => lists::answer(alloc, case, out),
         "mail" => mail::answer(alloc, case, out),
-        "parts" => parts::answer(alloc, case, out),
         "reference" => reference::answer(alloc, case, out),
-        "spaces" => spaces::answer(alloc, case, out),
         _ => out.push_str(" no such part"),
     }
 }
@@ -49,29 +49,32 @@ fn answer(alloc: Global, part: &str, case: &Case, out: &mut String) -> Result<()
 fn answer_line(alloc: Global, line: &str, out: &mut String) -> Result<(), AllocError> {
     let (part, rest) = line.split_once(' ').unwrap_or((line, ""));
     let case = Case::read(alloc, rest)?;
-    write!(out, "{line} =>")?;
+    out.push_str(line)?;
+    out.push_str(" =>")?;
     answer(alloc, part, &case, out)?;
     out.push('\n')
 }
 
-// The answers to all lines.
-fn answers(alloc: Global, input: &[u8]) -> Result<String, AllocError> {
-    let mut out = String::new(alloc);
-    for line in str::from_utf8(input).unwrap_or("").lines() {
+// Appends the answers to all lines.
+fn answer_all(alloc: Global, input: &str, out: &mut String) -> Result<(), AllocError> {
+    for line in input.lines() {
         if !line.is_empty() && !line.starts_with('#') {
-            answer_line(alloc, line, &mut out)?;
+            answer_line(alloc, line, out)?;
         }
     }
-    Ok(out)
+    Ok(())
 }
 
-fn main(rt: HostRuntime) -> ExitCode {
-    let mut input = Vec::new(rt.alloc());
-    if rt.stdin().read_to_end(&mut input).is_err() {
-        return ExitCode::FAILURE;
-    }
-    match answers(rt.alloc(), input.as_slice()) {
-        Ok(out) if print!(rt; "{out}").is_ok() => ExitCode::SUCCESS,
-        _ => ExitCode::FAILURE,
-    }
+// Reads the cases, and prints their answers.
+fn print_all(rt: &(impl Input + AllocGlobal), out: &mut String) -> io::Result<()> {
+    let input = io::read_to_string(rt.alloc(), rt.reader())?;
+    answer_all(rt.alloc(), input.as_str(), out)?;
+    Ok(())
+}
+
+fn main(rt: HostRuntime) -> io::Result<ExitCode> {
+    let mut out = String::new(rt.alloc());
+    let is_whole = print_all(&rt, &mut out).is_ok();
+    print!(rt; "{out}")?;
+    Ok(ExitCode::from(if is_whole { 0 } else { 3 }))
 }

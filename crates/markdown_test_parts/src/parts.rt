@@ -5,64 +5,67 @@
 //                          behind a line ending, and whether content is connected then; the state where no title is, the marker and
 //                          whether content is connected then; and the state that follows a second start
 //     label | TEXT         the same without the markers
-ghost use Rattle.std.specs.Prelude.{◌≡◌};
-
-use crate::attempts::document;
-use crate::case::{Case, whole};
+use crate::document::{push_count, push_flag, push_state};
 use markdown_engine::tokenizer::Tokenizer;
-use markdown_engine_content::configuration::ParseOptions;
-use markdown_engine_content::content::is_content;
 use markdown_partial_link::{partial_destination, partial_label, partial_title};
-use std::alloc::{AllocError, Global};
+use std::alloc::AllocError;
 
-// Appends what a case answers.
-pub(crate) fn answer(alloc: Global, case: &Case, out: &mut String) -> Result<(), AllocError> {
-    let options = ParseOptions::default();
-    let parse_state = document(alloc, &case.text, &options);
-    let pieces = whole(parse_state.bytes);
-    if !is_content(parse_state.bytes, &pieces) {
-        return out.push_str(" no content");
-    }
-    let mut tokenizer = Tokenizer::new(alloc, &parse_state, &pieces);
-    match case.call {
-        "destination" => begin_destination(&mut tokenizer, out),
-        "title" => begin_title(&mut tokenizer, out),
-        "label" => begin_label(&mut tokenizer, out),
+// Appends what a call answers.
+pub(crate) fn answer(
+    tokenizer: &mut Tokenizer,
+    call: &str,
+    out: &mut String,
+) -> Result<(), AllocError> {
+    match call {
+        "destination" => begin_destination(tokenizer, out),
+        "title" => begin_title(tokenizer, out),
+        "label" => begin_label(tokenizer, out),
         _ => out.push_str(" no such call"),
     }
 }
 
 fn begin_destination(tokenizer: &mut Tokenizer, out: &mut String) -> Result<(), AllocError> {
-    let opened = partial_destination::start(tokenizer)?;
-    write!(out, " {opened:?} {}", tokenizer.events.len())?;
-    let raw = partial_destination::start(tokenizer)?;
-    write!(out, ", {raw:?} {}", tokenizer.events.len())
+    push_state(out, partial_destination::start(tokenizer)?)?;
+    push_count(out, tokenizer.events.len())?;
+    out.push(',')?;
+    push_state(out, partial_destination::start(tokenizer)?)?;
+    push_count(out, tokenizer.events.len())
+}
+
+// Appends the marker that ends a title.
+fn push_marker(tokenizer: &Tokenizer, out: &mut String) -> Result<(), AllocError> {
+    push_count(out, usize::from(tokenizer.tokenize_state.marker))
+}
+
+// Appends whether content is connected.
+fn push_connect(tokenizer: &Tokenizer, out: &mut String) -> Result<(), AllocError> {
+    push_flag(out, tokenizer.tokenize_state.connect)
 }
 
 fn begin_title(tokenizer: &mut Tokenizer, out: &mut String) -> Result<(), AllocError> {
-    let opened = partial_title::start(tokenizer)?;
-    let marker = tokenizer.tokenize_state.marker;
-    write!(out, " {opened:?} {} {marker}", tokenizer.events.len())?;
-    let goes_on = partial_title::after_eol(tokenizer)?;
-    write!(out, ", {goes_on:?} {}", tokenizer.tokenize_state.connect)?;
-    let none = partial_title::nok(tokenizer)?;
-    let marker = tokenizer.tokenize_state.marker;
-    write!(
-        out,
-        ", {none:?} {marker} {}",
-        tokenizer.tokenize_state.connect
-    )?;
-    let again = partial_title::start(tokenizer)?;
-    write!(out, ", {again:?}")
+    push_state(out, partial_title::start(tokenizer)?)?;
+    push_count(out, tokenizer.events.len())?;
+    push_marker(tokenizer, out)?;
+    out.push(',')?;
+    push_state(out, partial_title::after_eol(tokenizer)?)?;
+    push_connect(tokenizer, out)?;
+    out.push(',')?;
+    push_state(out, partial_title::nok(tokenizer)?)?;
+    push_marker(tokenizer, out)?;
+    push_connect(tokenizer, out)?;
+    out.push(',')?;
+    push_state(out, partial_title::start(tokenizer)?)
 }
 
 fn begin_label(tokenizer: &mut Tokenizer, out: &mut String) -> Result<(), AllocError> {
-    let opened = partial_label::start(tokenizer)?;
-    write!(out, " {opened:?} {}", tokenizer.events.len())?;
-    let goes_on = partial_label::eol_after(tokenizer)?;
-    write!(out, ", {goes_on:?} {}", tokenizer.tokenize_state.connect)?;
-    let none = partial_label::nok(tokenizer)?;
-    write!(out, ", {none:?} {}", tokenizer.tokenize_state.connect)?;
-    let again = partial_label::start(tokenizer)?;
-    write!(out, ", {again:?}")
+    push_state(out, partial_label::start(tokenizer)?)?;
+    push_count(out, tokenizer.events.len())?;
+    out.push(',')?;
+    push_state(out, partial_label::eol_after(tokenizer)?)?;
+    push_connect(tokenizer, out)?;
+    out.push(',')?;
+    push_state(out, partial_label::nok(tokenizer)?)?;
+    push_connect(tokenizer, out)?;
+    out.push(',')?;
+    push_state(out, partial_label::start(tokenizer)?)
 }

@@ -15,6 +15,7 @@ ghost use Rattle.std.specs.Str.{byte};
 ghost use Rattle.markdown_util.specs.Reference.{IsMarker, IsNumber, radix_of};
 
 use crate::case::Case;
+use crate::document::{push_count, push_flag};
 use markdown_util::util::character_reference::{
     decode, decode_named, decode_numeric, parse, value_max, value_test,
 };
@@ -27,17 +28,16 @@ pub(crate) fn answer(alloc: Global, case: &Case, out: &mut String) -> Result<(),
         "named" => named(alloc, case, out),
         "numeric" => numeric(case, out),
         "decode" => decoded(alloc, case, out),
-        "parse" => {
-            let parsed = parse(alloc, case.characters())?;
-            write!(out, " \"{parsed}\"")
-        }
+        "parse" => push_text(out, &parse(alloc, case.characters())?),
         "value" => value(case, out),
-        "identifier" => {
-            let identifier = normalize_identifier(alloc, case.characters())?;
-            write!(out, " \"{identifier}\"")
-        }
+        "identifier" => push_text(out, &normalize_identifier(alloc, case.characters())?),
         _ => out.push_str(" no such call"),
     }
+}
+
+// Appends a text between quotation marks.
+fn push_text(out: &mut String, text: &String) -> Result<(), AllocError> {
+    write!(out, " \"{text}\"")
 }
 
 // Appends the numbers of the characters of a text, if there is one.
@@ -126,7 +126,7 @@ fn decoded(alloc: Global, case: &Case, out: &mut String) -> Result<(), AllocErro
 fn value(case: &Case, out: &mut String) -> Result<(), AllocError> {
     let marker = marker_of(case.word(0));
     match case.word(1).as_bytes() {
-        [byte] => write!(out, " {}", value_test(marker, *byte)),
-        _ => write!(out, " {}", value_max(marker)),
+        [byte] => push_flag(out, value_test(marker, *byte)),
+        _ => push_count(out, value_max(marker)),
     }
 }

@@ -9,33 +9,34 @@
 //
 // The text is the content that is read: in `read` and `read_ending` the empty one. `connected` is printed where what is asked for is
 // connected, as it must not be there.
-ghost use Rattle.std.specs.Prelude.{◌≡◌};
-
-use crate::attempts::document;
-use crate::case::{Case, whole};
-use markdown_engine::tokenizer::Tokenizer;
-use markdown_engine_content::configuration::ParseOptions;
-use markdown_engine_content::content::is_content;
+use crate::document::{push_count, push_flag, push_state};
+use markdown_engine::tokenizer::{TokenizeState, Tokenizer};
 use markdown_engine_content::event::{Content, Name};
 use markdown_partial::{partial_space_or_tab, partial_space_or_tab_eol};
-use std::alloc::{AllocError, Global};
+use std::alloc::AllocError;
 
-// Appends what a case answers.
-pub(crate) fn answer(alloc: Global, case: &Case, out: &mut String) -> Result<(), AllocError> {
-    let options = ParseOptions::default();
-    let parse_state = document(alloc, &case.text, &options);
-    let pieces = whole(parse_state.bytes);
-    if !is_content(parse_state.bytes, &pieces) {
-        return out.push_str(" no content");
-    }
-    let mut tokenizer = Tokenizer::new(alloc, &parse_state, &pieces);
-    match case.call {
-        "ask" => ask(&mut tokenizer, out),
-        "read" => read(&mut tokenizer, out),
-        "ask_ending" => ask_ending(&mut tokenizer, out),
-        "read_ending" => read_ending(&mut tokenizer, out),
+// Appends what a call answers.
+pub(crate) fn answer(
+    tokenizer: &mut Tokenizer,
+    call: &str,
+    out: &mut String,
+) -> Result<(), AllocError> {
+    match call {
+        "ask" => ask(tokenizer, out),
+        "read" => read(tokenizer, out),
+        "ask_ending" => ask_ending(tokenizer, out),
+        "read_ending" => read_ending(tokenizer, out),
         _ => out.push_str(" no such call"),
     }
+}
+
+// Appends what is asked for.
+fn push_asked(out: &mut String, asked: &TokenizeState) -> Result<(), AllocError> {
+    push_count(out, asked.space_or_tab_min)?;
+    push_count(out, asked.space_or_tab_max)?;
+    write!(out, " {:?}", asked.space_or_tab_token)?;
+    write!(out, " {:?}", asked.space_or_tab_content)?;
+    push_flag(out, asked.space_or_tab_connect)
 }
 
 fn ask(tokenizer: &mut Tokenizer, out: &mut String) -> Result<(), AllocError> {
@@ -47,16 +48,7 @@ fn ask(tokenizer: &mut Tokenizer, out: &mut String) -> Result<(), AllocError> {
         content: Some(Content::String),
     };
     let _ = partial_space_or_tab::space_or_tab_with_options(tokenizer, asked);
-    let scratch = &tokenizer.tokenize_state;
-    write!(
-        out,
-        " {} {} {:?} {:?} {}",
-        scratch.space_or_tab_min,
-        scratch.space_or_tab_max,
-        scratch.space_or_tab_token,
-        scratch.space_or_tab_content,
-        scratch.space_or_tab_connect
-    )
+    push_asked(out, &tokenizer.tokenize_state)
 }
 
 // Reads no whitespace, where none that is connected was asked for.
@@ -65,8 +57,7 @@ fn read_none(tokenizer: &mut Tokenizer, out: &mut String) -> Result<(), AllocErr
         return out.push_str(" connected");
     }
     let _ = partial_space_or_tab::start(tokenizer)?;
-    let state = partial_space_or_tab::after(tokenizer)?;
-    write!(out, " {state:?}")
+    push_state(out, partial_space_or_tab::after(tokenizer)?)
 }
 
 fn read(tokenizer: &mut Tokenizer, out: &mut String) -> Result<(), AllocError> {
@@ -74,8 +65,15 @@ fn read(tokenizer: &mut Tokenizer, out: &mut String) -> Result<(), AllocError> {
     read_none(tokenizer, out)?;
     let _ = partial_space_or_tab::space_or_tab(tokenizer);
     read_none(tokenizer, out)?;
-    let most = tokenizer.tokenize_state.space_or_tab_max;
-    write!(out, ", {most} {}", tokenizer.events.is_empty())
+    out.push(',')?;
+    push_count(out, tokenizer.tokenize_state.space_or_tab_max)?;
+    push_flag(out, tokenizer.events.is_empty())
+}
+
+// Appends what is asked for of a line ending.
+fn push_ending(out: &mut String, asked: &TokenizeState) -> Result<(), AllocError> {
+    write!(out, " {:?}", asked.space_or_tab_eol_content)?;
+    push_flag(out, asked.space_or_tab_eol_connect)
 }
 
 fn ask_ending(tokenizer: &mut Tokenizer, out: &mut String) -> Result<(), AllocError> {
@@ -84,28 +82,24 @@ fn ask_ending(tokenizer: &mut Tokenizer, out: &mut String) -> Result<(), AllocEr
         content: Some(Content::String),
     };
     let _ = partial_space_or_tab_eol::space_or_tab_eol_with_options(tokenizer, asked);
-    let content = tokenizer.tokenize_state.space_or_tab_eol_content;
-    let is_connected = tokenizer.tokenize_state.space_or_tab_eol_connect;
-    write!(out, " {content:?} {is_connected}")?;
+    push_ending(out, &tokenizer.tokenize_state)?;
+    out.push(',')?;
     let _ = partial_space_or_tab_eol::space_or_tab_eol(tokenizer);
-    let content = tokenizer.tokenize_state.space_or_tab_eol_content;
-    let is_connected = tokenizer.tokenize_state.space_or_tab_eol_connect;
-    write!(out, ", {content:?} {is_connected}")
+    push_ending(out, &tokenizer.tokenize_state)
 }
 
 fn read_ending(tokenizer: &mut Tokenizer, out: &mut String) -> Result<(), AllocError> {
     let _ = partial_space_or_tab_eol::space_or_tab_eol(tokenizer);
-    let started = partial_space_or_tab_eol::start(tokenizer)?;
+    push_state(out, partial_space_or_tab_eol::start(tokenizer)?)?;
     if tokenizer.tokenize_state.space_or_tab_eol_connect {
         return out.push_str(" connected");
     }
-    let at_ending = partial_space_or_tab_eol::at_eol(tokenizer)?;
-    write!(out, " {started:?} {at_ending:?}")?;
+    push_state(out, partial_space_or_tab_eol::at_eol(tokenizer)?)?;
+    out.push(',')?;
     let _ = partial_space_or_tab_eol::after_first(tokenizer)?;
-    let is_passed = tokenizer.tokenize_state.space_or_tab_eol_ok;
+    push_flag(out, tokenizer.tokenize_state.space_or_tab_eol_ok)?;
     let _ = partial_space_or_tab_eol::after_eol(tokenizer)?;
-    let behind = partial_space_or_tab_eol::after_more(tokenizer)?;
-    let is_passed_still = tokenizer.tokenize_state.space_or_tab_eol_ok;
-    let is_empty = tokenizer.events.is_empty();
-    write!(out, ", {is_passed} {behind:?} {is_passed_still} {is_empty}")
+    push_state(out, partial_space_or_tab_eol::after_more(tokenizer)?)?;
+    push_flag(out, tokenizer.tokenize_state.space_or_tab_eol_ok)?;
+    push_flag(out, tokenizer.events.is_empty())
 }

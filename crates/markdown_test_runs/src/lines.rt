@@ -4,6 +4,14 @@ use markdown_engine_content::event::{Event, Kind, Link, Point};
 use markdown_inline::run::Leaf;
 use std::alloc::AllocError;
 
+// Prints a number behind a colon, if there is one.
+fn print_number(number: Option<usize>, out: &mut String) -> Result<(), AllocError> {
+    match number {
+        Some(number) => write!(out, ":{number}"),
+        None => out.push_str(":-"),
+    }
+}
+
 // Prints a place.
 fn print_point(point: Point, out: &mut String) -> Result<(), AllocError> {
     let Point {
@@ -12,15 +20,10 @@ fn print_point(point: Point, out: &mut String) -> Result<(), AllocError> {
         index,
         vs,
     } = point;
-    write!(out, "{line}:{column}:{index}:{vs}")
-}
-
-// Prints the number of an event, if there is one.
-fn print_number(number: Option<usize>, out: &mut String) -> Result<(), AllocError> {
-    match number {
-        Some(number) => write!(out, ":{number}"),
-        None => out.push_str(":-"),
-    }
+    write!(out, "{line}")?;
+    print_number(Some(column), out)?;
+    print_number(Some(index), out)?;
+    print_number(Some(vs), out)
 }
 
 // Prints a link: its content, and the numbers of the events before and after.
@@ -32,10 +35,12 @@ fn print_link(link: &Link, out: &mut String) -> Result<(), AllocError> {
 
 // Prints an event.
 fn print_event(event: &Event, out: &mut String) -> Result<(), AllocError> {
-    match event.kind {
-        Kind::Enter => write!(out, " +{:?} ", event.name)?,
-        Kind::Exit => write!(out, " -{:?} ", event.name)?,
-    }
+    out.push_str(if event.kind == Kind::Enter {
+        " +"
+    } else {
+        " -"
+    })?;
+    write!(out, "{:?} ", event.name)?;
     print_point(event.point, out)?;
     match &event.link {
         Some(link) => print_link(link, out),
@@ -71,13 +76,9 @@ pub(crate) fn print_leaf(leaf: &Leaf, out: &mut String) -> Result<(), AllocError
     out.push('-')?;
     print_point(leaf.end, out)?;
     let slice = leaf.slice;
-    write!(
-        out,
-        " {}+{}+{}",
-        slice.before,
-        slice.bytes.len(),
-        slice.after
-    )
+    write!(out, " {}", slice.before)?;
+    write!(out, "+{}", slice.bytes.len())?;
+    write!(out, "+{}", slice.after)
 }
 
 /// Prints whether the probes are within their bounds, where that is asked, or how many they are.

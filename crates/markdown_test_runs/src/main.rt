@@ -1,69 +1,91 @@
-//! Reads rows from standard input, each a content and what it is read with, and prints what is found in each, a line a row.
+//! Reads cases from standard input, each a content and what it is read with, and prints what is found in each, a line a case.
 //!
-//! A row is one line of fields with tabs between them. The first field says what is read: `text`, `string`, or the start of a label, `link`,
-//! `image` or `footnote`; or `program`, of which the document is the input. The others are these, in any order but that pieces, definitions and parts of the document are taken as they come:
+//! A case is one line of fields with tabs between them. The first field says how it is read:
+//!
+//! - `text` and `string`: a whole run.
+//! - `equal` and `count`: a text, of which the run, its passes by name, and a pass that is as simple as can be are to leave the same events; and
+//!   how many they are. `passes`: the same of a string, without the simple pass.
+//! - A single construct at the start of the content: `escape`, `reference`, `break`, `autolink`, `html`, `span` (of code, or of math), `attention`,
+//!   `task`, `protocol`, `www`, `link`, `image`, `footnote`, `end` (of the label of a link that starts before the content), `destination`, `title`,
+//!   `label`; `data`, which stops at `*` and `h`; `letters`, the same data with `H`, `W` and `w`, which goes on past letters with which no literal
+//!   begins; `space`, at least and at most so many blank codes on one line; `spacing`, blank codes with a line ending behind the first code;
+//!   `linked`, the same at the start, linked where they begin with the line ending.
+//! - A run of the program: `program`, of which the document is the input; `broken`, with a byte behind it that is not UTF-8; `slow`, with a reader that
+//!   gives `a` so many times at most, one at a time, and has a fault behind; `narrow`, with a writer that takes so many bytes at most; `mute`, with
+//!   such a writer for what goes wrong, where the input is `a`; `wordless`, where the words cannot be read.
+//!
+//! The others are these, in any order but that pieces, definitions and parts of the document are taken as they come:
 //!
 //! - `+NAME` and `-NAME` turn a construct or an option on or off; at first CommonMark's constructs are on, as `ParseOptions::default` says. Of a
-//!   row, `first_of_item` says that the text is the first of a list item, and `leaves` asks for the innermost events.
+//!   case, `first_of_item` says that the text is the first of a list item, `leaves` asks for the innermost events, and `flushes` says that a narrow
+//!   writer hands on what it took.
 //! - `definition=TEXT` and `footnote=TEXT` define an identifier.
-//! - `word=TEXT` is a word of the program.
+//! - `word=TEXT` is a word of the program. `fault=KIND` is a kind of error.
 //! - `document=TEXT` is appended to the document, as often as `times=N` said before.
 //! - `piece=START-END` is a piece of the content, each place a byte, or a byte and the codes of its tab before the place, as `0.2`.
 //! - `depth=N` asks for the events that lie in fewer than N others.
-//! - `least=N` and `most=N` ask whether the probes are within these bounds.
+//! - `least=N` and `most=N` ask whether the probes are within these bounds, or are the bounds that the reading names.
 //!
 //! In a text a backslash stands before `n` for LF, `r` for CR, `t` for TAB, `0` for NUL, and before a backslash for itself.
 //!
 //! A line of answer is the first field, and for each event `+NAME` or `-NAME`, line, column, byte and codes of the tab before the place. The
-//! beginning of linked content goes on with its content, and with the numbers of the previous and the next event of its chain. A line of answer of
-//! the program is its status, how many bytes of errors it writes, and what it prints, with `;` for each line ending.
+//! beginning of linked content goes on with its content, and with the numbers of the previous and the next event of its chain. Of a single
+//! construct it also says whether it holds, how many starts of labels are open then, at which byte the tokenizer stands, and whether whitespace
+//! is still asked for. A line of answer of the program is its status, how many bytes it writes to each of its writers, and what it writes, with `;`
+//! for each line ending.
+//!
+//! Where memory is refused, the answers end there, and the status is 3.
 #![tactic(auto)]
 
+mod constructs;
+mod ends;
+mod fakes;
 mod lines;
+mod pairing;
+mod pairs;
+mod passes;
+mod program;
 mod row;
 mod run;
 
 use crate::row::Row;
 use std::alloc::{AllocError, Global};
-use std::io::Read;
+use std::io;
 use std::process::ExitCode;
 
-// Prints what is found in a row, or that the row is not understood.
+// Prints what is found in a case, or that it is not understood.
 fn print_answer(alloc: Global, line: &str, out: &mut String) -> Result<(), AllocError> {
-    let Some((reading, fields)) = line.split_once('\t') else {
-        return out.push_str("not understood\n");
-    };
+    let (reading, fields) = line.split_once('\t').unwrap_or((line, ""));
     out.push_str(reading)?;
     let mut row = Row::new(alloc);
     for field in fields.split('\t') {
         if !row.read_field(alloc, field)? {
-            out.push_str(" not understood")?;
+            return out.push_str(" not understood\n");
         }
     }
     run::print_found(alloc, reading, row, out)?;
     out.push('\n')
 }
 
-// The answers of all rows.
-fn answers(alloc: Global, text: &str) -> Result<String, AllocError> {
-    let mut out = String::new(alloc);
-    for line in text.lines() {
-        print_answer(alloc, line, &mut out)?;
+// Prints the answers of all cases.
+fn print_answers(alloc: Global, input: &str, out: &mut String) -> Result<(), AllocError> {
+    for line in input.lines() {
+        print_answer(alloc, line, out)?;
     }
-    Ok(out)
+    Ok(())
 }
 
-fn main(rt: HostRuntime) -> ExitCode {
-    let alloc = rt.alloc();
-    let mut bytes = Vec::new(alloc);
-    if rt.stdin().read_to_end(&mut bytes).is_err() {
-        return ExitCode::FAILURE;
-    }
-    let Ok(text) = str::from_utf8(bytes.as_slice()) else {
-        return ExitCode::FAILURE;
-    };
-    match answers(alloc, text) {
-        Ok(lines) if print!(rt; "{lines}").is_ok() => ExitCode::SUCCESS,
-        _ => ExitCode::FAILURE,
-    }
+// Reads the cases, and prints their answers. There is room for some from the start, so that those can be told apart where memory is refused.
+fn print_all(rt: &(impl Input + AllocGlobal), out: &mut String) -> io::Result<()> {
+    out.reserve(1 << 16)?;
+    let input = io::read_to_string(rt.alloc(), rt.reader())?;
+    print_answers(rt.alloc(), input.as_str(), out)?;
+    Ok(())
+}
+
+fn main(rt: HostRuntime) -> io::Result<ExitCode> {
+    let mut out = String::new(rt.alloc());
+    let is_whole = print_all(&rt, &mut out).is_ok();
+    print!(rt; "{out}")?;
+    Ok(ExitCode::from(if is_whole { 0 } else { 3 }))
 }

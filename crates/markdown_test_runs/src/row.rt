@@ -1,7 +1,9 @@
-// Rows: a content, and what it is read with.
+// Cases: a content, and what it is read with.
+use crate::fakes::error_kind;
 use markdown_engine_content::configuration::{Constructs, ParseOptions};
 use markdown_inline::run::Piece;
 use std::alloc::{AllocError, Global};
+use std::io::ErrorKind;
 
 /// A content, what it is read with, and what is asked of it.
 #[derive(Drop)]
@@ -13,20 +15,24 @@ pub(crate) struct Row {
     pub(crate) pieces: Vec<Piece>,
     /// The words of a run of the whole program.
     pub(crate) words: Vec<String>,
+    /// The kind of error that a fake answers.
+    pub(crate) fault: Option<ErrorKind>,
     pub(crate) asked: Asked,
     times: usize,
 }
 
-/// What is asked of a row.
+/// What is asked of a case.
 #[derive(Clone, Copy)]
 pub(crate) struct Asked {
     /// Whether the text is the first of a list item.
     pub(crate) first_of_item: bool,
     /// Whether the innermost events are asked for.
     pub(crate) leaves: bool,
+    /// Whether a narrow writer hands on what it took.
+    pub(crate) flushes: bool,
     /// In fewer than so many others an event lies that is printed.
     pub(crate) depth: usize,
-    /// The bounds on the probes, if they are asked for.
+    /// The bounds that the reading names, or those on the probes, if they are asked for.
     pub(crate) least: usize,
     pub(crate) most: Option<usize>,
 }
@@ -41,9 +47,11 @@ impl Row {
             document: String::new(alloc),
             pieces: Vec::new(alloc),
             words: Vec::new(alloc),
+            fault: None,
             asked: Asked {
                 first_of_item: false,
                 leaves: false,
+                flushes: false,
                 depth: usize::MAX,
                 least: 0,
                 most: None,
@@ -60,14 +68,17 @@ impl Row {
         if let Some(name) = field.strip_prefix("-") {
             return Ok(self.switch(name, false));
         }
-        match field.split_once('=') {
-            Some(("piece", value)) => self.add_piece(value),
-            Some(("document", value)) => self.append(unescaped(alloc, value)?.as_str()),
-            Some(("definition", value)) => push(&mut self.definitions, unescaped(alloc, value)?),
-            Some(("footnote", value)) => push(&mut self.footnotes, unescaped(alloc, value)?),
-            Some(("word", value)) => push(&mut self.words, unescaped(alloc, value)?),
-            Some((name, value)) => Ok(self.set_number(name, value)),
-            None => Ok(false),
+        let Some((name, value)) = field.split_once('=') else {
+            return Ok(field.is_empty());
+        };
+        let text = unescaped(alloc, value)?;
+        match name {
+            "document" => self.append(text.as_str()),
+            "definition" => push(&mut self.definitions, text),
+            "footnote" => push(&mut self.footnotes, text),
+            "word" => push(&mut self.words, text),
+            "piece" => self.add_piece(value),
+            _ => Ok(self.set_number(name, value)),
         }
     }
 
@@ -83,13 +94,18 @@ impl Row {
             "shortcut" => self.options.label_shortcut_before_bracket = on,
             "first_of_item" => self.asked.first_of_item = on,
             "leaves" => self.asked.leaves = on,
+            "flushes" => self.asked.flushes = on,
             _ => return false,
         }
         true
     }
 
-    // Sets a number.
+    // Sets a number, or a kind of error.
     fn set_number(&mut self, name: &str, value: &str) -> bool {
+        if name == "fault" {
+            self.fault = error_kind(value);
+            return self.fault.is_some();
+        }
         let Ok(number) = value.parse::<usize>() else {
             return false;
         };

@@ -1,7 +1,10 @@
 #!/usr/bin/env python3
-"""Writes stdin and stdout: the rows of this crate and the worked examples, and what has to be found in each.
+"""Writes stdin and stdout: the cases of this crate and the worked examples, and what has to be found in each.
 
-Run it in the crate's folder. What it reads are tools/rows.txt and markdown_model_examples/tools/examples.txt; src/main.rt says what it writes."""
+usage: tools/data.py            writes both, in the crate's folder
+       tools/data.py FOLDER     writes those cases alone that are read where memory is refused, into this folder
+
+What it reads are tools/cases.txt and markdown_model_examples/tools/examples.txt; src/main.rt says what it writes."""
 import os, re, sys
 
 HERE = os.path.dirname(os.path.dirname(os.path.abspath(__file__)))
@@ -10,11 +13,17 @@ sys.path.insert(0, WORKED)
 sys.dont_write_bytecode = True
 import examples
 
-STARTS = ['link', 'image', 'footnote']
+CONSTRUCTS = ['escape', 'reference', 'break', 'autolink', 'html', 'span', 'attention', 'task', 'protocol', 'www', 'link', 'image', 'footnote', 'end',
+              'destination', 'title', 'label', 'data', 'letters', 'space', 'spacing', 'linked']
+PROGRAMS = ['program', 'broken', 'slow', 'narrow', 'mute', 'wordless']
 OWN = {'unlabelled': ['no-attention', 'no-label_end', 'no-label_start_image', 'no-label_start_link'],
        'notes': ['gfm_label_start_footnote', 'gfm_strikethrough']}
 ESCAPES = {'\\': '\\\\', '\n': '\\n', '\r': '\\r', '\t': '\\t', '\0': '\\0'}
 REFUSED = [' no text', ' no content']
+# How texts are read whose runs are paired in two ways.
+RUNS = ['gfm_autolink_literal', 'gfm_label_start_footnote', 'gfm_strikethrough']
+DEFINED = ['definition=a', 'footnote=*a*']
+CHOICES = [[], RUNS, RUNS + ['lengths'], RUNS + ['no-single-tilde']]
 
 
 def escaped(text):
@@ -37,7 +46,8 @@ def document_fields(text):
         yield 'document=' + escaped(part)
 
 
-def piece_fields(ends):
+def piece_fields(pieces, data):
+    ends = [] if pieces == ['none'] else examples.ends_of(pieces, data)
     return ['piece=%d.%d-%d.%d' % (a + b) for a, b in ends]
 
 
@@ -52,7 +62,7 @@ def word_fields(words):
 
 
 def bound_fields(kind, words, answer):
-    """The bounds on the probes of a row that has them."""
+    """The bounds on the probes of a case that has them."""
     if kind == 'counts':
         return ['least=' + answer.split()[1], 'most=' + answer.split()[2]]
     if kind == 'looks':
@@ -74,8 +84,8 @@ def printed_event(term):
     return ' %s%s %s%s' % (sign, words[1].replace('Name.', ''), point(words[2:6]), chain)
 
 
-def printed_events(text, at):
-    return ''.join(map(printed_event, examples.events(examples.parsed(text), at)))
+def printed_events(text, at, linked=False):
+    return ''.join(map(printed_event, examples.events(examples.parsed(text), at, 0, linked)))
 
 
 def printed_line(term):
@@ -93,56 +103,162 @@ def printed_leaf(text, at):
     return ' %s %s-%s %s' % (name, start, end, lent)
 
 
-def has_blank_line(data, ends):
-    """Whether a line of the content is blank: that is no text, and of such a worked row only the definition has an answer."""
+def has_blank_line(data, pieces):
+    """Whether a line of the content is blank: that is no text, and of such a worked example only the definition has an answer."""
+    ends = [] if pieces == ['none'] else examples.ends_of(pieces, data)
     content = b''.join(data[start:end + (inside > 0)] for (start, _), (end, inside) in ends)
     return content != b'' and any(not line.strip(b' \t') for line in re.split(b'\r\n|\r|\n', content))
 
 
-def printed(kind, words, data, answer):
-    """What the program has to print of a row."""
-    at = examples.points(data)
-    if answer in REFUSED:
-        return answer
-    if kind == 'program':
-        return ' status 0 errors 0 ' + ''.join(map(printed_line, examples.events(examples.parsed(answer), at)))
-    if kind in STARTS:
-        found, rest = answer.split(';')
-        return (' no start' if found == ' no' else ' start' + printed_events(found, at)) + rest
-    if kind in ('counts', 'looks'):
-        return ' within'
-    if 'leaves' in words:
-        return ''.join(printed_leaf(leaf, at) for leaf in answer.split(','))
-    return printed_events(answer, at) + ' within' * any(w.startswith('probes=') for w in words)
-
-
-def row(line):
-    """A row and its answer, or none of a single construct of the worked examples, which is no run."""
-    kind, words, document, pieces, answer = examples.divided(line)
-    if kind in examples.READINGS:
-        return None
+def run_case(kind, words, document, pieces, answer):
+    """A whole run."""
     data = examples.plain(document).encode()
-    if kind == 'program':
-        fields = ['word=' + escaped(examples.plain(w)) for w in words] + list(document_fields(document))
-        return '\t'.join([kind] + fields), kind + printed(kind, words, data, answer)
+    at = examples.points(data)
     counted = kind in ('counts', 'looks')
     reading = 'text' if counted else kind
     asked = [w for w in words if w != 'leaves' and not w.startswith('probes=')]
     fields = word_fields(asked) + ['+leaves'] * ('leaves' in words) + ['depth=0'] * counted
-    ends = [] if pieces == ['none'] else examples.ends_of(pieces, data)
-    fields += bound_fields(kind, words, answer) + piece_fields(ends) + list(document_fields(document))
-    if reading == 'text' and has_blank_line(data, ends):
+    fields += bound_fields(kind, words, answer) + piece_fields(pieces, data) + list(document_fields(document))
+    if reading == 'text' and has_blank_line(data, pieces):
         answer = REFUSED[0]
-    return '\t'.join([reading] + fields), reading + printed(kind, words, data, answer)
+    if answer in REFUSED:
+        found = answer
+    elif counted:
+        found = ' within'
+    elif 'leaves' in words:
+        found = ''.join(printed_leaf(leaf, at) for leaf in answer.split(','))
+    else:
+        found = printed_events(answer, at) + ' within' * any(w.startswith('probes=') for w in words)
+    return [reading] + fields, found
+
+
+def construct_case(kind, words, document, pieces, answer):
+    """A single construct: its events, how many starts of labels are open then, and where it ends."""
+    data = examples.plain(document)
+    bounds = [word for word in words if word.startswith(('least=', 'most='))]
+    fields = word_fields([word for word in words if word not in bounds]) + bounds
+    fields += piece_fields(pieces, data.encode()) + list(document_fields(document))
+    events, _, rest = answer.partition(';')
+    trees = [] if events == ' no' else examples.parsed(events)
+    passed = len(data[:1].encode()) if kind == 'spacing' else 0
+    rest = rest or ' starts 0 at %d' % (trees[-1][2][0] if trees else passed)
+    opened = ' +LabelLink 1:1:0:0' if kind == 'end' else ''
+    linked = kind == 'linked' and data[:1] == '\n'
+    found = ' no' if events == ' no' else ' holds' + opened + printed_events(events, examples.points(data.encode()), linked)
+    return [kind] + fields, found + ';' + rest
+
+
+def sizes(trees):
+    """How many trees there are, and whether some leaves are linked to each other."""
+    count, chained = 0, False
+    for name, _, _, inside in trees:
+        below, linked = sizes(inside or [])
+        count += 1 + below
+        chained = chained or linked or name in examples.CHAINED and len(inside or []) > 1
+    return count, chained
+
+
+def pair_cases(words, document, pieces):
+    """A text of the list whose runs are paired in two ways."""
+    own = [word for word in words if word != 'each']
+    for choice in CHOICES if 'each' in words else [own or RUNS]:
+        fields = word_fields(choice + DEFINED * (own == []))
+        yield ['equal'] + fields + piece_fields(pieces, examples.plain(document).encode()) + list(document_fields(document)), ' equal'
+
+
+def worked_pair_cases(kind, words, document, pieces, answer):
+    """The same of a worked example: with its own words, but for those that turn a construct off, and with others. Where its answer shows all
+    events, their number is expected too."""
+    data = examples.plain(document).encode()
+    count, chained = sizes(examples.parsed(answer)) if kind == 'text' else (0, False)
+    said = ' equal but for chains' if chained and re.search('[*_~]', document) else ' equal'
+    if has_blank_line(data, pieces):
+        said, count = REFUSED[0], 0
+    off = [word for word in words if word[:3] == 'no-' and word[3:] in examples.SWITCHES]
+    own = [word for word in words if word not in off + ['outer']]
+    rest = piece_fields(pieces, data) + list(document_fields(document))
+    if kind == 'text' and own == words:
+        yield ['count'] + word_fields(own) + rest, '%s, %d events' % (said, 2 * count)
+    else:
+        yield ['equal'] + word_fields(own) + rest, said
+    yield ['equal'] + word_fields(RUNS + ['lengths'] + DEFINED) + rest, said
+
+
+def passes_case(words, document, pieces, answer):
+    """A string whose passes are called one by one."""
+    fields = word_fields(words) + piece_fields(pieces, examples.plain(document).encode()) + list(document_fields(document))
+    return ['passes'] + fields, ' equal, %d events' % (2 * sizes(examples.parsed(answer))[0])
+
+
+def lines_of_data(data):
+    """A leaf of data for each line, and one for each line ending but the last, where each is one byte."""
+    return ', '.join('%s %d-%d' % ('LineEnding' if byte == 10 else 'Data', at, at + 1) for at, byte in enumerate(data[:-1]))
+
+
+def program_case(kind, words, document, answer):
+    """A run of the program: its status, how many bytes it writes, and what it writes."""
+    data = examples.plain(document).encode()
+    own = [word for word in words if word == 'flushes' or word.startswith(('most=', 'fault='))]
+    fields = ['+' * (word == 'flushes') + word for word in own]
+    fields += ['word=' + escaped(examples.plain(word).replace('∅', '')) for word in words if word not in own]
+    said, _, left = answer.partition('; left ')
+    status, line = 0, ''
+    if said.startswith(' status '):
+        status, _, line = said[8:].partition(' ')
+        written, told = '', line + ';' * (line != '')
+    else:
+        text = 'a' * int(own[0][5:]) if kind == 'slow' else data.decode()
+        trees = lines_of_data(data) if said == ' lines' else said
+        written = ''.join(map(printed_line, examples.events(examples.parsed(trees), examples.points(text.encode()))))
+        told = ''
+    found = ' status %s bytes %d errors %d %s' % (status, len(written.encode()), len(told), written + told)
+    return [kind] + fields + list(document_fields(document)), found + (' left ' + left if left else '')
+
+
+def own_cases(line):
+    """The cases of a line of this crate's list."""
+    kind, words, document, pieces, answer = examples.divided(line)
+    if kind in CONSTRUCTS:
+        yield construct_case(kind, words, document, pieces, answer)
+    elif kind == 'pairs':
+        yield from pair_cases(words, document, pieces)
+    elif kind == 'passes':
+        yield passes_case(words, document, pieces, answer)
+    elif kind in PROGRAMS:
+        yield program_case(kind, words, document, answer)
+    else:
+        yield run_case(kind, words, document, pieces, answer)
+
+
+def worked_cases(line):
+    """The cases of a worked example: of a single construct only where it asks for nothing else."""
+    kind, words, document, pieces, answer = examples.divided(line)
+    if kind == 'bounded' and 'linked' not in words:
+        bounds = [word.replace('min=', 'least=').replace('max=', 'most=') for word in words]
+        yield construct_case('space', bounds, document, pieces, answer)
+    elif kind in ('label', 'title', 'destination'):
+        yield construct_case(kind, words, document, pieces, answer)
+    elif kind not in examples.READINGS:
+        yield run_case(kind, words, document, pieces, answer)
+        if kind != 'string':
+            yield from worked_pair_cases(kind, words, document, pieces, answer)
+
+
+def write(folder, cases):
+    """Each case once."""
+    cases = dict(('\t'.join(fields), fields[0] + found) for fields, found in cases)
+    for name, lines in (('stdin', cases.keys()), ('stdout', cases.values())):
+        with open(os.path.join(folder, name), 'w', encoding='utf-8', newline='') as file:
+            file.write(''.join(line + '\n' for line in lines))
 
 
 def main():
-    lines = [line for path in (os.path.join(WORKED, 'examples.txt'), os.path.join(HERE, 'tools', 'rows.txt'))
-             for group in examples.groups_of(path).values() for line in group]
-    found = [pair for pair in map(row, lines) if pair]
-    for path, texts in (('stdin', [pair[0] for pair in found]), ('stdout', [pair[1] for pair in found])):
-        with open(os.path.join(HERE, path), 'w', encoding='utf-8', newline='') as file:
-            file.write('\n'.join(texts) + '\n')
+    own = examples.groups_of(os.path.join(HERE, 'tools', 'cases.txt'))
+    if len(sys.argv) > 1:
+        return write(sys.argv[1], [case for line in own['Memory'] for case in own_cases(line)])
+    worked = examples.groups_of(os.path.join(WORKED, 'examples.txt'))
+    cases = [case for group in worked.values() for line in group for case in worked_cases(line)]
+    write(HERE, cases + [case for group in own.values() for line in group for case in own_cases(line)])
 
 
 if __name__ == '__main__':

@@ -1,7 +1,0 @@
-use Rattle.std.proofs.Common.{drop}
-use Rattle.markdown_engine.specs.PassesInOrder.{MayResolve}
-use Rattle.markdown_run_text.specs.ContentPasses.{may_resolve_of, resolves_of}
-use Rattle.markdown_test_memory.proofs.pairing.resolve_before.Given as goal
-
-abbrev pub invariant-loop-name : goal.invariant-loop-name
-invariant-loop-name l = MayResolve may_resolve_of resolves_of (drop l.name-index l.name-items) l.tokenizer

@@ -1,8 +1,0 @@
-use Rattle.markdown_run.proofs.WholeRun.{begun-starts}
-use Rattle.markdown_run.proofs.StringRun.{string-may}
-use Rattle.markdown_test_memory.proofs.passes.pass_string.Goals as goal
-
-pub resolve_each-requires : goal.resolve_each-requires
-resolve_each-requires c =
-    let start = begun-starts c.args.alloc c.args.parse_state c.args.pieces.now c.new-tokenizer.result c.new-tokenizer.ensures in
-    string-may c.args.parse_state.now c.args.pieces.now c.requires _ c.run_state.new.self start c.in-Ok.field-0 c.in-Ok.ensures.ends

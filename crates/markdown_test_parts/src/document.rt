@@ -1,0 +1,101 @@
+// Calls that take a tokenizer at the start of the text: those of `attempts`, `parts`, `spaces`, and `emphasis run`.
+ghost use Rattle.markdown_engine_content.specs.Content.{IsContent};
+ghost use Rattle.std.specs.Prelude.{◌≡◌};
+
+use crate::case::{Case, whole};
+use crate::{attempts, emphasis, parts, spaces};
+use markdown_engine::state::State;
+use markdown_engine::tokenizer::Tokenizer;
+use markdown_engine_content::configuration::{Constructs, ParseOptions};
+use markdown_engine_content::content::is_content;
+use markdown_engine_content::parser::{ParseState, Piece};
+use std::alloc::{AllocError, Global};
+
+// With strikethrough; the rule of three reads whole lengths where it is asked to.
+pub(crate) fn options(attention_first_lengths: bool) -> ParseOptions {
+    ParseOptions {
+        constructs: Constructs {
+            gfm_strikethrough: true,
+            ..Constructs::default()
+        },
+        attention_first_lengths,
+        ..ParseOptions::default()
+    }
+}
+
+// A document of these bytes, without definitions.
+pub(crate) fn document<'a>(
+    alloc: Global,
+    bytes: &'a [u8],
+    options: &'a ParseOptions,
+) -> ParseState<'a>
+    ensures { result.bytes ≡ bytes.entry }
+{
+    ParseState {
+        bytes,
+        options,
+        definitions: Vec::new(alloc),
+        gfm_footnote_definitions: Vec::new(alloc),
+    }
+}
+
+// Appends what a case of this part answers.
+pub(crate) fn answer(
+    alloc: Global,
+    part: &str,
+    case: &Case,
+    out: &mut String,
+) -> Result<(), AllocError> {
+    let pieces = whole(&case.text);
+    if !is_content(&case.text, &pieces) {
+        return out.push_str(" no content");
+    }
+    let options = options(false);
+    let parse_state = document(alloc, &case.text, &options);
+    answer_at(alloc, &parse_state, &pieces, part, case.call, out)
+}
+
+// Makes the tokenizer, and the call.
+fn answer_at(
+    alloc: Global,
+    parse_state: &ParseState,
+    pieces: &[Piece],
+    part: &str,
+    call: &str,
+    out: &mut String,
+) -> Result<(), AllocError>
+    requires { IsContent parse_state.now.bytes.now pieces.now }
+{
+    let mut tokenizer = Tokenizer::new(alloc, parse_state, pieces);
+    answer_by(&mut tokenizer, part, call, out)
+}
+
+// Makes the call.
+fn answer_by(
+    tokenizer: &mut Tokenizer,
+    part: &str,
+    call: &str,
+    out: &mut String,
+) -> Result<(), AllocError> {
+    match part {
+        "attempts" => attempts::answer(tokenizer, call, out),
+        "emphasis" => emphasis::pass_run(tokenizer, out),
+        "parts" => parts::answer(tokenizer, call, out),
+        _ => spaces::answer(tokenizer, call, out),
+    }
+}
+
+// Appends a state.
+pub(crate) fn push_state(out: &mut String, state: State) -> Result<(), AllocError> {
+    write!(out, " {state:?}")
+}
+
+// Appends a number.
+pub(crate) fn push_count(out: &mut String, count: usize) -> Result<(), AllocError> {
+    write!(out, " {count}")
+}
+
+// Appends whether something holds.
+pub(crate) fn push_flag(out: &mut String, holds: bool) -> Result<(), AllocError> {
+    write!(out, " {holds}")
+}

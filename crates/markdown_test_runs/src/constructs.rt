@@ -1,0 +1,324 @@
+// Single constructs, each read at the start of a content. A tokenizer that has met a refusal of memory says so, and its next calls answer the error
+// at once, also where memory is to be had again.
+ghost use Rattle.std.specs.Prelude.{◌≡◌, ◌≤◌, []};
+ghost use Rattle.markdown_plan.specs.Characters.{ReadsText};
+ghost use Rattle.markdown_engine_content.specs.Content.{IsContent};
+ghost use Rattle.markdown_engine.specs.RestingFields.{at_rest};
+ghost use Rattle.markdown_engine.specs.Weights.{codes_left};
+ghost use Rattle.markdown_engine.specs.declared.state.StateName.TheVariants.{DestinationStart, GfmTaskListItemCheckStart, LabelStart, SpaceOrTabStart, SpaceOrTabEolStart, TitleStart};
+ghost use Rattle.markdown_partial.specs.PartialSpaceOrTab.{most};
+ghost use Rattle.markdown_run.specs.RunConstruct.{IsConstruct};
+
+use crate::ends::read_end;
+use crate::lines::print_events;
+use crate::row::Asked;
+use markdown_engine::resolve::ResolveName;
+use markdown_engine::state::StateName;
+use markdown_engine::tokenizer::Tokenizer;
+use markdown_engine_content::byte_set;
+use markdown_engine_content::event::{Content, Name};
+use markdown_engine_content::parser::{ParseState, Piece};
+use markdown_engine_events::util::edit_map::EditMap;
+use markdown_engine_index::sequence_index::SequenceIndex;
+use markdown_inline::run::construct;
+use markdown_inline::{partial_space_or_tab, partial_space_or_tab_eol, resolve, state};
+use std::alloc::{AllocError, Global};
+
+// A tokenizer at the start of a content, where constructs may be read.
+fn at_start<'a>(
+    alloc: Global,
+    parse_state: &'a ParseState<'a>,
+    pieces: &'a [Piece],
+) -> Tokenizer<'a>
+    requires { IsContent parse_state.now.bytes.now pieces.now }
+    ensures alone { result.attempts ≡ [] }
+    ensures events { result.events ≡ [] }
+    ensures rest { result.tokenize_state ≡ at_rest }
+    ensures fits { codes_left result ≤ most }
+    ensures text { ReadsText result }
+{
+    Tokenizer::new(alloc, parse_state, pieces)
+}
+
+// Whether the pass that merges data answers the error.
+fn pass_is_refused(tokenizer: &mut Tokenizer) -> bool {
+    tokenizer.map = EditMap::new(tokenizer.alloc);
+    resolve::call(ResolveName::Data, tokenizer).is_err()
+}
+
+// Whether a construct answers the error.
+fn construct_is_refused(tokenizer: &mut Tokenizer) -> bool {
+    tokenizer.attempts.truncate(0);
+    construct(StateName::CharacterEscapeStart, tokenizer).is_err()
+}
+
+/// Answers the error once more, where each further call of a tokenizer that has met a refusal answers it at once; and else that one does not.
+pub(crate) fn answer_again(tokenizer: &mut Tokenizer) -> Result<bool, AllocError> {
+    let events = tokenizer.events.len();
+    let has_failed = tokenizer.failed();
+    let no_state = state::call(StateName::CharacterEscapeStart, tokenizer).is_err();
+    let no_pass = pass_is_refused(tokenizer);
+    let no_construct = construct_is_refused(tokenizer);
+    let is_same = tokenizer.failed() && tokenizer.events.len() == events;
+    if has_failed && no_state && no_pass && no_construct && is_same {
+        return Err(AllocError);
+    }
+    Ok(false)
+}
+
+// Passes the first code.
+fn pass_first(tokenizer: &mut Tokenizer)
+    requires fits { codes_left tokenizer.old ≤ most }
+    ensures alone { tokenizer.new.attempts ≡ tokenizer.old.attempts }
+    ensures rest { tokenizer.new.tokenize_state ≡ tokenizer.old.tokenize_state }
+    ensures fits { codes_left tokenizer.new ≤ most }
+{
+    if tokenizer.current().is_some() {
+        tokenizer.consume();
+    }
+}
+
+// Asks for blank codes on one line.
+fn ask_for_space(tokenizer: &mut Tokenizer, asked: Asked) -> StateName
+    requires rest { tokenizer.old.tokenize_state ≡ at_rest }
+    ensures name { result ≡ SpaceOrTabStart }
+    ensures alone { tokenizer.new.attempts ≡ tokenizer.old.attempts }
+    ensures construct { IsConstruct SpaceOrTabStart tokenizer.new }
+{
+    let max = asked.most.unwrap_or(usize::MAX);
+    partial_space_or_tab::space_or_tab_min_max(tokenizer, asked.least, max)
+}
+
+// Asks for blank codes with a line ending.
+fn ask_for_spacing(tokenizer: &mut Tokenizer) -> StateName
+    requires rest { tokenizer.old.tokenize_state ≡ at_rest }
+    requires fits { codes_left tokenizer.old ≤ most }
+    ensures name { result ≡ SpaceOrTabEolStart }
+    ensures alone { tokenizer.new.attempts ≡ tokenizer.old.attempts }
+    ensures construct { IsConstruct SpaceOrTabEolStart tokenizer.new }
+{
+    partial_space_or_tab_eol::space_or_tab_eol(tokenizer)
+}
+
+// Asks for blank codes with a line ending, linked where they begin with the line ending.
+#[tactic(auto, unfolding(markdown_engine::specs::Operations::scratched))]
+fn ask_for_linked_spacing(tokenizer: &mut Tokenizer) -> StateName
+    requires rest { tokenizer.old.tokenize_state ≡ at_rest }
+    requires fits { codes_left tokenizer.old ≤ most }
+    ensures name { result ≡ SpaceOrTabEolStart }
+    ensures alone { tokenizer.new.attempts ≡ tokenizer.old.attempts }
+    ensures construct { IsConstruct SpaceOrTabEolStart tokenizer.new }
+{
+    let content = match tokenizer.current() {
+        Some(b'\n') => Some(Content::String),
+        _ => None,
+    };
+    let options = partial_space_or_tab_eol::Options {
+        connect: false,
+        content,
+    };
+    partial_space_or_tab_eol::space_or_tab_eol_with_options(tokenizer, options)
+}
+
+// Reads blank codes: on one line; or with a line ending behind the first code; or linked, with a line ending.
+fn read_blank(tokenizer: &mut Tokenizer, reading: &str, asked: Asked) -> Result<bool, AllocError>
+    requires alone { tokenizer.old.attempts ≡ [] }
+    requires rest { tokenizer.old.tokenize_state ≡ at_rest }
+    requires fits { codes_left tokenizer.old ≤ most }
+{
+    let name = match reading {
+        "space" => ask_for_space(tokenizer, asked),
+        "spacing" => {
+            pass_first(tokenizer);
+            ask_for_spacing(tokenizer)
+        }
+        _ => ask_for_linked_spacing(tokenizer),
+    };
+    construct(name, tokenizer)
+}
+
+// Names a destination and what is in it. It has at most 32 open parentheses.
+fn name_destination(tokenizer: &mut Tokenizer)
+    requires rest { tokenizer.old.tokenize_state ≡ at_rest }
+    ensures alone { tokenizer.new.attempts ≡ tokenizer.old.attempts }
+    ensures construct { IsConstruct DestinationStart tokenizer.new }
+{
+    let state = &mut tokenizer.tokenize_state;
+    state.token_1 = Name::ResourceDestination;
+    state.token_2 = Name::ResourceDestinationLiteral;
+    state.token_3 = Name::ResourceDestinationLiteralMarker;
+    state.token_4 = Name::ResourceDestinationRaw;
+    state.token_5 = Name::ResourceDestinationString;
+    state.size_b = 32;
+}
+
+// Names a title and what is in it.
+fn name_title(tokenizer: &mut Tokenizer)
+    requires rest { tokenizer.old.tokenize_state ≡ at_rest }
+    requires fits { codes_left tokenizer.old ≤ most }
+    ensures alone { tokenizer.new.attempts ≡ tokenizer.old.attempts }
+    ensures construct { IsConstruct TitleStart tokenizer.new }
+{
+    let state = &mut tokenizer.tokenize_state;
+    state.token_1 = Name::ResourceTitle;
+    state.token_2 = Name::ResourceTitleMarker;
+    state.token_3 = Name::ResourceTitleString;
+}
+
+// Names a label and what is in it.
+fn name_label(tokenizer: &mut Tokenizer)
+    requires rest { tokenizer.old.tokenize_state ≡ at_rest }
+    requires fits { codes_left tokenizer.old ≤ most }
+    ensures alone { tokenizer.new.attempts ≡ tokenizer.old.attempts }
+    ensures construct { IsConstruct LabelStart tokenizer.new }
+{
+    let state = &mut tokenizer.tokenize_state;
+    state.token_1 = Name::Reference;
+    state.token_2 = Name::ReferenceMarker;
+    state.token_3 = Name::ReferenceString;
+}
+
+// Reads a part of a resource or a reference.
+fn read_part(tokenizer: &mut Tokenizer, reading: &str) -> Result<bool, AllocError>
+    requires alone { tokenizer.old.attempts ≡ [] }
+    requires rest { tokenizer.old.tokenize_state ≡ at_rest }
+    requires fits { codes_left tokenizer.old ≤ most }
+{
+    match reading {
+        "destination" => {
+            name_destination(tokenizer);
+            construct(StateName::DestinationStart, tokenizer)
+        }
+        "title" => {
+            name_title(tokenizer);
+            construct(StateName::TitleStart, tokenizer)
+        }
+        _ => {
+            name_label(tokenizer);
+            construct(StateName::LabelStart, tokenizer)
+        }
+    }
+}
+
+// Reads data, which stops at an asterisk and an `h`, whatever comes behind; or also at a `w`, and at both in either case, but goes on past letters with
+// which no literal begins.
+fn read_data(tokenizer: &mut Tokenizer, reading: &str) -> Result<bool, AllocError>
+    requires alone { tokenizer.old.attempts ≡ [] }
+{
+    tokenizer.tokenize_state.passes_letters = reading == "letters";
+    tokenizer.tokenize_state.markers = if reading == "data" {
+        byte_set!(b'*', b'h')
+    } else {
+        byte_set!(b'*', b'H', b'W', b'h', b'w')
+    };
+    tokenizer.tokenize_state.sequences = SequenceIndex::over(&tokenizer.cursor);
+    construct(StateName::DataStart, tokenizer)
+}
+
+// Says that the content is the first paragraph of a list item.
+fn mark_first(tokenizer: &mut Tokenizer)
+    requires rest { tokenizer.old.tokenize_state ≡ at_rest }
+    requires fits { codes_left tokenizer.old ≤ most }
+    ensures alone { tokenizer.new.attempts ≡ tokenizer.old.attempts }
+    ensures construct { IsConstruct GfmTaskListItemCheckStart tokenizer.new }
+{
+    tokenizer
+        .tokenize_state
+        .document_at_first_paragraph_of_list_item = true;
+}
+
+// Reads a construct of GitHub's.
+fn read_gfm(tokenizer: &mut Tokenizer, reading: &str) -> Result<bool, AllocError>
+    requires alone { tokenizer.old.attempts ≡ [] }
+    requires rest { tokenizer.old.tokenize_state ≡ at_rest }
+    requires fits { codes_left tokenizer.old ≤ most }
+    requires text { ReadsText tokenizer.old }
+{
+    match reading {
+        "task" => {
+            mark_first(tokenizer);
+            construct(StateName::GfmTaskListItemCheckStart, tokenizer)
+        }
+        "protocol" => construct(StateName::GfmAutolinkLiteralProtocolStart, tokenizer),
+        "www" => construct(StateName::GfmAutolinkLiteralWwwStart, tokenizer),
+        _ => construct(StateName::GfmLabelStartFootnoteStart, tokenizer),
+    }
+}
+
+// Reads a construct that asks for nothing but scratch fields at rest.
+fn read_plain(tokenizer: &mut Tokenizer, reading: &str) -> Result<bool, AllocError>
+    requires alone { tokenizer.old.attempts ≡ [] }
+    requires rest { tokenizer.old.tokenize_state ≡ at_rest }
+    requires fits { codes_left tokenizer.old ≤ most }
+{
+    match reading {
+        "escape" => construct(StateName::CharacterEscapeStart, tokenizer),
+        "reference" => construct(StateName::CharacterReferenceStart, tokenizer),
+        "break" => construct(StateName::HardBreakEscapeStart, tokenizer),
+        "autolink" => construct(StateName::AutolinkStart, tokenizer),
+        "html" => construct(StateName::HtmlTextStart, tokenizer),
+        "span" => construct(StateName::RawTextStart, tokenizer),
+        "attention" => construct(StateName::AttentionStart, tokenizer),
+        "link" => construct(StateName::LabelStartLinkStart, tokenizer),
+        _ => construct(StateName::LabelStartImageStart, tokenizer),
+    }
+}
+
+// Reads one construct.
+fn read_one(tokenizer: &mut Tokenizer, reading: &str, asked: Asked) -> Result<bool, AllocError>
+    requires alone { tokenizer.old.attempts ≡ [] }
+    requires events { tokenizer.old.events ≡ [] }
+    requires rest { tokenizer.old.tokenize_state ≡ at_rest }
+    requires fits { codes_left tokenizer.old ≤ most }
+    requires text { ReadsText tokenizer.old }
+{
+    match reading {
+        "data" | "letters" => read_data(tokenizer, reading),
+        "space" | "spacing" | "linked" => read_blank(tokenizer, reading, asked),
+        "destination" | "title" | "label" => read_part(tokenizer, reading),
+        "task" | "protocol" | "www" | "footnote" => read_gfm(tokenizer, reading),
+        "end" => read_end(tokenizer),
+        _ => read_plain(tokenizer, reading),
+    }
+}
+
+// Whether the fields of whitespace are at rest.
+fn is_at_rest(tokenizer: &Tokenizer) -> bool {
+    let state = &tokenizer.tokenize_state;
+    state.space_or_tab_max == 0
+        && state.space_or_tab_eol_content.is_none()
+        && !state.space_or_tab_eol_connect
+        && !state.space_or_tab_eol_ok
+}
+
+// Prints what a construct left: whether it holds, the events, how many starts of labels are open, and where the tokenizer stands.
+fn print_left(tokenizer: &Tokenizer, held: bool, out: &mut String) -> Result<(), AllocError> {
+    out.push_str(if held { " holds" } else { " no" })?;
+    print_events(tokenizer.events.as_slice(), usize::MAX, out)?;
+    let starts = tokenizer.tokenize_state.label_starts.len();
+    write!(out, "; starts {starts} at {}", tokenizer.point().index)?;
+    out.push_str(if is_at_rest(tokenizer) {
+        ""
+    } else {
+        ", not at rest"
+    })
+}
+
+/// Prints what a construct leaves that is read at the start of a content.
+pub(crate) fn print_construct(
+    alloc: Global,
+    reading: &str,
+    parse_state: &ParseState,
+    pieces: &[Piece],
+    asked: Asked,
+    out: &mut String,
+) -> Result<(), AllocError>
+    requires { IsContent parse_state.now.bytes.now pieces.now }
+{
+    let mut tokenizer = at_start(alloc, parse_state, pieces);
+    let held = match read_one(&mut tokenizer, reading, asked) {
+        Ok(held) => held,
+        Err(AllocError) => answer_again(&mut tokenizer)?,
+    };
+    print_left(&tokenizer, held, out)
+}

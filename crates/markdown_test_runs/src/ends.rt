@@ -1,0 +1,59 @@
+// The end of a label as a single construct.
+ghost use Rattle.std.specs.Prelude.{◌≡◌, ◌≤◌, [], IfOk};
+ghost use Rattle.markdown_plan.specs.Characters.{ReadsText};
+ghost use Rattle.markdown_engine.specs.RestingFields.{at_rest};
+ghost use Rattle.markdown_engine.specs.Weights.{codes_left};
+ghost use Rattle.markdown_engine.specs.declared.state.StateName.TheVariants.{LabelEndStart};
+ghost use Rattle.markdown_partial.specs.PartialSpaceOrTab.{most};
+ghost use Rattle.markdown_run.specs.RunConstruct.{IsConstruct};
+
+use markdown_engine::state::StateName;
+use markdown_engine::tokenizer::{LabelKind, LabelStart, Tokenizer};
+use markdown_engine_content::event::{Event, Kind, Name, Point};
+use markdown_inline::run::construct;
+use std::alloc::AllocError;
+
+// Keeps the start of a link that stands before all codes.
+fn keep_start(tokenizer: &mut Tokenizer) -> Result<(), AllocError>
+    requires alone { tokenizer.old.attempts ≡ [] }
+    requires events { tokenizer.old.events ≡ [] }
+    requires rest { tokenizer.old.tokenize_state ≡ at_rest }
+    requires fits { codes_left tokenizer.old ≤ most }
+    requires text { ReadsText tokenizer.old }
+    ensures alone { IfOk result (λ _. tokenizer.new.attempts ≡ []) }
+    ensures construct { IfOk result (λ _. IsConstruct LabelEndStart tokenizer.new) }
+{
+    tokenizer.events.push(Event {
+        kind: Kind::Enter,
+        name: Name::LabelLink,
+        point: Point {
+            line: 1,
+            column: 1,
+            index: 0,
+            vs: 0,
+        },
+        link: None,
+    })?;
+    tokenizer.tokenize_state.label_starts.push(LabelStart {
+        kind: LabelKind::Link,
+        start: (0, 0),
+        inactive: false,
+    })
+}
+
+// Reads the end of a label whose start stands before it.
+pub(crate) fn read_end(tokenizer: &mut Tokenizer) -> Result<bool, AllocError>
+    requires alone { tokenizer.old.attempts ≡ [] }
+    requires events { tokenizer.old.events ≡ [] }
+    requires rest { tokenizer.old.tokenize_state ≡ at_rest }
+    requires fits { codes_left tokenizer.old ≤ most }
+    requires text { ReadsText tokenizer.old }
+{
+    match keep_start(tokenizer) {
+        Ok(()) => construct(StateName::LabelEndStart, tokenizer),
+        Err(AllocError) => {
+            tokenizer.fail();
+            Err(AllocError)
+        }
+    }
+}

@@ -1,0 +1,121 @@
+// Runs of the program by its call, with readers and writers that read little, take little or fail.
+use crate::fakes::{Narrow, Slow};
+use crate::row::Row;
+use markdown_inline::program::{run, run_without_words};
+use std::alloc::{AllocError, Global};
+use std::io::{self, ErrorKind, Read};
+
+/// Prints how a run of the program ended that is read so, and what it wrote.
+pub(crate) fn print_program(
+    alloc: Global,
+    reading: &str,
+    row: &Row,
+    out: &mut String,
+) -> Result<(), AllocError> {
+    match reading {
+        "program" => read(alloc, row, &mut row.document.as_bytes(), out),
+        "broken" => broken(alloc, row, out),
+        "slow" => slow(alloc, row, out),
+        "narrow" => narrow(alloc, row, out),
+        "mute" => mute(alloc, row, out),
+        _ => wordless(alloc, row, out),
+    }
+}
+
+// Prints a number behind what it counts.
+fn print_count(what: &str, count: usize, out: &mut String) -> Result<(), AllocError> {
+    out.push_str(what)?;
+    write!(out, " {count}")
+}
+
+// Prints bytes as text, with `;` for each line ending.
+fn print_text(bytes: &[u8], out: &mut String) -> Result<(), AllocError> {
+    for c in str::from_utf8(bytes).unwrap_or("not UTF-8").chars() {
+        out.push(if c == '\n' { ';' } else { c })?;
+    }
+    Ok(())
+}
+
+// Prints how a run of the program ended, and what it wrote.
+fn tell(status: u8, written: &[u8], told: &[u8], out: &mut String) -> Result<(), AllocError> {
+    print_count(" status", usize::from(status), out)?;
+    print_count(" bytes", written.len(), out)?;
+    print_count(" errors", told.len(), out)?;
+    out.push(' ')?;
+    print_text(written, out)?;
+    print_text(told, out)
+}
+
+// Runs the program with a reader.
+fn read<R: Read>(
+    alloc: Global,
+    row: &Row,
+    reader: &mut R,
+    out: &mut String,
+) -> Result<(), AllocError> {
+    let (mut written, mut told) = (Vec::new(alloc), Vec::new(alloc));
+    let status = run(alloc, row.words.as_slice(), reader, &mut written, &mut told);
+    tell(status, written.as_slice(), told.as_slice(), out)
+}
+
+// Runs it with a document, and behind it a byte that is not UTF-8.
+fn broken(alloc: Global, row: &Row, out: &mut String) -> Result<(), AllocError> {
+    let mut bytes = row.document.as_bytes().to_vec(alloc)?;
+    bytes.push(0xFF)?;
+    read(alloc, row, &mut bytes.as_slice(), out)
+}
+
+// Runs it with a slow reader. Prints also how many bytes that has left, and whether it was read.
+fn slow(alloc: Global, row: &Row, out: &mut String) -> Result<(), AllocError> {
+    let mut reader = Slow::new(row.asked.most.unwrap_or(0), row.fault);
+    read(alloc, row, &mut reader, out)?;
+    print_count(" left", reader.left, out)?;
+    out.push_str(if reader.reads > 0 {
+        " read"
+    } else {
+        " not read"
+    })
+}
+
+// A narrow writer.
+fn narrow_writer(alloc: Global, row: &Row) -> Narrow {
+    Narrow::new(alloc, row.asked.most.unwrap_or(0), row.asked.flushes)
+}
+
+// Runs it with a narrow writer.
+fn narrow(alloc: Global, row: &Row, out: &mut String) -> Result<(), AllocError> {
+    let mut reader = row.document.as_bytes();
+    let mut written = narrow_writer(alloc, row);
+    let mut told = Vec::new(alloc);
+    let status = run(
+        alloc,
+        row.words.as_slice(),
+        &mut reader,
+        &mut written,
+        &mut told,
+    );
+    tell(status, written.passed.as_slice(), told.as_slice(), out)
+}
+
+// Runs it with a narrow writer for what goes wrong.
+fn mute(alloc: Global, row: &Row, out: &mut String) -> Result<(), AllocError> {
+    let mut reader = b"a".as_slice();
+    let mut written = Vec::new(alloc);
+    let mut told = narrow_writer(alloc, row);
+    let status = run(
+        alloc,
+        row.words.as_slice(),
+        &mut reader,
+        &mut written,
+        &mut told,
+    );
+    tell(status, written.as_slice(), told.passed.as_slice(), out)
+}
+
+// Ends it where its words cannot be read.
+fn wordless(alloc: Global, row: &Row, out: &mut String) -> Result<(), AllocError> {
+    let error = io::Error::from(row.fault.unwrap_or(ErrorKind::Other));
+    let mut told = Vec::new(alloc);
+    let status = run_without_words(&error, &mut told);
+    tell(status, b"", told.as_slice(), out)
+}
