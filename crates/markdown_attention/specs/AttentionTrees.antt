@@ -8,7 +8,7 @@ use Rattle.markdown_attention.specs.RunsOfTree.{has_run}
 use Rattle.markdown_attention.specs.RunEvents.{IsStripe}
 use Rattle.markdown_attention.specs.TokenWord.{IsUnlinkedRow}
 
--- each run is a leaf over markers one after another, and no leaf of its row is linked
+-- each run is a leaf over markers one after another, and no leaf among its siblings is linked
 abbrev pub HasStripes : Forest → Type 0
 HasStripes empty = Unit {0}
 HasStripes (leaf_then name link cs rest) = (is_run name ≡ true → (link ≡ None) × ((cs ≢ []) × IsStripe (marker_of cs) (start_of cs) cs)) × HasStripes rest
@@ -18,7 +18,7 @@ HasStripes (group_then name enter exit inside rest) =
 abbrev pub IsStriped : Forest → Type 0
 IsStriped tree = (has_run tree ≡ true → IsUnlinkedRow tree) × HasStripes tree
 
--- the runs of a row stand where `at` says; n events come before
+-- the runs among siblings, and those inside them, stand where `at` says; n events come before
 abbrev pub HavePoints : (ℕ → Point) → ℕ → Forest → Type 0
 HavePoints at n empty = Unit {0}
 HavePoints at n (leaf_then name link cs rest) = (is_run name ≡ true → at n ≡ start_of cs) × HavePoints at (n + 2) rest

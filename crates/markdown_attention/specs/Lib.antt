@@ -1,3 +1,5 @@
+-- The definitions of this crate.
+-- What has to be believed: what public contracts and the theorem cite.
 pub mod NumberedPairs
 pub mod PairScan
 pub mod OpenRuns
@@ -10,7 +12,8 @@ pub mod RunEvents
 pub mod TokenWord
 pub mod AttentionTrees
 pub mod RunEdits
-pub mod PairSizes
-pub mod SizeNodes
 pub mod AttentionPass
 pub mod RunsInOrder
+-- What serves proofs: what functions and proofs promise each other.
+pub mod PairSizes
+pub mod SizeNodes

@@ -24,13 +24,13 @@ inner i m k name = if is_text name then Some (record { event = i; number = m }) 
 abbrev pub as_text : Name → ℕ
 as_text name = if is_text name then 1 else 0
 
--- how many texts of labels a row has, at any depth
+-- how many texts of labels these siblings have, at any depth
 abbrev pub text_count : Forest → ℕ
 text_count empty = 0
 text_count (leaf_then name link cs rest) = text_count rest
 text_count (group_then name enter exit inside rest) = as_text name + text_count inside + text_count rest
 
--- the runs of a row that stands in this container, where n runs, i events and m texts come before
+-- the runs among siblings that stand in this container, and inside them, where n runs, i events and m texts come before
 abbrev pub tree_runs : Bool → List ℕ → ℕ → ℕ → ℕ → Container → Forest → List Sequence
 tree_runs tildes bytes n i m k empty = []
 tree_runs tildes bytes n i m k (leaf_then name link cs rest) =

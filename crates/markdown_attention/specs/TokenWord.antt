@@ -63,7 +63,7 @@ word_events n previous (item f ∷ w) = appended_from n previous f ++ word_event
 word_events n previous (opens cs ∷ w) = opened_events cs ++ word_events (n + 4) previous w
 word_events n previous (closes cs ∷ w) = closed_events cs ++ word_events (n + 4) previous w
 
--- no leaf of the row itself is linked
+-- no leaf among the siblings is linked, whatever stands inside them
 abbrev pub IsUnlinkedRow : Forest → Type 0
 IsUnlinkedRow empty = Unit {0}
 IsUnlinkedRow (leaf_then name link cs rest) = (link ≡ None) × IsUnlinkedRow rest
@@ -141,14 +141,14 @@ abbrev pub IsFlat : List Token → Type 0
 IsFlat w = Matches [] w ⊎ AreItems w
 
 module _ (s : Setting) (pairs_of : List Run → List Pair) where
-  -- no run is linked, no group is a run, and the tokens of each inner row are flat
+  -- no run is linked, no group is a run, and the tokens inside each group are flat
   abbrev pub IsReady : Forest → Type 0
   IsReady empty = Unit {0}
   IsReady (leaf_then name link cs rest) = (is_run name ≡ true → link ≡ None) × IsReady rest
   IsReady (group_then name enter exit inside rest) =
       ((is_run name ≡ false) × IsFlat (tokens_of s pairs_of inside (pairs_of (runs_of s inside)) 0)) × (IsReady inside × IsReady rest)
 
-  -- what comes for each run of a row, of which i runs and n events stand before, are the events of its tokens
+  -- what comes for each run among siblings, with i runs and n events before them, are the events of its tokens
   abbrev pub IsLogged : (ℕ → List Event) → ℕ → List Pair → ℕ → Forest → Type 0
   IsLogged comes n pairs i empty = Unit {0}
   IsLogged comes n pairs i (leaf_then name link cs rest) =

@@ -1,7 +1,18 @@
-//! Emphasis, strong emphasis and strikethrough (CommonMark 6.2, GFM 6.5).
+//! The states of runs of markers, those of emphasis, strong emphasis and strikethrough (CommonMark 6.2, GFM 6.5). The pass is `grouping`.
 //!
-//! The states read a run of markers, as long as it is, as an event `AttentionSequence`. Which runs pair shows once all are read: `runs`
-//! has them as they stand, and `pairing` finds the pairs.
+//!     attention_run ::= '*'+ | '_'+ | '~'+
+//!
+//! A run is as long as it can be. Which runs pair shows once all are read: `runs` has them as they stand, and `pairing` finds the pairs.
+//!
+//! Events:
+//!
+//!     AttentionSequence    the run
+//!
+//! The pass leaves none of this name.
+//!
+//! Example: in `so **very** ok` both `**` are runs.
+//!
+//! Definition: `attention_run` in `markdown_model/specs/Elements.antt`.
 //!
 //! Each state answers the error where a growth is refused; then `failed` is true.
 #![tactic(auto, using(markdown_engine::proofs::OperationFields::law_rules), unfolding(markdown_engine::specs::Operations::scratched))]

@@ -9,7 +9,7 @@ use Rattle.markdown_engine_content.specs.declared.event.Name.{Name}
 use Rattle.markdown_engine_content.specs.declared.event.Point.{Point}
 use Rattle.markdown_engine_events.specs.declared.util.edit_map.Edit.{Edit}
 
--- events that come; at least one event, which go; a row that stays, whose first linked tree is linked to none before it; one event that stays
+-- events that come; at least one event, which go; siblings that stay, whose first linked one is linked to none before it; one event that stays
 pub data Part : Type 0 where
   comes : List Event → Part
   goes : Event → List Event → Part

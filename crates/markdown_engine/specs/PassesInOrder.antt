@@ -1,4 +1,4 @@
--- Passes in a row.
+-- Passes one after another.
 use Rattle.std.specs.Prelude.{◌≡◌, List, [], ◌∷◌}
 use Rattle.markdown_engine.specs.declared.resolve.ResolveName.{ResolveName}
 use Rattle.markdown_engine.specs.declared.tokenizer.Tokenizer.{Tokenizer}

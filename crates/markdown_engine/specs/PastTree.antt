@@ -22,8 +22,8 @@ abbrev pub link_of : Option ℕ → Option Content → Option Link
 link_of previous None = None
 link_of previous (Some c) = Some (link_back previous c)
 
--- The events of a row as they are appended, each linked back: the first has this number, and that is the
--- linked sibling before. Where each link goes on to follows.
+-- The events of siblings as they are appended, each linked back: the first has this number, and that is
+-- the linked sibling before them. Where each link goes on to follows.
 abbrev pub appended_from : ℕ → Option ℕ → Forest → List Event
 appended_from n previous empty = []
 appended_from n previous (leaf_then name None codes rest) =
@@ -38,7 +38,7 @@ appended_from n previous (group_then name enter exit inside rest) =
     ++ event Kind.Exit name exit
     ∷ appended_from (n + 2 + event_count inside) previous rest
 
--- the last linked sibling of a row whose first event has this number, where that is the one before
+-- the last linked one of siblings whose first event has this number, where that is the one before
 abbrev pub last_link : ℕ → Option ℕ → Forest → Option ℕ
 last_link n previous empty = previous
 last_link n previous (leaf_then name None codes rest) = last_link (n + 2) previous rest
@@ -88,7 +88,7 @@ abbrev pub EndsAs : TreeReading → Option ℕ → TokenizeState → Tokenizer �
 EndsAs reading previous s T true U = Reads reading previous s T U
 EndsAs reading previous s T false U = Refuses reading s T U
 
--- a reading whose tree stands behind another row
+-- a reading whose tree stands behind another
 abbrev pub behind : Forest → Option (Forest × List Code) → Option (Forest × List Code)
 behind tree None = None
 behind tree (Some r) = Some (tree ⊕ r.0, r.1)

@@ -48,7 +48,7 @@ abbrev pub is_one_line : List ℕ → ℕ × ℕ → ℕ × ℕ → Bool
 is_one_line bytes low high =
     not (list_any is_line_ending (piece_codes (codes_of bytes) (record { start = low; end = high })))
 
--- each piece but the last is a row of codes up to a line ending, and the next one starts on the line after it
+-- each piece but the last is codes up to a line ending, and the next one starts on the line after it
 abbrev pub are_pieces : List ℕ → List Piece → Bool
 are_pieces bytes [] = true
 are_pieces bytes (piece ∷ rest) =

@@ -1,9 +1,9 @@
+-- The definitions of this crate.
+-- What has to be believed: what public contracts and the theorem cite.
 pub mod DefaultOptions
 pub mod Codes
 pub mod Content
 pub mod DocumentWalk
-pub mod ContentTest
-pub mod PlaceInDocument
 pub mod Tree
 pub mod Place
 pub mod Slices
@@ -11,3 +11,6 @@ pub mod ListFunctions
 pub mod Nesting
 pub mod Stretch
 pub mod PlainBytes
+-- What serves proofs: what functions and proofs promise each other.
+pub mod ContentTest
+pub mod PlaceInDocument

@@ -7,8 +7,8 @@ use Rattle.markdown_engine_content.specs.declared.event.Event.{Event}
 use Rattle.markdown_engine_content.specs.declared.event.Kind.{Kind}
 use Rattle.markdown_engine_content.specs.Codes.{Code, stop_of, document_start}
 
--- A row of sibling trees. A leaf covers codes, and may be linked with the other linked leaves of its
--- row. A group has its two places, the row inside it and its further siblings.
+-- Sibling trees. A leaf covers codes, and may be linked with the other linked leaves among its siblings.
+-- A group has its two places, the trees inside it and its further siblings.
 pub data Forest : Type 0 where
   empty : Forest
   leaf_then : Name → Option Content → List Code → Forest → Forest
@@ -24,7 +24,7 @@ abbrev pub start_of : List Code → Point
 start_of [] = document_start
 start_of (c ∷ cs) = c.start
 
--- where a row begins and ends
+-- where siblings begin and end
 abbrev pub enter_of : Forest → Point
 enter_of empty = document_start
 enter_of (leaf_then name link codes rest) = start_of codes
@@ -44,7 +44,7 @@ abbrev pub linked : Name → List Code → Forest
 linked name [] = empty
 linked name (c ∷ cs) = leaf_then name (Some Content.String) (c ∷ cs) empty
 
--- a group around a row, from its first tree to its last
+-- a group around siblings, from the first to the last
 abbrev pub group : Name → Forest → Forest
 group name inside = group_then name (enter_of inside) (exit_after (enter_of inside) inside) inside empty
 
@@ -65,7 +65,7 @@ event_count empty = 0
 event_count (leaf_then name link codes rest) = 2 + event_count rest
 event_count (group_then name enter exit inside rest) = 2 + event_count inside + event_count rest
 
--- the number of the next linked Enter of this row, whose first event has number n
+-- the number of the next linked Enter among these siblings, whose first event has number n
 abbrev pub next_linked : ℕ → Forest → Option ℕ
 next_linked n empty = None
 next_linked n (leaf_then name None codes rest) = next_linked (n + 2) rest
@@ -75,7 +75,7 @@ next_linked n (group_then name enter exit inside rest) = next_linked (n + 2 + ev
 abbrev pub event : Kind → Name → Point → Event
 event kind name p = record { kind = kind; name = name; point = p; link = None }
 
--- the events of a row that begins with event n, after this linked sibling
+-- the events of siblings that begin with event n, after this linked sibling
 abbrev pub events_from : ℕ → Option ℕ → Forest → List Event
 events_from n previous empty = []
 events_from n previous (leaf_then name None codes rest) =

@@ -17,7 +17,7 @@ use crate::walk::{DOCUMENT_START, code_from, past_code};
 /// The longest document, in bytes: an eighth of what a `usize` holds, so that the columns of its tabs can be counted.
 pub const DOCUMENT_LIMIT: usize = usize::MAX / 8;
 
-// A row of codes.
+// A stretch of codes.
 #[derive(Clone, Copy)]
 struct Stretch {
     // Where it ends.

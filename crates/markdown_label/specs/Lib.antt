@@ -1,11 +1,12 @@
--- What contracts of the starts and ends of labels speak of.
+-- The definitions of this crate.
+-- What has to be believed: what public contracts and the theorem cite.
 pub mod LabelSetting
-pub mod IdentifierFronts
 pub mod LabelFields
 pub mod LabelEnd
-pub mod KeptStarts
 pub mod LabelStarts
--- What contracts of resources speak of.
 pub mod AfterLabelParts
 pub mod Resource
+-- What serves proofs: what functions and proofs promise each other.
+pub mod IdentifierFronts
+pub mod KeptStarts
 pub mod AfterLabel

@@ -114,7 +114,7 @@ title_after_step T = if at_space (current_of T) then spaced LabelEndResourceEnd 
 abbrev pub end_step : Tokenizer → Stepped
 end_step T = if at_close (current_of T) then stepped Ok (done (front_ops ++ Exit N.Resource ∷ []) T) else stepped Nok T
 
--- How runs end: in the resource, what is to come of its row.
+-- How runs end: in the resource, what is to come of the trees inside it.
 
 pub record RowReads (reading : TreeReading) (s : TokenizeState) (T U : Tokenizer) : Type 0 where
   pub tree : Forest
@@ -133,7 +133,7 @@ abbrev pub RowEnds : TreeReading → TokenizeState → Tokenizer → Bool → To
 RowEnds reading s T true U = RowReads reading s T U
 RowEnds reading s T false U = RowRefuses reading s T U
 
--- The rest of the row, from each place on.
+-- The rest of these trees, from each place on.
 
 abbrev pub closes : TreeReading
 closes cs = (one (is_value (byte ")")) >>= λ back. gives (leaf N.ResourceMarker back)) cs

@@ -1,6 +1,19 @@
-// Starts of footnote calls.
+// The states of starts of footnote calls: a bracket and a caret. GitHub has footnotes; the GFM specification has no section on them.
 //
-// GFM footnotes: a call begins with an opening bracket and a caret.
+//     gfm_label_start_footnote ::= '[^'
+//
+// Events:
+//
+//     GfmFootnoteCallLabel
+//       LabelMarker              `[`
+//       GfmFootnoteCallMarker    `^`
+//
+// The start is kept until an end takes it. After the run the pass `label_groups` makes a footnote call of it, a link whose text begins with
+// the caret where the footnote is not defined, or data.
+//
+// Example: the codes `[^` of `[^a]`.
+//
+// Definition: `gfm_label_start_footnote` in `markdown_model/specs/Elements.antt`.
 //
 // Each state answers the error where a growth is refused; then `failed` is true.
 #![tactic(auto, using(markdown_engine::proofs::OperationFields::law_rules), unfolding(markdown_engine::specs::Operations::scratched))]

@@ -1,8 +1,27 @@
-// Ends of labels.
+// The states of ends of labels: a closing bracket, with what follows it (CommonMark 6.3 and 6.4, and footnote calls).
 //
-// CommonMark 6.3 and 6.4, and footnote calls: a closing bracket takes the last start that no end has used. With a resource behind it, a
-// reference to a definition, or an identifier that is defined, it makes a link, an image or a footnote call; else its start is used up in
-// vain. A start behind which a link or a call was made is no link's.
+//     label_end ::= ']' (resource | full | collapsed)?
+//     full ::= label                                           as in `partial_label`; it has a definition
+//     collapsed ::= '[' ']'                                    the label before it has a definition
+//
+// An end takes the last start that no end has used. With a footnote's start and a defined footnote it makes a call, and nothing
+// follows. Else what follows makes a link or an image. Where the label has a definition, nothing has to follow; before a `[` this asks for
+// the option `label_shortcut_before_bracket`, and for no label there. Else the start is used up in vain. A start behind which a link or a call
+// was made is no link's.
+//
+// Events:
+//
+//     LabelEnd
+//       LabelMarker              `]`
+//     Resource                   as in `resource`, or
+//     Reference
+//       ReferenceMarker          `[`
+//       ReferenceString          of a full reference: `Data`, `LineEnding` and `SpaceOrTab`, linked as a string
+//       ReferenceMarker          `]`
+//
+// Example: in `[a][b]` the first `]`, with the full reference `[b]`.
+//
+// Definition: `label_end` in `markdown_model/specs/LabelEnd.antt`.
 //
 // Each state answers the error where a growth is refused; then `failed` is true.
 #![tactic(auto, using(markdown_engine::proofs::OperationFields::law_rules), unfolding(markdown_engine::specs::Operations::scratched, markdown_engine::specs::Operations::attempted, markdown_engine::specs::Operations::frame_of))]

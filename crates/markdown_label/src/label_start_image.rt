@@ -1,7 +1,20 @@
-// Starts of images.
+// The states of starts of images: the exclamation mark and the bracket before an image's description (CommonMark 6.4).
 //
-// CommonMark 6.4: the description of an image begins with an exclamation mark and an opening bracket. Where footnotes are on and a caret
-// follows, the mark is data, and a footnote call begins at the bracket.
+//     label_start_image ::= '!['
+//
+// Where footnotes are on and a caret follows, the start does not hold: the mark is data, and a footnote call begins at the bracket.
+//
+// Events:
+//
+//     LabelImage
+//       LabelImageMarker    `!`
+//       LabelMarker         `[`
+//
+// The start is kept until an end takes it. After the run the pass `label_groups` makes an image of it, or data.
+//
+// Example: the codes `![` of `![a](b)`.
+//
+// Definition: `label_start_image` in `markdown_model/specs/Elements.antt`.
 //
 // Each state answers the error where a growth is refused; then `failed` is true.
 #![tactic(auto, using(markdown_engine::proofs::OperationFields::law_rules), unfolding(markdown_engine::specs::Operations::scratched))]

@@ -1,6 +1,17 @@
-// Starts of links.
+// The state of starts of links: the bracket before a link's text (CommonMark 6.3).
 //
-// CommonMark 6.3: the text of a link begins with an opening bracket.
+//     label_start_link ::= '['
+//
+// Events:
+//
+//     LabelLink
+//       LabelMarker    `[`
+//
+// The start is kept until an end takes it. After the run the pass `label_groups` makes a link of it, or data.
+//
+// Example: the first bracket of `[a](b)`.
+//
+// Definition: `label_start_link` in `markdown_model/specs/Elements.antt`.
 //
 // The state answers the error where a growth is refused; then `failed` is true.
 #![tactic(auto, using(markdown_engine::proofs::OperationFields::law_rules), unfolding(markdown_engine::specs::Operations::scratched))]

@@ -1,7 +1,26 @@
-// Resources.
+// The states of resources: in parentheses a destination and a title, behind the label of a link or an image (CommonMark 6.3).
 //
-// CommonMark 6.3: behind the label of a link or an image, in parentheses, a destination and a title, each of which may be missing, with
-// whitespace around them; a title does not stand without a destination. These are states of a label's end.
+//     resource ::= '(' space? (destination (space title)? space?)? ')'
+//
+// `space` is that of `partial_space_or_tab_eol`, `destination` that of `partial_destination`, with parentheses 32 deep at most, and `title` that
+// of `partial_title`.
+//
+// Events, with `SpaceOrTab` and `LineEnding` between the parts:
+//
+//     Resource
+//       ResourceMarker                          `(`
+//       ResourceDestination
+//         ResourceDestinationLiteral            in angle brackets, or
+//         ResourceDestinationRaw                without
+//       ResourceTitle
+//         ResourceTitleMarker                   a quote or a parenthesis
+//         ResourceTitleString                   what stands between
+//         ResourceTitleMarker                   the other one
+//       ResourceMarker                          `)`
+//
+// Example: `(b "c")`, behind the label of `[a](b "c")`.
+//
+// Definition: `resource` in `markdown_model/specs/Resource.antt`.
 //
 // Each state answers the error where a growth is refused; then `failed` is true.
 #![tactic(auto, using(markdown_engine::proofs::OperationFields::law_rules), unfolding(markdown_engine::specs::Operations::scratched, markdown_engine::specs::Operations::attempted, markdown_engine::specs::Operations::frame_of))]

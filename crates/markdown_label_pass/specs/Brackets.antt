@@ -228,7 +228,7 @@ abbrev pub going_of : List Event → Part
 going_of [] = comes []
 going_of (e ∷ es) = goes e es
 
--- the events of a row without links
+-- the events of siblings without links
 abbrev pub start_events : Front → List Event
 start_events f = appended_from 0 None (start_row f)
 

@@ -1,4 +1,6 @@
--- What contracts of the pass of labels speak of.
+-- The definitions of this crate.
+-- What has to be believed: what public contracts and the theorem cite.
 pub mod Brackets
-pub mod BracketsJoined
 pub mod LabelsHandedOver
+-- What serves proofs: what functions and proofs promise each other.
+pub mod BracketsJoined

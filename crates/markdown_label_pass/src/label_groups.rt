@@ -1,7 +1,26 @@
-// The pass of label ends.
+// The pass of labels, which makes groups of links, images and footnote calls (CommonMark 6.3 and 6.4, and footnote calls).
 //
-// CommonMark 6.3 and 6.4, and footnote calls: a run leaves the starts and the ends of labels as events, and lists of which belong to which.
-// The pass puts the groups around them, and makes data of the starts that no end has used.
+//     link ::= '[' text ']' (resource | reference)?
+//     image ::= '![' text ']' (resource | reference)?
+//     footnote_call ::= '[^' text ']'
+//
+// A run leaves the starts and the ends of labels as events, and in scratch fields which belong together. Other starts become data, and so does
+// the caret of a footnote's start that makes a link: it is the first in the text.
+//
+// Events, in place of those of the start and the end:
+//
+//     Link, Image or GfmFootnoteCall
+//       Label
+//         LabelLink                `LabelMarker`, of a link, or
+//         LabelImage               `LabelImageMarker` and `LabelMarker`, of an image, or
+//         GfmFootnoteCallLabel     `LabelMarker` and `GfmFootnoteCallMarker`, of a call
+//         LabelText                what stands between, also where that is nothing
+//         LabelEnd                 `LabelMarker`
+//       Resource or Reference      where one follows
+//
+// Example: in `[a](b)` a link around the whole, with a label around `[a]`.
+//
+// Definition: `labels_of` in `markdown_model/specs/Passes.antt`.
 #![tactic(auto)]
 
 ghost use Rattle.std.specs.Prelude.{◌≡◌, ◌+◌, ◌-◌, ◌<◌, ◌++◌, ◌∷◌, [], length, IfOk, OnOk, OnErr, IsTrue, None};

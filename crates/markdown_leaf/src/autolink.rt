@@ -1,7 +1,23 @@
-// Autolinks.
+// The states of autolinks: a URI or an email address between angle brackets (CommonMark 6.5).
 //
-// CommonMark 6.5: between `<` and `>` a URI, whose scheme has 2 to 32 codes, or an email address, whose labels have 1 to 63 codes
-// each and neither start nor end with a hyphen.
+//     autolink ::= '<' (uri | email_address) '>'
+//     uri ::= scheme ':' (code - (ascii_control | ' ' | '<' | '>'))*
+//     scheme ::= letter (letter | digit | '+' | '-' | '.'){1,31}
+//     email_address ::= local+ '@' domain_label ('.' domain_label)*
+//     local ::= letter | digit | one of # $ % & ' * + - . / = ? ^ _ ` { | } ~
+//     domain_label ::= alphanumeric ((alphanumeric | '-'){0,61} alphanumeric)?
+//     alphanumeric ::= letter | digit
+//
+// Events:
+//
+//     Autolink
+//       AutolinkMarker                       `<`
+//       AutolinkProtocol or AutolinkEmail    the URI or the address
+//       AutolinkMarker                       `>`
+//
+// Example: `<https://a.b/c>` and `<d@e.f>`.
+//
+// Definition: `autolink` in `markdown_model/specs/LeafConstructs.antt`.
 //
 // Each state answers the error where a growth is refused; then `failed` is true.
 #![tactic(auto, using(markdown_engine::proofs::OperationFields::law_rules), unfolding(markdown_engine::specs::Operations::scratched))]

@@ -1,6 +1,17 @@
-// Character escapes.
+// The states of character escapes: a backslash before an ASCII punctuation character, which then stands for itself (CommonMark 2.4).
 //
-// CommonMark 2.4: a backslash before an ASCII punctuation character makes that character stand for itself.
+//     character_escape ::= '\' ascii_punctuation
+//     ascii_punctuation ::= '!'..'/' | ':'..'@' | '['..'`' | '{'..'~'
+//
+// Events:
+//
+//     CharacterEscape
+//       CharacterEscapeMarker    `\`
+//       CharacterEscapeValue     the punctuation character
+//
+// Example: in `5 \* 3` the codes `\*` are an escape, and the `*` is no marker.
+//
+// Definition: `character_escape` in `markdown_model/specs/LeafConstructs.antt`.
 //
 // Each state answers the error where a growth is refused; then `failed` is true.
 #![tactic(auto, using(markdown_engine::proofs::OperationFields::op_rules))]

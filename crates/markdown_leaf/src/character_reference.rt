@@ -1,6 +1,22 @@
-// Character references.
+// The states of character references: `&`, the name of a character or its number, and `;` (CommonMark 2.5).
 //
-// CommonMark 2.5: `&`, the name of a character or its number, and `;`. A number is `#` and decimal digits, or `#x` and hexadecimal ones.
+//     character_reference ::= '&' (name | decimal | hexadecimal) ';'
+//     name ::= (letter | digit)+                               one of the table of references
+//     decimal ::= '#' digit{1,7}
+//     hexadecimal ::= '#' ('x' | 'X') hex_digit{1,6}
+//
+// Events:
+//
+//     CharacterReference
+//       CharacterReferenceMarker               `&`
+//       CharacterReferenceMarkerNumeric        `#`, of a number
+//       CharacterReferenceMarkerHexadecimal    `x` or `X`, of a hexadecimal number
+//       CharacterReferenceValue                the name or the digits
+//       CharacterReferenceMarkerSemi           `;`
+//
+// Example: `&lt;`, `&#36;` and `&#x3E;`.
+//
+// Definition: `character_reference` in `markdown_model/specs/LeafConstructs.antt`.
 //
 // Each state answers the error where a growth is refused; then `failed` is true.
 #![tactic(auto, using(markdown_engine::proofs::OperationFields::op_rules), unfolding(markdown_engine::specs::Operations::scratched))]

@@ -1,6 +1,16 @@
-// Hard breaks by a backslash.
+// The states of hard breaks by a backslash: a backslash before a line ending is a hard line break (CommonMark 6.7).
 //
-// CommonMark 6.7: a backslash before a line ending is a hard line break. The line ending itself stays.
+//     hard_break_escape ::= '\'                                before line_ending
+//
+// The line ending is not read: it stays an element of its own.
+//
+// Events:
+//
+//     HardBreakEscape    `\`
+//
+// Example: `red\` on a line, and `blue` on the next.
+//
+// Definition: `hard_break_escape` in `markdown_model/specs/LeafConstructs.antt`.
 //
 // Each state answers the error where a growth is refused; then `failed` is true.
 #![tactic(auto, using(markdown_engine::proofs::OperationFields::op_rules))]

@@ -1,7 +1,23 @@
-// Code spans and math spans.
+// The states of code spans (CommonMark 6.1), and of math spans alike: a run of markers opens a span, which ends at the next run of equal
+// length.
 //
-// CommonMark 6.1: a run of backticks opens a span that ends at the next run of equal length. Line endings and runs of another
-// length inside are leaves of their own. Math spans are the same with dollars.
+//     raw_text ::= code_text | math_text
+//     code_text ::= '`'{n} part+ '`'{n}                        n ≥ 1
+//     math_text ::= '$'{n} part+ '$'{n}                        n ≥ 1, or n ≥ 2 without `math_text_single_dollar`
+//     part ::= line_ending | (code - (line_ending | marker))+ | marker{k}    k ≠ n
+//
+// Runs are as long as they can be. No such marker stands right before a span, unless as the value of an escape.
+//
+// Events, with `Math` for `Code` in a math span:
+//
+//     CodeText
+//       CodeTextSequence               the opening run
+//       CodeTextData or LineEnding     one for each part
+//       CodeTextSequence               the closing run
+//
+// Example: in `` ``a`b`` `` the run of one backtick is data of the span.
+//
+// Definition: `raw_text_here` in `markdown_model/specs/SingleConstructs.antt`, by `span_of` in `LeafConstructs.antt`.
 //
 // Each state answers the error where a growth is refused; then `failed` is true.
 #![tactic(auto, using(markdown_engine::proofs::OperationFields::law_rules), unfolding(markdown_engine::specs::Operations::scratched))]

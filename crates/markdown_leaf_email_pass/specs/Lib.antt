@@ -1,3 +1,4 @@
--- What contracts of the email pass speak of.
+-- The definitions of this crate.
+-- What serves proofs: what functions and proofs promise each other.
 pub mod EmailScan
 pub mod EmailEdits

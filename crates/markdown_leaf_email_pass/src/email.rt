@@ -1,6 +1,22 @@
-// The pass of email literals.
+// The pass of email literals: addresses that stand bare in text (GFM 6.9).
 //
-// GFM 6.9: an address that stands bare in text is a literal, outside links.
+//     email_literal ::= (('mailto' | 'xmpp') ':')? local+ '@' domain
+//     local ::= letter | digit | '+' | '-' | '.' | '_'
+//     domain ::= (letter | digit | '-' | '_' | '.' | '/')+     a '.' before letter or digit, a '/' with 'xmpp' alone
+//
+// The codes on both sides of the `@` are as many as there are, with no `/` before them. The domain holds a `.` and ends with a letter. The
+// protocol is a whole word, in either case. Literals are found from the left, and none reaches into the one before.
+//
+// Events: data that carries no link and stands in no link becomes
+//
+//     Data                          what is left between literals
+//     GfmAutolinkLiteralEmail       a literal without a protocol
+//     GfmAutolinkLiteralMailto      one with `mailto:`
+//     GfmAutolinkLiteralXmpp        one with `xmpp:`
+//
+// Example: in `to a@b.c.` the literal is `a@b.c`.
+//
+// Definition: `with_emails_apart` in `markdown_model/specs/Passes.antt`, by `with_emails` in `GfmEmailLiteral.antt`.
 #![tactic(auto)]
 
 ghost use Rattle.std.specs.Prelude.{◌≡◌, ◌<◌, ◌≤◌, ◌+◌, ◌^◌, ◌++◌, [], None, length, drop, OnOk, OnErr, IsTrue};

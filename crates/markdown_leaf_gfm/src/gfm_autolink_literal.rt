@@ -1,7 +1,24 @@
-// Autolink literals with a protocol or from `www.` on.
+// The states of autolink literals with a protocol or from `www.` on (GFM 6.9). The pass of email literals is in `markdown_leaf_email_pass`.
 //
-// GFM 6.9: `http` or `https` with `://`, or `www.`, then a domain, and a path that ends before whitespace or trailing punctuation.
-// Domains and paths look at characters of the document; both end with the content at the latest.
+//     protocol_literal ::= ('https' | 'http') '://' domain path
+//     www_literal ::= domain path                              where 'www.' and a further code stand
+//     domain ::= (other | '-' | '.' | '_')+                    no '.' or '_' at which a trail begins
+//     path ::= code*                                           up to whitespace, a trail or the end
+//     trail ::= (mark | ']' | '&' letter+ ';')* trail_end
+//     mark ::= one of ! " ' ) , * . : ; ? _ ~
+//     trail_end ::= '<' | ']' before whitespace, '(', '[' or the end | nothing, before whitespace or the document's end
+//
+// Letters stand in either case. No letter stands before a protocol; before `www.` stands nothing, whitespace or one of `(*_[]~`. A domain holds
+// a character that is none of `.`, `_` and `-`, and neither of its last two parts between dots holds `_`. A `)` that closes a `(` of the path
+// belongs to it. `other` and whitespace are classes of the document's characters; literals end with the content at the latest.
+//
+// Events, over the whole literal:
+//
+//     GfmAutolinkLiteralProtocol or GfmAutolinkLiteralWww
+//
+// Example: in `see www.a.b/c.` the literal is `www.a.b/c`.
+//
+// Definition: `gfm_autolink_literal_protocol` and `gfm_autolink_literal_www` in `markdown_model/specs/GfmAutolinkLiteral.antt`.
 //
 // Each state answers the error where a growth is refused; then `failed` is true.
 #![tactic(auto, using(markdown_engine::proofs::OperationFields::law_rules), unfolding(markdown_engine::specs::Operations::scratched))]
@@ -382,8 +399,8 @@ pub fn domain_after(tokenizer: &mut Tokenizer) -> Result<State, AllocError>
     }
 }
 
-// What is known of trails behind a code, where so much was known before it: by `.` none begins there, by `&` none goes on there behind
-// a `&`, by `a` none goes on there behind a `&` and letters; by 0 nothing is known.
+// What is known of trails behind a code, where so much was known before it. By `.` none begins there. By `&` none goes on there behind
+// a `&`, and by `a` none behind a `&` and letters. By 0 nothing is known.
 fn known_after(known: u8, code: u8) -> u8
     ensures { result ≡ known_after known code }
 {
@@ -425,8 +442,8 @@ fn pass(tokenizer: &mut Tokenizer, known: u8, code: u8) -> State
     State::Next(StateName::GfmAutolinkLiteralPathInside)
 }
 
-/// In a path: `size` parentheses of it opened, and `size_b` closed. `marker` says what is known of trails, so that a row of marks that
-/// does not trail is looked at once.
+/// In a path: `size` parentheses of it opened, and `size_b` closed. `marker` says what is known of trails, so that a series of marks
+/// that does not trail is looked at once.
 ///
 ///     > | to http://a.b/c and
 ///                      ^^^

@@ -1,7 +1,21 @@
-// Checks of task list items.
+// The states of checks of task list items, at the first code of the item's first paragraph (GFM 5.3).
 //
-// GFM 5.3: where the first paragraph of a list item begins, a space, a tab, a line ending or an `x` of either case between brackets.
-// A line ending has to follow, or spaces and tabs and a further code; these are left to others.
+//     gfm_task_list_item_check ::= '[' value ']'               before line_ending, or blank+ and a further code
+//     value ::= blank | line_ending | 'x' | 'X'
+//
+// What follows the check is not read: it is left to others.
+//
+// Events:
+//
+//     GfmTaskListItemCheck
+//       GfmTaskListItemMarker            `[`
+//       GfmTaskListItemValueChecked      `x` or `X`, or
+//       GfmTaskListItemValueUnchecked    a space, a column of a tab or a line ending
+//       GfmTaskListItemMarker            `]`
+//
+// Example: `[x] tea`, the text of the list item `- [x] tea`.
+//
+// Definition: `gfm_task_list_item_check` in `markdown_model/specs/LeafConstructs.antt`.
 //
 // Each state answers the error where a growth is refused; then `failed` is true.
 #![tactic(auto, using(markdown_engine::proofs::OperationFields::op_rules), unfolding(markdown_engine::specs::Operations::scratched))]

@@ -1,4 +1,7 @@
+-- The definitions of this crate.
+-- What has to be believed: what public contracts and the theorem cite.
 pub mod HtmlByteTests
 pub mod HtmlLines
-pub mod HtmlTextRests
 pub mod HtmlText
+-- What serves proofs: what functions and proofs promise each other.
+pub mod HtmlTextRests

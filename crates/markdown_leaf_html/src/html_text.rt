@@ -1,7 +1,24 @@
-// HTML in text.
+// The states of HTML in text, over one line or more (CommonMark 6.6).
 //
-// CommonMark 6.6: an opening tag, a closing tag, a comment, an instruction, a declaration or a CDATA section, over one line or more.
-// Each line has data of its own; the blank codes at the start of a later line are whitespace.
+//     html_text ::= open_tag | closing_tag | comment | instruction | declaration | cdata
+//     open_tag ::= '<' tag_name (space+ attribute)* space* '/'? '>'
+//     closing_tag ::= '</' tag_name space* '>'
+//     tag_name ::= letter (letter | digit | '-')*
+//     attribute ::= attribute_name (space* '=' space* value)?
+//     attribute_name ::= (letter | ':' | '_') (letter | digit | '-' | '.' | ':' | '_')*
+//     value ::= '"' (code - '"')* '"' | "'" (code - "'")* "'" | unquoted
+//     unquoted ::= bare (bare - '/')*                          before space, '/' or '>'
+//     bare ::= code - (space | '"' | "'" | '<' | '=' | '>' | '`')
+//     space ::= blank | line_ending
+//     comment ::= '<!-->' | '<!--->' | '<!--' code* '-->'      up to the first '-->'
+//     instruction ::= '<?' code* '?>'                          up to the first '?>'
+//     declaration ::= '<!' letter code* '>'                    up to the first '>'
+//     cdata ::= '<![CDATA[' code* ']]>'                        up to the first ']]>'
+//
+// Events: `HtmlText`, and in it `HtmlTextData` for each line, `LineEnding` between them, and `SpaceOrTab` over the blank codes that begin a
+// later line.
+//
+// Example: `<a href="b">c</a>` has an opening and a closing tag. Definition: `html_text` in `markdown_model/specs/HtmlText.antt`.
 //
 // Each state answers the error where a growth is refused; then `failed` is true.
 #![tactic(auto, using(markdown_engine::proofs::OperationFields::law_rules), unfolding(markdown_engine::specs::Operations::scratched, markdown_engine::specs::Operations::attempted, markdown_engine::specs::Operations::frame_of))]

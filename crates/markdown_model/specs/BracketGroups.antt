@@ -95,8 +95,8 @@ assembled tokens = joined (nested pair_group loose loose tokens)
 
 -- `pairs_of` gives the pairs of a container's runs
 module _ (s : Setting) (pairs_of : List Run → List Pair) where
-  -- a row as a bracket word, whose runs are cut by these pairs, and where n runs stand before it; the
-  -- rows inside its groups have their own pairs
+  -- siblings as a bracket word, whose runs are cut by these pairs, and where n runs stand before them; the
+  -- siblings inside each group have their own pairs
   unfoldable pub tokens_of : Forest → List Pair → ℕ → List Token
   tokens_of empty pairs n = []
   tokens_of (leaf_then Name.AttentionSequence link cs rest) pairs n = run_tokens pairs n (run_of s cs) ++ tokens_of rest pairs (suc n)

@@ -77,7 +77,7 @@ code_text earlier previous = as_plain (span_here (byte "`") code_names (λ n. tr
 unfoldable pub math_text : Bool → List Element → Option Code → Reading Element
 math_text single earlier previous = as_plain (span_here (byte "$") math_names (λ n. single || nat_lt 1 n) (ends_escaped earlier) previous)
 
--- the row of a code; a code without one is data
+-- the line of a code; a code without one is data
 unfoldable pub tried : Tries → ℕ → Reading Element
 tried [] v = data_code
 tried (row ∷ rows) v = elim (list_any (λ n. v == n) row.0) [ true ↦ row.1 | false ↦ tried rows v ]

@@ -13,7 +13,7 @@ use Rattle.markdown_model.specs.Pairs.{Pair, IsPairList, pair_list}
 use Rattle.markdown_model.specs.BracketGroups.{paired}
 use Rattle.markdown_model.specs.Passes.{labels_of, merged, trimmed, with_emails_apart}
 
--- The tree of labels: its rows are the containers of runs.
+-- The tree of labels: the runs among siblings are those of a container.
 unfoldable pub label_tree : Setting → List Code → Forest
 label_tree s cs = labels_of (elements_of s cs)
 

@@ -134,7 +134,7 @@ is_link Name.Link = true
 is_link Name.GfmFootnoteCall = true
 is_link _ = false
 
--- a link or a footnote call stands in a row, or inside it
+-- a link or a footnote call is one of the siblings, or stands inside one
 abbrev pub holds_link : Forest → Bool
 holds_link empty = false
 holds_link (leaf_then name link cs rest) = holds_link rest
@@ -154,7 +154,7 @@ abbrev pub begins_data : Forest → Bool
 begins_data (leaf_then Name.Data None cs rest) = true
 begins_data _ = false
 
--- no two data without a link are neighbours, in a row or inside it
+-- no two data without a link are neighbours, among the siblings or inside them
 abbrev pub IsDataApart : Forest → Type 0
 IsDataApart empty = Unit {0}
 IsDataApart (leaf_then Name.Data None cs rest) = (begins_data rest ≡ false) × IsDataApart rest

@@ -1,4 +1,4 @@
--- From elements to a tree: labels, merging, trimming and emails, each of a whole row and all inside it.
+-- From elements to a tree: labels, merging, trimming and emails, each of all siblings and all inside them.
 use Rattle.std.specs.Prelude.{Bool, true, false, ◌&&◌, ◌||◌, nat_le, List, [], ◌∷◌, ◌++◌, length, take, drop, reverse, map, Option, Some, None}
 use Rattle.std.specs.List.{list_all}
 use Rattle.markdown_engine_content.specs.declared.event.Name.{Name}

@@ -49,22 +49,22 @@ run_of s (c ∷ cs) =
       may_close = right && (not (c.value == byte "_") || (not (is_other (class_of a)) || not left));
     }
 
--- Containers: the whole content, and the text of each label. Each is a row of the tree of labels, and
--- runs of different rows do not pair.
+-- Containers: the whole content, and the text of each label. The runs of one are siblings in the tree of
+-- labels, and runs that are no siblings do not pair.
 
--- the runs that stand in a row, in order
+-- the runs among siblings, in order
 unfoldable pub runs_of : Setting → Forest → List Run
 runs_of s empty = []
 runs_of s (leaf_then Name.AttentionSequence link cs rest) = run_of s cs ∷ runs_of s rest
 runs_of s (leaf_then name link cs rest) = runs_of s rest
 runs_of s (group_then name enter exit inside rest) = runs_of s rest
 
--- the runs of each row inside a row
+-- the runs of the siblings inside each group, at any depth
 unfoldable pub rows_inside : Setting → Forest → List (List Run)
 rows_inside s empty = []
 rows_inside s (leaf_then name link cs rest) = rows_inside s rest
 rows_inside s (group_then name enter exit inside rest) = (runs_of s inside ∷ rows_inside s inside) ++ rows_inside s rest
 
--- the runs of each row; rows that are no containers have none
+-- the runs of all siblings and of those inside each group; those that make no container have none
 unfoldable pub containers_of : Setting → Forest → List (List Run)
 containers_of s tree = runs_of s tree ∷ rows_inside s tree

@@ -18,7 +18,7 @@ use Rattle.markdown_model.specs.Resource.{label, reference_names, title, title_n
 use Rattle.markdown_model.specs.Setting.{Setting}
 use Rattle.markdown_model.specs.InlineTree.{text_tree, string_tree, label_tree, run_count, pair_count, probe_bound, opener_count, closer_count, list_probe_bound}
 
--- what a row says of its setting: the switches, the options, and what is defined
+-- what an example says of its setting: the switches, the options, and what is defined
 pub record RowSetting : Type 0 where
   pub attention : Bool
   pub autolink : Bool
@@ -72,7 +72,7 @@ default = record {
   footnotes = [];
 }
 
--- the shipped table of references, with the switches and options of the row
+-- the shipped table of references, with the switches and options of the example
 abbrev pub setting : RowSetting → List ℕ → Setting
 setting r bytes = record {
   bytes = bytes;
@@ -124,7 +124,7 @@ exit name l c i v = record { kind = Kind.Exit; name = name; point = point l c i 
 abbrev pub chained : Name → ℕ → ℕ → ℕ → ℕ → Option ℕ → Option ℕ → Event
 chained name l c i v previous next = record { kind = Kind.Enter; name = name; point = point l c i v; link = Some (record { previous = previous; next = next; content = Content.String }) }
 
--- a row alone, without what is inside its groups
+-- siblings alone, without what is inside their groups
 abbrev pub outermost : Forest → Forest
 outermost empty = empty
 outermost (leaf_then name link cs rest) = leaf_then name link cs (outermost rest)

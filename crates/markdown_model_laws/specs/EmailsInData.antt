@@ -33,13 +33,13 @@ HasFullData (group_then name enter exit inside rest) = HasFullData inside × Has
 abbrev pub EmailsStandInData : Type 0
 EmailsStandInData = (tree : Forest) → HasFullData tree → merged (as_data (with_emails_apart tree)) ≡ merged (as_data tree)
 
--- an email literal stands in a row, or inside it
+-- an email literal is one of the siblings, or stands inside one
 abbrev pub holds_email : Forest → Bool
 holds_email empty = false
 holds_email (leaf_then name link cs rest) = is_email name || holds_email rest
 holds_email (group_then name enter exit inside rest) = holds_email inside || holds_email rest
 
--- none stands inside a link or an autolink of a row, or of a row inside it, however deep
+-- none stands inside a link or an autolink, be that one of the siblings or inside one, however deep
 abbrev pub HasPlainLinks : Forest → Type 0
 HasPlainLinks empty = Unit {0}
 HasPlainLinks (leaf_then name link cs rest) = HasPlainLinks rest

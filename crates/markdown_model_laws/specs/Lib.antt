@@ -1,4 +1,5 @@
--- The laws.
+-- The definitions of this crate.
+-- What has to be believed: what public contracts and the theorem cite.
 pub mod EscapedText
 pub mod PairGroups
 pub mod ProbeBounds

@@ -78,7 +78,7 @@ pub record IsRaw (max : ℕ) (text rest : List Code) : Type 0 where
 
 -- What a reading finds: the tree and the codes after it.
 
--- three parts in a row, of which this is said, with the tree of the three
+-- three parts one after another, of which this is said, with the tree of the three
 pub record Marked (Is : Code → List Code → Code → Type 0) (tree_of : List Code → List Code → List Code → Forest) (cs : List Code) (tree : Forest) (rest : List Code) : Type 0 where
   pub front : Code
   pub text : List Code

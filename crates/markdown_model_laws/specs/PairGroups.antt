@@ -15,7 +15,7 @@ is_pair Name.Strong = true
 is_pair Name.GfmStrikethrough = true
 is_pair _ = false
 
--- the groups of pairs in a row and inside it
+-- the groups of pairs among siblings and inside them
 abbrev pub pair_groups : Forest → ℕ
 pair_groups empty = 0
 pair_groups (leaf_then name link cs rest) = pair_groups rest
@@ -39,7 +39,7 @@ HasSides P (leaf_then name None front (group_then text enter exit inside (leaf_t
     (is_sequence name ≡ true) × (name ≡ other) × P front back
 HasSides P _ = ⊥
 
--- each group of a pair in a row, and inside it, is so
+-- each group of a pair, among siblings and inside them, is so
 abbrev pub EachPairHas : (List Code → List Code → Type 0) → Forest → Type 0
 EachPairHas P empty = Unit {0}
 EachPairHas P (leaf_then name link cs rest) = EachPairHas P rest

@@ -1,4 +1,20 @@
-// Data: text that means itself.
+// The states of data, text that means itself (CommonMark 6.9), and the pass `resolve`, which merges neighbouring data.
+//
+//     data ::= (code (code - stop)*)?
+//
+// The first code belongs to data, whatever it is. `stop` is one of the bytes in the scratch field `markers`; where `passes_letters` is set, an
+// `h` stops only before a `t`, and a `w` only before a `w`, in either case.
+//
+// Events of the states:
+//
+//     Data          a stretch on one line
+//     LineEnding    a line ending
+//
+// The pass leaves one `Data` in place of several that carry no link and follow one another.
+//
+// Example: in `a & b` the codes `& b` are data, and the pass merges them with what stands before.
+//
+// Definition: `data_up_to` in `markdown_model/specs/TextLines.antt`, and `merged` in `Passes.antt` for the pass.
 //
 // Each state answers the error where a growth is refused; then `failed` is true.
 #![tactic(auto, using(markdown_engine::proofs::OperationFields::op_rules))]
@@ -91,8 +107,8 @@ pub fn at_break(tokenizer: &mut Tokenizer) -> Result<State, AllocError>
 
 /// In a stretch of data, which ends before a line ending, a marker or the end.
 ///
-/// Where the scratch field `passes_letters` is set, as in a text, it goes on past a marker that is a letter with which a literal may begin
-/// (GFM 6.9) but none does: an `h` before no `t`, or a `w` before no other.
+/// Where the scratch field `passes_letters` is set, as in a text, it goes on past some letters with which a literal may begin (GFM 6.9).
+/// These are an `h` before no `t`, and a `w` before no other: no literal begins there.
 ///
 ///     > | plain *
 ///          ^^^^^^

@@ -1,4 +1,15 @@
-// Whitespace on one line: spaces, tabs and virtual spaces, as many as stand there, within bounds.
+// The states of whitespace on one line: spaces, tabs and virtual spaces, as many as stand there, within bounds (CommonMark 2.1 and 2.2).
+//
+//     space_or_tab ::= blank{min,max}
+//     blank ::= a space or a column of a tab
+//
+// Events, where a code stands there; the name and the link are those that are asked for:
+//
+//     SpaceOrTab    the blank codes
+//
+// Example: the two spaces of `[a](  b)`.
+//
+// Definition: `space_or_tab` in `markdown_model/specs/Whitespace.antt`.
 //
 // Each state answers the error where a growth is refused; then `failed` is true.
 #![tactic(auto, using(markdown_engine::proofs::OperationFields::op_rules), unfolding(markdown_engine::specs::Operations::scratched))]

@@ -1,4 +1,19 @@
-// Whitespace with at most one line ending: blank codes on one line, or a line ending with the blank codes around it.
+// The states of whitespace with at most one line ending: blank codes on one line, or a line ending with the blank codes around it
+// (CommonMark 6.3).
+//
+//     space_or_tab_eol ::= blank* line_ending blank* | blank+
+//
+// Behind the first stands a code that is no line ending; behind the second stands no line ending.
+//
+// Events, each where it has a code, with the link that is asked for:
+//
+//     SpaceOrTab    the blank codes before the line ending
+//     LineEnding
+//     SpaceOrTab    the blank codes after it
+//
+// Example: what stands between `b` and `"c")` where a resource is on two lines, `(b` and `  "c")`.
+//
+// Definition: `space_or_tab_eol` in `markdown_model/specs/Whitespace.antt`.
 //
 // Each state answers the error where a growth is refused; then `failed` is true.
 #![tactic(auto, using(markdown_engine::proofs::OperationFields::op_rules), unfolding(markdown_engine::specs::Operations::scratched, markdown_engine::specs::Operations::attempted, markdown_engine::specs::Operations::frame_of))]

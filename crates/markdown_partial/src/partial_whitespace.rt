@@ -1,4 +1,21 @@
-// Trimming: data beside a line ending loses its blank codes there.
+// The pass of whitespace beside line endings: data loses its blank codes there (CommonMark 6.7 and 6.8).
+//
+//     trimmed_data ::= blank* data (blank* | hard_break_trailing)
+//     hard_break_trailing ::= space{2,}                        before line_ending
+//
+// The blank codes in front are set apart behind a line ending, and those at the back before one. `trim_whole` asks for the same at the start
+// and at the end of the whole. Where `hard_break` asks for it, those before a line ending are a hard break if all are spaces of no tab.
+//
+// Events, in place of `Data` that carries no link; each where it has a code:
+//
+//     SpaceOrTab           the blank codes in front
+//     Data                 what is left
+//     SpaceOrTab           the blank codes at the back, or
+//     HardBreakTrailing    the spaces at the back
+//
+// Example: `red`, two spaces and a line ending: the spaces are a hard break.
+//
+// Definition: `trimmed` in `markdown_model/specs/Passes.antt`.
 #![tactic(auto)]
 
 ghost use Rattle.std.specs.Prelude.{◌≡◌, false, ◌^◌, ◌<◌, ◌≤◌, ◌==◌, ◌&&◌, not, ◌++◌, IfOk, OnOk, OnErr, IsTrue, IsSome, Some, None, [], length, drop};

@@ -9,7 +9,7 @@ use Rattle.markdown_engine_content.specs.declared.event.Content.{Content}
 use Rattle.markdown_engine_content.specs.declared.event.Name.{Name}
 use Rattle.markdown_plan.specs.Plan.{Plan}
 
--- the Enter of a leaf; `linked` says that a linked leaf of its row stands just before
+-- the Enter of a leaf; `linked` says that a linked sibling stands just before
 abbrev pub enter_op : Bool → Name → Option Content → Op
 enter_op linked name None = Enter name
 enter_op linked name (Some c) = if linked then EnterConnected name c else EnterLink name c
@@ -18,7 +18,7 @@ abbrev pub has_content : Option Content → Bool
 has_content None = false
 has_content (Some c) = true
 
--- the operations of a row
+-- the operations of siblings
 abbrev pub linked_ops : Bool → Forest → List Op
 linked_ops linked empty = []
 linked_ops linked (leaf_then name link cs rest) = enter_op linked name link ∷ (consumes cs ++ Exit name ∷ linked_ops (has_content link) rest)
@@ -32,7 +32,7 @@ tree_ops (Some r) = Some (linked_ops false r.0)
 abbrev pub plan_of : TreeReading → Plan
 plan_of reading cs = tree_ops (reading cs)
 
--- Behind a linked leaf of a row stand linked leaves alone; no leaf is empty, and each group reaches from its first code to its last.
+-- Behind a linked leaf stand linked leaves alone as siblings; no leaf is empty, and each group reaches from its first code to its last.
 abbrev pub IsRow : Bool → Forest → Type 0
 IsRow linked empty = Unit {0}
 IsRow linked (leaf_then name link cs rest) = (linked ≡ true → has_content link ≡ true) × ((cs ≢ []) × IsRow (has_content link) rest)

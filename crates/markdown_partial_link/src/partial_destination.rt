@@ -1,7 +1,25 @@
-// Destinations of resources and definitions.
+// The states of destinations, of resources and definitions (CommonMark 6.3, link destination).
 //
-// CommonMark 6.3: between `<` and `>` codes on one line without a bare `<`; or codes without space and control whose parentheses are
-// balanced. The names come from the scratch fields, and `size_b` is the greatest depth of parentheses.
+//     destination ::= literal | raw
+//     literal ::= '<' ('\' ('<' | '>' | '\') | code - ('<' | '>' | line_ending))* '>'
+//     raw ::= part+                                            the first code is no '<'
+//     part ::= '\' ('(' | ')' | '\') | '(' part* ')' | code - (space | control | '(' | ')')
+//     space ::= blank | line_ending
+//
+// What looks like an escape is one. Parentheses of a raw destination nest `size_b` deep at most, and behind it stands whitespace, the end, or a
+// `)` that closes none of its own. `control` is an ASCII control other than NUL.
+//
+// Events, by the names in the scratch fields, with a resource's beside them:
+//
+//     token_1          ResourceDestination
+//       token_2        ResourceDestinationLiteral, of a literal destination
+//         token_3      ResourceDestinationLiteralMarker, `<`
+//         token_5      ResourceDestinationString, unless it is empty: `Data`, linked as a string
+//         token_3      ResourceDestinationLiteralMarker, `>`
+//       token_4        ResourceDestinationRaw, of a raw one
+//         token_5      ResourceDestinationString: `Data`, linked as a string
+//
+// Example: `<b c>` and `b(c)`. Definition: `destination` in `markdown_model/specs/Resource.antt`.
 //
 // Each state answers the error where a growth is refused; then `failed` is true.
 #![tactic(auto, using(markdown_engine::proofs::OperationFields::law_rules), unfolding(markdown_engine::specs::Operations::scratched))]

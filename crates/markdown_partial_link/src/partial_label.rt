@@ -1,8 +1,20 @@
-// Labels of references and definitions.
+// The states of labels, of references and definitions (CommonMark 6.3, link label).
 //
-// CommonMark 6.3: between `[` and `]` without a bare bracket, over several lines, none of which is blank; with a code that is no
-// whitespace, and with 999 codes at most, of which line endings and the blank codes after them are none. The names come from the
-// scratch fields.
+//     label ::= '[' ('\' ('[' | '\' | ']') | code - ('[' | ']'))* ']'
+//
+// What looks like an escape is one. A label may go over several lines, none of which is blank. It holds a code that is no whitespace, and 999
+// codes at most, of which line endings and the blank codes after them are none.
+//
+// Events, by the names in the scratch fields, with a reference's beside them:
+//
+//     token_1      Reference
+//       token_2    ReferenceMarker, `[`
+//       token_3    ReferenceString: for each line `Data`, with `LineEnding` and `SpaceOrTab` between, all linked as one string
+//       token_2    ReferenceMarker, `]`
+//
+// Example: the label `[b]` of the full reference `[a][b]`.
+//
+// Definition: `label` in `markdown_model/specs/Resource.antt`.
 //
 // Each state answers the error where a growth is refused; then `failed` is true.
 #![tactic(auto, using(markdown_engine::proofs::OperationFields::law_rules), unfolding(markdown_engine::specs::Operations::scratched, markdown_engine::specs::Operations::attempted, markdown_engine::specs::Operations::frame_of))]

@@ -1,7 +1,21 @@
-// Titles of resources and definitions.
+// The states of titles, of resources and definitions (CommonMark 6.3, link title).
 //
-// CommonMark 6.3: between two `"`, two `'`, or `(` and `)`, over several lines, none of which is blank. The names come from the scratch
-// fields.
+//     title ::= '"' text('"') '"' | "'" text("'") "'" | '(' text(')') ')'
+//     text(closer) ::= ('\' ('\' | closer) | code - closer)*
+//
+// What looks like an escape is one. A title may go over several lines, none of which is blank.
+//
+// Events, by the names in the scratch fields, with a resource's beside them:
+//
+//     token_1      ResourceTitle
+//       token_2    ResourceTitleMarker, the opening marker
+//       token_3    ResourceTitleString, unless it is empty: for each line `Data`, with `LineEnding` and `SpaceOrTab` between,
+//                  all linked as one string
+//       token_2    ResourceTitleMarker, the closing marker
+//
+// Example: the title `"c"` of `[a](b "c")`.
+//
+// Definition: `title` in `markdown_model/specs/Resource.antt`.
 //
 // Each state answers the error where a growth is refused; then `failed` is true.
 #![tactic(auto, using(markdown_engine::proofs::OperationFields::law_rules), unfolding(markdown_engine::specs::Operations::scratched, markdown_engine::specs::Operations::attempted, markdown_engine::specs::Operations::frame_of))]

@@ -29,7 +29,7 @@ use Rattle.markdown_label.specs.Resource as Resource
 use Rattle.markdown_run_text.specs.StringContent as StringContent
 use Rattle.markdown_run_text.specs.TextContent as TextContent
 
--- a part of what is said of a state: the part is taken in each row, so that a name that is not known yet leaves a row to choose, not a field
+-- a part of what is said of a state: the part is taken in each line, so that a name that is not known yet leaves a line to choose, not a field
 abbrev pub said_of {ℓ} : {A : Type ℓ} → StateName → (StateWords → A) → A
 said_of CharacterEscapeStart part = part CharacterEscape.start_words
 said_of CharacterEscapeInside part = part CharacterEscape.inside_words

@@ -1,4 +1,7 @@
+-- The definitions of this crate.
+-- What has to be believed: what public contracts and the theorem cite.
 pub mod Layer
-pub mod LayerLaws
 pub mod RunConstruct
+-- What serves proofs: what functions and proofs promise each other.
+pub mod LayerLaws
 pub mod RunWithPasses

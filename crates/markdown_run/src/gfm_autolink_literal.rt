@@ -1,4 +1,22 @@
-//! Autolink literals (GFM 6.9): the states of those with a protocol and of those from `www.` on, and the pass that sets email literals apart.
+//! Autolink literals (GFM 6.9). The states, of those with a protocol and of those from `www.` on, are those of `markdown_leaf_gfm`; the pass
+//! `resolve`, which sets email literals apart, is that of `markdown_leaf_email_pass`.
+//!
+//!     gfm_autolink_literal ::= protocol_literal | www_literal | email_literal
+//!
+//! The modules there have the grammar of each.
+//!
+//! Events, each over a whole literal:
+//!
+//!     GfmAutolinkLiteralProtocol    from the states
+//!     GfmAutolinkLiteralWww         from the states
+//!     GfmAutolinkLiteralEmail       from the pass
+//!     GfmAutolinkLiteralMailto      from the pass
+//!     GfmAutolinkLiteralXmpp        from the pass
+//!
+//! Example: `http://a.b`, `www.a.b`, `a@b.c`, `mailto:a@b.c` and `xmpp:a@b.c/d`.
+//!
+//! Definition: in `markdown_model/specs`, `GfmAutolinkLiteral.antt` and `GfmEmailLiteral.antt`, and `with_emails_apart` of `Passes.antt` for the
+//! pass.
 
 pub use markdown_leaf_email_pass::email::resolve;
 pub use markdown_leaf_gfm::gfm_autolink_literal::{

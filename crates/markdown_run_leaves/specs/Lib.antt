@@ -1,6 +1,7 @@
--- What contracts of innermost events speak of.
+-- The definitions of this crate.
+-- What has to be believed: what public contracts and the theorem cite.
 pub mod InnermostEvents
 pub mod LeafView
--- What is said of leaves on lines.
-pub mod OneLineLeaves
 pub mod LeafLaws
+-- What serves proofs: what functions and proofs promise each other.
+pub mod OneLineLeaves

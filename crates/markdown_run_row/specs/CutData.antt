@@ -7,12 +7,12 @@ use Rattle.markdown_engine_content.specs.declared.event.Name.{Name}
 use Rattle.markdown_engine_content.specs.declared.event.Name.TheVariants as N
 use Rattle.markdown_partial.specs.MergedEvents.{is_data}
 
--- a data for each code, before a row
+-- a data for each code, before further siblings
 abbrev pub each_code : List Code → Forest → Forest
 each_code [] rest = rest
 each_code (c ∷ cs) rest = leaf_then N.Data None (c ∷ []) (each_code cs rest)
 
--- a leaf before a row, cut where it is data without a link
+-- a leaf before further siblings, cut where it is data without a link
 abbrev pub cut_leaf : Bool → Name → Option Content → List Code → Forest → Forest
 cut_leaf true name None cs rest = each_code cs rest
 cut_leaf _ name link cs rest = leaf_then name link cs rest

@@ -1,6 +1,8 @@
--- What the runs over a content and their passes are described by.
-pub mod RowTreeNames
+-- The definitions of this crate.
+-- What has to be believed: what public contracts and the theorem cite.
 pub mod Row
+-- What serves proofs: what functions and proofs promise each other.
+pub mod RowTreeNames
 pub mod RunOverElements
 pub mod OpenStarts
 pub mod RowStart

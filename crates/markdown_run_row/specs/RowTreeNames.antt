@@ -36,7 +36,7 @@ IsRunless empty = Unit {0}
 IsRunless (leaf_then name link cs rest) = (is_run name ≡ false) × IsRunless rest
 IsRunless (group_then name enter exit inside rest) = IsRunless inside × IsRunless rest
 
--- runs of markers stand in the row itself, none inside its groups
+-- runs of markers stand among the siblings, none inside their groups
 abbrev pub HasOuterRuns : Forest → Type 0
 HasOuterRuns empty = Unit {0}
 HasOuterRuns (leaf_then name link cs rest) = HasOuterRuns rest

@@ -67,7 +67,7 @@ first_try = said_at text_tries
 abbrev pub literal_letters : List ℕ
 literal_letters = codes "HhWw"
 
--- the codes of the other rows
+-- the codes of the other lines
 abbrev pub plain_markers : List ℕ
 plain_markers = filter (λ n. not (list_any (λ m. n == m) literal_letters)) text_markers
 
@@ -117,9 +117,9 @@ domains_pay cs p = (p.options.now.constructs.gfm_autolink_literal && holds WwwDo
 abbrev pub domains_for : List Code → ℕ → ParseState → Option (List ℕ)
 domains_for cs end p = if domains_pay cs p then Some (no_domains p.bytes.now end cs) else None
 
--- the scratch fields of a text of this content: where data stops, and that it passes letters with which no literal begins; where the last runs
--- begin at which spans may close, where the sequences last begin that end HTML and resources, where titles may end, where no domain begins, and
--- the names of what is defined
+-- The scratch fields of a text of this content: where data stops, and that it passes letters with which no literal begins. They say where the
+-- last runs begin at which spans may close, and where the sequences last begin that end HTML and resources. They say where titles may end, where
+-- no domain begins, and the names of what is defined.
 abbrev pub marked_fields : Place → ParseState → TokenizeState → TokenizeState
 marked_fields c p s =
     record s {
@@ -184,8 +184,8 @@ text_choice_of T = text_choice (text_setting T) T.cursor.codes
 abbrev pub EndsWithCodes : Place → Type 0
 EndsWithCodes p = p.codes ≢ [] → p.end.index ≡ (stop_of document_start p.codes).index
 
--- at the start: the fields in which spans, references and autolinks count are at rest, those in which whitespace behind a check does, those
--- of literals, and those of ends of labels; the starts that are kept end between characters; and the content ends with its last code
+-- At the start the fields are at rest in which spans, references, autolinks and whitespace behind a check count, with those of literals and of
+-- ends of labels. The starts that are kept end between characters, and the content ends with its last code.
 pub record StartReady (T : Tokenizer) : Type 0 where
   pub spans : RawText.StartReady T
   pub look : GfmTaskListItemCheck.MayLook T

@@ -1,16 +1,16 @@
--- Tables of what is tried where: rows, each of some codes. What else is said of the codes follows from the rows.
+-- Tables of what is tried where: lines, each of some codes. What else is said of the codes follows from the lines.
 use Rattle.std.specs.Prelude.{ℕ, ◌==◌, if◌then◌else◌, List, [], ◌∷◌, ◌++◌, Option, Some, None}
 use Rattle.std.specs.List.{list_any}
 
 abbrev pub Table : Type 0 → Type 0
 Table A = List (List ℕ × A)
 
--- the codes that have a row
+-- the codes that have a line
 abbrev pub codes_in : {A : Type 0} → Table A → List ℕ
 codes_in [] = []
 codes_in (row ∷ rows) = row.0 ++ codes_in rows
 
--- what the row of a code says
+-- what the line of a code says
 abbrev pub said_at : {A : Type 0} → Table A → ℕ → Option A
 said_at [] v = None
 said_at (row ∷ rows) v = if list_any (λ n. v == n) row.0 then Some row.1 else said_at rows v

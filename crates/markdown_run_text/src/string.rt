@@ -1,4 +1,19 @@
-//! String content: escapes, character references and data.
+//! The states of string content, as in titles and destinations: escapes, character references, line endings and data (CommonMark 2.4 and 2.5).
+//! The pass `resolve` sets whitespace beside line endings apart.
+//!
+//!     string ::= (character_escape | character_reference | line_ending | data)*
+//!
+//! At each code the first of these that holds is the element; data holds everywhere.
+//!
+//! Events: those of `character_escape` and `character_reference`, and
+//!
+//!     LineEnding
+//!     Data          what no construct takes
+//!     SpaceOrTab    blank codes beside a line ending, from the pass
+//!
+//! Example: `a\*b &amp; c`.
+//!
+//! Definition: `string_element` in `markdown_model/specs/Elements.antt`, and `string_tree` in `InlineTree.antt` for the whole.
 //!
 //! Each state answers the error where a growth is refused; then `failed` is true.
 #![tactic(auto, using(markdown_engine::proofs::OperationFields::op_rules))]

@@ -1,4 +1,17 @@
-//! Text content: what stands in paragraphs and headings.
+//! The states of text content, as in paragraphs and headings (CommonMark 6). The pass `resolve` sets whitespace and email literals apart.
+//!
+//!     text ::= gfm_task_list_item_check? element*
+//!     element ::= character_escape | hard_break_escape | character_reference | raw_text | autolink | html_text | attention_run
+//!         | gfm_autolink_literal | label_start_image | gfm_label_start_footnote | label_start_link | label_end | line_ending | data
+//!
+//! At each code the first of these that holds is the element; data holds everywhere.
+//!
+//! Events: those of the constructs, and `Data` and `LineEnding`. After the run the passes go over all events, in this order: `label_groups`,
+//! attention's `grouping`, `partial_data`, and here `partial_whitespace` and, where they are on, `email`.
+//!
+//! Example: `see *that*, [this](b) and &amp;`.
+//!
+//! Definition: `text_element` in `markdown_model/specs/Elements.antt`, and `text_tree` in `InlineTree.antt` for the whole.
 //!
 //! Each state answers the error where a growth is refused; then `failed` is true.
 #![tactic(auto, using(markdown_engine::proofs::OperationFields::op_rules))]
@@ -29,14 +42,14 @@ use markdown_leaf_gfm::domain_outlook;
 use markdown_partial::partial_whitespace;
 use std::alloc::AllocError;
 
-// Where so many names are defined, and so many labels may end, an order of the names pays; where so many titles may begin, to note
-// where they may end; and where so many literals may begin behind a `_`, to note where no domain does.
+// Where so many names are defined, and so many labels may end, an order of the names pays. Where so many titles may begin, it pays to note
+// where they may end; and where so many literals may begin behind a `_`, where no domain does.
 const MANY: usize = 16;
 
 // Where a name has so many bytes, labels are read past their first front, so that an order of the names pays.
 const LONG: usize = 64;
 
-// What is tried at which bytes: the start of what is tried first, and the state to go on with where that does not hold. The rows are
+// What is tried at which bytes: the start of what is tried first, and the state to go on with where that does not hold. The lines are
 // handed to the macro that is named, behind the words that come after its name.
 macro_rules! tries {
     ($of_rows:ident $($more:tt)*) => {
@@ -56,14 +69,14 @@ macro_rules! tries {
     };
 }
 
-// The bytes of all rows.
+// The bytes of all lines.
 macro_rules! bytes_of {
     ($([$($of_row:literal)*] $construct:ident, $otherwise:ident;)*) => {
         byte_set!($($($of_row),*),*)
     };
 }
 
-// The bytes of the rows but for those of literals.
+// The bytes of the lines but for those of literals.
 macro_rules! plain_bytes_of {
     (@of ($($plain:literal)*)) => { byte_set!($($plain),*) };
     (@of $plain:tt [$($of_row:literal)*] GfmAutolinkLiteralProtocolStart, $otherwise:ident; $($rest:tt)*) => {
@@ -78,7 +91,7 @@ macro_rules! plain_bytes_of {
     ($($rows:tt)*) => { plain_bytes_of!(@of () $($rows)*) };
 }
 
-// What the row of a byte says, if it has one.
+// What the line of a byte says, if it has one.
 macro_rules! row_of {
     ($byte:ident $([$($of_row:literal)*] $construct:ident, $otherwise:ident;)*) => {
         match $byte {

@@ -55,7 +55,7 @@ IdentifierLaw = (xs ys : List ℕ) → DifferInSpaces (chars xs) (chars ys) → 
 abbrev pub UnchangedLaw : Type 0
 UnchangedLaw = (table : Table) (text : List ℕ) → All (λ b. b ≢ byte "&") text → parsed table text ≡ text
 
--- the constants of the crate's surface hold the rows of the tables
+-- the constants of the crate's surface hold the lines of the tables
 pub record ConstantsHoldRows : Type 0 where
   pub html_4 : map (λ row. (row.0.now, row.1.now)) CHARACTER_REFERENCES_HTML_4 ≡ html_4_rows
   pub html_5 : map (λ row. (row.0.now, row.1.now)) CHARACTER_REFERENCES ≡ html_5_rows

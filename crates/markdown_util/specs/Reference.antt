@@ -30,11 +30,11 @@ is_value marker bytes = (nat_lt 0 (length bytes) && nat_le (length bytes) (value
 
 -- The table of names.
 
--- rows of a name, without `&` and `;`, and the text that it stands for, both in UTF-8
+-- lines of a name, without `&` and `;`, and the text that it stands for, both in UTF-8
 abbrev pub Table : Type 0
 Table = List (List ℕ × List ℕ)
 
--- the rows of a table as a program holds it
+-- the lines of a table as a program holds it
 abbrev pub rows_of : List (Bor (List ℕ) × Bor (List ℕ)) → Table
 rows_of rows = map (λ row. (row.0.now, row.1.now)) rows
 
@@ -76,7 +76,7 @@ html_4_rows = html_4_capitals ++ (html_4_a_to_d ++ (html_4_e_to_l ++ (html_4_m_t
 unfoldable pub html_5_rows : Table
 html_5_rows = html_5_capitals ++ (html_5_a_to_d ++ (html_5_e_to_l ++ (html_5_m_to_r ++ html_5_s_to_z)))
 
--- the rows of HTML 5, or else those of HTML 4
+-- the lines of HTML 5, or else those of HTML 4
 abbrev pub rows_for : Bool → Table
 rows_for true = html_5_rows
 rows_for false = html_4_rows
@@ -84,7 +84,7 @@ rows_for false = html_4_rows
 abbrev pub has_name : Table → List ℕ → Bool
 has_name rows name = list_any (λ row. bytes_eq row.0 name) rows
 
--- no name stands in two rows
+-- no name stands in two lines
 abbrev pub has_distinct_names : Table → Bool
 has_distinct_names [] = true
 has_distinct_names (row ∷ rows) = not (has_name rows row.0) && has_distinct_names rows
@@ -101,12 +101,12 @@ abbrev pub is_sorted : Table → Bool
 is_sorted [] = true
 is_sorted (row ∷ rows) = is_below_first row.0 rows && is_sorted rows
 
--- what holds of a table of names, whichever rows it has
+-- what holds of a table of names, whichever lines it has
 pub record IsTable (rows : Table) : Type 0 where
   pub names : IsTrue (list_all (λ row. is_value (byte "&") row.0) rows)
   pub distinct : IsTrue (has_distinct_names rows)
 
--- the text in the row of a name
+-- the text in the line of a name
 abbrev pub named_value : Table → List ℕ → Option (List ℕ)
 named_value [] name = None
 named_value (row ∷ rows) name = elim (bytes_eq row.0 name) [ true ↦ Some row.1 | false ↦ named_value rows name ]

@@ -16,7 +16,7 @@ pub fn unchanged()
 {}
 
 /// The names of each table are distinct, stand in the order of their bytes, and are 1 to 31 ASCII letters and digits;
-/// and `CHARACTER_REFERENCES` and `CHARACTER_REFERENCES_HTML_4` hold these rows.
+/// and `CHARACTER_REFERENCES` and `CHARACTER_REFERENCES_HTML_4` hold their lines.
 #[tactic(auto, using(crate::proofs::ReferenceTables::html_4_sound, crate::proofs::ReferenceTables::html_5_sound, crate::proofs::ReferenceTables::html_4_sorted, crate::proofs::ReferenceTables::html_5_sorted, crate::proofs::ReferenceTables::constants))]
 pub fn tables()
     ensures html_4 { IsTable html_4_rows }

@@ -1,8 +1,25 @@
-//! The pass that makes groups of the runs of markers that pair (CommonMark 6.2, GFM 6.5).
+//! The pass of attention, which makes emphasis, strong emphasis and strikethrough of the runs of markers that pair (CommonMark 6.2, GFM 6.5).
 //!
-//! Runs stand in the events as `AttentionSequence`. `markdown_attention` finds which of them pair; here the events of each run give way
-//! to those that its pairs make of it. `sizes` keeps what pairs take of each run, `brackets` writes the events, and `edits` collects and
-//! applies the edits.
+//!     emphasis ::= '*' text '*' | '_' text '_'
+//!     strong ::= '**' text '**' | '__' text '__'
+//!     strikethrough ::= '~' text '~' | '~~' text '~~'    one tilde by `gfm_strikethrough_single_tilde`
+//!
+//! Which runs pair, and with how many markers, no grammar says, but the pair list of each container: the whole content, or the text of a label.
+//!
+//! Events, in place of `AttentionSequence`; strong emphasis has `Strong` in all names, strikethrough `GfmStrikethrough`:
+//!
+//!     Emphasis
+//!       EmphasisSequence    the opening markers
+//!       EmphasisText        what stands between
+//!       EmphasisSequence    the closing markers
+//!     Data                  markers that no pair takes
+//!
+//! `pairing` finds the pairs; `sizes` keeps what pairs take of each run, `brackets` writes the events, and `edits` collects and applies the
+//! edits.
+//!
+//! Example: `*a **b***` is emphasis with strong emphasis in it.
+//!
+//! Definition: `paired` in `markdown_model/specs/BracketGroups.antt`, with `pair_list` in `Pairs.antt` and `run_of` in `Runs.antt`.
 #![tactic(auto)]
 
 ghost use Rattle.std.specs.Prelude.{◌≡◌, IfOk, OnOk, OnErr, IsTrue, None};

@@ -74,7 +74,7 @@ fn do_sizes_fit(options: ParseOptions, a: Sequence, b: Sequence) -> bool
     }
 }
 
-// The row that the tables have for the text of a label, or for the whole content.
+// The line that the tables have for the text of a label, or for the whole content.
 fn row_number(text: Option<usize>) -> usize
     requires { row_of text < 2 ^ 64 }
     ensures { result ≡ row_of text }
@@ -260,7 +260,7 @@ fn list_end(heads: &mut Vec<Newest>, list: usize, closer: Sequence)
     }
 }
 
-// How many rows the tables have: one for the whole content, and one for the text of each label.
+// How many lines the tables have: one for the whole content, and one for the text of each label.
 fn row_count(runs: &Runs) -> Result<usize, AllocError>
     ensures is { IfOk result (λ rows. rows ≡ runs.now.texts + 1) }
     ensures within { IfOk result (λ rows. (r : ℕ) → r < length runs.now.list → row_of (run_at runs.now.list r).text < rows) }
@@ -268,7 +268,7 @@ fn row_count(runs: &Runs) -> Result<usize, AllocError>
     runs.texts().checked_add(1).ok_or(AllocError)
 }
 
-// Three empty lists for each row.
+// Three empty lists for each line.
 fn empty_lists(alloc: Global, rows: usize) -> Result<Vec<Newest>, AllocError>
     ensures { IfOk result (λ table. table.items ≡ replicate (rows * 3) 0) }
 {
@@ -276,7 +276,7 @@ fn empty_lists(alloc: Global, rows: usize) -> Result<Vec<Newest>, AllocError>
     vec![in alloc; Newest::none(); size]
 }
 
-// A table of zeros, so many for each row.
+// A table of zeros, so many for each line.
 fn zeros(alloc: Global, rows: usize, each: usize) -> Result<Vec<usize>, AllocError>
     ensures { IfOk result (λ table. table.items ≡ replicate (rows * each) 0) }
 {

@@ -164,7 +164,7 @@ fn value_len(text: &str, marker: u8) -> usize
         .count()
 }
 
-/// The text in the row with this name, of rows in the order of their names.
+/// The text in the line with this name, of lines in the order of their names.
 fn text_of(rows: &'static [(&'static str, &'static str)], name: &str) -> Option<&'static str>
     requires { IsTrue (is_sorted (rows_of rows.now)) }
     ensures { option_copied result ≡ named_value (rows_of rows.now) name.now }
@@ -175,7 +175,7 @@ fn text_of(rows: &'static [(&'static str, &'static str)], name: &str) -> Option<
     }
 }
 
-/// The rows of HTML 5 among which a name would stand.
+/// The lines of HTML 5 among which a name would stand.
 fn html_5(name: &str) -> &'static [(&'static str, &'static str)]
     ensures { IsPart html_5_rows (rows_of result.now) name.now }
 {
@@ -227,7 +227,7 @@ fn html_5_s_to_z() -> &'static [(&'static str, &'static str)]
     &HTML_5_S_TO_Z
 }
 
-/// The rows of HTML 4 among which a name would stand.
+/// The lines of HTML 4 among which a name would stand.
 fn html_4(name: &str) -> &'static [(&'static str, &'static str)]
     ensures { IsPart html_4_rows (rows_of result.now) name.now }
 {

@@ -28,8 +28,8 @@ pub const HARD_BREAK_PREFIX_SIZE_MIN: usize = 2;
 pub const HTML_CDATA_PREFIX: [u8; 6] = *b"CDATA[";
 
 // The table of named references, in parts: each `[..]` holds the names that begin with the letters it says, in the
-// order of their bytes. `name: text` is a row of HTML 4 and of HTML 5, `name => text` one of HTML 5 alone, and
-// `name => text | other` one for which HTML 4 has the other text. `$rows` says what becomes of the rows.
+// order of their bytes. `name: text` is a line of HTML 4 and of HTML 5, `name => text` one of HTML 5 alone, and
+// `name => text | other` one for which HTML 4 has the other text. `$rows` says what becomes of the lines.
 macro_rules! character_references {
     ($rows:ident $($part:tt)*) => {
         $rows! {
@@ -347,21 +347,21 @@ macro_rules! character_references {
     };
 }
 
-// The rows of HTML 5 in the parts that are given.
+// The lines of HTML 5 in the parts that are given.
 macro_rules! html_5 {
     ($([$($name:literal $(: $text:literal)? $(=> $new:literal $(| $old:literal)?)?,)*])*) => {
         [$($($(($name, $text),)? $(($name, $new),)?)*)*]
     };
 }
 
-// The rows of HTML 4 in the parts that are given.
+// The lines of HTML 4 in the parts that are given.
 macro_rules! html_4 {
     ($([$($name:literal $(: $text:literal)? $(=> $new:literal $(| $old:literal)?)?,)*])*) => {
         [$($($(($name, $text),)? $($(($name, $old),)?)?)*)*]
     };
 }
 
-// The rows of one part, before which stand as many others as there are words in the first brackets.
+// The lines of one part, before which stand as many others as there are words in the first brackets.
 macro_rules! part {
     ($rows:ident [] [$($row:tt)*] $($rest:tt)*) => { $rows! { [$($row)*] } };
     ($rows:ident [skip $($more:tt)*] [$($row:tt)*] $($rest:tt)*) => { part! { $rows [$($more)*] $($rest)* } };
@@ -375,36 +375,36 @@ pub const CHARACTER_REFERENCES_HTML_4: [(&str, &str); 252] = character_reference
 /// more. The names stand in the order of their bytes.
 pub const CHARACTER_REFERENCES: [(&str, &str); 294] = character_references!(html_5);
 
-// The rows of HTML 5 whose names begin with a capital letter.
+// The lines of HTML 5 whose names begin with a capital letter.
 pub(crate) const HTML_5_CAPITALS: [(&str, &str); 73] = character_references!(part html_5 []);
 
-// The rows of HTML 5 whose names begin with `a` to `d`.
+// The lines of HTML 5 whose names begin with `a` to `d`.
 pub(crate) const HTML_5_A_TO_D: [(&str, &str); 44] = character_references!(part html_5 [skip]);
 
-// The rows of HTML 5 whose names begin with `e` to `l`.
+// The lines of HTML 5 whose names begin with `e` to `l`.
 pub(crate) const HTML_5_E_TO_L: [(&str, &str); 61] = character_references!(part html_5 [skip skip]);
 
-// The rows of HTML 5 whose names begin with `m` to `r`.
+// The lines of HTML 5 whose names begin with `m` to `r`.
 pub(crate) const HTML_5_M_TO_R: [(&str, &str); 69] =
     character_references!(part html_5 [skip skip skip]);
 
-// The rows of HTML 5 whose names begin with `s` to `z`.
+// The lines of HTML 5 whose names begin with `s` to `z`.
 pub(crate) const HTML_5_S_TO_Z: [(&str, &str); 47] =
     character_references!(part html_5 [skip skip skip skip]);
 
-// The rows of HTML 4 whose names begin with a capital letter.
+// The lines of HTML 4 whose names begin with a capital letter.
 pub(crate) const HTML_4_CAPITALS: [(&str, &str); 59] = character_references!(part html_4 []);
 
-// The rows of HTML 4 whose names begin with `a` to `d`.
+// The lines of HTML 4 whose names begin with `a` to `d`.
 pub(crate) const HTML_4_A_TO_D: [(&str, &str); 37] = character_references!(part html_4 [skip]);
 
-// The rows of HTML 4 whose names begin with `e` to `l`.
+// The lines of HTML 4 whose names begin with `e` to `l`.
 pub(crate) const HTML_4_E_TO_L: [(&str, &str); 53] = character_references!(part html_4 [skip skip]);
 
-// The rows of HTML 4 whose names begin with `m` to `r`.
+// The lines of HTML 4 whose names begin with `m` to `r`.
 pub(crate) const HTML_4_M_TO_R: [(&str, &str); 59] =
     character_references!(part html_4 [skip skip skip]);
 
-// The rows of HTML 4 whose names begin with `s` to `z`.
+// The lines of HTML 4 whose names begin with `s` to `z`.
 pub(crate) const HTML_4_S_TO_Z: [(&str, &str); 44] =
     character_references!(part html_4 [skip skip skip skip]);
