@@ -43,7 +43,7 @@ def say(text):
 
 def build():
     """Proves and builds our two programs, where that is not done yet."""
-    for command, folder in ((['./mdinline', 'string'], HERE), (['rt', 'run'], os.path.join(HERE, 'crates', 'mdinline_count'))):
+    for command, folder in ((['./mdinline', '--prove'], HERE), (['rt', 'run'], os.path.join(HERE, 'crates', 'mdinline_count'))):
         done = subprocess.run(command, cwd=folder, stdin=subprocess.DEVNULL, stdout=subprocess.PIPE, stderr=subprocess.PIPE)
         if done.returncode != 0:
             sys.exit(done.stderr.decode() + 'the programs were not built')
