@@ -1,5 +1,5 @@
 -- The elements of a content are sound, so its tree of labels is striped.
-use Rattle.std.proofs.Common.{◌≡◌, ℕ, Bool, true, false, List, [], ◌∷◌, ◌++◌, refl, sym, subst, Option, Some, None, inl, inr}
+use Rattle.std.proofs.Common.{◌≡◌, ℕ, Bool, false, List, [], ◌∷◌, ◌++◌, refl, sym, subst, Option, Some, None, inl, inr}
 use Rattle.markdown_engine_content.specs.declared.event.Name.{Name}
 use Rattle.markdown_engine_content.specs.declared.label_kind.LabelKind.{LabelKind}
 use Rattle.markdown_engine_content.specs.Codes.{Code}
@@ -8,7 +8,7 @@ use Rattle.markdown_model.specs.CodeTests.{is_value}
 use Rattle.markdown_model.specs.Grammar.{Reading, ◌>>=◌, gives, some}
 use Rattle.markdown_model.specs.Setting.{Setting}
 use Rattle.markdown_model.specs.LabelEnd.{Element, plain, starts, ends, Label, label_before, outcome_of, label_end}
-use Rattle.markdown_model.specs.Elements.{as_plain, line_ending, data_code, attention_run, label_start_image, gfm_label_start_footnote, label_start_link, code_text, math_text, text_element, AreElementsFrom, AreElements, code_before, elements_of}
+use Rattle.markdown_model.specs.Elements.{as_plain, line_ending, data_code, attention_run, label_start_image, gfm_label_start_footnote, label_start_link, text_element, AreElementsFrom, AreElements, code_before, elements_of}
 use Rattle.markdown_model.specs.InlineTree.{label_tree}
 use Rattle.markdown_model.proofs.ElementCases.{AllAre, EachConstruct, outcome_yields, text_has}
 use Rattle.markdown_model.proofs.ElementsCover.{covers_text_element}
@@ -18,7 +18,8 @@ use Rattle.markdown_model.proofs.ReadingsCover.{At}
 use Rattle.markdown_model.proofs.NoLinkInConstructs.{Passes, Yields, yields_bind, yields_gives, yields_either, then_any}
 use Rattle.markdown_attention.specs.OpenRuns.{IsMarker}
 use Rattle.markdown_attention.proofs.AttentionTreeLabels.{IsGood, IsSound, quiet-good, good-run, good-leaf, good-labels}
-use Rattle.markdown_model.proofs.PlainTrees.{IsQuiet, Free, quiet_escape, quiet_hard_break_escape, quiet_reference, quiet_autolink, quiet_task_check, quiet_code, quiet_math, quiet_html, quiet_protocol, quiet_www, quiet_after_label}
+use Rattle.markdown_model.proofs.PlainTrees.{IsQuiet, plain-quiet, quiet_after_label}
+use Rattle.markdown_model.proofs.PlainConstructs.{IsPlainTree, ReadsPlain}
 use Rattle.markdown_attention.proofs.MarkerCodes.{AreSingles, IsRunLeaf, singles-back, run-leaf}
 
 -- Readings whose values all pass, at codes of a content.
@@ -36,9 +37,9 @@ module _ (bytes : List ℕ) where
   abbrev Sound : Reading Element → Type 0
   Sound a = YieldsOn bytes (IsSound bytes) a
 
-  sound_plain : (a : Reading Forest) → Free a → Sound (as_plain a)
+  sound_plain : (document : List ℕ) (a : Reading Forest) → ReadsPlain document a → Sound (as_plain a)
   unfolding as_plain
-  sound_plain a h = on_any _ _ (yields_bind (IsQuiet true) _ _ _ h λ tree k. yields_gives _ (plain tree) (quiet-good bytes tree k))
+  sound_plain document a h = on_any _ _ (yields_bind (IsPlainTree document) _ _ _ h.plain λ tree k. yields_gives _ (plain tree) (quiet-good bytes tree (plain-quiet document tree k)))
 
   sound_line_ending : Sound line_ending
   unfolding line_ending
@@ -69,14 +70,6 @@ module _ (bytes : List ℕ) where
   unfolding label_start_link
   sound_link_start = on_any _ _ (then_any _ _ _ λ marker. yields_gives _ (starts LabelKind.Link marker) tt)
 
-  sound_code_span : (earlier : List Element) (previous : Option Code) → Sound (code_text earlier previous)
-  unfolding code_text
-  sound_code_span earlier previous = sound_plain _ (quiet_code _ _ _ _)
-
-  sound_math_span : (single : Bool) (earlier : List Element) (previous : Option Code) → Sound (math_text single earlier previous)
-  unfolding math_text
-  sound_math_span single earlier previous = sound_plain _ (quiet_math _ _ _ _)
-
   -- Ends of labels.
 
   abbrev QuietOutcome : LabelKind × Forest → Type 0
@@ -102,22 +95,13 @@ module _ (bytes : List ℕ) where
         none = tt;
         ending = sound_line_ending.at cs k;
         image = λ footnotes. (sound_image_start footnotes).at cs k;
-        math = λ single. (sound_math_span single earlier previous).at cs k;
-        code = (sound_code_span earlier previous).at cs k;
-        referred = (sound_plain _ (quiet_reference s.references)).at cs k;
+        plain_has = λ a h. (sound_plain s.bytes a h).at cs k;
         stars = λ _. (sound_run 42 (inl refl)).at cs k;
         underscores = λ _. (sound_run 95 (inr (inl refl))).at cs k;
         tildes = λ _. (sound_run 126 (inr (inr refl))).at cs k;
-        linked = (sound_plain _ quiet_autolink).at cs k;
-        tagged = (sound_plain _ quiet_html).at cs k;
-        protocol = (sound_plain _ (quiet_protocol s.bytes end previous)).at cs k;
-        www = (sound_plain _ (quiet_www s.bytes end previous)).at cs k;
         footnote = sound_footnote_start.at cs k;
         link = sound_link_start.at cs k;
-        escaped = (sound_plain _ quiet_escape).at cs k;
-        broken = (sound_plain _ quiet_hard_break_escape).at cs k;
         ended = (sound_label_end s earlier).at cs k;
-        checked = (sound_plain _ quiet_task_check).at cs k;
       }
 
   -- Lists of elements: what is left after an element is the end of the codes.

@@ -6,13 +6,11 @@ use Rattle.markdown_engine_content.specs.Codes.{Code}
 use Rattle.markdown_engine_content.specs.Tree.{Forest, empty}
 use Rattle.markdown_engine_content.specs.declared.label_kind.LabelKind.{LabelKind}
 use Rattle.markdown_model.specs.Grammar.{Reading, ◌>>◌, either, provided}
-use Rattle.markdown_model.specs.LeafConstructs.{character_escape, hard_break_escape, character_reference, autolink, gfm_task_list_item_check}
-use Rattle.markdown_model.specs.HtmlText.{html_text}
-use Rattle.markdown_model.specs.GfmAutolinkLiteral.{gfm_autolink_literal_protocol, gfm_autolink_literal_www}
 use Rattle.markdown_model.specs.Setting.{Setting}
 use Rattle.markdown_model.specs.LabelEnd.{Element, Label, is_barred, after_label, footnote_call, link_or_image, outcome_of, label_end}
 use Rattle.markdown_model.specs.Elements.{as_plain, switched, line_ending, data_code, attention_run, label_start_image, gfm_label_start_footnote, label_start_link, code_text, math_text, Tries, tries, tried, first_check, text_element, string_element, Choice, AreElementsFrom, code_before}
 use Rattle.markdown_model.proofs.NoLinkInConstructs.{Passes, Yields, yields_bind, yields_gives, yields_passed, yields_either}
+use Rattle.markdown_model.proofs.PlainConstructs.{ReadsPlain, plain_constructs}
 
 module _ (P : Option (Element × List Code) → Type 0) (none : P None) (cs : List Code) where
   pub either_has : (a b : Reading Element) → P (a cs) → P (b cs) → P (either a b cs)
@@ -41,57 +39,68 @@ module _ (P : Option (Element × List Code) → Type 0) (none : P None) (cs : Li
       by_test true more = h.0
       by_test false more = more
 
-  -- in a string
-  pub string_has : (s : Setting) → P (as_plain character_escape cs) → P (as_plain (character_reference s.references) cs) → P (either line_ending data_code cs) → P (string_element s cs)
-  unfolding string_element
-  string_has s escaped referred more =
-      either_has _ _ (switched_has _ (as_plain character_escape) (λ _. escaped)) (either_has _ _ (switched_has _ (as_plain (character_reference s.references)) (λ _. referred)) more)
+  -- what stands by itself, where it is switched on
+  module _ (bytes : List ℕ) (plain_has : (a : Reading Forest) → ReadsPlain bytes a → P (as_plain a cs)) where
+    switched_plain : (on : Bool) (a : Reading Forest) → ReadsPlain bytes a → P (switched on (as_plain a) cs)
+    switched_plain on a h = switched_has on (as_plain a) (λ _. plain_has a h)
 
--- It holds of what each construct reads there but data, and of runs where they are looked for.
+  -- in a string
+  pub string_has : (s : Setting) → ((a : Reading Forest) → ReadsPlain s.bytes a → P (as_plain a cs))
+      → P (either line_ending data_code cs) → P (string_element s cs)
+  unfolding string_element
+  string_has s plain_has more =
+      either_has _ _ (switched_plain s.bytes plain_has _ _ (search plain_constructs))
+      (either_has _ _ (switched_plain s.bytes plain_has _ _ (search plain_constructs)) more)
+
+-- It holds of what stands by itself, of what each other construct reads there but data, and of runs where they are looked for.
 pub record EachConstruct (s : Setting) (end : ℕ) (earlier : List Element) (previous : Option Code) (P : Option (Element × List Code) → Type 0) (cs : List Code) : Type 0 where
   pub none : P None
   pub ending : P (line_ending cs)
   pub image : (footnotes : Bool) → P (label_start_image footnotes cs)
-  pub math : (single : Bool) → P (math_text single earlier previous cs)
-  pub code : P (code_text earlier previous cs)
-  pub referred : P (as_plain (character_reference s.references) cs)
+  pub plain_has : (a : Reading Forest) → ReadsPlain s.bytes a → P (as_plain a cs)
   pub stars : s.options.constructs.attention ≡ true → P (attention_run (byte "*") cs)
   pub underscores : s.options.constructs.attention ≡ true → P (attention_run (byte "_") cs)
   pub tildes : s.options.constructs.gfm_strikethrough ≡ true → P (attention_run (byte "~") cs)
-  pub linked : P (as_plain autolink cs)
-  pub tagged : P (as_plain html_text cs)
-  pub protocol : P (as_plain (gfm_autolink_literal_protocol s.bytes end previous) cs)
-  pub www : P (as_plain (gfm_autolink_literal_www s.bytes end previous) cs)
   pub footnote : P (gfm_label_start_footnote cs)
   pub link : P (label_start_link cs)
-  pub escaped : P (as_plain character_escape cs)
-  pub broken : P (as_plain hard_break_escape cs)
   pub ended : P (label_end s earlier cs)
-  pub checked : P (as_plain gfm_task_list_item_check cs)
 
 module _ (s : Setting) (end : ℕ) (earlier : List Element) (previous : Option Code) (P : Option (Element × List Code) → Type 0) where
   each_has : (cs : List Code) (h : EachConstruct s end earlier previous P cs) → EachHas P h.none cs (tries s end earlier previous)
-  unfolding tries
-  each_has cs h = (h.ending, (on _ _ (λ _. h.image _), (on _ _ (λ _. h.math _), (on _ _ (λ _. h.code), (on _ _ (λ _. h.referred), (on _ _ h.stars, (on _ _ h.underscores, marks)))))))
+  unfolding tries code_text math_text
+  each_has cs h = (h.ending, (on _ _ (λ _. h.image _), (own _ _ (search plain_constructs), (own _ _ (search plain_constructs), from_references))))
     where
       on : (b : Bool) (a : Reading Element) → (b ≡ true → P (a cs)) → P (switched b a cs)
       on = switched_has P h.none cs
 
-      both : (b d : Bool) (a e : Reading Element) → P (a cs) → P (e cs) → P (either (switched b a) (switched d e) cs)
-      both b d a e k l = either_has P h.none cs _ _ (on b a (λ _. k)) (on d e (λ _. l))
+      own : (b : Bool) (a : Reading Forest) → ReadsPlain s.bytes a → P (switched b (as_plain a) cs)
+      own = switched_plain P h.none cs s.bytes h.plain_has
 
-      marks : EachHas P h.none cs (drop 7 (tries s end earlier previous))
-      marks = (on _ _ h.tildes, (both _ _ _ _ h.linked h.tagged, (on _ _ (λ _. h.protocol), (on _ _ (λ _. h.www), (both _ _ _ _ h.footnote h.link, (both _ _ _ _ h.escaped h.broken, (on _ _ (λ _. h.ended), tt)))))))
+      both : (a e : Reading Element) → P (a cs) → P (e cs) → P (either a e cs)
+      both = either_has P h.none cs
+
+      from_brackets : EachHas P h.none cs (drop 11 (tries s end earlier previous))
+      from_brackets =
+          (both _ _ (on _ _ (λ _. h.footnote)) (on _ _ (λ _. h.link)), (both _ _ (own _ _ (search plain_constructs)) (own _ _ (search plain_constructs)), (on _ _ (λ _. h.ended), tt)))
+
+      from_angles : EachHas P h.none cs (drop 8 (tries s end earlier previous))
+      from_angles =
+          (both _ _ (own _ _ (search plain_constructs)) (own _ _ (search plain_constructs)), (own _ _ (search plain_constructs), (own _ _ (search plain_constructs), from_brackets)))
+
+      from_references : EachHas P h.none cs (drop 4 (tries s end earlier previous))
+      from_references = (own _ _ (search plain_constructs), (on _ _ h.stars, (on _ _ h.underscores, (on _ _ h.tildes, from_angles))))
 
   -- in a text, at a code
-  pub row_has : (v : ℕ) (cs : List Code) → EachConstruct s end earlier previous P cs → P (data_code cs) → P (tried (tries s end earlier previous) v cs)
+  pub row_has : (v : ℕ) (cs : List Code) → EachConstruct s end earlier previous P cs → P (data_code cs)
+      → P (tried (tries s end earlier previous) v cs)
   row_has v cs h k = tried_has P h.none cs (tries s end earlier previous) v (each_has cs h) k
 
   pub check_has : (cs : List Code) → EachConstruct s end earlier previous P cs → P (first_check s end earlier previous cs)
   unfolding first_check
-  check_has cs h = switched_has P h.none cs _ (as_plain gfm_task_list_item_check) (λ _. h.checked)
+  check_has cs h = switched_plain P h.none cs s.bytes h.plain_has _ _ (search plain_constructs)
 
-  pub text_has : (cs : List Code) → EachConstruct s end earlier previous P cs → P (data_code cs) → P (text_element s end earlier previous cs)
+  pub text_has : (cs : List Code) → EachConstruct s end earlier previous P cs → P (data_code cs)
+      → P (text_element s end earlier previous cs)
   unfolding text_element
   text_has [] h k = h.none
   text_has (c ∷ cs) h k = either_has P h.none (c ∷ cs) _ _ (check_has (c ∷ cs) h) (either_has P h.none (c ∷ cs) _ _ (row_has c.value (c ∷ cs) h k) k)
@@ -102,13 +111,15 @@ abbrev pub AllAre : (Element → Type 0) → List Element → Type 0
 AllAre P [] = Unit {0}
 AllAre P (e ∷ es) = P e × AllAre P es
 
-pub all_are : (P : Element → Type 0) (choice : Choice) → ((earlier : List Element) (previous : Option Code) (cs : List Code) → Passes P (choice earlier previous cs))
+pub all_are : (P : Element → Type 0) (choice : Choice)
+    → ((earlier : List Element) (previous : Option Code) (cs : List Code) → Passes P (choice earlier previous cs))
     → (es earlier : List Element) (previous : Option Code) (cs : List Code) → AreElementsFrom choice earlier previous cs es → AllAre P es
 all_are P choice h [] earlier previous cs k = tt
 all_are P choice h (e ∷ es) earlier previous cs k = (subst (Passes P) k.1 (h earlier previous cs), all_are P choice h es (e ∷ earlier) (code_before cs k.0) k.0 k.2)
 
 -- What holds of no tree, and of what is read behind a label, holds of the tree of an outcome.
-pub outcome_yields : (Q : Forest → Type 0) → Q empty → (s : Setting) → ((defined : Bool) → Yields Q (after_label s defined)) → (l : Option Label) (back : List Code) → Yields (λ o. Q o.1) (outcome_of s l back)
+pub outcome_yields : (Q : Forest → Type 0) → Q empty → (s : Setting)
+    → ((defined : Bool) → Yields Q (after_label s defined)) → (l : Option Label) (back : List Code) → Yields (λ o. Q o.1) (outcome_of s l back)
 unfolding outcome_of footnote_call link_or_image
 outcome_yields Q none s h None back = record { at = λ cs. tt }
 outcome_yields Q none s h (Some l) back = record { at = λ cs. whole.at cs }

@@ -1,25 +1,25 @@
--- The elements of a content cover its codes, and each of them covers at least one.
+-- The elements of a content cover its codes.
 use Rattle.std.proofs.Common.{◌≡◌, ℕ, Bool, List, [], ◌∷◌, ◌++◌, refl, sym, ◌∙◌, ap, Option, Some, None}
 use Rattle.markdown_engine_content.specs.declared.event.Name.{Name}
 use Rattle.markdown_engine_content.specs.declared.label_kind.LabelKind.{LabelKind}
 use Rattle.markdown_engine_content.specs.Codes.{Code}
-use Rattle.markdown_engine_content.specs.Tree.{Forest, leaf, leaf_codes}
+use Rattle.markdown_engine_content.specs.Tree.{Forest, leaf}
 use Rattle.markdown_model.specs.Grammar.{Reading}
 use Rattle.markdown_model.specs.Setting.{Setting}
 use Rattle.markdown_model.specs.LabelEnd.{Element, plain, starts}
-use Rattle.markdown_model.specs.Elements.{as_plain, line_ending, data_code, attention_run, label_start_image, gfm_label_start_footnote, label_start_link, code_text, math_text, text_element, string_element, Choice, AreElementsFrom, code_before}
+use Rattle.markdown_model.specs.Elements.{as_plain, line_ending, data_code, attention_run, label_start_image, gfm_label_start_footnote, label_start_link, text_element, string_element, Choice, AreElementsFrom, code_before}
 use Rattle.markdown_model.proofs.LeafCodes.{codes-leaf}
-use Rattle.markdown_model.proofs.ReadingsCover.{At, Covers, bind, given, one_of, seen_before, takes_one, takes_some, takes_word, covers_escape, covers_hard_break_escape, covers_reference, covers_span_here, covers_autolink, covers_html, covers_task_check}
-use Rattle.markdown_model.proofs.LiteralCodes.{covers_protocol, covers_www}
+use Rattle.markdown_model.proofs.ReadingsCover.{At, Covers, bind, given, one_of, seen_before, takes_one, takes_some, takes_word}
+use Rattle.markdown_model.proofs.PlainConstructs.{ReadsPlain}
 use Rattle.markdown_model.proofs.LabelsCover.{element_codes, elements_codes, unused, covers_label_end}
 use Rattle.markdown_model.proofs.ElementCases.{EachConstruct, string_has, text_has}
 
 -- Single elements, where d starts before are unused.
 
 module _ (d : ℕ) where
-  pub covers_plain : (a : Reading Forest) → Covers leaf_codes [] a → Covers (element_codes d) [] (as_plain a)
+  covers_plain : (bytes : List ℕ) (a : Reading Forest) → ReadsPlain bytes a → Covers (element_codes d) [] (as_plain a)
   unfolding as_plain
-  covers_plain a h = bind _ _ _ _ _ h λ tree. given _ _ (plain tree) refl
+  covers_plain bytes a h = bind _ _ _ _ _ h.covers λ tree. given _ _ (plain tree) refl
 
   pub covers_line_ending : Covers (element_codes d) [] line_ending
   unfolding line_ending
@@ -45,14 +45,6 @@ module _ (d : ℕ) where
   unfolding label_start_link
   covers_link_start = bind _ _ _ _ _ (takes_one _) λ marker. given _ _ (starts LabelKind.Link marker) refl
 
-  pub covers_code_span : (earlier : List Element) (previous : Option Code) → Covers (element_codes d) [] (code_text earlier previous)
-  unfolding code_text
-  covers_code_span earlier previous = covers_plain _ (covers_span_here _ _ _ _ _)
-
-  pub covers_math_span : (single : Bool) (earlier : List Element) (previous : Option Code) → Covers (element_codes d) [] (math_text single earlier previous)
-  unfolding math_text
-  covers_math_span single earlier previous = covers_plain _ (covers_span_here _ _ _ _ _)
-
 pub covers_text_element : (s : Setting) (end : ℕ) (earlier : List Element) (previous : Option Code) → Covers (element_codes (unused earlier)) [] (text_element s end earlier previous)
 covers_text_element s end earlier previous = record { at = λ cs. text_has s end earlier previous (At (element_codes d) [] cs) cs (each cs) ((covers_data_code d).at cs) }
   where
@@ -64,27 +56,18 @@ covers_text_element s end earlier previous = record { at = λ cs. text_has s end
       none = tt;
       ending = (covers_line_ending d).at cs;
       image = λ footnotes. (covers_image_start d footnotes).at cs;
-      math = λ single. (covers_math_span d single earlier previous).at cs;
-      code = (covers_code_span d earlier previous).at cs;
-      referred = (covers_plain d _ (covers_reference s.references)).at cs;
+      plain_has = λ a h. (covers_plain d s.bytes a h).at cs;
       stars = λ _. (covers_run d 42).at cs;
       underscores = λ _. (covers_run d 95).at cs;
       tildes = λ _. (covers_run d 126).at cs;
-      linked = (covers_plain d _ covers_autolink).at cs;
-      tagged = (covers_plain d _ covers_html).at cs;
-      protocol = (covers_plain d _ (covers_protocol s.bytes end previous)).at cs;
-      www = (covers_plain d _ (covers_www s.bytes end previous)).at cs;
       footnote = (covers_footnote_start d).at cs;
       link = (covers_link_start d).at cs;
-      escaped = (covers_plain d _ covers_escape).at cs;
-      broken = (covers_plain d _ covers_hard_break_escape).at cs;
       ended = (covers_label_end s earlier).at cs;
-      checked = (covers_plain d _ covers_task_check).at cs;
     }
 
 pub covers_string_element : (s : Setting) (d : ℕ) → Covers (element_codes d) [] (string_element s)
 covers_string_element s d =
-    record { at = λ cs. string_has (At (element_codes d) [] cs) tt cs s ((covers_plain d _ covers_escape).at cs) ((covers_plain d _ (covers_reference s.references)).at cs) ((one_of _ _ _ _ (covers_line_ending d) (covers_data_code d)).at cs) }
+    record { at = λ cs. string_has (At (element_codes d) [] cs) tt cs s (λ a h. (covers_plain d s.bytes a h).at cs) ((one_of _ _ _ _ (covers_line_ending d) (covers_data_code d)).at cs) }
 
 -- Whole lists.
 

@@ -11,6 +11,11 @@ pub mod PassesKeepCodes
 pub mod LabelsCover
 pub mod ElementsCover
 pub mod ReadsACode
+pub mod OneLineReadings
+pub mod OneLineLiterals
+pub mod LeafRows
+pub mod PlainConstructs
+pub mod ElementsReadACode
 pub mod OneElementList
 pub mod OnePairList
 pub mod OneTree

@@ -9,7 +9,7 @@ use Rattle.markdown_engine_content.specs.Tree.{Forest, leaf, ◌⊕◌, group, t
 use Rattle.markdown_model.specs.Grammar.{Reading, ◌>>=◌, ◌>>◌, gives, provided, either}
 use Rattle.markdown_model.specs.Setting.{Setting}
 use Rattle.markdown_model.specs.LabelEnd.{Element, plain, starts, ends, Label, label_before, is_image, is_footnote, is_barred, makes_link, footnote_call, link_or_image, link_kind, outcome_of, label_end}
-use Rattle.markdown_model.specs.Elements.{as_plain, line_ending, data_code, attention_run, label_start_image, gfm_label_start_footnote, label_start_link, code_text, math_text, text_element, Choice, AreElementsFrom, code_before, text_choice, elements_of}
+use Rattle.markdown_model.specs.Elements.{as_plain, line_ending, data_code, attention_run, label_start_image, gfm_label_start_footnote, label_start_link, text_element, Choice, AreElementsFrom, code_before, text_choice, elements_of}
 use Rattle.markdown_model.specs.Pairs.{pair_list}
 use Rattle.markdown_model.specs.BracketGroups.{paired, nest, nested, onto, after_loose, joined, loose}
 use Rattle.markdown_model.specs.Passes.{Start, End, as_bracket, start_marker, start_tree, label_name, label_group, loose_start, loose_end, labelled, labels_of, merged, trimmed, with_emails_apart}
@@ -18,7 +18,8 @@ use Rattle.markdown_model.specs.Laws.{UnusedStart, with_link, unused_starts, IsL
 use Rattle.markdown_model.proofs.OneElementList.{text_elements}
 use Rattle.markdown_model.proofs.EndsTakeTheNearest.{ends_take_the_nearest}
 use Rattle.markdown_model.proofs.NoLinkInConstructs.{IsFree, Passes, Yields, yields_bind, yields_gives, yields_either, then_any, holds-join, holds-leaf, free-apart, or_assoc}
-use Rattle.markdown_model.proofs.PlainTrees.{IsQuiet, Free, quiet-free, quiet_escape, quiet_hard_break_escape, quiet_reference, quiet_autolink, quiet_task_check, quiet_code, quiet_math, quiet_html, quiet_protocol, quiet_www, quiet_after_label}
+use Rattle.markdown_model.proofs.PlainTrees.{IsQuiet, quiet-free, plain-quiet, quiet_after_label}
+use Rattle.markdown_model.proofs.PlainConstructs.{IsPlainTree, ReadsPlain}
 use Rattle.markdown_model.proofs.PassesKeepLinks.{apart-leaf, apart-join, apart-merged, apart-trimmed, apart-mailed, apart-paired, any_holds, holds_add, apart-joined, holds-loose}
 use Rattle.markdown_model.proofs.BracketSums.{sum-append, sum-joined}
 use Rattle.markdown_model.proofs.BracketGroupFacts.{AllHave, all-append}
@@ -95,9 +96,9 @@ allowed_label_end s earlier =
 -- Other elements.
 
 module _ (us : List UnusedStart) where
-  allowed_plain : (a : Reading Forest) → Free a → Yields (IsAllowed us) (as_plain a)
+  allowed_plain : (bytes : List ℕ) (a : Reading Forest) → ReadsPlain bytes a → Yields (IsAllowed us) (as_plain a)
   unfolding as_plain
-  allowed_plain a h = yields_bind (IsQuiet true) _ _ _ h λ tree k. yields_gives _ (plain tree) (quiet-free true tree k)
+  allowed_plain bytes a h = yields_bind (IsPlainTree bytes) _ _ _ h.plain λ tree k. yields_gives _ (plain tree) (quiet-free true tree (plain-quiet bytes tree k))
 
   allowed_line_ending : Yields (IsAllowed us) line_ending
   unfolding line_ending
@@ -123,14 +124,6 @@ module _ (us : List UnusedStart) where
   unfolding label_start_link
   allowed_link_start = then_any _ _ _ λ marker. yields_gives _ (starts LabelKind.Link marker) tt
 
-  allowed_code_span : (earlier : List Element) (previous : Option Code) → Yields (IsAllowed us) (code_text earlier previous)
-  unfolding code_text
-  allowed_code_span earlier previous = allowed_plain _ (quiet_code _ _ _ _)
-
-  allowed_math_span : (single : Bool) (earlier : List Element) (previous : Option Code) → Yields (IsAllowed us) (math_text single earlier previous)
-  unfolding math_text
-  allowed_math_span single earlier previous = allowed_plain _ (quiet_math _ _ _ _)
-
 allowed_text_element : (s : Setting) (end : ℕ) (earlier : List Element) (previous : Option Code) → Yields (IsAllowed (unused_starts earlier)) (text_element s end earlier previous)
 allowed_text_element s end earlier previous = record { at = λ cs. text_has s end earlier previous (Passes (IsAllowed us)) cs (each cs) ((allowed_data_code us).at cs) }
   where
@@ -142,22 +135,13 @@ allowed_text_element s end earlier previous = record { at = λ cs. text_has s en
       none = tt;
       ending = (allowed_line_ending us).at cs;
       image = λ footnotes. (allowed_image_start us footnotes).at cs;
-      math = λ single. (allowed_math_span us single earlier previous).at cs;
-      code = (allowed_code_span us earlier previous).at cs;
-      referred = (allowed_plain us _ (quiet_reference s.references)).at cs;
+      plain_has = λ a h. (allowed_plain us s.bytes a h).at cs;
       stars = λ _. (allowed_run us 42).at cs;
       underscores = λ _. (allowed_run us 95).at cs;
       tildes = λ _. (allowed_run us 126).at cs;
-      linked = (allowed_plain us _ quiet_autolink).at cs;
-      tagged = (allowed_plain us _ quiet_html).at cs;
-      protocol = (allowed_plain us _ (quiet_protocol s.bytes end previous)).at cs;
-      www = (allowed_plain us _ (quiet_www s.bytes end previous)).at cs;
       footnote = (allowed_footnote_start us).at cs;
       link = (allowed_link_start us).at cs;
-      escaped = (allowed_plain us _ quiet_escape).at cs;
-      broken = (allowed_plain us _ quiet_hard_break_escape).at cs;
       ended = (allowed_label_end s earlier).at cs;
-      checked = (allowed_plain us _ quiet_task_check).at cs;
     }
 
 -- Lists of elements.

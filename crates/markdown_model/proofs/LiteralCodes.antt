@@ -1,16 +1,15 @@
 -- What literals read, and what emails make of data, covers it.
 use Rattle.std.proofs.Common.{◌≡◌, ℕ, zero, suc, Bool, true, false, ◌&&◌, not, List, [], ◌∷◌, ◌++◌, length, reverse, refl, sym, ◌∙◌, ap, Option, Some, None}
-use Rattle.std.specs.Prelude.{codes}
 use Rattle.std.proofs.lemmas.List.{append_assoc, append-nil, reverse-append}
 use Rattle.markdown_engine_content.specs.declared.event.Name.{Name}
 use Rattle.markdown_engine_content.specs.Codes.{Code}
 use Rattle.markdown_engine_content.specs.Tree.{Forest, leaf, ◌⊕◌, leaf_codes}
 use Rattle.markdown_model.specs.CodeTests.{is_value, is_empty, next_is, is_alphanumeric}
 use Rattle.markdown_model.specs.Grammar.{span}
-use Rattle.markdown_model.specs.GfmAutolinkLiteral.{letters, domain, path, path_from, ends_path, count_if, domain_from, is_domain, is_domain_code, gfm_autolink_literal_protocol, www_from_here, gfm_autolink_literal_www, may_precede_www, begins_with_www}
+use Rattle.markdown_model.specs.GfmAutolinkLiteral.{letters, domain, path, path_from, ends_path, count_if, domain_from, is_domain, is_domain_code}
 use Rattle.markdown_model.specs.GfmEmailLiteral.{is_local, is_word, email_protocol, is_xmpp, email_domain, is_email_domain, email_at, email_leaves, with_emails}
 use Rattle.markdown_model.proofs.LeafCodes.{codes-leaf, span-append}
-use Rattle.markdown_model.proofs.ReadingsCover.{Covers, Takes, itself, codes_laws, bind, given, if_passed, one_of, chosen_at, takes_one}
+use Rattle.markdown_model.proofs.ReadingsCover.{Takes, itself, bind, given, chosen_at, takes_one}
 use Rattle.markdown_engine_content.proofs.TreeCodes.{leaf_codes-row}
 
 pub takes_letters : (ns : List ℕ) → Takes (letters ns)
@@ -50,21 +49,6 @@ module _ (bytes : List ℕ) (end : ℕ) where
   pub takes_path : Takes (path bytes end)
   unfolding path
   takes_path = record { at = λ cs. path_split 0 0 cs }
-
-  pub covers_protocol : (previous : Option Code) → Covers leaf_codes [] (gfm_autolink_literal_protocol bytes end previous)
-  unfolding gfm_autolink_literal_protocol
-  covers_protocol previous =
-      if_passed _ _ _ _ (bind _ _ _ _ _ (one_of _ _ _ _ (takes_letters (codes "https")) (takes_letters (codes "http"))) λ scheme.
-      bind _ _ _ _ _ (takes_letters (codes "://")) λ slashes. bind _ _ _ _ _ takes_domain λ host. bind _ _ _ _ _ takes_path λ further.
-      given _ _ (leaf Name.GfmAutolinkLiteralProtocol (scheme ++ slashes ++ host ++ further)) (simp codes_laws))
-
-  pub covers_www_from_here : Covers leaf_codes [] (www_from_here bytes end)
-  unfolding www_from_here
-  covers_www_from_here = bind _ _ _ _ _ takes_domain λ host. bind _ _ _ _ _ takes_path λ further. given _ _ (leaf Name.GfmAutolinkLiteralWww (host ++ further)) (simp codes_laws)
-
-  pub covers_www : (previous : Option Code) → Covers leaf_codes [] (gfm_autolink_literal_www bytes end previous)
-  unfolding gfm_autolink_literal_www
-  covers_www previous = record { at = λ cs. (if_passed _ _ (may_precede_www previous && begins_with_www cs) _ covers_www_from_here).at cs }
 
 -- Emails.
 

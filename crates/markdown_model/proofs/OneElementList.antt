@@ -4,7 +4,8 @@ use Rattle.markdown_engine_content.specs.Codes.{Code}
 use Rattle.markdown_model.specs.Setting.{Setting}
 use Rattle.markdown_model.specs.LabelEnd.{Element}
 use Rattle.markdown_model.specs.Elements.{Choice, AreElementsFrom, elements_from, code_before, text_choice, string_choice, AreElements, AreStringElements, elements_of, string_elements_of}
-use Rattle.markdown_model.proofs.ReadsACode.{Left, Consumes, Holds, text_element_takes, string_element_takes, text_element_holds, string_element_holds}
+use Rattle.markdown_model.proofs.ReadsACode.{Left, Consumes}
+use Rattle.markdown_model.proofs.ElementsReadACode.{Holds, text_element_takes, string_element_takes, text_element_holds, string_element_holds}
 
 none_some : {A : Type 0} (x : A) → None ≡ Some x → ⊥
 none_some x e = cc

@@ -4,21 +4,19 @@ use Rattle.std.proofs.lemmas.Bool.{or_parts}
 use Rattle.std.proofs.Math.Bool.{and-true, and-false, or-false}
 use Rattle.markdown_engine_content.specs.declared.event.Name.{Name}
 use Rattle.markdown_engine_content.specs.declared.event.Content.{Content}
-use Rattle.markdown_engine_content.specs.Codes.{Code, is_line_ending, is_blank}
-use Rattle.markdown_engine_content.specs.Tree.{Forest, empty, leaf_then, group_then, leaf, linked, group, ◌⊕◌}
-use Rattle.markdown_util.specs.Reference.{Table}
-use Rattle.markdown_model.specs.CodeTests.{next_is, is_empty, is_among}
-use Rattle.markdown_model.specs.Grammar.{Reading, span, optional_tree}
-use Rattle.markdown_model.specs.TextLines.{linked_leaf, line_leaf, line_leaves, lines_from, lines_of, lines}
+use Rattle.markdown_engine_content.specs.Codes.{Code}
+use Rattle.markdown_engine_content.specs.Tree.{Forest, empty, leaf_then, group_then, leaf, linked, ◌⊕◌}
+use Rattle.markdown_model.specs.CodeTests.{is_empty}
+use Rattle.markdown_model.specs.Grammar.{Reading, optional_tree}
+use Rattle.markdown_model.specs.TextLines.{linked_leaf, lines}
 use Rattle.markdown_model.specs.Whitespace.{space_or_tab_eol, spaces_across, spaces_on_line}
 use Rattle.markdown_model.specs.Resource.{string_group, label, reference_names, title, title_between, title_names, literal_destination, raw_destination, destination, resource_names, spaced_title, destination_and_title, resource}
-use Rattle.markdown_model.specs.LeafConstructs.{character_reference, character_escape, in_angle_brackets, hard_break_escape, gfm_task_list_item_check, check_name, autolink, span_of, span_here, SpanNames, code_names, math_names}
-use Rattle.markdown_model.specs.HtmlText.{html_text}
-use Rattle.markdown_model.specs.GfmAutolinkLiteral.{gfm_autolink_literal_protocol, www_from_here, gfm_autolink_literal_www, may_precede_www, begins_with_www}
 use Rattle.markdown_model.specs.Setting.{Setting}
 use Rattle.markdown_model.specs.LabelEnd.{full_reference, collapsed_reference, shortcut, shortcut_before_bracket, reference_after_label, after_label}
-use Rattle.markdown_model.proofs.NoLinkInConstructs.{Yields, yields_bind, yields_gives, yields_passed, yields_either, yields_before, yields_next, yields_unless, then_any, or_assoc}
 use Rattle.markdown_model.specs.Laws.{is_link, is_run, holds_link}
+use Rattle.markdown_model.proofs.LeafRows.{Leaves, leaves-lines}
+use Rattle.markdown_model.proofs.NoLinkInConstructs.{Yields, yields_bind, yields_gives, yields_passed, yields_either, yields_before, yields_next, yields_unless, then_any, or_assoc}
+use Rattle.markdown_model.proofs.PlainConstructs.{is_own, leaf-own, group-own, IsOwnLeaf, IsPlainTree}
 
 abbrev pub is_text : Name → Bool
 is_text Name.LabelText = true
@@ -71,50 +69,6 @@ module _ (b : Bool) where
   marks-linked name [] = sym (and-false (is_mark name || b))
   marks-linked name (c ∷ cs) = or-false (is_mark name || b) ∙ sym (and-true (is_mark name || b))
 
-  module _ (name : Name) (link : Option Content) (m : is_mark name ≡ false) (k : (is_linked link && b) ≡ false) where
-    quiet-linked_leaf : (cs : List Code) → marks b (linked_leaf name link cs) ≡ false
-    quiet-linked_leaf [] = refl
-    quiet-linked_leaf (c ∷ cs) = λ i. (m i || k i) || false
-
-    quiet-ending : (cs : List Code) → marks b (linked_leaf Name.LineEnding link cs) ≡ false
-    quiet-ending [] = refl
-    quiet-ending (c ∷ cs) = λ i. k i || false
-
-    quiet-space : (cs : List Code) → marks b (linked_leaf Name.SpaceOrTab link cs) ≡ false
-    quiet-space [] = refl
-    quiet-space (c ∷ cs) = λ i. k i || false
-
-    quiet-line_leaf : (s : List Code) → marks b (line_leaf name link s) ≡ false
-    quiet-line_leaf s = by_test (next_is is_line_ending s)
-      where
-        by_test : (t : Bool) → marks b (elim t [ true ↦ linked_leaf Name.LineEnding link s | false ↦ linked_leaf name link s ]) ≡ false
-        by_test true = quiet-ending s
-        by_test false = quiet-linked_leaf s
-
-    quiet-lines_from : (later : Bool) (ss : List (List Code)) → marks b (lines_from name link later ss) ≡ false
-    quiet-lines_from later [] = refl
-    quiet-lines_from later (s ∷ ss) = by_test (later && not (next_is is_line_ending s)) (λ t. quiet-lines_from t ss)
-      where
-        by_test : (t : Bool) → ((f : Bool) → marks b (lines_from name link f ss) ≡ false)
-            → marks b (elim t [
-              | true ↦ linked_leaf Name.SpaceOrTab link (span is_blank s).0 ⊕ linked_leaf name link (span is_blank s).1 ⊕ lines_from name link false ss
-              | false ↦ line_leaf name link s ⊕ lines_from name link (next_is is_line_ending s) ss
-            ]) ≡ false
-        by_test true h =
-            marks-join (linked_leaf Name.SpaceOrTab link (span is_blank s).0) (linked_leaf name link (span is_blank s).1 ⊕ lines_from name link false ss)
-            ∙ (λ i. quiet-space (span is_blank s).0 i || (marks-join (linked_leaf name link (span is_blank s).1) (lines_from name link false ss) ∙ (λ j. quiet-linked_leaf (span is_blank s).1 j || h false j)) i)
-        by_test false h = marks-join (line_leaf name link s) (lines_from name link (next_is is_line_ending s) ss) ∙ (λ i. quiet-line_leaf s i || h (next_is is_line_ending s) i)
-
-    quiet-lines : (cs : List Code) → marks b (lines name link cs) ≡ false
-    quiet-lines cs = quiet-lines_from false (lines_of cs)
-
-  quiet-line_leaves : (name : Name) → is_mark name ≡ false → (ss : List (List Code)) → marks b (line_leaves name ss) ≡ false
-  quiet-line_leaves name m [] = refl
-  quiet-line_leaves name m (s ∷ ss) = marks-join (line_leaf name None s) (line_leaves name ss) ∙ (λ i. quiet-line_leaf name None m refl s i || quiet-line_leaves name m ss i)
-
-  pub marks-html_lines : (cs : List Code) → marks b (lines Name.HtmlTextData None cs) ≡ false
-  marks-html_lines cs = quiet-lines Name.HtmlTextData None refl refl cs
-
   quiet-string_group : (name : Name) (f : Forest) → is_mark name ≡ false → marks b (string_group name f) ≡ marks b f
   quiet-string_group name empty h = refl
   quiet-string_group name (leaf_then n l c r) h = (λ i. h i || or-false (marks b (leaf_then n l c r)) i)
@@ -129,111 +83,40 @@ module _ (b : Bool) where
   pub marks-destination_string : (f : Forest) → marks b (string_group Name.ResourceDestinationString f) ≡ marks b f
   marks-destination_string f = quiet-string_group Name.ResourceDestinationString f refl
 
+-- of leaves, by each of them
+rows-quiet : (t : Forest) → Leaves (λ name link cs. is_mark name ≡ false) t → IsQuiet false t
+rows-quiet empty h = refl
+rows-quiet (leaf_then name link cs rest) h = (λ i. (h.0 i || is_linked link && false) || rows-quiet rest h.1 i) ∙ ap (λ x. x || false) (and-false (is_linked link))
+rows-quiet (group_then name enter exit inside rest) h = absurd h
+
 pub marks-data_lines : (cs : List Code) → marks false (lines Name.Data (Some Content.String) cs) ≡ false
-marks-data_lines cs = quiet-lines false Name.Data (Some Content.String) refl refl cs
+marks-data_lines cs = rows-quiet _ (leaves-lines _ Name.Data (Some Content.String) (λ s _. refl) (λ s _ _. refl) (λ s _. refl) cs)
 
-marks-check : (cs : List Code) → is_mark (check_name cs) ≡ false
-marks-check cs = by_test (next_is (is_among (120 ∷ 88 ∷ [])) cs)
-  where
-    by_test : (t : Bool) → is_mark (elim t [ true ↦ Name.GfmTaskListItemValueChecked | false ↦ Name.GfmTaskListItemValueUnchecked ]) ≡ false
-    by_test true = refl
-    by_test false = refl
+pub ruleset mark_laws = (marks-reference_string, marks-title_string, marks-destination_string, marks-join, marks-leaf, marks-linked, marks-linked_leaf, marks-data_lines)
 
-pub marks-checked : (b : Bool) (cs : List Code) → marks b (leaf (check_name cs) cs) ≡ false
-marks-checked b cs = marks-leaf b (check_name cs) cs ∙ ap (λ x. x && not (is_empty cs)) (marks-check cs)
+-- What stands by itself.
 
-pub ruleset mark_laws = (marks-checked, marks-reference_string, marks-title_string, marks-destination_string, marks-join, marks-leaf, marks-linked, marks-linked_leaf, marks-html_lines, marks-data_lines)
+own-unmarked : (name : Name) → is_own name ≡ true → is_mark name ≡ false
+own-unmarked Name.AttentionSequence e = cc
+own-unmarked Name.LabelText e = cc
+own-unmarked Name.Link e = cc
+own-unmarked Name.GfmFootnoteCall e = cc
+own-unmarked _ e = refl
 
--- Constructs.
+leaves-quiet : (bytes : List ℕ) (t : Forest) → Leaves (IsOwnLeaf bytes) t → IsQuiet true t
+leaves-quiet bytes empty h = refl
+leaves-quiet bytes (leaf_then name link cs rest) h = λ i. (own-unmarked name (leaf-own name h.0.named) i || (is_linked (h.0.unlinked i) && true)) || leaves-quiet bytes rest h.1 i
+leaves-quiet bytes (group_then name enter exit inside rest) h = absurd h
 
--- of constructs that stand by themselves, and of what may follow a label
-abbrev pub Free : Reading Forest → Type 0
-Free a = Yields (IsQuiet true) a
+pub plain-quiet : (bytes : List ℕ) (t : Forest) → IsPlainTree bytes t → IsQuiet true t
+plain-quiet bytes empty h = absurd h
+plain-quiet bytes (leaf_then name link cs rest) h = λ i. (own-unmarked name (leaf-own name h.0.named) i || (is_linked (h.0.unlinked i) && true)) || marks true (h.1 i)
+plain-quiet bytes (group_then name enter exit inside rest) h = λ i. own-unmarked name (group-own name h.0.named) i || (leaves-quiet bytes inside h.0.leaves i || marks true (h.1 i))
+
+-- What may follow a label.
 
 abbrev pub TailFree : Reading Forest → Type 0
 TailFree a = Yields (IsQuiet false) a
-
-pub quiet_escape : Free character_escape
-unfolding character_escape
-quiet_escape = then_any _ _ _ λ slash. then_any _ _ _ λ value. yields_gives _ _ (simp mark_laws)
-
-pub quiet_hard_break_escape : Free hard_break_escape
-unfolding hard_break_escape
-quiet_hard_break_escape = then_any _ _ _ λ slash. yields_gives _ _ (simp mark_laws)
-
-pub quiet_reference : (table : Table) → Free (character_reference table)
-unfolding character_reference
-quiet_reference table = then_any _ _ _ λ parts. yields_gives _ _ (simp mark_laws)
-
-angle-tree : (name : Name) → is_mark name ≡ false → (front text back : List Code)
-    → marks true (group Name.Autolink (leaf Name.AutolinkMarker front ⊕ leaf name text ⊕ leaf Name.AutolinkMarker back)) ≡ false
-angle-tree name n front text back =
-    or-false (marks true (leaf Name.AutolinkMarker front ⊕ leaf name text ⊕ leaf Name.AutolinkMarker back))
-    ∙ marks-join true (leaf Name.AutolinkMarker front) (leaf name text ⊕ leaf Name.AutolinkMarker back)
-    ∙ (λ i. marks-leaf true Name.AutolinkMarker front i
-    || (marks-join true (leaf name text) (leaf Name.AutolinkMarker back)
-    ∙ (λ j. (marks-leaf true name text ∙ ap (λ x. x && not (is_empty text)) n) j || marks-leaf true Name.AutolinkMarker back j)) i)
-
-quiet_in_angle_brackets : (inside : Reading (List Code)) (name : Name) → is_mark name ≡ false → Free (in_angle_brackets inside name)
-unfolding in_angle_brackets
-quiet_in_angle_brackets inside name n = then_any _ _ _ λ front. then_any _ _ _ λ text. then_any _ _ _ λ back. yields_gives _ _ (angle-tree name n front text back)
-
-pub quiet_autolink : Free autolink
-unfolding autolink
-quiet_autolink = yields_either _ _ _ (quiet_in_angle_brackets _ _ refl) (quiet_in_angle_brackets _ _ refl)
-
-pub quiet_task_check : Free gfm_task_list_item_check
-unfolding gfm_task_list_item_check
-quiet_task_check = then_any _ _ _ λ front. then_any _ _ _ λ value. then_any _ _ _ λ back. yields_gives _ _ (simp mark_laws)
-
--- the names of a span
-record AreSpanNames (names : SpanNames) : Type 0 where
-  whole : is_mark names.whole ≡ false
-  sequence : is_mark names.sequence ≡ false
-  text : is_mark names.text ≡ false
-
-quiet_span_tree : (names : SpanNames) → AreSpanNames names → (front back : List Code) (inside : List (List Code))
-    → marks true (group names.whole (leaf names.sequence front ⊕ line_leaves names.text inside ⊕ leaf names.sequence back)) ≡ false
-quiet_span_tree names n front back inside =
-    (λ i. n.whole i || or-false (marks true (leaf names.sequence front ⊕ line_leaves names.text inside ⊕ leaf names.sequence back)) i)
-    ∙ marks-join true (leaf names.sequence front) (line_leaves names.text inside ⊕ leaf names.sequence back)
-    ∙ (λ i. (marks-leaf true names.sequence front ∙ ap (λ x. x && not (is_empty front)) n.sequence) i
-    || (marks-join true (line_leaves names.text inside) (leaf names.sequence back)
-    ∙ (λ j. quiet-line_leaves true names.text n.text inside j || (marks-leaf true names.sequence back ∙ ap (λ x. x && not (is_empty back)) n.sequence) j)) i)
-
-quiet_span_of : (marker : ℕ) (names : SpanNames) (allowed : ℕ → Bool) → AreSpanNames names → Free (span_of marker names allowed)
-unfolding span_of
-quiet_span_of marker names allowed n =
-    then_any _ _ _ λ front. yields_passed _ _ _ (then_any _ _ _ λ inside. yields_gives _ _ (quiet_span_tree names n front inside.1 inside.0))
-
-quiet_span_here : (marker : ℕ) (names : SpanNames) (allowed : ℕ → Bool) (escaped : Bool) (previous : Option Code) → AreSpanNames names → Free (span_here marker names allowed escaped previous)
-unfolding span_here
-quiet_span_here marker names allowed escaped previous n = yields_passed _ _ _ (quiet_span_of marker names allowed n)
-
-pub quiet_code : (marker : ℕ) (allowed : ℕ → Bool) (escaped : Bool) (previous : Option Code) → Free (span_here marker code_names allowed escaped previous)
-quiet_code marker allowed escaped previous = quiet_span_here marker code_names allowed escaped previous (record { whole = refl; sequence = refl; text = refl })
-
-pub quiet_math : (marker : ℕ) (allowed : ℕ → Bool) (escaped : Bool) (previous : Option Code) → Free (span_here marker math_names allowed escaped previous)
-quiet_math marker allowed escaped previous = quiet_span_here marker math_names allowed escaped previous (record { whole = refl; sequence = refl; text = refl })
-
-pub quiet_html : Free html_text
-unfolding html_text
-quiet_html = then_any _ _ _ λ text. yields_gives _ _ (simp mark_laws)
-
-pub quiet_protocol : (bytes : List ℕ) (end : ℕ) (previous : Option Code) → Free (gfm_autolink_literal_protocol bytes end previous)
-unfolding gfm_autolink_literal_protocol
-quiet_protocol bytes end previous =
-    yields_passed _ _ _ (then_any _ _ _ λ scheme. then_any _ _ _ λ slashes. then_any _ _ _ λ host. then_any _ _ _ λ further. yields_gives _ _ (simp mark_laws))
-
-quiet_www_from_here : (bytes : List ℕ) (end : ℕ) → Free (www_from_here bytes end)
-unfolding www_from_here
-quiet_www_from_here bytes end = then_any _ _ _ λ host. then_any _ _ _ λ further. yields_gives _ _ (simp mark_laws)
-
-pub quiet_www : (bytes : List ℕ) (end : ℕ) (previous : Option Code) → Free (gfm_autolink_literal_www bytes end previous)
-unfolding gfm_autolink_literal_www
-quiet_www bytes end previous = record { at = λ cs. (yields_passed (IsQuiet true) (may_precede_www previous && begins_with_www cs) _ (quiet_www_from_here bytes end)).at cs }
-
--- Resources and references.
 
 quiet_optional : (a : Reading Forest) → TailFree a → TailFree (optional_tree a)
 unfolding optional_tree

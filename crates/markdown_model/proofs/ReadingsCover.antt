@@ -7,13 +7,12 @@ use Rattle.markdown_engine_content.specs.declared.event.Name.{Name}
 use Rattle.markdown_engine_content.specs.declared.event.Content.{Content}
 use Rattle.markdown_engine_content.specs.Codes.{Code, is_line_ending, is_blank}
 use Rattle.markdown_engine_content.specs.Tree.{Forest, empty, leaf_then, group_then, leaf, linked, ◌⊕◌, group, leaf_codes}
-use Rattle.markdown_util.specs.Reference.{Table}
 use Rattle.markdown_model.specs.CodeTests.{is_value, is_empty, is_among, next_is, is_whitespace_code, is_control}
 use Rattle.markdown_model.specs.Grammar.{word, through, Reading, ◌>>=◌, ◌>>◌, gives, either, unless, if_next, provided, span, one, any_number, some, with_first, word_of, up_to_word, before, ◌then_◌, repeated, repeatedly, optional, optional_tree, escaped_from, up_to}
 use Rattle.markdown_model.specs.TextLines.{stretches, onto_stretch, joins, linked_leaf, line_leaf, line_leaves, lines_from, lines}
 use Rattle.markdown_model.specs.Whitespace.{space_or_tab_eol, spaces_across, spaces_on_line}
-use Rattle.markdown_model.specs.LeafConstructs.{Parts, character_reference, named_parts, decimal_parts, hexadecimal_parts, character_escape, in_angle_brackets, hard_break_escape, gfm_task_list_item_check, scheme, domain_label, uri, email_address, autolink, closing_run, closing, joined_codes, span_of, span_here, SpanNames}
-use Rattle.markdown_model.specs.HtmlText.{html_text, html_codes, spaces, optional_spaces, quoted_value, unquoted_value, attribute_name, attribute_value, attribute, tag_name, open_tag, closing_tag, comment, instruction, declaration, cdata}
+use Rattle.markdown_model.specs.LeafConstructs.{scheme, domain_label, uri, email_address, closing_run, closing, joined_codes}
+use Rattle.markdown_model.specs.HtmlText.{html_codes, spaces, optional_spaces, quoted_value, unquoted_value, attribute_name, attribute_value, attribute, tag_name, open_tag, closing_tag, comment, instruction, declaration, cdata}
 use Rattle.markdown_model.specs.Resource.{string_group, between_markers, StringNames, label, title_between, title, title_names, raw_from, literal_destination, raw_destination, destination, DestinationNames, resource_names, spaced_title, destination_and_title, resource}
 use Rattle.markdown_model.proofs.LeafCodes.{codes-leaf, span-append, until-append}
 use Rattle.markdown_engine_content.proofs.TreeCodes.{leaf_codes-row}
@@ -187,19 +186,7 @@ up_to_at ns (c ∷ cs) = by_answer (word_of ns (c ∷ cs)) (word_at ns (c ∷ cs
 pub takes_up_to_word : (ns : List ℕ) → Takes (up_to_word ns)
 takes_up_to_word ns = record { at = up_to_at ns }
 
--- The constructs.
-
-pub covers_escape : Covers leaf_codes [] character_escape
-unfolding character_escape
-covers_escape = bind _ _ _ _ _ (takes_one _) λ slash. bind _ _ _ _ _ (takes_one _) λ value. given _ _ _ (simp codes_laws)
-
-pub covers_hard_break_escape : Covers leaf_codes [] hard_break_escape
-unfolding hard_break_escape
-covers_hard_break_escape = bind _ _ _ _ _ (seen_before _ _ _ _ (takes_one _)) λ slash. given _ _ _ (simp codes_laws)
-
-pub covers_in_angle_brackets : (inside : Reading (List Code)) (name : Name) → Takes inside → Covers leaf_codes [] (in_angle_brackets inside name)
-unfolding in_angle_brackets
-covers_in_angle_brackets inside name h = bind _ _ _ _ _ (takes_one _) λ front. bind _ _ _ _ _ h λ text. bind _ _ _ _ _ (takes_one _) λ back. given _ _ _ (simp codes_laws)
+-- Parts of autolinks.
 
 pub takes_scheme : Takes scheme
 unfolding scheme
@@ -216,33 +203,6 @@ takes_uri = takes_then _ _ takes_scheme (takes_then _ _ (takes_one _) (takes_any
 pub takes_email_address : Takes email_address
 unfolding email_address
 takes_email_address = takes_then _ _ (takes_some _) (takes_then _ _ (takes_one _) (takes_then _ _ takes_domain_label (takes_repeatedly _ (takes_then _ _ (takes_one _) takes_domain_label))))
-
-pub covers_autolink : Covers leaf_codes [] autolink
-unfolding autolink
-covers_autolink = one_of _ _ _ _ (covers_in_angle_brackets _ _ takes_uri) (covers_in_angle_brackets _ _ takes_email_address)
-
-pub covers_task_check : Covers leaf_codes [] gfm_task_list_item_check
-unfolding gfm_task_list_item_check
-covers_task_check = bind _ _ _ _ _ (takes_one _) λ front. bind _ _ _ _ _ (takes_one _) λ value. bind _ _ _ _ _ (seen_before _ _ _ _ (takes_one _)) λ back. given _ _ _ (simp codes_laws)
-
-abbrev part_codes : Parts → List Code
-part_codes p = p.front ++ (p.number ++ (p.hexadecimal ++ (p.value ++ p.back)))
-
-covers_named_parts : (table : Table) → Covers part_codes [] (named_parts table)
-unfolding named_parts
-covers_named_parts table = bind _ _ _ _ _ (takes_one _) λ front. bind _ _ _ _ _ (takes_some _) λ value. if_passed _ _ _ _ (bind _ _ _ _ _ (takes_one _) λ back. given _ _ _ (simp append_assoc))
-
-covers_decimal_parts : Covers part_codes [] decimal_parts
-unfolding decimal_parts
-covers_decimal_parts = bind _ _ _ _ _ (takes_one _) λ front. bind _ _ _ _ _ (takes_one _) λ number. bind _ _ _ _ _ (takes_some _) λ value. if_passed _ _ _ _ (bind _ _ _ _ _ (takes_one _) λ back. given _ _ _ (simp append_assoc))
-
-covers_hexadecimal_parts : Covers part_codes [] hexadecimal_parts
-unfolding hexadecimal_parts
-covers_hexadecimal_parts = bind _ _ _ _ _ (takes_one _) λ front. bind _ _ _ _ _ (takes_one _) λ number. bind _ _ _ _ _ (takes_one _) λ x. bind _ _ _ _ _ (takes_some _) λ value. if_passed _ _ _ _ (bind _ _ _ _ _ (takes_one _) λ back. given _ _ _ (simp append_assoc))
-
-pub covers_reference : (table : Table) → Covers leaf_codes [] (character_reference table)
-unfolding character_reference
-covers_reference table = bind _ _ _ _ _ (one_of _ _ _ _ (covers_named_parts table) (one_of _ _ _ _ covers_decimal_parts covers_hexadecimal_parts)) λ parts. given _ _ _ (simp codes_laws)
 
 -- Lines and stretches.
 
@@ -361,10 +321,6 @@ takes_cdata = takes_then _ _ (takes_word "<![CDATA[") (takes_through "]]>")
 pub takes_html_text : Takes html_codes
 unfolding html_codes
 takes_html_text = one_of _ _ _ _ takes_open_tag (one_of _ _ _ _ takes_closing_tag (one_of _ _ _ _ takes_comment (one_of _ _ _ _ takes_instruction (one_of _ _ _ _ takes_declaration takes_cdata))))
-
-pub covers_html : Covers leaf_codes [] html_text
-unfolding html_text
-covers_html = bind _ _ _ _ _ takes_html_text λ text. given _ _ _ (append-nil _ ∙ codes-lines Name.HtmlTextData None text)
 
 -- Labels, destinations, titles and resources.
 
@@ -497,12 +453,3 @@ closing_at marker n (s ∷ ss) = by_test (next_is marker s && length s == n) (cl
 
 pub covers_closing : (marker : Code → Bool) (n : ℕ) → Covers span_codes [] (closing marker n)
 covers_closing marker n = record { at = λ cs. subst (λ z. At span_codes [] z (closing marker n cs)) (joined_codes-stretches marker cs) (closing_at marker n (stretches marker cs)) }
-
-pub covers_span_of : (marker : ℕ) (names : SpanNames) (allowed : ℕ → Bool) → Covers leaf_codes [] (span_of marker names allowed)
-unfolding span_of
-covers_span_of marker names allowed =
-    bind _ _ _ _ _ (takes_some _) λ front. if_passed _ _ _ _ (bind _ _ _ _ _ (covers_closing (is_value marker) (length front)) λ inside. given _ _ (group names.whole (leaf names.sequence front ⊕ line_leaves names.text inside.0 ⊕ leaf names.sequence inside.1)) (simp (codes_laws, codes-line_leaves)))
-
-pub covers_span_here : (marker : ℕ) (names : SpanNames) (allowed : ℕ → Bool) (escaped : Bool) (previous : Option Code) → Covers leaf_codes [] (span_here marker names allowed escaped previous)
-unfolding span_here
-covers_span_here marker names allowed escaped previous = if_passed _ _ _ _ (covers_span_of marker names allowed)

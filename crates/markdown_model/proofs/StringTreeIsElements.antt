@@ -6,7 +6,6 @@ use Rattle.markdown_engine_content.specs.Codes.{Code}
 use Rattle.markdown_engine_content.specs.Tree.{Forest, empty, leaf, ◌⊕◌}
 use Rattle.markdown_model.specs.Grammar.{Reading}
 use Rattle.markdown_model.specs.TextLines.{code_leaf}
-use Rattle.markdown_model.specs.LeafConstructs.{character_escape, character_reference}
 use Rattle.markdown_model.specs.Setting.{Setting}
 use Rattle.markdown_model.specs.LabelEnd.{Element, plain, starts, ends}
 use Rattle.markdown_model.specs.Elements.{as_plain, line_ending, data_code, string_element, AreElementsFrom, string_choice}
@@ -36,7 +35,7 @@ plain_yields a = then_any _ _ _ λ tree. yields_gives _ (plain tree) tt
 string_passes : (s : Setting) (cs : List Code) → Passes IsPlain (string_element s cs)
 unfolding line_ending data_code
 string_passes s cs =
-    string_has (Passes IsPlain) tt cs s ((plain_yields character_escape).at cs) ((plain_yields (character_reference s.references)).at cs)
+    string_has (Passes IsPlain) tt cs s (λ a _. (plain_yields a).at cs)
     ((yields_either _ _ _ (then_any _ _ _ λ c. yields_gives _ (plain (leaf Name.LineEnding c)) tt) (then_any _ _ _ λ c. yields_gives _ (plain (leaf Name.Data c)) tt)).at cs)
 
 pub string_are_plain : (s : Setting) (es earlier : List Element) (previous : Option Code) (cs : List Code) → AreElementsFrom (string_choice s) earlier previous cs es → ArePlain es

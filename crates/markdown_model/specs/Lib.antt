@@ -19,3 +19,5 @@ pub mod Passes
 pub mod SingleConstructs
 pub mod InlineTree
 pub mod Laws
+-- What serves proofs: what functions and proofs promise each other.
+pub mod CodeLines

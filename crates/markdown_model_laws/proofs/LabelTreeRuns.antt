@@ -14,10 +14,11 @@ use Rattle.markdown_model.specs.Grammar.{Reading, ◌>>=◌, gives, some, span}
 use Rattle.markdown_model.specs.Setting.{Setting}
 use Rattle.markdown_model.specs.Runs.{marker_of}
 use Rattle.markdown_model.specs.LabelEnd.{Element, plain, starts, ends, Label, label_before, outcome_of, label_end}
-use Rattle.markdown_model.specs.Elements.{as_plain, line_ending, data_code, attention_run, label_start_image, gfm_label_start_footnote, label_start_link, code_text, math_text, text_element, AreElementsFrom, code_before, elements_of}
+use Rattle.markdown_model.specs.Elements.{as_plain, line_ending, data_code, attention_run, label_start_image, gfm_label_start_footnote, label_start_link, text_element, AreElementsFrom, code_before, elements_of}
 use Rattle.markdown_model.specs.BracketGroups.{nest, onto, after_loose, joined, loose}
 use Rattle.markdown_model.specs.Passes.{Start, End, as_bracket, start_marker, start_tree, label_group, loose_start, loose_end, labelled, labels_of, is_nothing}
-use Rattle.markdown_model.proofs.ReadsACode.{Left, text_element_takes}
+use Rattle.markdown_model.proofs.ReadsACode.{Left}
+use Rattle.markdown_model.proofs.ElementsReadACode.{text_element_takes}
 use Rattle.markdown_model.proofs.ElementCases.{EachConstruct, outcome_yields, text_has}
 use Rattle.markdown_model.proofs.ElementsCover.{covers_text_element}
 use Rattle.markdown_model.proofs.OneElementList.{text_elements}
@@ -25,7 +26,8 @@ use Rattle.markdown_model.proofs.LabelsCover.{element_codes, unused}
 use Rattle.markdown_model.proofs.NoLinkInConstructs.{Passes, Yields, yields_bind, yields_gives, yields_either, then_any}
 use Rattle.markdown_model.proofs.ReadingsCover.{At}
 use Rattle.markdown_model.proofs.DefinitionSteps.{span-all, span-stops}
-use Rattle.markdown_model.proofs.PlainTrees.{is_mark, is_linked, marks, IsQuiet, Free, quiet_escape, quiet_hard_break_escape, quiet_reference, quiet_autolink, quiet_task_check, quiet_code, quiet_math, quiet_html, quiet_protocol, quiet_www, quiet_after_label}
+use Rattle.markdown_model.proofs.PlainTrees.{is_mark, is_linked, marks, IsQuiet, plain-quiet, quiet_after_label}
+use Rattle.markdown_model.proofs.PlainConstructs.{IsPlainTree, ReadsPlain}
 use Rattle.markdown_model_laws.proofs.MadeConstructs.{IsSome}
 use Rattle.markdown_model_laws.proofs.MadeElements.{AllGood, good-text}
 
@@ -151,9 +153,9 @@ fine_always a h = record { at = λ cs. by_answer (a cs) (h.at cs) }
     by_answer None k = tt
     by_answer (Some x) k = k x.1
 
-fine_plain : (a : Reading Forest) → Free a → Fine (as_plain a)
+fine_plain : (bytes : List ℕ) (a : Reading Forest) → ReadsPlain bytes a → Fine (as_plain a)
 unfolding as_plain
-fine_plain a h = fine_always _ (yields_bind (IsQuiet true) _ _ _ h λ tree k. yields_gives _ (plain tree) (λ rest. inl k))
+fine_plain bytes a h = fine_always _ (yields_bind (IsPlainTree bytes) _ _ _ h.plain λ tree k. yields_gives _ (plain tree) (λ rest. inl (plain-quiet bytes tree k)))
 
 quiet-leaf : (name : Name) (cs : List Code) → is_mark name ≡ false → IsQuiet true (leaf name cs)
 quiet-leaf name [] h = refl
@@ -201,14 +203,6 @@ fine_link_start : Fine label_start_link
 unfolding label_start_link
 fine_link_start = fine_always _ (fine_start _ LabelKind.Link)
 
-fine_code_span : (earlier : List Element) (previous : Option Code) → Fine (code_text earlier previous)
-unfolding code_text
-fine_code_span earlier previous = fine_plain _ (quiet_code _ _ _ _)
-
-fine_math_span : (single : Bool) (earlier : List Element) (previous : Option Code) → Fine (math_text single earlier previous)
-unfolding math_text
-fine_math_span single earlier previous = fine_plain _ (quiet_math _ _ _ _)
-
 abbrev QuietOutcome : LabelKind × Forest → Type 0
 QuietOutcome outcome = IsQuiet false outcome.1
 
@@ -230,22 +224,13 @@ fine_text_element s end earlier previous cs = text_has s end earlier previous An
       none = tt;
       ending = fine_line_ending.at cs;
       image = λ footnotes. (fine_image_start footnotes).at cs;
-      math = λ single. (fine_math_span single earlier previous).at cs;
-      code = (fine_code_span earlier previous).at cs;
-      referred = (fine_plain _ (quiet_reference s.references)).at cs;
+      plain_has = λ a h. (fine_plain s.bytes a h).at cs;
       stars = λ _. (fine_run 42 refl).at cs;
       underscores = λ _. (fine_run 95 refl).at cs;
       tildes = λ _. (fine_run 126 refl).at cs;
-      linked = (fine_plain _ quiet_autolink).at cs;
-      tagged = (fine_plain _ quiet_html).at cs;
-      protocol = (fine_plain _ (quiet_protocol s.bytes end previous)).at cs;
-      www = (fine_plain _ (quiet_www s.bytes end previous)).at cs;
       footnote = fine_footnote_start.at cs;
       link = fine_link_start.at cs;
-      escaped = (fine_plain _ quiet_escape).at cs;
-      broken = (fine_plain _ quiet_hard_break_escape).at cs;
       ended = (fine_label_end s earlier).at cs;
-      checked = (fine_plain _ quiet_task_check).at cs;
     }
 
 -- Lists of elements, where p is the marker of a run just before, or zero.

@@ -1,30 +1,28 @@
 -- What constructs make: each leaf has a code and is no email literal, each group reaches from where its first tree begins to where its last one ends,
 -- none is a pair's, and an autolink holds leaves of its own.
-use Rattle.std.proofs.Common.{◌≡◌, ◌==◌, ℕ, ◌+◌, ◌≤◌, codes, Bool, true, false, ◌&&◌, ◌||◌, not, List, [], ◌∷◌, ◌++◌, length, refl, sym, ◌∙◌, ap, arith, Option, Some, None}
+use Rattle.std.proofs.Common.{◌≡◌, ◌≢◌, ◌==◌, ℕ, ◌+◌, ◌≤◌, Bool, true, false, ◌&&◌, ◌||◌, not, List, [], ◌∷◌, ◌++◌, length, refl, sym, ◌∙◌, ap, arith, Option, Some, None}
 use Rattle.markdown_model.proofs.LinksDoNotNest.{yields_passed_if}
 use Rattle.std.proofs.lemmas.Bool.{not-true, eq-eqb}
 use Rattle.std.proofs.Math.Bool.{and_assoc, or-true}
 use Rattle.markdown_engine_content.specs.declared.event.Name.{Name}
 use Rattle.markdown_engine_content.specs.declared.event.Content.{Content}
 use Rattle.markdown_engine_content.specs.declared.event.Point.{Point}
-use Rattle.markdown_engine_content.specs.Codes.{Code, is_line_ending, is_blank}
-use Rattle.markdown_engine_content.specs.Tree.{Forest, empty, leaf_then, group_then, leaf, linked, group, ◌⊕◌, leaf_codes, enter_of, exit_after}
-use Rattle.markdown_util.specs.Reference.{Table}
-use Rattle.markdown_model.specs.CodeTests.{is_empty, next_is, is_among}
-use Rattle.markdown_model.specs.Grammar.{Reading, one, some, span, optional_tree}
-use Rattle.markdown_model.specs.TextLines.{linked_leaf, line_leaf, line_leaves, lines_from, lines_of, lines}
+use Rattle.markdown_engine_content.specs.Codes.{Code}
+use Rattle.markdown_engine_content.specs.Tree.{Forest, empty, leaf_then, group_then, leaf, linked, group, ◌⊕◌, enter_of, exit_after}
+use Rattle.markdown_model.specs.CodeTests.{is_empty}
+use Rattle.markdown_model.specs.Grammar.{Reading, one, optional_tree}
+use Rattle.markdown_model.specs.TextLines.{linked_leaf, lines}
 use Rattle.markdown_model.specs.Whitespace.{space_or_tab_eol, spaces_across, spaces_on_line}
 use Rattle.markdown_model.specs.Resource.{string_group, label, reference_names, title, title_between, title_names, literal_destination, raw_destination, destination, resource_names, spaced_title, destination_and_title, resource}
-use Rattle.markdown_model.specs.LeafConstructs.{Parts, character_reference, named_parts, decimal_parts, hexadecimal_parts, character_escape, in_angle_brackets, hard_break_escape, gfm_task_list_item_check, check_name, autolink, span_of, span_here, SpanNames}
-use Rattle.markdown_model.specs.HtmlText.{html_text}
-use Rattle.markdown_model.specs.GfmAutolinkLiteral.{gfm_autolink_literal_protocol, www_from_here, gfm_autolink_literal_www, may_precede_www, begins_with_www}
 use Rattle.markdown_model.specs.Passes.{is_nothing}
 use Rattle.markdown_model.specs.Laws.{is_run}
 use Rattle.markdown_model.specs.Setting.{Setting}
 use Rattle.markdown_model.specs.LabelEnd.{full_reference, collapsed_reference, shortcut, shortcut_before_bracket, reference_after_label, after_label}
-use Rattle.markdown_model.proofs.ReadsACode.{Consumes, one_takes, some_takes, html_text_takes}
+use Rattle.markdown_model.proofs.LeafRows.{Leaves, leaves-lines}
+use Rattle.markdown_model.proofs.ReadsACode.{Consumes, one_takes}
 use Rattle.markdown_model.proofs.NoLinkInConstructs.{Passes, Yields, yields_bind, yields_gives, yields_passed, yields_either, yields_before, yields_next, yields_unless, then_any}
-use Rattle.markdown_model.proofs.ReadingsCover.{Takes, takes_one, takes_some, takes_html_text, codes-lines, itself}
+use Rattle.markdown_model.proofs.PlainConstructs.{is_own, leaf-own, group-own, IsOwnLeaf, IsPlainTree}
+use Rattle.markdown_model.proofs.ReadingsCover.{Takes, takes_one, itself}
 use Rattle.markdown_model.proofs.DefinitionSteps.{read-codes, read-shorter}
 use Rattle.markdown_model_laws.specs.PairGroups.{is_pair}
 use Rattle.markdown_model_laws.specs.EmailsInData.{is_email}
@@ -104,36 +102,19 @@ made-linked : (cs : List Code) → made false (linked Name.Data cs) ≡ true
 made-linked [] = refl
 made-linked (c ∷ cs) = refl
 
-made-line_leaf : (name : Name) (link : Option Content) (s : List Code) → is_email name ≡ false → made false (line_leaf name link s) ≡ true
-made-line_leaf name link s h = by_test (next_is is_line_ending s)
-  where
-    by_test : (b : Bool) → made false (elim b [ true ↦ linked_leaf Name.LineEnding link s | false ↦ linked_leaf name link s ]) ≡ true
-    by_test true = made-ending link s
-    by_test false = made-linked_leaf name link s h
+-- of leaves, by each of them
+rows-made : (t : Forest) → Leaves (λ name link cs. (is_empty cs ≡ false) × (is_email name ≡ false)) t → made false t ≡ true
+rows-made empty h = refl
+rows-made (leaf_then name link cs rest) h = λ i. not (h.0.0 i) && (not (h.0.1 i) && rows-made rest h.1 i)
+rows-made (group_then name enter exit inside rest) h = absurd h
 
-made-line_leaves : (name : Name) (ss : List (List Code)) → is_email name ≡ false → made false (line_leaves name ss) ≡ true
-made-line_leaves name [] h = refl
-made-line_leaves name (s ∷ ss) h = made-join false (line_leaf name None s) (line_leaves name ss) ∙ (λ i. made-line_leaf name None s h i && made-line_leaves name ss h i)
-
-made-lines_from : (name : Name) (link : Option Content) (later : Bool) (ss : List (List Code)) → is_email name ≡ false → made false (lines_from name link later ss) ≡ true
-made-lines_from name link later [] h = refl
-made-lines_from name link later (s ∷ ss) h = by_test (later && not (next_is is_line_ending s)) (λ b. made-lines_from name link b ss h)
-  where
-    by_test : (b : Bool) → ((f : Bool) → made false (lines_from name link f ss) ≡ true)
-        → made false (elim b [
-          | true ↦ linked_leaf Name.SpaceOrTab link (span is_blank s).0 ⊕ linked_leaf name link (span is_blank s).1 ⊕ lines_from name link false ss
-          | false ↦ line_leaf name link s ⊕ lines_from name link (next_is is_line_ending s) ss
-        ]) ≡ true
-    by_test true k =
-        made-join false (linked_leaf Name.SpaceOrTab link (span is_blank s).0) (linked_leaf name link (span is_blank s).1 ⊕ lines_from name link false ss)
-        ∙ (λ i. made-space link (span is_blank s).0 i && (made-join false (linked_leaf name link (span is_blank s).1) (lines_from name link false ss) ∙ (λ j. made-linked_leaf name link (span is_blank s).1 h j && k false j)) i)
-    by_test false k = made-join false (line_leaf name link s) (lines_from name link (next_is is_line_ending s) ss) ∙ (λ i. made-line_leaf name link s h i && k (next_is is_line_ending s) i)
+some-not-empty : (cs : List Code) → cs ≢ [] → is_empty cs ≡ false
+some-not-empty [] h = absurd (h refl)
+some-not-empty (c ∷ cs) h = refl
 
 made-lines : (link : Option Content) (cs : List Code) → made false (lines Name.Data link cs) ≡ true
-made-lines link cs = made-lines_from Name.Data link false (lines_of cs) refl
-
-made-html_lines : (cs : List Code) → made false (lines Name.HtmlTextData None cs) ≡ true
-made-html_lines cs = made-lines_from Name.HtmlTextData None false (lines_of cs) refl
+made-lines link cs =
+    rows-made _ (leaves-lines _ Name.Data link (λ s h. (some-not-empty s h.0, refl)) (λ s h _. (some-not-empty s h, refl)) (λ s h. (some-not-empty s h.0, refl)) cs)
 
 -- Groups.
 
@@ -173,11 +154,6 @@ made-front name marker cs f h e k l =
     made-group false name (leaf marker cs ⊕ f) h (front-some marker cs f k)
     (made-join false (leaf marker cs) f ∙ (λ i. (made-leaf false marker cs ∙ (λ j. not (e j) || is_empty cs)) i && l i))
 
-codes-some : (f : Forest) → is_empty (leaf_codes f) ≡ false → is_nothing f ≡ false
-codes-some empty h = cc
-codes-some (leaf_then name link cs rest) h = refl
-codes-some (group_then name enter exit inside rest) h = refl
-
 -- Readings.
 
 abbrev pub IsSome : List Code → Type 0
@@ -207,9 +183,6 @@ gives-some a h k = record { at = λ cs. by_answer cs (a cs) refl }
 pub one-gives : (p : Code → Bool) → Yields IsSome (one p)
 one-gives p = gives-some (one p) (takes_one p) (one_takes p)
 
-pub some-gives : (p : Code → Bool) → Yields IsSome (some p)
-some-gives p = gives-some (some p) (takes_some p) (some_takes p)
-
 makes_optional : (a : Reading Forest) → Makes a → Makes (optional_tree a)
 unfolding optional_tree
 makes_optional a h = yields_either _ _ _ h (yields_gives _ _ refl)
@@ -220,101 +193,37 @@ makes_spacing link = yields_either _ _ _
     (then_any _ _ _ λ front. then_any _ _ _ λ ending. then_any _ _ _ λ back. yields_gives _ _ (simp made_laws))
     (then_any _ _ _ λ blank. yields_gives _ _ (simp made_laws))
 
-pub makes_escape : Makes character_escape
-unfolding character_escape
-makes_escape = yields_bind IsSome _ _ _ (one-gives _) λ slash h. then_any _ _ _ λ value. yields_gives _ _ (made-front Name.CharacterEscape Name.CharacterEscapeMarker slash (leaf Name.CharacterEscapeValue value) refl refl h (simp made_laws))
+-- What stands by itself.
 
-pub makes_hard_break_escape : Makes hard_break_escape
-unfolding hard_break_escape
-makes_hard_break_escape = then_any _ _ _ λ slash. yields_gives _ _ (simp made_laws)
+own-names : (name : Name) → is_own name ≡ true → (is_email name ≡ false) × ((is_pair name ≡ false) × ((is_data name || is_run name) ≡ false))
+own-names Name.Data e = cc
+own-names Name.AttentionSequence e = cc
+own-names Name.Emphasis e = cc
+own-names Name.Strong e = cc
+own-names Name.GfmStrikethrough e = cc
+own-names Name.GfmAutolinkLiteralEmail e = cc
+own-names Name.GfmAutolinkLiteralMailto e = cc
+own-names Name.GfmAutolinkLiteralXmpp e = cc
+own-names _ e = (refl, (refl, refl))
 
-abbrev HasFront : Parts → Type 0
-HasFront p = is_empty p.front ≡ false
+leaves-made : (bytes : List ℕ) (t : Forest) → Leaves (IsOwnLeaf bytes) t → (made false t ≡ true) × (is_sealed t ≡ true)
+leaves-made bytes empty h = (refl, refl)
+leaves-made bytes (leaf_then name link cs rest) h =
+    let n = own-names name (leaf-own name h.0.named) in
+    let k = leaves-made bytes rest h.1 in
+    ((λ i. not (some-not-empty cs h.0.some i) && (not (n.0 i) && k.0 i)), λ i. not (n.1.1 i) && k.1 i)
+leaves-made bytes (group_then name enter exit inside rest) h = absurd h
 
-parts_named : (table : Table) → Yields HasFront (named_parts table)
-unfolding named_parts
-parts_named table = yields_bind IsSome _ _ _ (one-gives _) λ front h. then_any _ _ _ λ value. yields_passed _ _ _ (then_any _ _ _ λ back. yields_gives _ _ h)
-
-parts_decimal : Yields HasFront decimal_parts
-unfolding decimal_parts
-parts_decimal = yields_bind IsSome _ _ _ (one-gives _) λ front h. then_any _ _ _ λ number. then_any _ _ _ λ value. yields_passed _ _ _ (then_any _ _ _ λ back. yields_gives _ _ h)
-
-parts_hexadecimal : Yields HasFront hexadecimal_parts
-unfolding hexadecimal_parts
-parts_hexadecimal =
-    yields_bind IsSome _ _ _ (one-gives _) λ front h. then_any _ _ _ λ number. then_any _ _ _ λ letter. then_any _ _ _ λ value. yields_passed _ _ _ (then_any _ _ _ λ back. yields_gives _ _ h)
-
-pub makes_reference : (table : Table) → Makes (character_reference table)
-unfolding character_reference
-makes_reference table =
-    yields_bind HasFront _ _ _ (yields_either _ _ _ (parts_named table) (yields_either _ _ _ parts_decimal parts_hexadecimal))
-    λ parts h. yields_gives _ _
-    (made-front Name.CharacterReference Name.CharacterReferenceMarker parts.front
-    (leaf Name.CharacterReferenceMarkerNumeric parts.number ⊕ leaf Name.CharacterReferenceMarkerHexadecimal parts.hexadecimal ⊕ leaf Name.CharacterReferenceValue parts.value ⊕ leaf Name.CharacterReferenceMarkerSemi parts.back) refl refl h (simp made_laws))
-
-sealed-leaf : (name : Name) (cs : List Code) (f : Forest) → (is_data name || is_run name) ≡ false → is_sealed f ≡ true → is_sealed (leaf name cs ⊕ f) ≡ true
-sealed-leaf name [] f h k = k
-sealed-leaf name (c ∷ cs) f h k = λ i. not (h i) && k i
-
-makes_in_angle_brackets : (inside : Reading (List Code)) (name : Name) → is_email name ≡ false → (is_data name || is_run name) ≡ false → Makes (in_angle_brackets inside name)
-unfolding in_angle_brackets
-makes_in_angle_brackets inside name e k =
-    yields_bind IsSome _ _ _ (one-gives _) λ front h. then_any _ _ _ λ text. then_any _ _ _ λ back. yields_gives _ _ (made-front Name.Autolink Name.AutolinkMarker front (leaf name text ⊕ leaf Name.AutolinkMarker back)
-    (sealed-leaf Name.AutolinkMarker front (leaf name text ⊕ leaf Name.AutolinkMarker back) refl (sealed-leaf name text (leaf Name.AutolinkMarker back) k (last back))) refl h (simp (made_laws, e)))
-  where
-    last : (cs : List Code) → is_sealed (leaf Name.AutolinkMarker cs) ≡ true
-    last [] = refl
-    last (c ∷ cs) = refl
-
-pub makes_autolink : Makes autolink
-unfolding autolink
-makes_autolink = yields_either _ _ _ (makes_in_angle_brackets _ _ refl refl) (makes_in_angle_brackets _ _ refl refl)
-
-check-made : (cs : List Code) → is_email (check_name cs) ≡ false
-check-made cs = by_test (next_is (is_among (codes "xX")) cs)
-  where
-    by_test : (b : Bool) → is_email (elim b [ true ↦ Name.GfmTaskListItemValueChecked | false ↦ Name.GfmTaskListItemValueUnchecked ]) ≡ false
-    by_test true = refl
-    by_test false = refl
-
-pub makes_task_check : Makes gfm_task_list_item_check
-unfolding gfm_task_list_item_check
-makes_task_check =
-    yields_bind IsSome _ _ _ (one-gives _) λ front h. then_any _ _ _ λ value. then_any _ _ _ λ back. yields_gives _ _ (made-front Name.GfmTaskListItemCheck Name.GfmTaskListItemMarker front (leaf (check_name value) value ⊕ leaf Name.GfmTaskListItemMarker back) refl refl h (simp (made_laws, check-made)))
-
--- neither a pair nor email literals
-pub record IsSpan (names : SpanNames) : Type 0 where
-  pub whole : (f : Forest) → is_single names.whole f ≡ true
-  pub sequence : is_email names.sequence ≡ false
-  pub text : is_email names.text ≡ false
-
-makes_span_of : (marker : ℕ) (names : SpanNames) (allowed : ℕ → Bool) → IsSpan names → Makes (span_of marker names allowed)
-unfolding span_of
-makes_span_of marker names allowed k =
-    yields_bind IsSome _ _ _ (some-gives _) λ front h. yields_passed _ _ _ (then_any _ _ _ λ inside. yields_gives _ _ (made-front names.whole names.sequence front (line_leaves names.text inside.0 ⊕ leaf names.sequence inside.1) (k.whole (leaf names.sequence front ⊕ line_leaves names.text inside.0 ⊕ leaf names.sequence inside.1)) k.sequence h (simp (made_laws, made-line_leaves names.text inside.0 k.text, k.sequence))))
-
-pub makes_span_here : (marker : ℕ) (names : SpanNames) (allowed : ℕ → Bool) (escaped : Bool) (previous : Option Code) → IsSpan names → Makes (span_here marker names allowed escaped previous)
-unfolding span_here
-makes_span_here marker names allowed escaped previous h = yields_passed _ _ _ (makes_span_of marker names allowed h)
-
-pub makes_html : Makes html_text
-unfolding html_text
-makes_html =
-    yields_bind IsSome _ _ _ (gives-some _ takes_html_text html_text_takes) λ text h.
-    yields_gives _ _ (made-group false Name.HtmlText (lines Name.HtmlTextData None text) refl (codes-some (lines Name.HtmlTextData None text) (ap is_empty (codes-lines Name.HtmlTextData None text) ∙ h)) (made-html_lines text))
-
-pub makes_protocol : (bytes : List ℕ) (end : ℕ) (previous : Option Code) → Makes (gfm_autolink_literal_protocol bytes end previous)
-unfolding gfm_autolink_literal_protocol
-makes_protocol bytes end previous =
-    yields_passed _ _ _ (then_any _ _ _ λ scheme. then_any _ _ _ λ slashes. then_any _ _ _ λ host. then_any _ _ _ λ further. yields_gives _ _ (simp made_laws))
-
-makes_www_from_here : (bytes : List ℕ) (end : ℕ) → Makes (www_from_here bytes end)
-unfolding www_from_here
-makes_www_from_here bytes end = then_any _ _ _ λ host. then_any _ _ _ λ further. yields_gives _ _ (simp made_laws)
-
-pub makes_www : (bytes : List ℕ) (end : ℕ) (previous : Option Code) → Makes (gfm_autolink_literal_www bytes end previous)
-unfolding gfm_autolink_literal_www
-makes_www bytes end previous = record { at = λ cs. (yields_passed IsMade (may_precede_www previous && begins_with_www cs) _ (makes_www_from_here bytes end)).at cs }
+pub plain-made : (bytes : List ℕ) (t : Forest) → IsPlainTree bytes t → IsMade t
+plain-made bytes empty h = absurd h
+plain-made bytes (leaf_then name link cs rest) h =
+    let n = own-names name (leaf-own name h.0.named) in
+    λ i. not (some-not-empty cs h.0.some i) && (not (n.0 i) && made false (h.1 i))
+plain-made bytes (group_then name enter exit inside rest) h =
+    let n = own-names name (group-own name h.0.named) in
+    let k = leaves-made bytes inside h.0.leaves in
+    let single : is_single name inside ≡ true = (λ i. not (n.1.0 i) && (not (is_autolink name) || k.1 i)) ∙ or-true (not (is_autolink name)) in
+    (λ i. made false (group_then name (h.0.enters i) (h.0.exits i) inside (h.1 i))) ∙ made-group false name inside single h.0.some k.0
 
 -- Resources and references.
 

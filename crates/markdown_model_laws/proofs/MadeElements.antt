@@ -11,7 +11,7 @@ use Rattle.markdown_engine_content.specs.Tree.{Forest, empty, leaf_then, group_t
 use Rattle.markdown_model.specs.Grammar.{Reading}
 use Rattle.markdown_model.specs.Setting.{Setting}
 use Rattle.markdown_model.specs.LabelEnd.{Element, plain, starts, ends, Label, label_before, outcome_of, label_end}
-use Rattle.markdown_model.specs.Elements.{as_plain, line_ending, data_code, attention_run, label_start_image, gfm_label_start_footnote, label_start_link, code_text, math_text, text_element, string_element, text_choice, string_choice, elements_of, string_elements_of}
+use Rattle.markdown_model.specs.Elements.{as_plain, line_ending, data_code, attention_run, label_start_image, gfm_label_start_footnote, label_start_link, text_element, string_element, text_choice, string_choice, elements_of, string_elements_of}
 use Rattle.markdown_model.specs.Passes.{End, start_marker, start_tree, label_name, label_group, labels_of, is_nothing}
 use Rattle.markdown_model.proofs.ReadsACode.{text_takes}
 use Rattle.markdown_model.proofs.ElementCases.{AllAre, EachConstruct, all_are, outcome_yields, string_has, text_has}
@@ -22,7 +22,8 @@ use Rattle.markdown_model.proofs.ReadingsCover.{takes_word}
 use Rattle.markdown_model.specs.CodeTests.{is_empty}
 use Rattle.markdown_model_laws.specs.EmailsInData.{is_email}
 use Rattle.markdown_model_laws.specs.TreesFilled.{is_label_text}
-use Rattle.markdown_model_laws.proofs.MadeConstructs.{is_single, made, reaches, made-join, made-leaf, made-group, IsSome, IsMade, Makes, gives-some, one-gives, makes_escape, makes_hard_break_escape, makes_reference, makes_autolink, makes_html, makes_task_check, makes_span_here, makes_protocol, makes_www, makes_after_label}
+use Rattle.markdown_model_laws.proofs.MadeConstructs.{is_single, made, reaches, made-join, made-leaf, made-group, IsSome, IsMade, gives-some, one-gives, plain-made, makes_after_label}
+use Rattle.markdown_model.proofs.PlainConstructs.{IsPlainTree, ReadsPlain}
 
 -- Elements.
 
@@ -38,9 +39,9 @@ IsGood (ends back outcome) = IsGoodEnd (back, outcome)
 abbrev IsGoodOutcome : LabelKind × Forest → Type 0
 IsGoodOutcome o = IsMade o.1
 
-good_plain : (a : Reading Forest) → Makes a → Yields IsGood (as_plain a)
+good_plain : (bytes : List ℕ) (a : Reading Forest) → ReadsPlain bytes a → Yields IsGood (as_plain a)
 unfolding as_plain
-good_plain a h = yields_bind IsMade _ _ _ h λ tree k. yields_gives _ (plain tree) k
+good_plain bytes a h = yields_bind (IsPlainTree bytes) _ _ _ h.plain λ tree k. yields_gives _ (plain tree) (plain-made bytes tree k)
 
 good_line_ending : Yields IsGood line_ending
 unfolding line_ending
@@ -66,14 +67,6 @@ good_link_start : Yields IsGood label_start_link
 unfolding label_start_link
 good_link_start = yields_bind IsSome _ _ _ (one-gives _) λ marker h. yields_gives _ (starts LabelKind.Link marker) h
 
-good_code_span : (earlier : List Element) (previous : Option Code) → Yields IsGood (code_text earlier previous)
-unfolding code_text
-good_code_span earlier previous = good_plain _ (makes_span_here _ _ _ _ _ (record { whole = λ f. refl; sequence = refl; text = refl }))
-
-good_math_span : (single : Bool) (earlier : List Element) (previous : Option Code) → Yields IsGood (math_text single earlier previous)
-unfolding math_text
-good_math_span single earlier previous = good_plain _ (makes_span_here _ _ _ _ _ (record { whole = λ f. refl; sequence = refl; text = refl }))
-
 good_outcome : (s : Setting) (l : Option Label) (back : List Code) → Yields IsGoodOutcome (outcome_of s l back)
 good_outcome s l back = outcome_yields IsMade refl s (makes_after_label s) l back
 
@@ -91,27 +84,18 @@ good_text_element s end earlier previous cs = text_has s end earlier previous (P
       none = tt;
       ending = good_line_ending.at cs;
       image = λ footnotes. (good_image_start footnotes).at cs;
-      math = λ single. (good_math_span single earlier previous).at cs;
-      code = (good_code_span earlier previous).at cs;
-      referred = (good_plain _ (makes_reference s.references)).at cs;
+      plain_has = λ a h. (good_plain s.bytes a h).at cs;
       stars = λ _. (good_run 42).at cs;
       underscores = λ _. (good_run 95).at cs;
       tildes = λ _. (good_run 126).at cs;
-      linked = (good_plain _ makes_autolink).at cs;
-      tagged = (good_plain _ makes_html).at cs;
-      protocol = (good_plain _ (makes_protocol s.bytes end previous)).at cs;
-      www = (good_plain _ (makes_www s.bytes end previous)).at cs;
       footnote = good_footnote_start.at cs;
       link = good_link_start.at cs;
-      escaped = (good_plain _ makes_escape).at cs;
-      broken = (good_plain _ makes_hard_break_escape).at cs;
       ended = (good_label_end s earlier).at cs;
-      checked = (good_plain _ makes_task_check).at cs;
     }
 
 good_string_element : (s : Setting) (cs : List Code) → Passes IsGood (string_element s cs)
 good_string_element s cs =
-    string_has (Passes IsGood) tt cs s ((good_plain _ makes_escape).at cs) ((good_plain _ (makes_reference s.references)).at cs) ((yields_either IsGood _ _ good_line_ending good_data_code).at cs)
+    string_has (Passes IsGood) tt cs s (λ a h. (good_plain s.bytes a h).at cs) ((yields_either IsGood _ _ good_line_ending good_data_code).at cs)
 
 abbrev pub AllGood : List Element → Type 0
 AllGood es = AllAre IsGood es

@@ -14,7 +14,7 @@ use Rattle.markdown_partial.specs.MergedEvents.{HasData, is_data}
 use Rattle.markdown_partial.specs.TrimmedEvents.{IsPart, HasParts}
 use Rattle.markdown_run_row.specs.RowTreeNames.{HasLines, makes_data}
 use Rattle.markdown_run_leaves.specs.OneLineLeaves.{IsIn}
-use Rattle.markdown_run_leaves.proofs.OneLineTrees.{line-join}
+use Rattle.markdown_model.proofs.OneLineReadings.{line-join}
 use Rattle.markdown_run_leaves.proofs.LinesAreInDocument.{both-in, line-ends, part-of-content}
 
 -- Trees over a content.

@@ -17,7 +17,7 @@ use Rattle.markdown_partial.specs.MergedEvents.{is_data}
 use Rattle.markdown_partial.specs.TrimmedEvents.{is_ending}
 use Rattle.markdown_run_row.specs.RowTreeNames.{HasLines, makes_data}
 use Rattle.markdown_run_row.proofs.RowJoins.{HasLines-row}
-use Rattle.markdown_run_leaves.specs.OneLineLeaves.{IsLine}
+use Rattle.markdown_model.specs.CodeLines.{IsLine}
 use Rattle.markdown_run_leaves.proofs.OneLineTrees.{line-parts}
 use Rattle.markdown_model.proofs.GivenNames.{pair-named}
 use Rattle.markdown_model.proofs.PairGroupFacts.{run-has, assembled-has}

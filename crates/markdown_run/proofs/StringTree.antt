@@ -1,17 +1,17 @@
 -- The inline tree of a string, by its elements.
-use Rattle.std.proofs.Common.{◌≡◌, false, Option, List, [], ◌∷◌, None, refl, ap, subst, ◌∙◌}
+use Rattle.std.proofs.Common.{◌≡◌, ℕ, false, Option, List, [], ◌∷◌, None, refl, ap, subst, ◌∙◌}
 use Rattle.markdown_engine_content.specs.Codes.{Code}
 use Rattle.markdown_engine_content.specs.Tree.{Forest, leaf}
 use Rattle.markdown_engine_content.specs.declared.event.Name.TheVariants as N
 use Rattle.markdown_model.specs.Grammar.{Reading}
-use Rattle.markdown_model.specs.LeafConstructs.{character_escape, character_reference}
-use Rattle.markdown_model.proofs.NoLinkInConstructs.{Passes, Yields, yields_bind, yields_gives, yields_either, yields_passed, then_any}
-use Rattle.markdown_run_row.specs.RowTreeNames.{IsNode}
-use Rattle.markdown_run_row.proofs.ConstructNodes.{escape_yields, reference_yields}
+use Rattle.markdown_model.proofs.NoLinkInConstructs.{Passes, Yields, yields_bind, yields_gives, yields_either, then_any}
+use Rattle.markdown_model.proofs.ElementCases.{string_has}
+use Rattle.markdown_model.proofs.PlainConstructs.{IsPlainTree, ReadsPlain}
+use Rattle.markdown_run_row.proofs.ConstructNodes.{plain-node}
 use Rattle.markdown_run_row.specs.Row.{row_has_run, row_of_elements}
 use Rattle.markdown_run_row.proofs.PastTrees.{quiet-runless, leaf-runless}
 use Rattle.markdown_run.proofs.RowsWithoutRuns.{IsStill, still-first}
-use Rattle.markdown_model.specs.Elements.{AreStringElements, string_elements_of, AreElementsFrom, string_choice, string_element, as_plain, switched, line_ending, data_code, code_before}
+use Rattle.markdown_model.specs.Elements.{AreStringElements, string_elements_of, AreElementsFrom, string_choice, string_element, as_plain, line_ending, data_code, code_before}
 use Rattle.markdown_model.specs.InlineTree.{finished_string, string_tree}
 use Rattle.markdown_model.specs.LabelEnd.{Element, plain}
 use Rattle.markdown_model.specs.Passes.{labels_of, merged, trimmed}
@@ -35,18 +35,18 @@ string-finished s cs es h = ap (λ t. trimmed false false false (merged t)) (lab
 
 -- No run of markers stands among the elements of a string.
 
-still_plain : (a : Reading Forest) → Yields IsNode a → Yields IsStill (as_plain a)
+still_plain : (bytes : List ℕ) (a : Reading Forest) → ReadsPlain bytes a → Yields IsStill (as_plain a)
 unfolding as_plain
-still_plain a h = yields_bind IsNode _ _ _ h λ tree node. yields_gives _ (plain tree) (quiet-runless tree node.quiet)
+still_plain bytes a h = yields_bind (IsPlainTree bytes) _ _ _ h.plain λ tree own. yields_gives _ (plain tree) (quiet-runless tree (plain-node bytes tree own).quiet)
 
-string_yields : (s : Setting) → Yields IsStill (string_element s)
-unfolding string_element switched line_ending data_code
-string_yields s =
-    yields_either _ _ _ (yields_passed _ _ _ (still_plain character_escape escape_yields)) (yields_either _ _ _ (yields_passed _ _ _ (still_plain (character_reference s.references) (reference_yields s.references)))
-    (yields_either _ _ _ (then_any _ _ _ λ c. yields_gives _ (plain (leaf N.LineEnding c)) (leaf-runless N.LineEnding c refl)) (then_any _ _ _ λ c. yields_gives _ (plain (leaf N.Data c)) (leaf-runless N.Data c refl))))
+string_passes : (s : Setting) (cs : List Code) → Passes IsStill (string_element s cs)
+unfolding line_ending data_code
+string_passes s cs =
+    string_has (Passes IsStill) tt cs s (λ a h. (still_plain s.bytes a h).at cs)
+    ((yields_either _ _ _ (then_any _ _ _ λ c. yields_gives _ (plain (leaf N.LineEnding c)) (leaf-runless N.LineEnding c refl)) (then_any _ _ _ λ c. yields_gives _ (plain (leaf N.Data c)) (leaf-runless N.Data c refl))).at cs)
 
 -- no run stands in the row of the elements of a string
 pub string-still : (s : Setting) (es earlier : List Element) (previous : Option Code) (cs : List Code) → AreElementsFrom (string_choice s) earlier previous cs es → row_has_run (row_of_elements es) ≡ false
 string-still s [] earlier previous cs h = refl
 string-still s (e ∷ es) earlier previous cs h =
-    still-first e (row_of_elements es) (subst (λ o. Passes IsStill o) h.1 ((string_yields s).at cs)) (string-still s es (e ∷ earlier) (code_before cs h.0) h.0 h.2)
+    still-first e (row_of_elements es) (subst (λ o. Passes IsStill o) h.1 (string_passes s cs)) (string-still s es (e ∷ earlier) (code_before cs h.0) h.0 h.2)

@@ -7,18 +7,18 @@ use Rattle.markdown_engine_content.specs.declared.event.Name.{Name}
 use Rattle.markdown_engine_content.specs.declared.event.Name.TheVariants as N
 use Rattle.markdown_engine_content.specs.declared.configuration.Constructs.{Constructs}
 use Rattle.markdown_engine_content.specs.declared.label_kind.LabelKind.{LabelKind}
-use Rattle.markdown_model.specs.Elements.{attention_run, as_plain, line_ending, data_code, code_text, math_text, text_element, label_start_image, gfm_label_start_footnote, label_start_link, text_choice, AreElements, elements_of}
+use Rattle.markdown_model.specs.Elements.{attention_run, as_plain, line_ending, data_code, text_element, label_start_image, gfm_label_start_footnote, label_start_link, text_choice, AreElements, elements_of}
 use Rattle.markdown_model.specs.Grammar.{Reading}
 use Rattle.markdown_model.specs.BracketGroups.{paired}
 use Rattle.markdown_model.specs.InlineTree.{label_tree, raw_tree, finished_text, text_tree}
 use Rattle.markdown_model.specs.LabelEnd.{Element, plain, starts, ends, label_end}
-use Rattle.markdown_model.specs.LeafConstructs.{code_names, math_names}
 use Rattle.markdown_model.specs.Pairs.{Pair, pair_list}
 use Rattle.markdown_model.specs.Passes.{labels_of, merged, trimmed, with_emails_apart}
 use Rattle.markdown_model.specs.Runs.{Run}
 use Rattle.markdown_model.specs.Setting.{Setting}
 use Rattle.markdown_model.proofs.ElementCases.{AllAre, EachConstruct, all_are, text_has}
 use Rattle.markdown_model.proofs.OneElementList.{text_elements, same_text_elements}
+use Rattle.markdown_model.proofs.PlainConstructs.{IsPlainTree, ReadsPlain}
 use Rattle.markdown_model.proofs.NoLinkInConstructs.{Passes, Yields, yields_bind, yields_gives, yields_either, then_any}
 use Rattle.markdown_run_text.specs.ContentPasses.{mailed_where}
 use Rattle.markdown_attention.specs.RunsRead.{is_run}
@@ -26,7 +26,7 @@ use Rattle.markdown_run_row.specs.RowTreeNames.{IsNode}
 use Rattle.markdown_run_row.specs.Row.{row_has_run, row_of_elements}
 use Rattle.markdown_run.proofs.RowsWithoutRuns.{IsStill, still-first}
 use Rattle.markdown_run_row.proofs.PastTrees.{quiet-runless, leaf-runless}
-use Rattle.markdown_run_row.proofs.ConstructNodes.{check_yields, html_yields, escape_yields, reference_yields, break_yields, autolink_yields, protocol_yields, www_yields, span_here_yields, code_quiet, math_quiet}
+use Rattle.markdown_run_row.proofs.ConstructNodes.{plain-node}
 
 -- What is said of the elements of a text.
 
@@ -41,9 +41,9 @@ pub record HoldsOfParts (P : Element → Type 0) (on : Constructs) : Type 0 wher
   pub closes : (marker : List Code) (outcome : Option (LabelKind × Forest)) → P (ends marker outcome)
 
 module _ (P : Element → Type 0) (s : Setting) (h : HoldsOfParts P s.options.constructs) where
-  plain_yields : (a : Reading Forest) → Yields IsNode a → Yields P (as_plain a)
+  plain_yields : (a : Reading Forest) → ReadsPlain s.bytes a → Yields P (as_plain a)
   unfolding as_plain
-  plain_yields a k = yields_bind IsNode _ _ _ k λ tree node. yields_gives _ (plain tree) (h.nodes tree node)
+  plain_yields a k = yields_bind (IsPlainTree s.bytes) _ _ _ k.plain λ tree own. yields_gives _ (plain tree) (h.nodes tree (plain-node s.bytes tree own))
 
   ending_yields : Yields P line_ending
   unfolding line_ending
@@ -52,14 +52,6 @@ module _ (P : Element → Type 0) (s : Setting) (h : HoldsOfParts P s.options.co
   data_yields : Yields P data_code
   unfolding data_code
   data_yields = then_any _ _ _ λ c. yields_gives _ (plain (leaf N.Data c)) (h.leaves N.Data c refl)
-
-  code_yields : (earlier : List Element) (previous : Option Code) → Yields P (code_text earlier previous)
-  unfolding code_text
-  code_yields earlier previous = plain_yields _ (span_here_yields _ code_names _ _ _ code_quiet)
-
-  math_yields : (single : Bool) (earlier : List Element) (previous : Option Code) → Yields P (math_text single earlier previous)
-  unfolding math_text
-  math_yields single earlier previous = plain_yields _ (span_here_yields _ math_names _ _ _ math_quiet)
 
   image_yields : (footnotes : Bool) → Yields P (label_start_image footnotes)
   unfolding label_start_image
@@ -85,22 +77,13 @@ module _ (P : Element → Type 0) (s : Setting) (h : HoldsOfParts P s.options.co
         none = tt;
         ending = ending_yields.at cs;
         image = λ footnotes. (image_yields footnotes).at cs;
-        math = λ single. (math_yields single earlier previous).at cs;
-        code = (code_yields earlier previous).at cs;
-        referred = (plain_yields _ (reference_yields s.references)).at cs;
+        plain_has = λ a k. (plain_yields a k).at cs;
         stars = λ e. (h.stars e).at cs;
         underscores = λ e. (h.underscores e).at cs;
         tildes = λ e. (h.tildes e).at cs;
-        linked = (plain_yields _ autolink_yields).at cs;
-        tagged = (plain_yields _ html_yields).at cs;
-        protocol = (plain_yields _ (protocol_yields s.bytes end previous)).at cs;
-        www = (plain_yields _ (www_yields s.bytes end previous)).at cs;
         footnote = footnote_yields.at cs;
         link = link_yields.at cs;
-        escaped = (plain_yields _ escape_yields).at cs;
-        broken = (plain_yields _ break_yields).at cs;
         ended = (end_yields earlier).at cs;
-        checked = (plain_yields _ check_yields).at cs;
       }
 
 -- Where no runs are looked for, none stands in them.

@@ -7,11 +7,8 @@ pub mod OneLineLabels
 pub mod OneLinePairs
 pub mod LinesAreInDocument
 pub mod OneLineLeafLemmas
-pub mod OneLineReadings
-pub mod OneLineTexts
 pub mod OneLineConstructs
 pub mod LineEndingsAreSpace
-pub mod OneLineLiterals
 pub mod OneLineElements
 pub mod LeafOrder
 pub mod LeavesAreStretches

@@ -14,16 +14,9 @@ use Rattle.markdown_engine_content.specs.declared.event.Point.{Point}
 use Rattle.markdown_engine_content.specs.declared.parser.Piece.{Piece}
 use Rattle.markdown_engine_content.proofs.DocumentCodes.{Stands, codes_at, code_here}
 use Rattle.markdown_engine_content.proofs.DocumentWalkLemmas.{IsFirst, first-of, stands-start}
+use Rattle.markdown_model.specs.CodeLines.{AreSpaced}
 use Rattle.markdown_model.specs.GfmAutolinkLiteral.{is_space}
 use Rattle.markdown_util.specs.Neighbours.{after_index, class_of}
-
-abbrev pub AreSpaced : List ℕ → List Code → Type 0
-AreSpaced bytes [] = Unit {0}
-AreSpaced bytes (c ∷ cs) = (is_line_ending c ≡ true → is_space (class_of (after_index bytes c.start.index)) ≡ true) × AreSpaced bytes cs
-
-pub spaced-both : (bytes : List ℕ) (xs ys : List Code) → AreSpaced bytes (xs ++ ys) → AreSpaced bytes xs × AreSpaced bytes ys
-spaced-both bytes [] ys h = (tt, h)
-spaced-both bytes (c ∷ xs) ys h = let r = spaced-both bytes xs ys h.1 in ((h.0, r.0), r.1)
 
 spaced-join : (bytes : List ℕ) (xs ys : List Code) → AreSpaced bytes xs → AreSpaced bytes ys → AreSpaced bytes (xs ++ ys)
 spaced-join bytes [] ys h k = k

@@ -10,7 +10,8 @@ use Rattle.markdown_engine_content.proofs.AdjacentCodes.{IsChain, before_in, fro
 use Rattle.markdown_engine_content.proofs.DocumentPlaces.{chain-split, document-split}
 use Rattle.markdown_engine_content.proofs.ContentCodes.{piece-codes-is, piece_row, followed_by}
 use Rattle.markdown_partial.specs.TrimmedEvents.{IsPart}
-use Rattle.markdown_run_leaves.specs.OneLineLeaves.{IsLine, IsOnLine, IsIn}
+use Rattle.markdown_model.specs.CodeLines.{IsLine, IsOnLine}
+use Rattle.markdown_run_leaves.specs.OneLineLeaves.{IsIn}
 
 -- Two ways to cut a list.
 

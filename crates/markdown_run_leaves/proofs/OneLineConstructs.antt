@@ -1,28 +1,28 @@
 -- The trees of constructs are on lines.
-use Rattle.std.proofs.Common.{◌≡◌, ◌≢◌, ℕ, zero, suc, ◌-◌, Bool, true, false, ◌&&◌, ◌||◌, ◌==◌, List, [], ◌∷◌, length, Option, Some, None, refl, ap}
+use Rattle.std.proofs.Common.{◌≡◌, ◌≢◌, ◌≤◌, ℕ, zero, suc, ◌-◌, Bool, true, false, ◌&&◌, ◌||◌, ◌==◌, List, [], ◌∷◌, length, Option, Some, None, refl, sym, ap, subst, arith}
 use Rattle.std.specs.Prelude.{codes, nat_lt}
-use Rattle.std.proofs.lemmas.Bool.{or_parts}
+use Rattle.std.proofs.lemmas.Bool.{both_ways, or_parts}
 use Rattle.markdown_engine_content.specs.Codes.{Code, is_blank, is_line_ending}
 use Rattle.markdown_engine_content.specs.Tree.{Forest, empty, leaf_then, group_then, leaf, leaf_codes, linked, group, ◌⊕◌}
 use Rattle.markdown_engine_content.specs.declared.event.Content.{Content}
 use Rattle.markdown_engine_content.specs.declared.event.Name.{Name}
 use Rattle.markdown_engine_content.specs.declared.event.Name.TheVariants as N
-use Rattle.markdown_model.specs.CodeTests.{is_value, is_among, next_is, is_whitespace_code, is_control}
-use Rattle.markdown_model.specs.Grammar.{Reading, some, with_first, optional_tree, up_to}
-use Rattle.markdown_model.specs.HtmlText.{html_text}
+use Rattle.markdown_model.specs.CodeLines.{IsLine, IsSomeLine, IsOnLine, AreSpaced}
+use Rattle.markdown_model.specs.CodeTests.{is_value, is_among, is_whitespace_code, is_control}
+use Rattle.markdown_model.specs.Grammar.{Reading, with_first, optional_tree, up_to}
 use Rattle.markdown_model.specs.LabelEnd.{full_reference, collapsed_reference, shortcut, shortcut_before_bracket, reference_after_label, after_label}
-use Rattle.markdown_model.specs.LeafConstructs.{character_escape, Parts, character_reference, named_parts, decimal_parts, hexadecimal_parts, hard_break_escape, scheme, uri, domain_label, email_address, in_angle_brackets, autolink, closing_run, joined_codes, span_of, span_here, SpanNames, gfm_task_list_item_check}
-use Rattle.markdown_model.specs.TextLines.{stretches, line_leaves, linked_leaf, lines}
+use Rattle.markdown_model.specs.TextLines.{linked_leaf, lines}
 use Rattle.markdown_model.specs.Resource.{string_group, StringNames, between_markers, label, title_between, title, title_names, literal_destination, raw_from, raw_destination, destination, resource_names, spaced_title, destination_and_title, resource, reference_names}
 use Rattle.markdown_model.specs.Setting.{Setting}
 use Rattle.markdown_model.specs.Whitespace.{space_or_tab_eol, spaces_across, spaces_on_line}
+use Rattle.markdown_model.proofs.LeafRows.{Leaves}
 use Rattle.markdown_model.proofs.NoLinkInConstructs.{Passes, Yields, yields_bind, yields_gives, yields_passed, yields_either, yields_before, yields_next, yields_unless, then_any}
+use Rattle.markdown_model.proofs.OneLineLiterals.{spaced-both}
+use Rattle.markdown_model.proofs.OneLineReadings.{not-ending, IsOne, one-some, one-one, some-line, any-line, with-first-line, escaped-lines}
+use Rattle.markdown_model.proofs.PlainConstructs.{is_own, leaf-own, IsOwnLeaf, IsPlainTree, leaves-some}
 use Rattle.markdown_run_row.specs.RowTreeNames.{makes_data}
-use Rattle.markdown_util.specs.Reference.{Table}
-use Rattle.markdown_run_leaves.specs.OneLineLeaves.{IsLine, IsSomeLine, IsLined, AtStart}
-use Rattle.markdown_run_leaves.proofs.OneLineTrees.{AreLeaves, none-left, lined-row, lined-leaf, lined-one, lined-group}
-use Rattle.markdown_run_leaves.proofs.OneLineTexts.{IsFine, AreFine, fine-stretches, leaves-lines, leaves-linked, lined-linked, lined-line-leaves, lined-lines}
-use Rattle.markdown_run_leaves.proofs.OneLineReadings.{Skips, not-ending, some-any, IsOne, one-one, one-line, some-line, any-line, then-line, repeatedly-line, with-first-line, escaped-lines}
+use Rattle.markdown_run_leaves.specs.OneLineLeaves.{IsLined, AtStart}
+use Rattle.markdown_run_leaves.proofs.OneLineTrees.{AreLeaves, none-left, full-linked, full-lines, lined-row, lined-leaf, lined-linked, lined-lines, lined-one, lined-group}
 
 abbrev pub Tree : Forest → Type 0
 Tree t = IsLined AtStart t
@@ -42,10 +42,6 @@ one-leaf name (c ∷ d ∷ cs) e h = absurd h
 
 pub line-leaf : (name : Name) (cs : List Code) → IsLine cs → Tree (leaf name cs)
 line-leaf name cs h = lined-leaf AtStart name cs h
-
-one-some : (cs : List Code) → IsOne cs → cs ≢ []
-one-some [] h e = h
-one-some (c ∷ cs) h e = cc
 
 -- a group that begins with a marker
 marked : (name n : Name) (cs : List Code) (more : Forest) → cs ≢ [] → Tree (leaf n cs) → Tree more → Tree (group name (leaf n cs ⊕ more))
@@ -74,137 +70,33 @@ leaves-none (group_then n a b i rest) h e = absurd h
 pub leaves-group : (name : Name) (t : Forest) → AreLeaves t → Tree t → Tree (group name t)
 leaves-group name t l h = around name t (leaves-none t l) h
 
--- Escapes, breaks and references.
+-- What stands by itself, in a document that has whitespace at each line ending.
 
-pub escape-tree : Trees character_escape
-unfolding character_escape
-escape-tree =
-    yields_bind IsOne _ _ _ (one-one _) λ slash h. yields_bind IsOne _ _ _ (one-one _) λ value k. yields_gives _ _
-    (one-marked N.CharacterEscape N.CharacterEscapeMarker slash (leaf N.CharacterEscapeValue value) refl h (one-leaf N.CharacterEscapeValue value refl k))
+own-data : (name : Name) → is_own name ≡ true → makes_data name ≡ false
+own-data N.Data e = cc
+own-data N.AttentionSequence e = cc
+own-data _ e = refl
 
-pub break-tree : Trees hard_break_escape
-unfolding hard_break_escape
-break-tree = yields_bind IsOne _ _ _ (yields_before _ _ _ (one-one _)) λ slash h. yields_gives _ _ (one-leaf N.HardBreakEscape slash refl h)
+module _ (bytes : List ℕ) where
+  leaf-lined : (name : Name) (link : Option Content) (cs : List Code) → IsOwnLeaf bytes name link cs → AreSpaced bytes cs → IsOnLine cs × (makes_data name ≡ true → IsLine cs)
+  leaf-lined name link cs h k = (h.line k, λ e. absurd (both_ways (makes_data name) (own-data name (leaf-own name h.named)) e))
 
-record ArePartsLined (p : Parts) : Type 0 where
-  front : IsSomeLine p.front
-  number : IsLine p.number
-  hexadecimal : IsLine p.hexadecimal
-  value : IsLine p.value
-  back : IsLine p.back
+  leaves-lined : (t : Forest) → Leaves (IsOwnLeaf bytes) t → AreSpaced bytes (leaf_codes t) → Tree t
+  leaves-lined empty h k = tt
+  leaves-lined (leaf_then name link cs rest) h k = let p = spaced-both bytes cs (leaf_codes rest) k in (leaf-lined name link cs h.0 p.0, leaves-lined rest h.1 p.1)
+  leaves-lined (group_then name enter exit inside rest) h k = absurd h
 
-named-lined : (table : Table) → Yields ArePartsLined (named_parts table)
-unfolding named_parts
-named-lined table =
-    yields_bind IsSomeLine _ _ _ (one-line _ λ c. refl) λ front f. yields_bind IsSomeLine _ _ _ (some-line _ λ c. refl) λ value v. yields_passed _ _ _ (
-    yields_bind IsSomeLine _ _ _ (one-line _ λ c. refl) λ back b. yields_gives _ _ (record { front = f; number = refl; hexadecimal = refl; value = v.1; back = b.1 })
-    )
+  nothing-lined : (t : Forest) → t ≡ empty → Tree t
+  nothing-lined t e = subst Tree (sym e) tt
 
-decimal-lined : Yields ArePartsLined decimal_parts
-unfolding decimal_parts
-decimal-lined =
-    yields_bind IsSomeLine _ _ _ (one-line _ λ c. refl) λ front f. yields_bind IsSomeLine _ _ _ (one-line _ λ c. refl) λ number n. yields_bind IsSomeLine _ _ _ (some-line _ λ c. refl) λ value v. yields_passed _ _ _ (
-    yields_bind IsSomeLine _ _ _ (one-line _ λ c. refl) λ back b. yields_gives _ _ (record { front = f; number = n.1; hexadecimal = refl; value = v.1; back = b.1 })
-    )
-
-hexadecimal-lined : Yields ArePartsLined hexadecimal_parts
-unfolding hexadecimal_parts
-hexadecimal-lined =
-    yields_bind IsSomeLine _ _ _ (one-line _ λ c. refl) λ front f. yields_bind IsSomeLine _ _ _ (one-line _ λ c. refl) λ number n. yields_bind IsSomeLine _ _ _ (one-line _ λ c. refl) λ x h. yields_bind IsSomeLine _ _ _ (some-line _ λ c. refl) λ value v. yields_passed _ _ _ (
-    yields_bind IsSomeLine _ _ _ (one-line _ λ c. refl) λ back b. yields_gives _ _ (record { front = f; number = n.1; hexadecimal = h.1; value = v.1; back = b.1 })
-    )
-
-pub reference-tree : (table : Table) → Trees (character_reference table)
-unfolding character_reference
-reference-tree table =
-    yields_bind ArePartsLined _ _ _ (yields_either _ _ _ (named-lined table) (yields_either _ _ _ decimal-lined hexadecimal-lined)) λ p h. yields_gives _ _
-    (marked N.CharacterReference N.CharacterReferenceMarker p.front _ h.front.0 (line-leaf N.CharacterReferenceMarker p.front h.front.1)
-    (row (leaf N.CharacterReferenceMarkerNumeric p.number) _ (line-leaf N.CharacterReferenceMarkerNumeric p.number h.number)
-    (row (leaf N.CharacterReferenceMarkerHexadecimal p.hexadecimal) _ (line-leaf N.CharacterReferenceMarkerHexadecimal p.hexadecimal h.hexadecimal)
-    (row (leaf N.CharacterReferenceValue p.value) _ (line-leaf N.CharacterReferenceValue p.value h.value) (line-leaf N.CharacterReferenceMarkerSemi p.back h.back)))))
-
--- Autolinks.
-
-bracket-tree : (inside : Reading (List Code)) (name : Name) → Yields IsLine inside → Trees (in_angle_brackets inside name)
-unfolding in_angle_brackets
-bracket-tree inside name y =
-    yields_bind IsOne _ _ _ (one-one _) λ front f. yields_bind IsLine _ _ _ y λ text t. yields_bind IsOne _ _ _ (one-one _) λ back b. yields_gives _ _
-    (one-marked N.Autolink N.AutolinkMarker front _ refl f (row (leaf name text) _ (line-leaf name text t) (one-leaf N.AutolinkMarker back refl b)))
-
-scheme-line : Yields IsLine scheme
-unfolding scheme
-scheme-line = yields_bind IsLine _ _ _ (then-line _ _ (some-any _ (one-line _ λ c. refl)) (some-any _ (some-line _ λ c. refl))) λ text h. yields_passed _ _ _ (yields_gives _ _ h)
-
-domain-line : Yields IsLine domain_label
-unfolding domain_label
-domain-line = yields_bind IsSomeLine _ _ _ (some-line _ λ c. refl) λ text h. yields_passed _ _ _ (yields_gives _ _ h.1)
-
-uri-line : Yields IsLine uri
-unfolding uri
-uri-line = then-line _ _ scheme-line (then-line _ _ (some-any _ (one-line _ λ c. refl)) (any-line _ λ c. refl))
-
-email-line : Yields IsLine email_address
-unfolding email_address
-email-line =
-    then-line _ _ (some-any _ (some-line _ λ c. refl)) (then-line _ _ (some-any _ (one-line _ λ c. refl)) (then-line _ _ domain-line (repeatedly-line _ (then-line _ _ (some-any _ (one-line _ λ c. refl)) domain-line))))
-
-pub autolink-tree : Trees autolink
-unfolding autolink
-autolink-tree = yields_either _ _ _ (bracket-tree _ N.AutolinkProtocol uri-line) (bracket-tree _ N.AutolinkEmail email-line)
-
--- Spans.
-
-abbrev IsClosed : List (List Code) × List Code → Type 0
-IsClosed r = AreFine r.0 × IsLine r.1
-
-marked-line : (p : Code → Bool) → Skips p → (s : List Code) → IsFine s → next_is p s ≡ true → IsLine s
-marked-line p skips [] h e = refl
-marked-line p skips (c ∷ []) h e = ap (λ b. b || false) (not-ending p skips c e)
-marked-line p skips (c ∷ d ∷ cs) h e = h
-
-closing-lined : (p : Code → Bool) → Skips p → (n : ℕ) (ss : List (List Code)) → AreFine ss → Passes IsClosed (closing_run p n ss)
-unfolding closing_run
-closing-lined p skips n [] h = tt
-closing-lined p skips n (s ∷ ss) h = by_test (next_is p s) (length s == n) refl (closing-lined p skips n ss h.1)
-  where
-    by_rest : (r : Option ((List (List Code) × List Code) × List Code)) → Passes IsClosed r → Passes IsClosed (elim r [ None ↦ None | Some r ↦ Some ((s ∷ r.0.0, r.0.1), r.1) ])
-    by_rest None k = tt
-    by_rest (Some r) k = ((h.0, k.0), k.1)
-
-    by_test : (a b : Bool) → next_is p s ≡ a → Passes IsClosed (closing_run p n ss)
-        → Passes IsClosed (elim (a && b) [ true ↦ Some (([], s), joined_codes ss) | false ↦ elim (closing_run p n ss) [ None ↦ None | Some r ↦ Some ((s ∷ r.0.0, r.0.1), r.1) ] ])
-    by_test true true e k = (tt, marked-line p skips s h.0 e)
-    by_test true false e k = by_rest (closing_run p n ss) k
-    by_test false b e k = by_rest (closing_run p n ss) k
-
-span-tree : (marker : ℕ) (names : SpanNames) (allowed : ℕ → Bool) → Skips (is_value marker) → Trees (span_of marker names allowed)
-unfolding span_of
-span-tree marker names allowed skips =
-    yields_bind IsSomeLine _ _ _ (some-line (is_value marker) skips) λ front f. yields_passed _ _ _ (
-    yields_bind IsClosed _ _ _ (record { at = λ cs. closing-lined (is_value marker) skips (length front) (stretches (is_value marker) cs) (fine-stretches (is_value marker) cs) }) λ inside h. yields_gives _ _
-    (marked names.whole names.sequence front _ f.0 (line-leaf names.sequence front f.1)
-    (row (line_leaves names.text inside.0) _ (lined-line-leaves AtStart names.text inside.0 h.0) (line-leaf names.sequence inside.1 h.1)))
-    )
-
-pub span-here-tree : (marker : ℕ) (names : SpanNames) (allowed : ℕ → Bool) (escaped : Bool) (previous : Option Code) → Skips (is_value marker) → Trees (span_here marker names allowed escaped previous)
-unfolding span_here
-span-here-tree marker names allowed escaped previous skips = yields_passed _ _ _ (span-tree marker names allowed skips)
-
--- HTML and checks.
-
-pub html-tree : Trees html_text
-unfolding html_text
-html-tree = then_any _ _ _ λ text. yields_gives _ _ (leaves-group N.HtmlText (lines N.HtmlTextData None text) (leaves-lines N.HtmlTextData None text) (lined-lines AtStart N.HtmlTextData None text))
-
-check-leaf : (b : Bool) (cs : List Code) → IsOne cs → Tree (leaf (elim b as (λ _. Name) [ true ↦ N.GfmTaskListItemValueChecked | false ↦ N.GfmTaskListItemValueUnchecked ]) cs)
-check-leaf true cs h = one-leaf N.GfmTaskListItemValueChecked cs refl h
-check-leaf false cs h = one-leaf N.GfmTaskListItemValueUnchecked cs refl h
-
-pub check-tree : Trees gfm_task_list_item_check
-unfolding gfm_task_list_item_check
-check-tree =
-    yields_bind IsOne _ _ _ (one-one _) λ front f. yields_bind IsOne _ _ _ (one-one _) λ value v. yields_bind IsOne _ _ _ (yields_before _ _ _ (one-one _)) λ back b. yields_gives _ _
-    (one-marked N.GfmTaskListItemCheck N.GfmTaskListItemMarker front _ refl f (row _ (leaf N.GfmTaskListItemMarker back) (check-leaf (next_is (is_among (codes "xX")) value) value v) (one-leaf N.GfmTaskListItemMarker back refl b)))
+  pub plain-lined : (t : Forest) → IsPlainTree bytes t → AreSpaced bytes (leaf_codes t) → Tree t
+  plain-lined empty h k = absurd h
+  plain-lined (leaf_then name link cs rest) h k = (leaf-lined name link cs h.0 (spaced-both bytes cs (leaf_codes rest) k).0, nothing-lined rest h.1)
+  plain-lined (group_then name enter exit inside rest) h k =
+      ((λ e. absurd (no-codes (leaf_codes inside) (leaves-some bytes inside h.0.leaves h.0.some) e)), (leaves-lined inside h.0.leaves (spaced-both bytes (leaf_codes inside) (leaf_codes rest) k).0, nothing-lined rest h.1))
+    where
+      no-codes : (cs : List Code) → 1 ≤ length cs → cs ≡ [] → ⊥
+      no-codes cs h e = omega (arith, h, ap length e)
 
 -- Whitespace.
 
@@ -235,7 +127,7 @@ between-tree : (names : StringNames) (front text back : List Code) → makes_dat
 between-tree names front text back e f b =
     let inside : Forest = lines N.Data (Some Content.String) text in
     one-marked names.whole names.marker front _ e f
-    (row (string_group names.text inside) _ (string-tree names.text inside (leaves-lines N.Data (Some Content.String) text) (lined-lines AtStart N.Data (Some Content.String) text)) (one-leaf names.marker back e b))
+    (row (string_group names.text inside) _ (string-tree names.text inside (full-lines N.Data (Some Content.String) text) (lined-lines AtStart N.Data (Some Content.String) text)) (one-leaf names.marker back e b))
 
 label-tree : Trees (label reference_names)
 unfolding label
@@ -255,7 +147,7 @@ title-tree = yields_either _ _ _ (title-between-tree _ _) (yields_either _ _ _ (
 
 linked-tree : (text : List Code) → IsLine text → AreLeaves (linked N.Data text) × Tree (linked N.Data text)
 linked-tree [] h = (tt, tt)
-linked-tree (c ∷ cs) h = (leaves-linked N.Data (Some Content.String) (c ∷ cs), lined-linked AtStart N.Data (Some Content.String) (c ∷ cs) h)
+linked-tree (c ∷ cs) h = (full-linked N.Data (Some Content.String) (c ∷ cs), lined-linked AtStart N.Data (Some Content.String) (c ∷ cs) h)
 
 -- a group around one that holds a code, or around one at the document's start
 wrapped : (outer name n : Name) (front : List Code) (more : Forest) → makes_data n ≡ false → IsOne front → Tree more → Tree (group outer (group name (leaf n front ⊕ more)))

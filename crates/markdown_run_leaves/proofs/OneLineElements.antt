@@ -2,30 +2,30 @@
 use Rattle.std.proofs.Common.{◌≡◌, ℕ, ◌==◌, ◌||◌, Bool, true, false, List, [], ◌∷◌, ◌++◌, Option, Some, None, refl, sym, ap, subst, ◌∙◌}
 use Rattle.std.specs.List.{list_any}
 use Rattle.markdown_engine_content.specs.Codes.{Code, is_line_ending}
-use Rattle.markdown_engine_content.specs.Tree.{Forest, leaf}
+use Rattle.markdown_engine_content.specs.Tree.{Forest, leaf, leaf_codes}
 use Rattle.markdown_engine_content.specs.declared.event.Name.TheVariants as N
 use Rattle.markdown_engine_content.specs.declared.label_kind.LabelKind.{LabelKind}
 use Rattle.markdown_model.specs.CodeTests.{is_value}
-use Rattle.markdown_model.specs.Elements.{as_plain, line_ending, data_code, attention_run, label_start_image, gfm_label_start_footnote, label_start_link, code_text, math_text, Tries, tries, tried, first_check, text_element, string_element, text_choice, string_choice, Choice, AreElementsFrom, AreElements, AreStringElements, code_before}
+use Rattle.markdown_model.specs.Elements.{as_plain, line_ending, data_code, attention_run, label_start_image, gfm_label_start_footnote, label_start_link, Tries, tries, tried, first_check, text_element, string_element, text_choice, string_choice, Choice, AreElementsFrom, AreElements, AreStringElements, code_before}
 use Rattle.markdown_model.specs.Grammar.{Reading, ◌>>=◌, gives, either, one, word}
 use Rattle.markdown_model.specs.LabelEnd.{Element, plain, starts, ends, Label, label_before, outcome_of, label_end}
-use Rattle.markdown_model.specs.LeafConstructs.{code_names, math_names}
 use Rattle.markdown_model.specs.Setting.{Setting}
 use Rattle.markdown_model.proofs.ElementCases.{AllAre, EachConstruct, check_has, either_has, outcome_yields, row_has, string_has}
 use Rattle.markdown_model.proofs.ElementsCover.{covers_text_element, covers_string_element}
 use Rattle.markdown_model.proofs.LabelsCover.{element_codes, unused}
 use Rattle.markdown_model.proofs.NoLinkInConstructs.{Passes, Yields, yields_bind, yields_gives, yields_either, yields_before}
 use Rattle.markdown_model.proofs.ReadingsCover.{At, Covers}
-use Rattle.markdown_run_leaves.specs.OneLineLeaves.{IsSomeLine, IsLined, AtStart, IsLinedElement}
-use Rattle.markdown_run_leaves.proofs.OneLineLiterals.{TreeThere, protocol-tree, www-tree}
-use Rattle.markdown_run_leaves.proofs.OneLineConstructs.{Tree, Trees, one-leaf, line-leaf, escape-tree, break-tree, reference-tree, autolink-tree, span-here-tree, html-tree, check-tree, after-tree}
-use Rattle.markdown_run_leaves.proofs.OneLineReadings.{IsOne, one-one, one-line, some-line, word-some}
-use Rattle.markdown_run_leaves.proofs.LineEndingsAreSpace.{AreSpaced, spaced-both}
+use Rattle.markdown_model.specs.CodeLines.{IsSomeLine, AreSpaced}
+use Rattle.markdown_run_leaves.specs.OneLineLeaves.{IsLined, AtStart, IsLinedElement}
+use Rattle.markdown_run_leaves.proofs.OneLineConstructs.{Tree, one-leaf, line-leaf, plain-lined, after-tree}
+use Rattle.markdown_model.proofs.OneLineReadings.{IsOne, one-one, one-line, some-line, word-some}
+use Rattle.markdown_model.proofs.OneLineLiterals.{spaced-both}
+use Rattle.markdown_model.proofs.PlainConstructs.{IsPlainTree, ReadsPlain}
 
 module _ (s : Setting) where
   -- on lines, where whitespace stands at each line ending
   abbrev IsThere : Element → Type 0
-  IsThere (plain t) = TreeThere s.bytes 0 t
+  IsThere (plain t) = AreSpaced s.bytes (leaf_codes t) → Tree t
   IsThere (starts kind marker) = IsSomeLine marker
   IsThere (ends marker None) = IsSomeLine marker
   IsThere (ends marker (Some outcome)) = IsSomeLine marker × IsLined AtStart outcome.1
@@ -35,13 +35,9 @@ module _ (s : Setting) where
 
   -- Single elements.
 
-  there-plain : (a : Reading Forest) → Trees a → There (as_plain a)
+  there-plain : (a : Reading Forest) → ReadsPlain s.bytes a → There (as_plain a)
   unfolding as_plain
-  there-plain a h = yields_bind Tree _ _ _ h λ tree k. yields_gives _ (plain tree) (λ _. k)
-
-  there-literal : (end : ℕ) (a : Reading Forest) → Yields (TreeThere s.bytes end) a → There (as_plain a)
-  unfolding as_plain
-  there-literal end a h = yields_bind (TreeThere s.bytes end) _ _ _ h λ tree k. yields_gives _ (plain tree) k
+  there-plain a h = yields_bind (IsPlainTree s.bytes) _ _ _ h.plain λ tree k. yields_gives _ (plain tree) (plain-lined s.bytes tree k)
 
   there-ending : There line_ending
   unfolding line_ending
@@ -75,14 +71,6 @@ module _ (s : Setting) where
       yields_bind IsSomeLine _ _ _ (one-line _ λ c. refl) λ back b. yields_either _ _ _
       (yields_bind LinedOutcome _ _ _ (lined-outcome (label_before earlier) back) λ outcome k. yields_gives _ (ends back (Some outcome)) (b, k))
       (yields_gives _ (ends back None) b)
-
-  there-code : (earlier : List Element) (previous : Option Code) → There (code_text earlier previous)
-  unfolding code_text
-  there-code earlier previous = there-plain _ (span-here-tree 96 code_names _ _ _ (λ c. refl))
-
-  there-math : (single : Bool) (earlier : List Element) (previous : Option Code) → There (math_text single earlier previous)
-  unfolding math_text
-  there-math single earlier previous = there-plain _ (span-here-tree 36 math_names _ _ _ (λ c. refl))
 
   -- At some codes, and at a code.
 
@@ -123,22 +111,13 @@ module _ (s : Setting) where
         none = tt;
         ending = there-ending.at (c ∷ cs);
         image = λ footnotes. (there-image footnotes).at (c ∷ cs);
-        math = λ single. (there-math single earlier previous).at (c ∷ cs);
-        code = (there-code earlier previous).at (c ∷ cs);
-        referred = (there-plain _ (reference-tree s.references)).at (c ∷ cs);
+        plain_has = λ a h. (there-plain a h).at (c ∷ cs);
         stars = λ _. (there-run 42 refl).at (c ∷ cs);
         underscores = λ _. (there-run 95 refl).at (c ∷ cs);
         tildes = λ _. (there-run 126 refl).at (c ∷ cs);
-        linked = (there-plain _ autolink-tree).at (c ∷ cs);
-        tagged = (there-plain _ html-tree).at (c ∷ cs);
-        protocol = (there-literal end _ (protocol-tree s.bytes end previous)).at (c ∷ cs);
-        www = (there-literal end _ (www-tree s.bytes end previous)).at (c ∷ cs);
         footnote = there-footnote.at (c ∷ cs);
         link = there-link.at (c ∷ cs);
-        escaped = (there-plain _ escape-tree).at (c ∷ cs);
-        broken = (there-plain _ break-tree).at (c ∷ cs);
         ended = (there-end earlier).at (c ∷ cs);
-        checked = (there-plain _ check-tree).at (c ∷ cs);
       }
 
       tried-ending : is_line_ending c ≡ true → tried (tries s end earlier previous) c.value (c ∷ cs) ≡ line_ending (c ∷ cs)
@@ -158,7 +137,7 @@ module _ (s : Setting) where
     here-plain false h = here-either line_ending data_code (there-ending.at (c ∷ cs)) (here-data h)
 
     here-string : Here (string_element s)
-    here-string = string_has (Passes IsThere) tt (c ∷ cs) s ((there-plain _ escape-tree).at (c ∷ cs)) ((there-plain _ (reference-tree s.references)).at (c ∷ cs)) (here-plain (is_line_ending c) refl)
+    here-string = string_has (Passes IsThere) tt (c ∷ cs) s (λ a h. (there-plain a h).at (c ∷ cs)) (here-plain (is_line_ending c) refl)
 
   -- Lists of elements.
 
@@ -186,7 +165,7 @@ module _ (s : Setting) where
 
   string-none : Passes IsThere (string_element s [])
   string-none =
-      string_has (Passes IsThere) tt [] s ((there-plain _ escape-tree).at []) ((there-plain _ (reference-tree s.references)).at []) (either_has (Passes IsThere) tt [] line_ending data_code (there-ending.at []) no-data)
+      string_has (Passes IsThere) tt [] s (λ a h. (there-plain a h).at []) (either_has (Passes IsThere) tt [] line_ending data_code (there-ending.at []) no-data)
 
   string-there : (earlier : List Element) (previous : Option Code) (cs : List Code) → Passes IsThere (string_choice s earlier previous cs)
   string-there earlier previous [] = string-none

@@ -14,8 +14,10 @@ use Rattle.markdown_model.proofs.ElementCases.{AllAre}
 use Rattle.markdown_model.proofs.LabelTreeFacts.{labels-have}
 use Rattle.markdown_model.proofs.LabelsCover.{codes-label_group, codes-start_tree, whole_marker}
 use Rattle.markdown_model.proofs.LeafCodes.{codes-leaf}
-use Rattle.markdown_run_leaves.specs.OneLineLeaves.{IsLine, IsSomeLine, IsIn, IsLined, AtStart, IsBetween, Stands, IsApart, IsLinedElement}
-use Rattle.markdown_run_leaves.proofs.OneLineTrees.{line-both, none-left, lined-weaker, lined-row, lined-leaf, lined-group}
+use Rattle.markdown_model.specs.CodeLines.{IsLine, IsSomeLine}
+use Rattle.markdown_run_leaves.specs.OneLineLeaves.{IsIn, IsLined, AtStart, IsBetween, Stands, IsApart, IsLinedElement}
+use Rattle.markdown_model.proofs.OneLineReadings.{line-both}
+use Rattle.markdown_run_leaves.proofs.OneLineTrees.{none-left, lined-weaker, lined-row, lined-leaf, lined-group}
 use Rattle.markdown_model.proofs.BracketGroupFacts.{AllHave, joined-has}
 
 -- Parts of a list.

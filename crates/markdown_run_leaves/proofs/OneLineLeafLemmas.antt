@@ -11,7 +11,8 @@ use Rattle.markdown_engine_content.proofs.DocumentPlaces.{chain-split, point-spl
 use Rattle.markdown_engine.proofs.SolidTrees.{stop_of-append, stop_of-some}
 use Rattle.markdown_run_leaves.specs.InnermostEvents.{HasLeaves}
 use Rattle.markdown_partial.specs.TrimmedEvents.{IsPart}
-use Rattle.markdown_run_leaves.specs.OneLineLeaves.{IsOnLine, IsLined, AtStart, IsBetween, Stands}
+use Rattle.markdown_model.specs.CodeLines.{IsOnLine}
+use Rattle.markdown_run_leaves.specs.OneLineLeaves.{IsLined, AtStart, IsBetween, Stands}
 use Rattle.markdown_run_leaves.proofs.OneLineTrees.{on-some}
 use Rattle.markdown_run_leaves.proofs.LinesAreInDocument.{both-in, on-line-ends, next-ends, part-of-content}
 

@@ -13,7 +13,8 @@ use Rattle.markdown_model.specs.Runs.{Run, marker_of, run_of, runs_of}
 use Rattle.markdown_model.specs.Setting.{Setting}
 use Rattle.markdown_model.proofs.PassesKeepCodes.{codes-pair_group, codes-assembled, codes-tokens_of, codes-run_of}
 use Rattle.markdown_model.proofs.BracketSums.{codes-joined}
-use Rattle.markdown_run_leaves.specs.OneLineLeaves.{IsLine, IsSomeLine, IsLined, Stands, IsApart}
+use Rattle.markdown_model.specs.CodeLines.{IsLine, IsSomeLine}
+use Rattle.markdown_run_leaves.specs.OneLineLeaves.{IsLined, Stands, IsApart}
 use Rattle.markdown_run_leaves.proofs.OneLineLabels.{apart-in, apart-joined, apart-loose, stands-between}
 use Rattle.markdown_run_leaves.proofs.OneLineTrees.{line-parts, lined-group, lined-leaf, lined-row}
 use Rattle.markdown_model.proofs.PairGroupFacts.{run-has}

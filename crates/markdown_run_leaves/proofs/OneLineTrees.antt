@@ -1,41 +1,31 @@
 -- Trees on lines: rows of them, and what merging, trimming and finding emails leave of them.
-use Rattle.std.proofs.Common.{◌≡◌, ◌≢◌, ℕ, Bool, true, false, List, [], ◌∷◌, ◌++◌, take, drop, refl, sym, ap, ◌∙◌}
+use Rattle.std.proofs.Common.{◌≡◌, ◌≢◌, ℕ, Bool, true, false, List, [], ◌∷◌, ◌++◌, take, drop, Option, refl, sym, ap, ◌∙◌}
 use Rattle.std.specs.List.{list_any}
-use Rattle.std.proofs.lemmas.Bool.{or_parts, both_ways, or_from}
+use Rattle.std.proofs.lemmas.Bool.{both_ways}
 use Rattle.std.proofs.lemmas.List.{take-append-drop}
-use Rattle.std.proofs.lemmas.List.Folds.{list_any-append}
 use Rattle.markdown_engine_content.specs.Codes.{Code, is_line_ending}
 use Rattle.markdown_engine_content.specs.Tree.{Forest, empty, leaf_then, group_then, leaf, leaf_codes, ◌⊕◌}
+use Rattle.markdown_engine_content.specs.declared.event.Content.{Content}
 use Rattle.markdown_engine_content.specs.declared.event.Name.{Name}
 use Rattle.markdown_engine_content.specs.declared.event.Name.TheVariants as N
 use Rattle.markdown_engine_content.specs.declared.event.Point.{Point}
 use Rattle.markdown_model.specs.GfmEmailLiteral.{with_emails}
+use Rattle.markdown_model.specs.TextLines.{linked_leaf, lines}
 use Rattle.markdown_model.specs.Passes.{merged, trimmed_data, trimmed, with_emails_apart}
 use Rattle.markdown_model.proofs.PassesKeepCodes.{codes-merged, codes-trimmed_data, codes-trimmed, codes-mailed}
+use Rattle.markdown_model.proofs.LeafRows.{Leaves, leaves-row, leaves-leaf, leaves-linked, leaves-lines}
 use Rattle.markdown_model.proofs.LiteralCodes.{codes-with_emails}
+use Rattle.markdown_model.proofs.OneLineReadings.{line-both, line-join, on-line, filled}
 use Rattle.markdown_model.proofs.PassedTrees.{Walks, walks-row, walks-merged, walks-trimmed, walks-mailed, trimmed_data-has, with_emails-has}
 use Rattle.markdown_run_row.specs.RowTreeNames.{makes_data}
-use Rattle.markdown_run_leaves.specs.OneLineLeaves.{IsLine, IsSomeLine, IsOnLine, IsLined}
+use Rattle.markdown_model.specs.CodeLines.{IsLine, IsOnLine}
+use Rattle.markdown_run_leaves.specs.OneLineLeaves.{IsLined}
 
 -- Codes.
-
-pub line-both : (xs ys : List Code) → IsLine (xs ++ ys) → IsLine xs × IsLine ys
-line-both xs ys h = let p = or_parts (list_any is_line_ending xs) (list_any is_line_ending ys) (sym (list_any-append is_line_ending xs ys) ∙ h) in (p.0, p.1)
-
-pub line-join : (xs ys : List Code) → IsLine xs → IsLine ys → IsLine (xs ++ ys)
-line-join xs ys h k = list_any-append is_line_ending xs ys ∙ or_from (list_any is_line_ending xs) (list_any is_line_ending ys) h k
-
-pub on-line : (cs : List Code) → IsSomeLine cs → IsOnLine cs
-on-line [] h = h.0 refl
-on-line (c ∷ []) h = tt
-on-line (c ∷ d ∷ cs) h = h.1
 
 pub on-some : (cs : List Code) → IsOnLine cs → cs ≢ []
 on-some [] h e = h
 on-some (c ∷ cs) h e = cc
-
-pub filled : (c : Code) (cs : List Code) → c ∷ cs ≢ []
-filled c cs e = cc
 
 pub none-left : (xs ys : List Code) → xs ++ ys ≡ [] → (xs ≡ []) × (ys ≡ [])
 none-left [] ys e = (refl, e)
@@ -46,25 +36,27 @@ line-parts n cs h = line-both (take n cs) (drop n cs) (ap (list_any is_line_endi
 
 -- Rows of leaves.
 
+-- over some codes
+abbrev IsFull : Name → Option Content → List Code → Type 0
+IsFull name link cs = cs ≢ []
+
 abbrev pub AreLeaves : Forest → Type 0
-AreLeaves empty = Unit {0}
-AreLeaves (leaf_then name link cs rest) = (cs ≢ []) × AreLeaves rest
-AreLeaves (group_then name a b inside rest) = ⊥
+AreLeaves t = Leaves IsFull t
 
-pub leaves-leaf : (name : Name) (cs : List Code) → AreLeaves (leaf name cs)
-leaves-leaf name [] = tt
-leaves-leaf name (c ∷ cs) = (filled c cs, tt)
+full-leaf : (name : Name) (cs : List Code) → AreLeaves (leaf name cs)
+full-leaf name cs = leaves-leaf IsFull name cs (λ some. some)
 
-pub leaves-row : (t u : Forest) → AreLeaves t → AreLeaves u → AreLeaves (t ⊕ u)
-leaves-row empty u h k = k
-leaves-row (leaf_then name link cs rest) u h k = (h.0, leaves-row rest u h.1 k)
-leaves-row (group_then name a b inside rest) u h k = absurd h
+pub full-linked : (name : Name) (link : Option Content) (cs : List Code) → AreLeaves (linked_leaf name link cs)
+full-linked name link cs = leaves-linked IsFull name link cs (λ some. some)
+
+pub full-lines : (name : Name) (link : Option Content) (cs : List Code) → AreLeaves (lines name link cs)
+full-lines name link cs = leaves-lines IsFull name link (λ s h. h.0) (λ s some h. some) (λ s h. h.0) cs
 
 pub leaves-trimmed_data : (front back hard : Bool) (cs : List Code) → AreLeaves (trimmed_data front back hard cs)
-leaves-trimmed_data front back hard cs = trimmed_data-has AreLeaves leaves-row (leaves-leaf N.Data) (leaves-leaf N.HardBreakTrailing) (leaves-leaf N.SpaceOrTab) front back hard cs
+leaves-trimmed_data front back hard cs = trimmed_data-has AreLeaves (leaves-row IsFull) (full-leaf N.Data) (full-leaf N.HardBreakTrailing) (full-leaf N.SpaceOrTab) front back hard cs
 
 pub leaves-with_emails : (cs : List Code) → AreLeaves (with_emails cs)
-leaves-with_emails cs = with_emails-has AreLeaves leaves-row (leaves-leaf N.Data) (λ before ds. leaves-leaf _ ds) cs
+leaves-with_emails cs = with_emails-has AreLeaves (leaves-row IsFull) (full-leaf N.Data) (λ before ds. full-leaf _ ds) cs
 
 -- Rows.
 
@@ -98,6 +90,22 @@ module _ (E : Point → Point → Type 0) where
   pub lined-leaf : (name : Name) (cs : List Code) → IsLine cs → IsLined E (leaf name cs)
   lined-leaf name [] h = tt
   lined-leaf name (c ∷ cs) h = ((on-line (c ∷ cs) (filled c cs, h), λ e. h), tt)
+
+  -- leaves on lines
+  abbrev OnLine : Name → Option Content → List Code → Type 0
+  OnLine name link cs = IsOnLine cs × (makes_data name ≡ true → IsLine cs)
+
+  lined-rows : (t : Forest) → Leaves OnLine t → IsLined E t
+  lined-rows empty h = tt
+  lined-rows (leaf_then name link cs rest) h = (h.0, lined-rows rest h.1)
+  lined-rows (group_then name a b inside rest) h = absurd h
+
+  pub lined-linked : (name : Name) (link : Option Content) (cs : List Code) → IsLine cs → IsLined E (linked_leaf name link cs)
+  lined-linked name link cs h = lined-rows (linked_leaf name link cs) (leaves-linked OnLine name link cs (λ some. (on-line cs (some, h), λ e. h)))
+
+  pub lined-lines : (name : Name) (link : Option Content) (cs : List Code) → IsLined E (lines name link cs)
+  lined-lines name link cs =
+      lined-rows (lines name link cs) (leaves-lines OnLine name link (λ s h. (on-line s h, λ e. h.1)) (λ s some h. (h, λ e. cc)) (λ s h. (on-line s h, λ e. h.1)) cs)
 
   -- a code that is on a line as it is one
   pub lined-one : (name : Name) (c : Code) → makes_data name ≡ false → IsLined E (leaf name (c ∷ []))

@@ -1,25 +1,11 @@
 -- Trees whose leaves stand on lines, and whose groups around nothing stand at one place.
-use Rattle.std.specs.Prelude.{◌≡◌, ◌≢◌, true, false, List, [], ◌∷◌, ◌++◌, Some, None, ◌⊎◌}
-use Rattle.std.specs.List.{list_any}
-use Rattle.markdown_engine_content.specs.Codes.{Code, document_start, is_line_ending, stop_of}
+use Rattle.std.specs.Prelude.{◌≡◌, true, List, [], ◌∷◌, ◌++◌, Some, None, ◌⊎◌}
+use Rattle.markdown_engine_content.specs.Codes.{Code, document_start, stop_of}
 use Rattle.markdown_engine_content.specs.Tree.{Forest, empty, leaf_then, group_then, leaf_codes}
 use Rattle.markdown_engine_content.specs.declared.event.Point.{Point}
+use Rattle.markdown_model.specs.CodeLines.{IsLine, IsSomeLine, IsOnLine}
 use Rattle.markdown_model.specs.LabelEnd.{Element, plain, starts, ends}
 use Rattle.markdown_run_row.specs.RowTreeNames.{makes_data}
-
--- no line ending stands among these codes
-abbrev pub IsLine : List Code → Type 0
-IsLine cs = list_any is_line_ending cs ≡ false
-
--- some codes, and no line ending among them
-abbrev pub IsSomeLine : List Code → Type 0
-IsSomeLine cs = (cs ≢ []) × IsLine cs
-
--- one code, or some codes without a line ending
-abbrev pub IsOnLine : List Code → Type 0
-IsOnLine [] = ⊥
-IsOnLine (c ∷ []) = Unit {0}
-IsOnLine (c ∷ d ∷ cs) = IsLine (c ∷ d ∷ cs)
 
 -- these codes stand in that list one after another
 abbrev pub IsIn : List Code → List Code → Type 0

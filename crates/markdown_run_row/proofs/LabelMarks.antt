@@ -10,7 +10,6 @@ use Rattle.markdown_engine_content.specs.declared.label_kind.LabelKind.{LabelKin
 use Rattle.markdown_engine.specs.declared.tokenizer.LabelStart as Kept
 use Rattle.markdown_engine.specs.declared.tokenizer.Tokenizer.{Tokenizer}
 use Rattle.markdown_engine.proofs.TreeEvents.{ops-past, ahead-past}
-use Rattle.markdown_attention.specs.RunsRead.{is_run}
 use Rattle.markdown_attention.proofs.AttentionTreeLabels.{quiet-run}
 use Rattle.markdown_model.proofs.PlainTrees.{is_mark, marks, IsQuiet, quiet_after_label}
 use Rattle.markdown_label.specs.LabelFields.{bars}

@@ -11,13 +11,14 @@ use Rattle.markdown_leaf.specs.CharacterReference.{reference_here}
 use Rattle.markdown_model.specs.Elements.{string_choice}
 use Rattle.markdown_model.specs.TextLines.{data_up_to}
 use Rattle.markdown_partial.specs.PartialData.{begins_none, marks, stops_at, stops_by, stops_of}
-use Rattle.markdown_util.specs.Reference.{html_5_rows}
 use Rattle.markdown_run_row.specs.RunOverElements.{Advances, Finishes}
 use Rattle.markdown_run_row.specs.Row.{kinds_of}
 use Rattle.markdown_run_text.specs.RunSetting.{setting_of}
-use Rattle.markdown_run_text.specs.StringContent.{is_on, string_markers, string_passed, string_here, BeforeReady, before_ends}
+use Rattle.markdown_run_text.specs.StringContent.{string_markers, string_passed, string_here, BeforeReady, before_ends}
 use Rattle.markdown_run_row.proofs.ElementSteps.{advances-finishes, node-advances, data-advances, some-ahead}
-use Rattle.markdown_run_row.proofs.ConstructNodes.{escape-node, reference-node}
+use Rattle.markdown_run_row.proofs.ConstructNodes.{node-of}
+use Rattle.markdown_model.proofs.PlainConstructs.{plain_constructs}
+use Rattle.markdown_plan.specs.Characters.{bytes_of}
 use Rattle.markdown_run_row.proofs.RowFields.{relisted, row-fields, row-input}
 use Rattle.markdown_run_text.proofs.TryTableLemmas.{one-of}
 use Rattle.markdown_run_text.proofs.StringElements.{escaped-element, referenced-element, single-element, unmarked-element}
@@ -52,12 +53,12 @@ passes-ends T U p false V k = k
 
 pub escape-past : (T U : Tokenizer) → Reads (escape_here T) None T.tokenize_state T U → Passes T U
 escape-past T U k =
-    let node = escape-node (is_on T).character_escape (ahead T) k.tree k.rest k.holds in
+    let node = node-of (bytes_of T) (escape_here T) (search plain_constructs) (ahead T) k.tree k.rest k.holds in
     node-advances (string_here T) (escape_here T) T U k node.0 node.1 (λ earlier previous stands. escaped-element (setting_of T.parse_state.now) (ahead T) k.tree k.rest k.holds)
 
 pub reference-past : (T U : Tokenizer) → escape_here T (ahead T) ≡ None → Reads (reference_here T) None T.tokenize_state T U → Passes T U
 reference-past T U none k =
-    let node = reference-node (is_on T).character_reference html_5_rows (ahead T) k.tree k.rest k.holds in
+    let node = node-of (bytes_of T) (reference_here T) (search plain_constructs) (ahead T) k.tree k.rest k.holds in
     node-advances (string_here T) (reference_here T) T U k node.0 node.1 (λ earlier previous stands. referenced-element (setting_of T.parse_state.now) (ahead T) k.tree k.rest none k.holds)
 
 -- no marker of strings is a letter of literals, so data stops at each of them

@@ -42,16 +42,19 @@ use Rattle.markdown_leaf.specs.RawText as RawText
 use Rattle.markdown_model.specs.TextLines.{data_up_to}
 use Rattle.markdown_partial.specs.PartialData as PartialData
 use Rattle.markdown_partial.specs.PartialData.{stops_of}
-use Rattle.markdown_util.specs.Reference.{html_5_rows}
 use Rattle.markdown_run_row.specs.RunOverElements.{Advances, DataFinishes, Finishes}
 use Rattle.markdown_run_row.specs.Row.{loses, row_end, past_mark, kinds_of}
 use Rattle.markdown_run_row.proofs.RowFields.{row-cursor, tree-within, lost-within}
 use Rattle.markdown_run_text.specs.StringContent.{is_on}
 use Rattle.markdown_run_text.specs.TextContent.{text_tries, text_markers, marked_fields, text_marked, text_passed, attempt_step, start_step, first_try, tries_at, before_at, before_step, text_choice_of, IsMarked, BeforeReady, StandsAlone, before_ends, data_ends, start_words, before_words, before_html_words, before_hard_break_escape_words, before_label_start_link_words, before_data_words}
 use Rattle.markdown_run_text.proofs.TryTableLemmas.{EachOf, by-row}
-use Rattle.markdown_run_row.proofs.ConstructNodes.{protocol-node, www-node, check-node, html-node, escape-node, reference-node, break-node, autolink-node, span-node}
+use Rattle.markdown_run_row.proofs.ConstructNodes.{node-of}
+use Rattle.markdown_model.proofs.PlainConstructs.{ReadsPlain, plain_constructs}
+use Rattle.markdown_model.specs.Elements.{tries, tried}
+use Rattle.markdown_model.specs.LeafConstructs.{character_escape, hard_break_escape, autolink}
+use Rattle.markdown_model.specs.HtmlText.{html_text}
 use Rattle.markdown_run_text.proofs.TextElements.{is_marker, data-holds}
-use Rattle.markdown_run_text.proofs.TextTries.{ReadsNodes, ReadsElements, reference-reads, reference-alone, autolink-reads, html-reads, html-alone, escape-reads, break-reads, break-alone, span-reads, span-alone, run-reads, run-alone, run-leaf, protocol-reads, protocol-alone, www-reads, www-alone, other-alone}
+use Rattle.markdown_run_text.proofs.TextTries.{ReadsElements, AreTriedAt, first-reads, second-reads, second-alone, reference-reads, reference-alone, span-reads, span-alone, run-reads, run-alone, run-leaf, protocol-reads, protocol-alone, www-reads, www-alone, other-alone}
 use Rattle.markdown_run_row.proofs.ElementSteps.{DataRead, data-read, some-ahead, advances-finishes, node-advances, run-advances}
 use Rattle.markdown_run_text.proofs.TextLabelTries.{image-advances, image-alone, footnote-advances, link-advances, bracket-alone, made-advances, failed-advances, end-alone}
 use Rattle.markdown_run_text.proofs.TextSteps.{IsSame, same-row, choice-same, stops-same, marked-past, no-check-behind, no-check-past, advances-ends, alone-ends, tree-kept, registered-kept, made-kept, some-none, weight-marked, at-rest-reference, run-ready, passed-attempts, at-end, ends-on, lost-there, not-lost, lost-left, lost-current, same-lost, html-ready, marked-start, check-elements}
@@ -84,6 +87,16 @@ states other s = other s
 abbrev EndsOf : StateWords → TreeReading → Tokenizer → Type 0
 EndsOf w reading T = (ok : Bool) (U : Tokenizer) → w.ends T ok U → EndsAs reading None T.tokenize_state T ok U
 
+-- An autolink or HTML, and an escape or a hard break.
+
+angle-row : (T : Tokenizer) → AreTriedAt T (byte "<") (is_on T).autolink (is_on T).html_text autolink html_text
+unfolding tries tried
+angle-row T earlier previous = (refl, (refl, refl))
+
+slash-row : (T : Tokenizer) → AreTriedAt T (byte "\\") (is_on T).character_escape (is_on T).hard_break_escape character_escape hard_break_escape
+unfolding tries tried
+slash-row T earlier previous = (refl, (refl, refl))
+
 module _ (W : Words) (within : Within states W) where
   -- past an element the run goes on before the next
   on-before : (n : ℕ) (T U : Tokenizer) → codes_left T * 256 < n → IsMarked T → AreWithin U U.tokenize_state.label_starts → Advances (text_choice_of T) T U → FollowsIn W n (before_ends T) (Next TextBefore) U
@@ -97,12 +110,12 @@ module _ (W : Words) (within : Within states W) where
 
   -- A construct is tried: it holds and is an element, or the run goes on with another state at the same place.
 
-  try-law : (rank : ℕ) (T : Tokenizer) (construct otherwise : StateName) {w : StateWords} → words_in W construct ≡ w → (reading : TreeReading) → T.attempts ≡ [] → w.ready T → weight_at w.rank T < weight_at rank T → IsMarked T → EndsOf w reading T → ReadsNodes reading T → ReadsElements reading T → (reading (ahead T) ≡ None → FollowsIn W (weight_at rank T) (before_ends T) (Next otherwise) T) → GoesIn W (weight_at rank T) (before_ends T) (attempt_step construct otherwise T)
-  try-law rank T construct otherwise {w} say reading alone on falls ready ends nodes elements fails =
+  try-law : (rank : ℕ) (T : Tokenizer) (construct otherwise : StateName) {w : StateWords} → words_in W construct ≡ w → (reading : TreeReading) → T.attempts ≡ [] → w.ready T → weight_at w.rank T < weight_at rank T → IsMarked T → EndsOf w reading T → ReadsPlain (bytes_of T) reading → ReadsElements reading T → (reading (ahead T) ≡ None → FollowsIn W (weight_at rank T) (before_ends T) (Next otherwise) T) → GoesIn W (weight_at rank T) (before_ends T) (attempt_step construct otherwise T)
+  try-law rank T construct otherwise {w} say reading alone on falls ready ends own elements fails =
       Goes-attempt W (weight_at rank T) (before_ends T) (Retry construct) {w = w} say (Next TextBefore) (Next otherwise) T alone on falls
       (λ U now h.
       let k : Reads reading None T.tokenize_state T U = ends true U h in
-      let node = nodes k.tree k.rest k.holds in
+      let node = node-of (bytes_of T) reading own (ahead T) k.tree k.rest k.holds in
       on-before (weight_at rank T) T U (omega arith) ready (tree-kept T U k.tree (k.left ∙ ap (past None k.tree) (scratched-same T)) ready.ends.within)
       (node-advances (text_choice_of T) reading T U k node.0 node.1 (elements k.tree k.rest k.holds)))
       (λ U now h.
@@ -120,20 +133,20 @@ module _ (W : Words) (within : Within states W) where
 
     tries-span : (v : ℕ) → current_of T ≡ Some v → (v == byte "$" || v == byte "`") ≡ true → Before (attempt_step RawTextStart TextBeforeData T)
     tries-span v e h =
-        try-law 8 T RawTextStart TextBeforeData (within RawTextStart) (RawText.span_at T) alone ready.marked.spans (omega arith) ready.marked (λ ok U g. g) (λ t rest g. span-node T (ahead T) t rest g) (span-reads T v e h) (λ none. to-data 8 T v (omega arith) ready e (span-alone T v e h none))
+        try-law 8 T RawTextStart TextBeforeData (within RawTextStart) (RawText.span_at T) alone ready.marked.spans (omega arith) ready.marked (λ ok U g. g) (search plain_constructs) (span-reads T v e h) (λ none. to-data 8 T v (omega arith) ready e (span-alone T v e h none))
 
     tries-reference : current_of T ≡ Some (byte "&") → Before (attempt_step CharacterReferenceStart TextBeforeData T)
     tries-reference d =
-        try-law 8 T CharacterReferenceStart TextBeforeData (within CharacterReferenceStart) (reference_here T) alone (at-rest-reference T ready.marked) (omega arith) ready.marked (λ ok U g. g) (λ t rest g. reference-node (is_on T).character_reference html_5_rows (ahead T) t rest g) (reference-reads T d) (λ none. to-data 8 T (byte "&") (omega arith) ready d (reference-alone T d none))
+        try-law 8 T CharacterReferenceStart TextBeforeData (within CharacterReferenceStart) (reference_here T) alone (at-rest-reference T ready.marked) (omega arith) ready.marked (λ ok U g. g) (search plain_constructs) (reference-reads T d) (λ none. to-data 8 T (byte "&") (omega arith) ready d (reference-alone T d none))
 
     tries-autolink : current_of T ≡ Some (byte "<") → Before (attempt_step AutolinkStart TextBeforeHtml T)
     tries-autolink d =
-        try-law 8 T AutolinkStart TextBeforeHtml (within AutolinkStart) (link_here T) alone (at-rest-reference T ready.marked).size (omega arith) ready.marked (λ ok U g. g) (λ t rest g. autolink-node (is_on T).autolink (ahead T) t rest g) (autolink-reads T d)
+        try-law 8 T AutolinkStart TextBeforeHtml (within AutolinkStart) (link_here T) alone (at-rest-reference T ready.marked).size (omega arith) ready.marked (λ ok U g. g) (search plain_constructs) (first-reads T (byte "<") _ _ _ _ (angle-row T) d)
         (λ none. follows W (weight_at 8 T) (before_ends T) (Next TextBeforeHtml) (within TextBeforeHtml) T (record { before = ready; angle = d; no_autolink = none }) (omega arith) (λ ok V h. h))
 
     tries-escape : current_of T ≡ Some (byte "\\") → Before (attempt_step CharacterEscapeStart TextBeforeHardBreakEscape T)
     tries-escape d =
-        try-law 8 T CharacterEscapeStart TextBeforeHardBreakEscape (within CharacterEscapeStart) (escape_here T) alone tt (omega arith) ready.marked (λ ok U g. g) (λ t rest g. escape-node (is_on T).character_escape (ahead T) t rest g) (escape-reads T d)
+        try-law 8 T CharacterEscapeStart TextBeforeHardBreakEscape (within CharacterEscapeStart) (escape_here T) alone tt (omega arith) ready.marked (λ ok U g. g) (search plain_constructs) (first-reads T (byte "\\") _ _ _ _ (slash-row T) d)
         (λ none. follows W (weight_at 8 T) (before_ends T) (Next TextBeforeHardBreakEscape) (within TextBeforeHardBreakEscape) T (record { before = ready; slash = d; no_escape = none }) (omega arith) (λ ok V h. h))
 
     -- a run of markers, past which its pass is registered
@@ -150,13 +163,13 @@ module _ (W : Words) (within : Within states W) where
     tries-protocol : (v : ℕ) → current_of T ≡ Some v → (v == byte "H" || v == byte "h") ≡ true → Before (attempt_step GfmAutolinkLiteralProtocolStart TextBeforeData T)
     tries-protocol v e h =
         try-law 8 T GfmAutolinkLiteralProtocolStart TextBeforeData (within GfmAutolinkLiteralProtocolStart) (GfmAutolinkLiteral.protocol_here T) alone ready.marked.literals (omega arith) ready.marked (λ ok U g. g)
-        (λ t rest g. protocol-node (GfmAutolinkLiteral.is_on T) (bytes_of T) (GfmAutolinkLiteral.end_of T) (GfmAutolinkLiteral.before_of T) (ahead T) t rest g) (protocol-reads T v ready.marked.last e h)
+        (search plain_constructs) (protocol-reads T v ready.marked.last e h)
         (λ none. to-data 8 T v (omega arith) ready e (protocol-alone T v ready.marked.last e h none))
 
     tries-www : (v : ℕ) → current_of T ≡ Some v → (v == byte "W" || v == byte "w") ≡ true → Before (attempt_step GfmAutolinkLiteralWwwStart TextBeforeData T)
     tries-www v e h =
         try-law 8 T GfmAutolinkLiteralWwwStart TextBeforeData (within GfmAutolinkLiteralWwwStart) (GfmAutolinkLiteral.www_here T) alone ready.marked.literals (omega arith) ready.marked (λ ok U g. g)
-        (λ t rest g. www-node (GfmAutolinkLiteral.is_on T) (bytes_of T) (GfmAutolinkLiteral.end_of T) (GfmAutolinkLiteral.before_of T) (ahead T) t rest g) (www-reads T v ready.marked.last e h)
+        (search plain_constructs) (www-reads T v ready.marked.last e h)
         (λ none. to-data 8 T v (omega arith) ready e (www-alone T v ready.marked.last e h none))
 
     tries-image : current_of T ≡ Some (byte "!") → Before (attempt_step LabelStartImageStart TextBeforeData T)
@@ -233,8 +246,8 @@ module _ (W : Words) (within : Within states W) where
     at-www : EachOf (IsTried GfmAutolinkLiteralWwwStart TextBeforeData) (codes "Ww")
     at-www = (λ e. tries-www (byte "W") e refl, (λ e. tries-www (byte "w") e refl, tt))
 
-    tries : (v : ℕ) → current_of T ≡ Some v → Before (tries_at (first_try v) T)
-    tries v =
+    tries-by-code : (v : ℕ) → current_of T ≡ Some v → Before (tries_at (first_try v) T)
+    tries-by-code v =
         by-row (λ (n : ℕ) (o : Option (StateName × StateName)). current_of T ≡ Some n → Before (tries_at o T)) text_tries v
         ((tries-image, tt), (at-spans, ((tries-reference, tt), (at-runs, ((tries-autolink, tt), (at-protocols, (at-www, ((tries-footnote, tt), ((tries-escape, tt), ((tries-end, tt), tt))))))))))
         (λ h e. tries-none v e h)
@@ -243,15 +256,15 @@ module _ (W : Words) (within : Within states W) where
     before-goes =
         code-step Before (current_of T) (λ o. before_at o T)
         (λ e. Goes-end W (weight_at 8 T) (before_ends T) true (text_passed T) (passed-attempts T alone) (omega arith) (at-end T e))
-        (λ v e. tries v e)
+        (λ v e. tries-by-code v e)
 
   pub before-law : Law W before_words
   before-law T alone ready = before-goes T alone ready
 
   pub before_html-law : Law W before_html_words
   before_html-law T alone r =
-      try-law 6 T HtmlTextStart TextBeforeData (within HtmlTextStart) (HtmlText.html_here T) alone (html-ready T r.before.marked) (omega arith) r.before.marked (λ ok U g. g) (λ t rest g. html-node (is_on T).html_text (ahead T) t rest g) (html-reads T r.angle r.no_autolink)
-      (λ none. to-data 6 T (byte "<") (omega arith) r.before r.angle (html-alone T r.angle r.no_autolink none))
+      try-law 6 T HtmlTextStart TextBeforeData (within HtmlTextStart) (HtmlText.html_here T) alone (html-ready T r.before.marked) (omega arith) r.before.marked (λ ok U g. g) (search plain_constructs) (second-reads T (byte "<") _ _ _ _ (angle-row T) r.angle r.no_autolink)
+      (λ none. to-data 6 T (byte "<") (omega arith) r.before r.angle (second-alone T (byte "<") _ _ _ _ (angle-row T) r.angle r.no_autolink none))
 
   pub before_label_start_link-law : Law W before_label_start_link_words
   before_label_start_link-law T alone r =
@@ -265,8 +278,8 @@ module _ (W : Words) (within : Within states W) where
 
   pub before_hard_break_escape-law : Law W before_hard_break_escape_words
   before_hard_break_escape-law T alone r =
-      try-law 6 T HardBreakEscapeStart TextBeforeData (within HardBreakEscapeStart) (break_here T) alone tt (omega arith) r.before.marked (λ ok U g. g) (λ t rest g. break-node (is_on T).hard_break_escape (ahead T) t rest g) (break-reads T r.slash r.no_escape)
-      (λ none. to-data 6 T (byte "\\") (omega arith) r.before r.slash (break-alone T r.slash r.no_escape none))
+      try-law 6 T HardBreakEscapeStart TextBeforeData (within HardBreakEscapeStart) (break_here T) alone tt (omega arith) r.before.marked (λ ok U g. g) (search plain_constructs) (second-reads T (byte "\\") _ _ _ _ (slash-row T) r.slash r.no_escape)
+      (λ none. to-data 6 T (byte "\\") (omega arith) r.before r.slash (second-alone T (byte "\\") _ _ _ _ (slash-row T) r.slash r.no_escape none))
 
   pub before_data-law : Law W before_data_words
   before_data-law T alone r =
@@ -299,5 +312,5 @@ module _ (W : Words) (within : Within states W) where
       let marked : IsMarked M = marked-start T r in
       subst (λ n. GoesIn W n (before_ends M) (start_step T)) (weight-marked T)
       (try-law 9 M GfmTaskListItemCheckStart TextBefore (within GfmTaskListItemCheckStart) (GfmTaskListItemCheck.check_here M) (attempts-scratched s T ∙ alone) marked.look (omega arith) marked (λ ok U g. g)
-      (λ t rest g. check-node (GfmTaskListItemCheck.may_begin M) (ahead M) t rest g) (check-elements M (current_of M) refl)
+      (search plain_constructs) (check-elements M (current_of M) refl)
       (λ none. follows W (weight_at 9 M) (before_ends M) (Next TextBefore) (within TextBefore) M (record { marked = marked; unchecked = none }) (omega arith) (λ ok V h. h)))

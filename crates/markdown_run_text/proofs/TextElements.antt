@@ -15,11 +15,10 @@ use Rattle.markdown_model.specs.CodeTests.{is_among, is_value, is_some_code}
 use Rattle.markdown_model.specs.SingleConstructs.{begins_run}
 use Rattle.markdown_model.specs.Elements.{attention_run, as_plain, switched, line_ending, data_code, code_text, math_text, Tries, tries, tried, first_check, text_element, ends_escaped, label_start_image, gfm_label_start_footnote, label_start_link}
 use Rattle.markdown_model.specs.Grammar.{Reading, ◌>>◌, ◌>>=◌, provided, either, gives, one}
-use Rattle.markdown_model.specs.HtmlText.{html_text}
 use Rattle.markdown_model.specs.LabelEnd.{Element, plain, label_end}
 use Rattle.markdown_model.specs.TextLines.{data_up_to, code_leaf}
 use Rattle.markdown_model.specs.GfmAutolinkLiteral.{gfm_autolink_literal_protocol, gfm_autolink_literal_www}
-use Rattle.markdown_model.specs.LeafConstructs.{character_escape, character_reference, hard_break_escape, autolink, gfm_task_list_item_check, span_here, code_names, math_names}
+use Rattle.markdown_model.specs.LeafConstructs.{character_reference, gfm_task_list_item_check, span_here, code_names, math_names}
 use Rattle.markdown_model.specs.Setting.{Setting}
 use Rattle.markdown_run_row.specs.RunOverElements.{StandsAfter}
 use Rattle.markdown_run_text.specs.TryTable.{codes_in}
@@ -179,59 +178,25 @@ module _ (s : Setting) (end : ℕ) (earlier : List Element) (previous : Option C
   unfolding tries tried
   reference-element c cs o e h = one-row (byte "&") s.options.constructs.character_reference (character_reference s.references) c cs o e refl refl refl h
 
-  -- A `<`.
+  -- A row of two constructs: the first, and the second where that does not hold.
 
-  angle_row : Reading Element
-  angle_row = either (switched s.options.constructs.autolink (as_plain autolink)) (switched s.options.constructs.html_text (as_plain html_text))
+  abbrev pub IsRowOfTwo : ℕ → Bool → Bool → Reading Forest → Reading Forest → Type 0
+  IsRowOfTwo v on other a b = ((v == byte "\n") ≡ false) × (((v == byte "[") ≡ false) × (tried (tries s end earlier previous) v ≡ either (switched on (as_plain a)) (switched other (as_plain b))))
 
-  angle-at : (c : Code) (cs : List Code) → c.value ≡ byte "<" → text_element s end earlier previous (c ∷ cs) ≡ either angle_row data_code (c ∷ cs)
-  unfolding tries tried angle_row
-  angle-at c cs e = text-row (byte "<") _ c cs e refl refl
+  module _ (v : ℕ) (on other : Bool) (a b : Reading Forest) (row : IsRowOfTwo v on other a b) (c : Code) (cs : List Code) (e : c.value ≡ v) where
+    pub first-element : (t : Forest) (rest : List Code) → (provided on >> a) (c ∷ cs) ≡ Some (t, rest) → text_element s end earlier previous (c ∷ cs) ≡ Some (plain t, rest)
+    unfolding plain_of
+    first-element t rest h =
+        text-row v _ c cs e row.1.0 row.1.1
+        ∙ plain-or-data (either (switched on (as_plain a)) (switched other (as_plain b))) c cs (Some (t, rest)) (value-other v c e row.0)
+        (either-some (switched on (as_plain a)) _ (c ∷ cs) (plain t, rest) (plain-switched on a (c ∷ cs) ∙ ap plain_of h))
 
-  pub autolink-element : (c : Code) (cs : List Code) (t : Forest) (rest : List Code) → c.value ≡ byte "<"
-      → (provided s.options.constructs.autolink >> autolink) (c ∷ cs) ≡ Some (t, rest) → text_element s end earlier previous (c ∷ cs) ≡ Some (plain t, rest)
-  unfolding angle_row plain_of
-  autolink-element c cs t rest e h =
-      angle-at c cs e
-      ∙ plain-or-data angle_row c cs (Some (t, rest)) (value-other (byte "<") c e refl)
-      (either-some (switched s.options.constructs.autolink (as_plain autolink)) _ (c ∷ cs) (plain t, rest) (plain-switched s.options.constructs.autolink autolink (c ∷ cs) ∙ ap plain_of h))
-
-  pub html-element : (c : Code) (cs : List Code) (o : Option (Forest × List Code)) → c.value ≡ byte "<"
-      → (provided s.options.constructs.autolink >> autolink) (c ∷ cs) ≡ None → (provided s.options.constructs.html_text >> html_text) (c ∷ cs) ≡ o
-      → text_element s end earlier previous (c ∷ cs) ≡ element_here c cs o
-  unfolding angle_row plain_of
-  html-element c cs o e none h =
-      angle-at c cs e
-      ∙ plain-or-data angle_row c cs o (value-other (byte "<") c e refl)
-      (either-second (switched s.options.constructs.autolink (as_plain autolink)) _ (c ∷ cs) (plain-switched s.options.constructs.autolink autolink (c ∷ cs) ∙ ap plain_of none)
-      ∙ plain-switched s.options.constructs.html_text html_text (c ∷ cs) ∙ ap plain_of h)
-
-  -- A backslash.
-
-  slash_row : Reading Element
-  slash_row = either (switched s.options.constructs.character_escape (as_plain character_escape)) (switched s.options.constructs.hard_break_escape (as_plain hard_break_escape))
-
-  slash-at : (c : Code) (cs : List Code) → c.value ≡ byte "\\" → text_element s end earlier previous (c ∷ cs) ≡ either slash_row data_code (c ∷ cs)
-  unfolding tries tried slash_row
-  slash-at c cs e = text-row (byte "\\") _ c cs e refl refl
-
-  pub escape-element : (c : Code) (cs : List Code) (t : Forest) (rest : List Code) → c.value ≡ byte "\\"
-      → (provided s.options.constructs.character_escape >> character_escape) (c ∷ cs) ≡ Some (t, rest) → text_element s end earlier previous (c ∷ cs) ≡ Some (plain t, rest)
-  unfolding slash_row plain_of
-  escape-element c cs t rest e h =
-      slash-at c cs e
-      ∙ plain-or-data slash_row c cs (Some (t, rest)) (value-other (byte "\\") c e refl)
-      (either-some (switched s.options.constructs.character_escape (as_plain character_escape)) _ (c ∷ cs) (plain t, rest) (plain-switched s.options.constructs.character_escape character_escape (c ∷ cs) ∙ ap plain_of h))
-
-  pub break-element : (c : Code) (cs : List Code) (o : Option (Forest × List Code)) → c.value ≡ byte "\\"
-      → (provided s.options.constructs.character_escape >> character_escape) (c ∷ cs) ≡ None → (provided s.options.constructs.hard_break_escape >> hard_break_escape) (c ∷ cs) ≡ o
-      → text_element s end earlier previous (c ∷ cs) ≡ element_here c cs o
-  unfolding slash_row plain_of
-  break-element c cs o e none h =
-      slash-at c cs e
-      ∙ plain-or-data slash_row c cs o (value-other (byte "\\") c e refl)
-      (either-second (switched s.options.constructs.character_escape (as_plain character_escape)) _ (c ∷ cs) (plain-switched s.options.constructs.character_escape character_escape (c ∷ cs) ∙ ap plain_of none)
-      ∙ plain-switched s.options.constructs.hard_break_escape hard_break_escape (c ∷ cs) ∙ ap plain_of h)
+    pub second-element : (o : Option (Forest × List Code)) → (provided on >> a) (c ∷ cs) ≡ None → (provided other >> b) (c ∷ cs) ≡ o → text_element s end earlier previous (c ∷ cs) ≡ element_here c cs o
+    unfolding plain_of
+    second-element o none h =
+        text-row v _ c cs e row.1.0 row.1.1
+        ∙ plain-or-data (either (switched on (as_plain a)) (switched other (as_plain b))) c cs o (value-other v c e row.0)
+        (either-second (switched on (as_plain a)) _ (c ∷ cs) (plain-switched on a (c ∷ cs) ∙ ap plain_of none) ∙ plain-switched other b (c ∷ cs) ∙ ap plain_of h)
 
   -- Runs of markers.
 

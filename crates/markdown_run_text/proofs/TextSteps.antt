@@ -2,7 +2,6 @@
 use Rattle.markdown_model.specs.LeafConstructs.{gfm_task_list_item_check}
 use Rattle.markdown_model.specs.CodeTests.{is_value, last_code, next_is}
 use Rattle.std.proofs.Common.{◌≡◌, ◌≢◌, ℕ, ◌+◌, ◌*◌, ◌<◌, ◌≤◌, ◌==◌, Bool, true, false, if◌then◌else◌, Option, Some, None, List, [], ◌∷◌, refl, sym, ap, subst, ◌∙◌, arith, length, length-append, is_none, ◌&&◌, ◌++◌, append-nil}
-use Rattle.std.specs.Prelude.{codes}
 use Rattle.std.specs.Str.{byte}
 use Rattle.markdown_engine_content.specs.Codes.{Code, stop_of, document_start}
 use Rattle.markdown_engine_index.specs.BracketIndex.{BracketPlaces, brackets_between}
@@ -50,7 +49,6 @@ use Rattle.markdown_run_row.specs.RunOverElements.{AreSingle, Advances, Finishes
 use Rattle.markdown_run_row.specs.Row.{EndsRest, Row, loses, row_end, row_then, past_mark, past_row, row_codes, kinds_of, IsRowAt}
 use Rattle.markdown_run_row.proofs.LabelSteps.{empty-part, mark-alone}
 use Rattle.markdown_run_row.proofs.RowFields.{relisted, row-cursor, row-input, row-text, row-fields, made-within}
-use Rattle.markdown_run_text.specs.StringContent.{is_on}
 use Rattle.markdown_run_text.specs.TextContent.{order_pays, titles_pay, marked_fields, text_marked, text_passed, text_choice_of, EndsWithCodes, StartReady, IsMarked, StandsAlone, before_ends, data_ends, text_setting, StopsAtElements, domains_pay, names_in}
 use Rattle.markdown_run_text.proofs.TextDataStops.{stops-where}
 use Rattle.markdown_run_text.proofs.TextTries.{end_in, ReadsElements, none-valued, check-reads, no-check-at-end, other-data}

@@ -1,7 +1,7 @@
 -- What is tried at a code of a text: where it holds, it is the element at hand, and where nothing holds, the code is one by itself.
 use Rattle.markdown_model.specs.Elements.{first_check}
-use Rattle.markdown_model.specs.Grammar.{◌>>◌, provided, one}
-use Rattle.std.proofs.Common.{◌≡◌, ℕ, zero, suc, drop, ◌+◌, ◌≤◌, ◌==◌, ◌||◌, true, false, Option, Some, None, List, ◌∷◌, length, refl, sym, ap, ◌∙◌, Bool, ◌&&◌, is_none, [], take, ◌++◌, append_assoc}
+use Rattle.markdown_model.specs.Grammar.{Reading, ◌>>◌, provided, one}
+use Rattle.std.proofs.Common.{◌≡◌, ℕ, zero, suc, drop, ◌==◌, ◌||◌, true, false, Option, Some, None, List, ◌∷◌, refl, sym, ap, ◌∙◌, Bool, ◌&&◌, is_none, [], take, ◌++◌, append_assoc}
 use Rattle.std.proofs.lemmas.Option.{same_Some}
 use Rattle.std.specs.Str.{byte}
 use Rattle.std.specs.List.{list_any}
@@ -17,11 +17,7 @@ use Rattle.markdown_engine.proofs.OperationFields.{Begins, ahead-some, current-a
 use Rattle.markdown_plan.specs.Characters.{bytes_of}
 use Rattle.markdown_leaf_gfm.specs.GfmAutolinkLiteral.{is_on, end_of, protocol_here, www_here}
 use Rattle.markdown_leaf_gfm.specs.GfmTaskListItemCheck.{check_here, may_begin}
-use Rattle.markdown_leaf_html.specs.HtmlText.{html_here}
-use Rattle.markdown_leaf.specs.Autolink.{link_here}
-use Rattle.markdown_leaf.specs.CharacterEscape.{escape_here}
 use Rattle.markdown_leaf.specs.CharacterReference.{reference_here}
-use Rattle.markdown_leaf.specs.HardBreakEscape.{break_here}
 use Rattle.markdown_leaf.specs.RawText.{span_at, code_just_before}
 use Rattle.markdown_model.specs.TextLines.{code_leaf}
 use Rattle.markdown_model.specs.CodeTests.{is_value}
@@ -31,21 +27,17 @@ use Rattle.markdown_model.specs.LabelEnd.{Element, plain}
 use Rattle.markdown_model.specs.Setting.{Setting}
 use Rattle.markdown_partial.specs.PartialData.{stops_of}
 use Rattle.markdown_run_row.specs.RunOverElements.{AreSingle, StandsAfter}
-use Rattle.markdown_run_row.specs.RowTreeNames.{IsNode, IsRunLeaf}
+use Rattle.markdown_run_row.specs.RowTreeNames.{IsRunLeaf}
 use Rattle.markdown_run_text.proofs.TryTableLemmas.{one-of}
 use Rattle.markdown_run_text.specs.TextContent.{text_markers, text_setting, text_choice_of, EndsWithCodes, StandsAlone, StopsAtElements}
 use Rattle.markdown_attention.specs.Attention.{switches_of, run_tree}
 use Rattle.markdown_model.specs.SingleConstructs.{begins_run}
 use Rattle.markdown_attention.proofs.AttentionLaws.{run-some, run-none, run-at, run-ahead}
 use Rattle.markdown_run_row.proofs.ConstructNodes.{run-node}
-use Rattle.markdown_run_text.proofs.TextElements.{is_marker, run_markers, run-element, run-off, plain_of, plain-switched, off-or-none, check-element, span-element, reference-element, autolink-element, html-element, escape-element, break-element, other-element, protocol-element, www-element}
+use Rattle.markdown_run_text.proofs.TextElements.{is_marker, run_markers, run-element, run-off, plain_of, plain-switched, off-or-none, check-element, span-element, IsRowOfTwo, first-element, second-element, reference-element, other-element, protocol-element, www-element}
 use Rattle.markdown_model.proofs.GrammarSteps.{bind-none}
 
--- what a construct reads is a tree that stands by itself
-abbrev pub ReadsNodes : TreeReading → Tokenizer → Type 0
-ReadsNodes reading T = (t : Forest) (rest : List Code) → reading (ahead T) ≡ Some (t, rest) → IsNode t × (1 + length rest ≤ length (ahead T))
-
--- and it is the element at hand
+-- what a construct reads is the element at hand
 abbrev pub ReadsElements : TreeReading → Tokenizer → Type 0
 ReadsElements reading T =
     (t : Forest) (rest : List Code) → reading (ahead T) ≡ Some (t, rest) → (earlier : List Element) (previous : Option Code) → StandsAfter earlier previous T → text_choice_of T earlier previous (ahead T) ≡ Some (plain t, rest)
@@ -75,7 +67,7 @@ alone-at : (reading : TreeReading) (T : Tokenizer) (v : ℕ) → current_of T �
 alone-at reading T v e h none earlier previous c cs stands w =
     h c cs (value-here T v c cs e w) (ap reading (sym w) ∙ none) earlier previous stands
 
--- References, autolinks, escapes and hard breaks.
+-- References.
 
 pub reference-reads : (T : Tokenizer) → current_of T ≡ Some (byte "&") → ReadsElements (reference_here T) T
 reference-reads T e =
@@ -85,41 +77,30 @@ pub reference-alone : (T : Tokenizer) → current_of T ≡ Some (byte "&") → O
 reference-alone T e =
     alone-at (reference_here T) T (byte "&") e (λ c cs v none earlier previous stands. reference-element (text_setting T) (end_in T) earlier previous c cs None v none)
 
-pub autolink-reads : (T : Tokenizer) → current_of T ≡ Some (byte "<") → ReadsElements (link_here T) T
-autolink-reads T e =
-    at-hand (link_here T) T (byte "<") e (λ c cs t rest v holds earlier previous stands. autolink-element (text_setting T) (end_in T) earlier previous c cs t rest v holds)
+-- Two constructs at one code.
 
--- HTML where no autolink is
-no-link-at : (T : Tokenizer) (c : Code) (cs : List Code) → link_here T (ahead T) ≡ None → ahead T ≡ c ∷ cs → link_here T (c ∷ cs) ≡ None
-no-link-at T c cs none w = ap (link_here T) (sym w) ∙ none
+-- the first of them, and the second where that does not hold
+abbrev pub AreTriedAt : Tokenizer → ℕ → Bool → Bool → Reading Forest → Reading Forest → Type 0
+AreTriedAt T v on other a b = (earlier : List Element) (previous : Option Code) → IsRowOfTwo (text_setting T) (end_in T) earlier previous v on other a b
 
-pub html-reads : (T : Tokenizer) → current_of T ≡ Some (byte "<") → link_here T (ahead T) ≡ None → ReadsElements (html_here T) T
-html-reads T e none t rest holds earlier previous stands =
-    let b : Begins (byte "<") (ahead T) = ahead-some T (byte "<") e in
-    ap (text_choice_of T earlier previous) b.whole
-    ∙ html-element (text_setting T) (end_in T) earlier previous b.code (rest_of (ahead T)) (Some (t, rest)) b.value (no-link-at T b.code (rest_of (ahead T)) none b.whole) (ap (html_here T) (sym b.whole) ∙ holds)
+module _ (T : Tokenizer) (v : ℕ) (on other : Bool) (a b : Reading Forest) (row : AreTriedAt T v on other a b) (e : current_of T ≡ Some v) where
+  pub first-reads : ReadsElements (provided on >> a) T
+  first-reads =
+      at-hand (provided on >> a) T v e (λ c cs t rest k holds earlier previous stands. first-element (text_setting T) (end_in T) earlier previous v on other a b (row earlier previous) c cs k t rest holds)
 
-pub html-alone : (T : Tokenizer) → current_of T ≡ Some (byte "<") → link_here T (ahead T) ≡ None → OrStandsAlone (html_here T) T
-html-alone T e none refused earlier previous c cs stands w =
-    html-element (text_setting T) (end_in T) earlier previous c cs None (value-here T (byte "<") c cs e w) (no-link-at T c cs none w) (ap (html_here T) (sym w) ∙ refused)
+  module _ (none : (provided on >> a) (ahead T) ≡ None) where
+    none-at : (c : Code) (cs : List Code) → ahead T ≡ c ∷ cs → (provided on >> a) (c ∷ cs) ≡ None
+    none-at c cs w = ap (provided on >> a) (sym w) ∙ none
 
-pub escape-reads : (T : Tokenizer) → current_of T ≡ Some (byte "\\") → ReadsElements (escape_here T) T
-escape-reads T e =
-    at-hand (escape_here T) T (byte "\\") e (λ c cs t rest v holds earlier previous stands. escape-element (text_setting T) (end_in T) earlier previous c cs t rest v holds)
+    pub second-reads : ReadsElements (provided other >> b) T
+    second-reads t rest holds earlier previous stands =
+        let k : Begins v (ahead T) = ahead-some T v e in
+        ap (text_choice_of T earlier previous) k.whole
+        ∙ second-element (text_setting T) (end_in T) earlier previous v on other a b (row earlier previous) k.code (rest_of (ahead T)) k.value (Some (t, rest)) (none-at k.code (rest_of (ahead T)) k.whole) (ap (provided other >> b) (sym k.whole) ∙ holds)
 
--- a hard break where no escape is
-no-escape-at : (T : Tokenizer) (c : Code) (cs : List Code) → escape_here T (ahead T) ≡ None → ahead T ≡ c ∷ cs → escape_here T (c ∷ cs) ≡ None
-no-escape-at T c cs none w = ap (escape_here T) (sym w) ∙ none
-
-pub break-reads : (T : Tokenizer) → current_of T ≡ Some (byte "\\") → escape_here T (ahead T) ≡ None → ReadsElements (break_here T) T
-break-reads T e none t rest holds earlier previous stands =
-    let b : Begins (byte "\\") (ahead T) = ahead-some T (byte "\\") e in
-    ap (text_choice_of T earlier previous) b.whole
-    ∙ break-element (text_setting T) (end_in T) earlier previous b.code (rest_of (ahead T)) (Some (t, rest)) b.value (no-escape-at T b.code (rest_of (ahead T)) none b.whole) (ap (break_here T) (sym b.whole) ∙ holds)
-
-pub break-alone : (T : Tokenizer) → current_of T ≡ Some (byte "\\") → escape_here T (ahead T) ≡ None → OrStandsAlone (break_here T) T
-break-alone T e none refused earlier previous c cs stands w =
-    break-element (text_setting T) (end_in T) earlier previous c cs None (value-here T (byte "\\") c cs e w) (no-escape-at T c cs none w) (ap (break_here T) (sym w) ∙ refused)
+    pub second-alone : OrStandsAlone (provided other >> b) T
+    second-alone refused earlier previous c cs stands w =
+        second-element (text_setting T) (end_in T) earlier previous v on other a b (row earlier previous) c cs (value-here T v c cs e w) None (none-at c cs w) (ap (provided other >> b) (sym w) ∙ refused)
 
 -- Spans.
 

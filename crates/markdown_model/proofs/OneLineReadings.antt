@@ -1,14 +1,35 @@
 -- Readings of codes among which no line ending stands.
-use Rattle.std.proofs.Common.{◌≡◌, ◌+◌, ℕ, zero, suc, Bool, true, false, ◌&&◌, ◌||◌, ◌==◌, List, [], ◌∷◌, ◌++◌, length, Option, Some, None, refl, ap, ◌∙◌}
+use Rattle.std.proofs.Common.{◌≡◌, ◌≢◌, ◌+◌, ℕ, zero, suc, Bool, true, false, ◌&&◌, ◌||◌, ◌==◌, List, [], ◌∷◌, ◌++◌, length, Option, Some, None, refl, sym, ap, ◌∙◌}
 use Rattle.std.specs.List.{list_any}
-use Rattle.std.proofs.lemmas.Bool.{both_ways, eqb-true, or_parts}
+use Rattle.std.proofs.lemmas.Bool.{both_ways, eqb-true, or_parts, or_from}
+use Rattle.std.proofs.lemmas.List.Folds.{list_any-append}
 use Rattle.markdown_engine_content.specs.Codes.{Code, is_line_ending}
 use Rattle.markdown_model.specs.CodeTests.{is_empty, is_letter}
 use Rattle.markdown_model.specs.Grammar.{Reading, one, some, any_number, span, with_first, word_of, ◌then_◌, repeated, repeatedly, escaped_from}
 use Rattle.markdown_model.specs.GfmAutolinkLiteral.{letters}
 use Rattle.markdown_model.proofs.NoLinkInConstructs.{Passes, Yields, yields_bind, yields_gives}
-use Rattle.markdown_run_leaves.specs.OneLineLeaves.{IsLine, IsSomeLine}
-use Rattle.markdown_run_leaves.proofs.OneLineTrees.{line-join}
+use Rattle.markdown_model.specs.CodeLines.{IsLine, IsSomeLine, IsOnLine}
+
+-- Codes.
+
+pub line-both : (xs ys : List Code) → IsLine (xs ++ ys) → IsLine xs × IsLine ys
+line-both xs ys h = let p = or_parts (list_any is_line_ending xs) (list_any is_line_ending ys) (sym (list_any-append is_line_ending xs ys) ∙ h) in (p.0, p.1)
+
+pub line-join : (xs ys : List Code) → IsLine xs → IsLine ys → IsLine (xs ++ ys)
+line-join xs ys h k = list_any-append is_line_ending xs ys ∙ or_from (list_any is_line_ending xs) (list_any is_line_ending ys) h k
+
+pub on-line : (cs : List Code) → IsSomeLine cs → IsOnLine cs
+on-line [] h = h.0 refl
+on-line (c ∷ []) h = tt
+on-line (c ∷ d ∷ cs) h = h.1
+
+pub filled : (c : Code) (cs : List Code) → c ∷ cs ≢ []
+filled c cs e = cc
+
+-- some codes, and any number of them
+pub some-join : (xs ys : List Code) → xs ≢ [] → xs ++ ys ≢ []
+some-join [] ys h = absurd (h refl)
+some-join (x ∷ xs) ys h = filled x (xs ++ ys)
 
 -- Tests that no line ending passes.
 
@@ -33,7 +54,8 @@ pub line-span : (p : Code → Bool) → Skips p → (cs : List Code) → IsLine 
 line-span p skips [] = refl
 line-span p skips (c ∷ cs) = by_test (p c) refl (line-span p skips cs)
   where
-    by_test : (b : Bool) → p c ≡ b → IsLine (span p cs).0 → (let s : List Code × List Code = elim b [ true ↦ (c ∷ (span p cs).0, (span p cs).1) | false ↦ ([], c ∷ cs) ] in IsLine s.0)
+    by_test : (b : Bool) → p c ≡ b → IsLine (span p cs).0
+        → (let s : List Code × List Code = elim b [ true ↦ (c ∷ (span p cs).0, (span p cs).1) | false ↦ ([], c ∷ cs) ] in IsLine s.0)
     by_test true h k = line-first c (span p cs).0 (not-ending p skips c h) k
     by_test false h k = refl
 
@@ -55,11 +77,16 @@ IsOne [] = ⊥
 IsOne (c ∷ []) = Unit {0}
 IsOne (c ∷ d ∷ cs) = ⊥
 
+pub one-some : (cs : List Code) → IsOne cs → cs ≢ []
+one-some [] h = absurd h
+one-some (c ∷ cs) h = filled c cs
+
 pub one-one : (p : Code → Bool) → Yields IsOne (one p)
 unfolding one
 one-one p = record { at = at }
   where
-    by_test : (c : Code) (cs : List Code) (b : Bool) → Passes IsOne (elim b as (λ _. Option (List Code × List Code)) [ true ↦ Some (c ∷ [], cs) | false ↦ None ])
+    by_test : (c : Code) (cs : List Code) (b : Bool)
+        → Passes IsOne (elim b as (λ _. Option (List Code × List Code)) [ true ↦ Some (c ∷ [], cs) | false ↦ None ])
     by_test c cs true = tt
     by_test c cs false = tt
 
@@ -71,7 +98,8 @@ pub one-line : (p : Code → Bool) → Skips p → Yields IsSomeLine (one p)
 unfolding one
 one-line p skips = record { at = at }
   where
-    by_test : (c : Code) (cs : List Code) (b : Bool) → p c ≡ b → Passes IsSomeLine (elim b as (λ _. Option (List Code × List Code)) [ true ↦ Some (c ∷ [], cs) | false ↦ None ])
+    by_test : (c : Code) (cs : List Code) (b : Bool) → p c ≡ b
+        → Passes IsSomeLine (elim b as (λ _. Option (List Code × List Code)) [ true ↦ Some (c ∷ [], cs) | false ↦ None ])
     by_test c cs true h = ((λ e. cc), line-first c [] (not-ending p skips c h) refl)
     by_test c cs false h = tt
 
@@ -83,7 +111,8 @@ pub some-line : (p : Code → Bool) → Skips p → Yields IsSomeLine (some p)
 unfolding some
 some-line p skips = record { at = λ cs. by_codes (span p cs).0 (span p cs).1 (line-span p skips cs) }
   where
-    by_codes : (xs rest : List Code) → IsLine xs → Passes IsSomeLine (elim (is_empty xs) as (λ _. Option (List Code × List Code)) [ true ↦ None | false ↦ Some (xs, rest) ])
+    by_codes : (xs rest : List Code) → IsLine xs
+        → Passes IsSomeLine (elim (is_empty xs) as (λ _. Option (List Code × List Code)) [ true ↦ None | false ↦ Some (xs, rest) ])
     by_codes [] rest h = tt
     by_codes (c ∷ xs) rest h = ((λ e. cc), h)
 
@@ -95,11 +124,13 @@ pub then-line : (a b : Reading (List Code)) → Yields IsLine a → Yields IsLin
 unfolding ◌then_◌
 then-line a b ha hb = record { at = λ cs. by_answer (a cs) (ha.at cs) }
   where
-    by_second : (x : List Code × List Code) → IsLine x.0 → (r : Option (List Code × List Code)) → Passes IsLine r → Passes IsLine (elim r [ None ↦ None | Some y ↦ Some (x.0 ++ y.0, y.1) ])
+    by_second : (x : List Code × List Code) → IsLine x.0 → (r : Option (List Code × List Code)) → Passes IsLine r
+        → Passes IsLine (elim r [ None ↦ None | Some y ↦ Some (x.0 ++ y.0, y.1) ])
     by_second x h None k = tt
     by_second x h (Some y) k = line-join x.0 y.0 h k
 
-    by_answer : (r : Option (List Code × List Code)) → Passes IsLine r → Passes IsLine (elim r [ None ↦ None | Some x ↦ elim (b x.1) [ None ↦ None | Some y ↦ Some (x.0 ++ y.0, y.1) ] ])
+    by_answer : (r : Option (List Code × List Code)) → Passes IsLine r
+        → Passes IsLine (elim r [ None ↦ None | Some x ↦ elim (b x.1) [ None ↦ None | Some y ↦ Some (x.0 ++ y.0, y.1) ] ])
     by_answer None h = tt
     by_answer (Some x) h = by_second x h (b x.1) (hb.at x.1)
 
@@ -108,7 +139,8 @@ unfolding repeated
 repeated-line a h zero cs = refl
 repeated-line a h (suc n) cs = by_answer (a cs) (h.at cs) (repeated-line a h n)
   where
-    by_second : (x : List Code × List Code) → IsLine x.0 → (r : Option (List Code × List Code)) → Passes IsLine r → Passes IsLine (elim r [ None ↦ Some x | Some y ↦ Some (x.0 ++ y.0, y.1) ])
+    by_second : (x : List Code × List Code) → IsLine x.0 → (r : Option (List Code × List Code)) → Passes IsLine r
+        → Passes IsLine (elim r [ None ↦ Some x | Some y ↦ Some (x.0 ++ y.0, y.1) ])
     by_second x k None l = k
     by_second x k (Some y) l = line-join x.0 y.0 k l
 
@@ -121,7 +153,8 @@ pub repeatedly-line : (a : Reading (List Code)) → Yields IsLine a → Yields I
 unfolding repeatedly
 repeatedly-line a h = record { at = λ cs. repeated-line a h (length cs) cs }
 
-pub with-first-line : (c : Code) (r : Option (List Code × List Code)) → is_line_ending c ≡ false → Passes IsLine r → Passes IsLine (with_first c r)
+pub with-first-line : (c : Code) (r : Option (List Code × List Code)) → is_line_ending c ≡ false → Passes IsLine r
+    → Passes IsLine (with_first c r)
 with-first-line c None h k = tt
 with-first-line c (Some x) h k = line-first c x.0 h k
 
@@ -132,7 +165,8 @@ word-lines [] h cs = refl
 word-lines (n ∷ ns) h [] = tt
 word-lines (n ∷ ns) h (c ∷ cs) = by_test (c.value == n) refl (word-lines ns (or_parts (n == 10) (list_any (λ k. k == 10) ns) h).1 cs)
   where
-    by_test : (b : Bool) → (c.value == n) ≡ b → Passes IsLine (word_of ns cs) → Passes IsLine (elim b [ true ↦ with_first c (word_of ns cs) | false ↦ None ])
+    by_test : (b : Bool) → (c.value == n) ≡ b → Passes IsLine (word_of ns cs)
+        → Passes IsLine (elim b [ true ↦ with_first c (word_of ns cs) | false ↦ None ])
     by_test true e k = with-first-line c (word_of ns cs) (ap (λ v. v == 10) (eqb-true c.value n e) ∙ (or_parts (n == 10) (list_any (λ k. k == 10) ns) h).0) k
     by_test false e k = tt
 
@@ -143,11 +177,13 @@ word-some n ns h = record { at = at }
     apart : ((n == 10) ≡ false) × (list_any (λ k. k == 10) ns ≡ false)
     apart = or_parts (n == 10) (list_any (λ k. k == 10) ns) h
 
-    by_rest : (c : Code) (r : Option (List Code × List Code)) → is_line_ending c ≡ false → Passes IsLine r → Passes IsSomeLine (with_first c r)
+    by_rest : (c : Code) (r : Option (List Code × List Code)) → is_line_ending c ≡ false → Passes IsLine r
+        → Passes IsSomeLine (with_first c r)
     by_rest c None e k = tt
     by_rest c (Some x) e k = ((λ y. cc), line-first c x.0 e k)
 
-    by_test : (c : Code) (cs : List Code) (b : Bool) → (c.value == n) ≡ b → Passes IsSomeLine (elim b [ true ↦ with_first c (word_of ns cs) | false ↦ None ])
+    by_test : (c : Code) (cs : List Code) (b : Bool) → (c.value == n) ≡ b
+        → Passes IsSomeLine (elim b [ true ↦ with_first c (word_of ns cs) | false ↦ None ])
     by_test c cs true e = by_rest c (word_of ns cs) (ap (λ v. v == 10) (eqb-true c.value n e) ∙ apart.0) (word-lines ns apart.1 cs)
     by_test c cs false e = tt
 
@@ -160,10 +196,17 @@ abbrev AreLetters : List ℕ → Type 0
 AreLetters [] = Unit {0}
 AreLetters (n ∷ ns) = Skips (λ c. c.value == n || (is_letter c && c.value + 32 == n)) × AreLetters ns
 
-pub letters-line : (ns : List ℕ) → AreLetters ns → Yields IsLine (letters ns)
+letters-line : (ns : List ℕ) → AreLetters ns → Yields IsLine (letters ns)
 unfolding letters
 letters-line [] h = yields_gives _ [] refl
 letters-line (n ∷ ns) h = yields_bind IsSomeLine _ _ _ (one-line (λ c. c.value == n || (is_letter c && c.value + 32 == n)) h.0) λ a k. yields_bind IsLine _ _ _ (letters-line ns h.1) λ b l. yields_gives _ _ (line-join a b k.1 l)
+
+-- a word of one letter at least
+pub letters-some : (n : ℕ) (ns : List ℕ) → AreLetters (n ∷ ns) → Yields IsSomeLine (letters (n ∷ ns))
+unfolding letters
+letters-some n ns h =
+    yields_bind IsSomeLine _ _ _ (one-line (λ c. c.value == n || (is_letter c && c.value + 32 == n)) h.0) λ a k.
+    yields_bind IsLine _ _ _ (letters-line ns h.1) λ b l. yields_gives _ _ (some-join a b k.0, line-join a b k.1 l)
 
 -- Up to a code that ends the text, with escapes: neither what is escaped nor what neither ends nor refuses it is a line ending.
 module _ (stop takes refuses : Code → Bool) (skips : Skips takes) (others : (c : Code) → stop c ≡ false → refuses c ≡ false → is_line_ending c ≡ false) where
@@ -175,11 +218,13 @@ module _ (stop takes refuses : Code → Bool) (skips : Skips takes) (others : (c
   escaped-lines slash [] = tt
   escaped-lines slash (c ∷ cs) = by_takes slash (takes c) refl (λ b. escaped-lines b cs)
     where
-      by_refuses : (b : Bool) → stop c ≡ false → refuses c ≡ b → ((a : Bool) → Passes IsLine (after a cs)) → Passes IsLine (elim b [ true ↦ None | false ↦ with_first c (after (c.value == 92) cs) ])
+      by_refuses : (b : Bool) → stop c ≡ false → refuses c ≡ b → ((a : Bool) → Passes IsLine (after a cs))
+          → Passes IsLine (elim b [ true ↦ None | false ↦ with_first c (after (c.value == 92) cs) ])
       by_refuses true h k more = tt
       by_refuses false h k more = with-first-line c (after (c.value == 92) cs) (others c h k) (more (c.value == 92))
 
-      by_stop : (b : Bool) → stop c ≡ b → ((a : Bool) → Passes IsLine (after a cs)) → Passes IsLine (elim b [ true ↦ Some ([], c ∷ cs) | false ↦ elim (refuses c) [ true ↦ None | false ↦ with_first c (after (c.value == 92) cs) ] ])
+      by_stop : (b : Bool) → stop c ≡ b → ((a : Bool) → Passes IsLine (after a cs))
+          → Passes IsLine (elim b [ true ↦ Some ([], c ∷ cs) | false ↦ elim (refuses c) [ true ↦ None | false ↦ with_first c (after (c.value == 92) cs) ] ])
       by_stop true h more = refl
       by_stop false h more = by_refuses (refuses c) h refl more
 
