@@ -1,6 +1,5 @@
 -- Whole literals: the tree that the definition gives, and the codes that it covers.
 use Rattle.std.proofs.Common.{◌≡◌, ℕ, ◌&&◌, not, Bool, true, false, if◌then◌else◌, Option, Some, None, List, [], ◌∷◌, ◌++◌, refl, sym, ap, ◌∙◌, append_assoc, append-nil}
-use Rattle.std.specs.Prelude.{codes}
 use Rattle.markdown_engine_content.specs.Codes.{Code}
 use Rattle.markdown_engine.specs.Operations.{Op, Enter, Exit, Consume}
 use Rattle.markdown_engine_content.specs.Tree.{Forest, leaf}
@@ -9,14 +8,14 @@ use Rattle.markdown_engine_content.specs.declared.event.Name.{Name}
 use Rattle.markdown_engine_content.specs.declared.event.Name.TheVariants as N
 use Rattle.markdown_model.specs.CodeTests.{is_letter, is_some_code}
 use Rattle.markdown_model.specs.Grammar.{Reading, ◌>>=◌, ◌>>◌, ◌then_◌, gives, provided}
-use Rattle.markdown_model.specs.GfmAutolinkLiteral.{letters, domain, domain_from, is_domain, path, path_from, ends_path, count_if, gfm_autolink_literal_protocol, www_from_here, gfm_autolink_literal_www, may_precede_www, begins_with_www}
+use Rattle.markdown_model.specs.GfmAutolinkLiteral.{schemes, letters, one_word_of, domain, domain_from, is_domain, path, path_from, ends_path, count_if, gfm_autolink_literal_protocol, www_from_here, gfm_autolink_literal_www, may_precede_www, begins_with_www}
 use Rattle.markdown_model.proofs.LiteralCodes.{domain_split}
 use Rattle.markdown_plan.specs.Plan.{tree_ops, plan_of}
 use Rattle.markdown_plan.specs.PrecededReadings.{after}
 use Rattle.markdown_plan.proofs.PrecededReadingLemmas.{then-after}
 use Rattle.markdown_plan.proofs.PassedByReadings.{Read, Gives, Covers, both-parts, Gives-bind, Gives-either, Gives-gives, Gives-one, Gives-switched, Covers-leaf}
-use Rattle.markdown_leaf_gfm.specs.GfmAutolinkLiteral.{address, schemes, prefix_reading}
-use Rattle.markdown_leaf_gfm.proofs.GfmAutolinkLiteralReadings.{letter_test}
+use Rattle.markdown_leaf_gfm.specs.GfmAutolinkLiteral.{address, prefix_reading}
+use Rattle.markdown_leaf_gfm.proofs.LettersOfWords.{letter_test}
 use Rattle.markdown_model.proofs.GrammarSteps.{bind-some, bind-none, then-none, switched-on, switched-off}
 
 -- Readings in a row give what the parts give.
@@ -56,9 +55,6 @@ unfolding mapped
 mapped-same f g h None = refl
 mapped-same f g h (Some r) = ap (λ t. Some (t, r.1)) (h r.0)
 
-in-row : (x y z w : List Code) → x ++ y ++ z ++ w ≡ x ++ (y ++ (z ++ w))
-in-row x y z w = append_assoc (x ++ y) z w ∙ append_assoc x y (z ++ w)
-
 -- the operations of a leaf of these codes
 abbrev pub leaf_ops : Name → Codes → Option (List Op)
 leaf_ops name None = None
@@ -74,22 +70,21 @@ ops-leaf name [] os e = cc
 ops-leaf name (c ∷ cs) os e = refl
 
 module _ (bytes : List ℕ) (end : ℕ) where
-  protocol-text : (cs : List Code) → (schemes 0 >>= λ scheme. letters (codes "://") >>= λ slashes. domain bytes end >>= λ host. path bytes end >>= λ further. gives (leaf N.GfmAutolinkLiteralProtocol (scheme ++ slashes ++ host ++ further))) cs ≡ mapped (leaf N.GfmAutolinkLiteralProtocol) (prefix_reading bytes end 0 cs)
+  protocol-text : (cs : List Code) → (one_word_of schemes >>= λ scheme. domain bytes end >>= λ host. path bytes end >>= λ further. gives (leaf N.GfmAutolinkLiteralProtocol (scheme ++ host ++ further))) cs ≡ mapped (leaf N.GfmAutolinkLiteralProtocol) (prefix_reading bytes end 0 0 cs)
   protocol-text cs =
       let name : List Code → Forest = leaf N.GfmAutolinkLiteralProtocol in
-      bind-then (schemes 0) (letters (codes "://") then_ address bytes end) _ name (λ x r.
-      bind-then (letters (codes "://")) (address bytes end) _ (λ y. name (x ++ y)) (λ y q.
-      bind-then (domain bytes end) (path bytes end) _ (λ z. name (x ++ (y ++ z))) (λ z t.
-      bind-gives (path bytes end) (λ w. name (x ++ y ++ z ++ w)) t ∙ mapped-same _ (λ w. name (x ++ (y ++ (z ++ w)))) (λ w. ap name (in-row x y z w)) (path bytes end t)) q) r) cs
+      bind-then (one_word_of schemes) (address bytes end) _ name (λ x r.
+      bind-then (domain bytes end) (path bytes end) _ (λ z. name (x ++ z)) (λ z t.
+      bind-gives (path bytes end) (λ w. name (x ++ z ++ w)) t ∙ mapped-same _ (λ w. name (x ++ (z ++ w))) (λ w. ap name (append_assoc x z w)) (path bytes end t)) r) cs
 
   -- where no letter stands before
-  protocol-by : (previous : Option Code) (cs : List Code) (b : Bool) → is_some_code is_letter previous ≡ b → tree_ops (gfm_autolink_literal_protocol bytes end previous cs) ≡ (if not b then leaf_ops N.GfmAutolinkLiteralProtocol (prefix_reading bytes end 0 cs) else None)
+  protocol-by : (previous : Option Code) (cs : List Code) (b : Bool) → is_some_code is_letter previous ≡ b → tree_ops (gfm_autolink_literal_protocol bytes end previous cs) ≡ (if not b then leaf_ops N.GfmAutolinkLiteralProtocol (prefix_reading bytes end 0 0 cs) else None)
   unfolding gfm_autolink_literal_protocol
   protocol-by previous cs true e = ap tree_ops (switched-off _ _ cs (ap not e))
   protocol-by previous cs false e =
-      ap tree_ops (switched-on _ _ cs (ap not e) ∙ protocol-text cs) ∙ mapped-ops N.GfmAutolinkLiteralProtocol (prefix_reading bytes end 0 cs)
+      ap tree_ops (switched-on _ _ cs (ap not e) ∙ protocol-text cs) ∙ mapped-ops N.GfmAutolinkLiteralProtocol (prefix_reading bytes end 0 0 cs)
 
-  pub protocol-is : (on : Bool) (previous : Option Code) (cs : List Code) → plan_of (provided on >> gfm_autolink_literal_protocol bytes end previous) cs ≡ (if on && not (is_some_code is_letter previous) then leaf_ops N.GfmAutolinkLiteralProtocol (prefix_reading bytes end 0 cs) else None)
+  pub protocol-is : (on : Bool) (previous : Option Code) (cs : List Code) → plan_of (provided on >> gfm_autolink_literal_protocol bytes end previous) cs ≡ (if on && not (is_some_code is_letter previous) then leaf_ops N.GfmAutolinkLiteralProtocol (prefix_reading bytes end 0 0 cs) else None)
   protocol-is true previous cs = ap tree_ops (switched-on (gfm_autolink_literal_protocol bytes end previous) true cs refl) ∙ protocol-by previous cs (is_some_code is_letter previous) refl
   protocol-is false previous cs = ap tree_ops (switched-off (gfm_autolink_literal_protocol bytes end previous) false cs refl)
 
@@ -105,6 +100,11 @@ gives-letters (n ∷ ns) =
     Gives-bind _ _ _ Itself (Gives-one (letter_test n)) (λ a ws p.
     Gives-bind _ _ Itself _ (gives-letters ns) (λ b vs q.
     Gives-gives (a ++ b) _ (ap (λ x. x ++ b) p.0 ∙ ap (λ x. ws ++ x) (q ∙ sym (append-nil vs)))))
+
+gives-one-word : (words : List (List ℕ)) → Gives Itself (one_word_of words)
+unfolding one_word_of
+gives-one-word [] cs x rest k = cc
+gives-one-word (word ∷ words) cs x rest k = Gives-either (letters word) (one_word_of words) Itself (gives-letters word) (gives-one-word words) cs x rest k
 
 module _ (bytes : List ℕ) (end : ℕ) where
   domain-by : (cs : List Code) (b : Bool) (x rest : List Code) → (elim b as (λ _. Codes) [ true ↦ Some (domain_from bytes end cs) | false ↦ None ]) ≡ Some (x, rest) → Read Itself cs x rest
@@ -138,13 +138,12 @@ module _ (bytes : List ℕ) (end : ℕ) where
   whole-protocol on previous =
       Gives-switched on (gfm_autolink_literal_protocol bytes end previous) Covers
       (Gives-switched _ _ Covers
-      (Gives-bind _ _ Itself Covers (Gives-either _ _ Itself (gives-letters (codes "https")) (gives-letters (codes "http"))) (λ a ws p.
-      Gives-bind _ _ Itself _ (gives-letters (codes "://")) (λ b vs q.
+      (Gives-bind _ _ Itself Covers (gives-one-word schemes) (λ a ws p.
       Gives-bind _ _ Itself _ gives-domain (λ c us r.
       Gives-bind _ _ Itself _ gives-path (λ d ts t.
-      Gives-gives (leaf N.GfmAutolinkLiteralProtocol (a ++ b ++ c ++ d)) _
+      Gives-gives (leaf N.GfmAutolinkLiteralProtocol (a ++ c ++ d)) _
       (Covers-leaf N.GfmAutolinkLiteralProtocol _ _
-      (in-row a b c d ∙ ap (λ x. x ++ (b ++ (c ++ d))) p ∙ ap (λ x. ws ++ (x ++ (c ++ d))) q ∙ ap (λ x. ws ++ (vs ++ (x ++ d))) r ∙ ap (λ x. ws ++ (vs ++ (us ++ x))) (t ∙ sym (append-nil ts))))))))))
+      (append_assoc a c d ∙ ap (λ x. x ++ (c ++ d)) p ∙ ap (λ x. ws ++ (x ++ d)) r ∙ ap (λ x. ws ++ (us ++ x)) (t ∙ sym (append-nil ts)))))))))
 
   www-text : (cs : List Code) → www_from_here bytes end cs ≡ mapped (leaf N.GfmAutolinkLiteralWww) (address bytes end cs)
   unfolding www_from_here

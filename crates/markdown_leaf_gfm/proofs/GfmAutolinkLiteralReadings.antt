@@ -1,23 +1,25 @@
 -- What autolink literals read, by what stands there.
-use Rattle.std.proofs.Common.{◌≡◌, ℕ, zero, suc, ◌+◌, ◌≤◌, ◌==◌, ◌&&◌, ◌||◌, not, nat_le, Bool, true, false, if◌then◌else◌, Option, Some, None, List, [], ◌∷◌, ◌++◌, reverse, append_assoc, append-nil, refl, sym, ap, subst, ◌∙◌, arith}
+use Rattle.std.proofs.Common.{◌≡◌, ℕ, zero, suc, ◌+◌, ◌≤◌, ◌==◌, ◌&&◌, ◌||◌, not, Bool, true, false, if◌then◌else◌, Option, Some, None, List, [], ◌∷◌, ◌++◌, reverse, append_assoc, append-nil, refl, sym, ap, subst, ◌∙◌, arith}
 use Rattle.std.specs.Prelude.{codes}
 use Rattle.std.specs.List.{list_any}
 use Rattle.std.proofs.lemmas.List.{reverse-append}
 use Rattle.std.proofs.lemmas.Bool.Decides.{nat_tests}
-use Rattle.std.proofs.Math.Seq.{drop-nil}
+use Rattle.std.proofs.lemmas.Bool.{eqb-true}
 use Rattle.markdown_engine_content.specs.Codes.{Code}
 use Rattle.markdown_engine.specs.Operations.{Op, Consume}
 use Rattle.markdown_engine.specs.TreeOps.{consumes}
 use Rattle.markdown_engine.specs.declared.tokenizer.TokenizeState.{TokenizeState}
-use Rattle.markdown_model.specs.CodeTests.{is_value, is_among, is_letter, is_empty, next_is}
-use Rattle.markdown_model.specs.Grammar.{Reading, ◌>>=◌, ◌then_◌, either, one, gives, with_first}
-use Rattle.markdown_model.specs.GfmAutolinkLiteral.{letters, last_parts_plain, is_domain, domain, domain_from, is_domain_code, path, path_from, ends_path, count_if}
+use Rattle.markdown_model.specs.CodeTests.{is_value, is_among, is_empty, next_is}
+use Rattle.markdown_model.specs.Grammar.{Reading, ◌then_◌, with_first}
+use Rattle.markdown_model.specs.GfmAutolinkLiteral.{schemes, letters, one_word_of, last_parts_plain, is_domain, domain, domain_from, is_domain_code, path, path_from, ends_path, count_if}
 use Rattle.markdown_plan.specs.ByteTests.{letter_value}
 use Rattle.markdown_plan.specs.Plan.{preceded}
 use Rattle.markdown_plan.proofs.PrecededReadingLemmas.{then-after, after-more, after-none}
 use Rattle.markdown_plan.proofs.PlanSteps.{consumes-append}
-use Rattle.markdown_leaf_gfm.specs.GfmAutolinkLiteral.{scheme_letter, www_letter, www_test, rested, saw, underscored, dotted, is_well, passed_code, fields_after, pass_ops, path_plan, domain_plan, domain_after_plan, address, schemes, slashes_plan, prefix_plan}
-use Rattle.markdown_model.proofs.GrammarSteps.{bind-some, bind-none, one-here, one-not, then-some, then-none, either-some, either-second, and-left, and-right, left-true, if-true, if-false}
+use Rattle.markdown_leaf_gfm.specs.GfmAutolinkLiteral.{stands_for, word_at, words_like, are_schemes, www_letter, www_test, rested, saw, underscored, dotted, is_well, passed_code, fields_after, pass_ops, path_plan, domain_plan, domain_after_plan, address, slashes_plan, prefix_plan}
+use Rattle.markdown_leaf_gfm.proofs.LettersOfWords.{letter_test, letters-more, letters-none, letters-nil}
+use Rattle.markdown_leaf_gfm.proofs.SchemesLeft.{Goes, tails, no_words, is_spelling, colon-for, one_begins, words-more, words-none, words-end, colon-read, next-words, left-letter, left-some}
+use Rattle.markdown_model.proofs.GrammarSteps.{then-some, then-none, if-true, if-false}
 
 -- Domains: their fields, code by code.
 
@@ -178,102 +180,14 @@ pub ops-first : (c : Code) (o : Option (List Code × List Code)) → pass_ops (w
 ops-first c None = refl
 ops-first c (Some r) = refl
 
-abbrev pub letter_test : ℕ → Code → Bool
-letter_test n c = c.value == n || (is_letter c && c.value + 32 == n)
-
-letters-given : (c : Code) (o : Option (List Code × List Code)) → (elim o as (λ _. Option (List Code × List Code)) [ None ↦ None | Some r ↦ gives (c ∷ r.0) r.1 ]) ≡ with_first c o
-unfolding gives
-letters-given c None = refl
-letters-given c (Some r) = refl
-
-pub letters-more : (n : ℕ) (ns : List ℕ) (c : Code) (cs : List Code) → letter_test n c ≡ true → letters (n ∷ ns) (c ∷ cs) ≡ with_first c (letters ns cs)
-unfolding letters ◌>>=◌
-letters-more n ns c cs e = bind-some (one (letter_test n)) (λ a. letters ns >>= λ b. gives (a ++ b)) (c ∷ cs) (c ∷ []) cs _ (one-here (letter_test n) c cs e) (letters-given c (letters ns cs))
-
-pub letters-none : (n : ℕ) (ns : List ℕ) (cs : List Code) → next_is (letter_test n) cs ≡ false → letters (n ∷ ns) cs ≡ None
-unfolding letters
-letters-none n ns cs e = bind-none (one (letter_test n)) (λ a. letters ns >>= λ b. gives (a ++ b)) cs (one-not (letter_test n) cs e)
-
-pub letters-nil : (cs : List Code) → letters [] cs ≡ Some ([], cs)
-unfolding letters gives
-letters-nil cs = refl
-
--- The name of a protocol.
-
-case-h : (v : ℕ) → (v == 104 || v == 72) ≡ (v == 104 || (letter_value v && v + 32 == 104))
-case-h v = grind (arith, nat_tests)
-
-case-t : (v : ℕ) → (v == 116 || v == 84) ≡ (v == 116 || (letter_value v && v + 32 == 116))
-case-t v = grind (arith, nat_tests)
-
-case-p : (v : ℕ) → (v == 112 || v == 80) ≡ (v == 112 || (letter_value v && v + 32 == 112))
-case-p v = grind (arith, nat_tests)
-
-case-s : (v : ℕ) → (v == 115 || v == 83) ≡ (v == 115 || (letter_value v && v + 32 == 115))
-case-s v = grind (arith, nat_tests)
-
-case-colon : (v : ℕ) → (v == 58) ≡ (v == 58 || (letter_value v && v + 32 == 58))
-case-colon v = grind (arith, nat_tests)
+-- The slashes behind a scheme.
 
 case-slash : (v : ℕ) → (v == 47) ≡ (v == 47 || (letter_value v && v + 32 == 47))
 case-slash v = grind (arith, nat_tests)
 
-either-first-code : (a b x y : Reading (List Code)) (c : Code) (cs : List Code) → a (c ∷ cs) ≡ with_first c (x cs) → b (c ∷ cs) ≡ with_first c (y cs) → either a b (c ∷ cs) ≡ with_first c (either x y cs)
-unfolding either
-either-first-code a b x y c cs e h = by_what (x cs) refl
-  where
-    by_what : (o : Option (List Code × List Code)) → x cs ≡ o → either a b (c ∷ cs) ≡ with_first c (either x y cs)
-    by_what None k = either-second a b (c ∷ cs) (e ∙ ap (with_first c) k) ∙ h ∙ ap (with_first c) (sym (either-second x y cs k))
-    by_what (Some r) k = either-some a b (c ∷ cs) (c ∷ r.0, r.1) (e ∙ ap (with_first c) k) ∙ ap (with_first c) (sym (either-some x y cs r k))
-
--- the same letter of both words
-both-more : (n : ℕ) (xs ys : List ℕ) (c : Code) (cs : List Code) → letter_test n c ≡ true → either (letters (n ∷ xs)) (letters (n ∷ ys)) (c ∷ cs) ≡ with_first c (either (letters xs) (letters ys) cs)
-both-more n xs ys c cs e = either-first-code _ _ (letters xs) (letters ys) c cs (letters-more n xs c cs e) (letters-more n ys c cs e)
-
-both-none : (n : ℕ) (xs ys : List ℕ) (cs : List Code) → next_is (letter_test n) cs ≡ false → either (letters (n ∷ xs)) (letters (n ∷ ys)) cs ≡ None
-both-none n xs ys cs e = either-second (letters (n ∷ xs)) (letters (n ∷ ys)) cs (letters-none n xs cs e) ∙ letters-none n ys cs e
-
-either-nil : (cs : List Code) → either (letters []) (letters []) cs ≡ Some ([], cs)
-either-nil cs = either-some (letters []) (letters []) cs ([], cs) (letters-nil cs)
-
--- the last letter, which may be left out
-last-more : (c : Code) (cs : List Code) → letter_test 115 c ≡ true → either (letters (115 ∷ [])) (letters []) (c ∷ cs) ≡ with_first c (either (letters []) (letters []) cs)
-last-more c cs e =
-    either-some (letters (115 ∷ [])) (letters []) (c ∷ cs) (c ∷ [], cs) (letters-more 115 [] c cs e ∙ ap (with_first c) (letters-nil cs))
-    ∙ ap (with_first c) (sym (either-nil cs))
-
-last-none : (cs : List Code) → next_is (letter_test 115) cs ≡ false → either (letters (115 ∷ [])) (letters []) cs ≡ Some ([], cs)
-last-none cs e = either-second (letters (115 ∷ [])) (letters []) cs (letters-none 115 [] cs e) ∙ letters-nil cs
-
-no-letter : (n v : ℕ) → 5 ≤ n → scheme_letter n v ≡ false
-no-letter n v h = grind (arith, nat_tests)
-
 next-same : (p q : Code → Bool) → ((c : Code) → p c ≡ q c) → (cs : List Code) → next_is p cs ≡ next_is q cs
 next-same p q h [] = refl
 next-same p q h (c ∷ cs) = h c
-
-schemes-more : (n : ℕ) (c : Code) (cs : List Code) → scheme_letter n c.value ≡ true → schemes n (c ∷ cs) ≡ with_first c (schemes (n + 1) cs)
-schemes-more zero c cs e = both-more 104 _ _ c cs (sym (case-h c.value) ∙ e)
-schemes-more (suc zero) c cs e = both-more 116 _ _ c cs (sym (case-t c.value) ∙ e)
-schemes-more (suc (suc zero)) c cs e = both-more 116 _ _ c cs (sym (case-t c.value) ∙ e)
-schemes-more (suc (suc (suc zero))) c cs e = both-more 112 _ _ c cs (sym (case-p c.value) ∙ e)
-schemes-more (suc (suc (suc (suc zero)))) c cs e = last-more c cs (sym (case-s c.value) ∙ e)
-schemes-more (suc (suc (suc (suc (suc n))))) c cs e = let no : false ≡ true = sym (no-letter (suc (suc (suc (suc (suc n))))) c.value (omega arith)) ∙ e in cc
-
-four-more : (n : ℕ) → nat_le 4 (suc (suc (suc (suc (suc n))))) ≡ true
-four-more n = grind (arith, nat_tests)
-
--- no letter of the name follows
-schemes-none : (n : ℕ) (cs : List Code) → next_is (λ c. scheme_letter n c.value) cs ≡ false → schemes n cs ≡ (if nat_le 4 n then Some ([], cs) else None)
-schemes-none zero cs e = both-none 104 _ _ cs (next-same (letter_test 104) _ (λ c. sym (case-h c.value)) cs ∙ e)
-schemes-none (suc zero) cs e = both-none 116 _ _ cs (next-same (letter_test 116) _ (λ c. sym (case-t c.value)) cs ∙ e)
-schemes-none (suc (suc zero)) cs e = both-none 116 _ _ cs (next-same (letter_test 116) _ (λ c. sym (case-t c.value)) cs ∙ e)
-schemes-none (suc (suc (suc zero))) cs e = both-none 112 _ _ cs (next-same (letter_test 112) _ (λ c. sym (case-p c.value)) cs ∙ e)
-schemes-none (suc (suc (suc (suc zero)))) cs e = last-none cs (next-same (letter_test 115) _ (λ c. sym (case-s c.value)) cs ∙ e)
-schemes-none (suc (suc (suc (suc (suc n))))) cs e =
-    ap (λ ns. either (letters ns) (letters []) cs) (drop-nil n)
-    ∙ either-nil cs
-    ∙ sym (if-true _ _ _ (four-more n))
 
 letters-here : (n : ℕ) (ns : List ℕ) (k : Reading (List Code)) (c : Code) (cs : List Code) → letter_test n c ≡ true → pass_ops ((letters (n ∷ ns) then_ k) (c ∷ cs)) ≡ preceded (Consume ∷ []) (pass_ops ((letters ns then_ k) cs))
 letters-here n ns k c cs e = ap pass_ops (then-first (letters (n ∷ ns)) (letters ns) k c cs (letters-more n ns c cs e)) ∙ ops-first c ((letters ns then_ k) cs)
@@ -281,27 +195,43 @@ letters-here n ns k c cs e = ap pass_ops (then-first (letters (n ∷ ns)) (lette
 letters-other : (n : ℕ) (ns : List ℕ) (k : Reading (List Code)) (cs : List Code) → next_is (letter_test n) cs ≡ false → pass_ops ((letters (n ∷ ns) then_ k) cs) ≡ None
 letters-other n ns k cs e = ap pass_ops (then-none (letters (n ∷ ns)) k cs (letters-none n ns cs e))
 
+then-same : (a b k : Reading (List Code)) (cs : List Code) → a cs ≡ b cs → (a then_ k) cs ≡ (b then_ k) cs
+unfolding ◌then_◌
+then-same a b k cs e =
+    ap (λ (o : Option (List Code × List Code)). elim o as (λ _. Option (List Code × List Code)) [ None ↦ None | Some r ↦ elim (k r.1) as (λ _. Option (List Code × List Code)) [ None ↦ None | Some s ↦ Some (r.0 ++ s.0, s.1) ] ]) e
+
 then-nothing : (a k : Reading (List Code)) (cs : List Code) → a cs ≡ Some ([], cs) → (a then_ k) cs ≡ k cs
 then-nothing a k cs e = then-after a k cs [] cs e ∙ after-none (k cs)
 
 module _ (bytes : List ℕ) (end : ℕ) where
-  pub prefix-more : (n : ℕ) (c : Code) (cs : List Code) → scheme_letter n c.value ≡ true → prefix_plan bytes end n (c ∷ cs) ≡ preceded (Consume ∷ []) (prefix_plan bytes end (n + 1) cs)
-  prefix-more n c cs e =
-      ap pass_ops (then-first (schemes n) (schemes (n + 1)) (letters (codes "://") then_ address bytes end) c cs (schemes-more n c cs e)) ∙ ops-first c _
+  pub prefix-at : (k n a : ℕ) (words : List (List ℕ)) (c : Code) (cs : List Code) → are_schemes (words_like (word_at schemes k) n schemes) ≡ true → is_spelling a ≡ true → stands_for a c.value ≡ true → words ≡ tails a (words_like (word_at schemes k) n schemes)
+      → prefix_plan bytes end k n (c ∷ cs) ≡ preceded (Consume ∷ []) (pass_ops ((one_word_of words then_ address bytes end) cs))
+  prefix-at k n a words c cs h s e f =
+      let left : List (List ℕ) = words_like (word_at schemes k) n schemes in
+      ap pass_ops (then-first (one_word_of left) (one_word_of words) (address bytes end) c cs (words-more a left c cs h s e ∙ ap (λ ws. with_first c (one_word_of ws cs)) (sym f)))
+      ∙ ops-first c ((one_word_of words then_ address bytes end) cs)
 
-  prefix-here : (n : ℕ) (cs : List Code) → next_is (λ c. scheme_letter n c.value) cs ≡ false → nat_le 4 n ≡ true → prefix_plan bytes end n cs ≡ pass_ops ((letters (codes "://") then_ address bytes end) cs)
-  prefix-here n cs e h = ap pass_ops (then-nothing (schemes n) (letters (codes "://") then_ address bytes end) cs (schemes-none n cs e ∙ if-true _ _ _ h))
+  pub prefix-more : (k n j : ℕ) (c : Code) (cs : List Code) → are_schemes (words_like (word_at schemes k) n schemes) ≡ true → (g : Goes schemes (word_at schemes k) n c.value j)
+      → prefix_plan bytes end k n (c ∷ cs) ≡ preceded (Consume ∷ []) (prefix_plan bytes end j (n + 1) cs)
+  prefix-more k n j c cs h g =
+      prefix-at k n g.letter (words_like (word_at schemes j) (n + 1) schemes) c cs h (left-letter schemes (word_at schemes k) n j g.letter g.more h g.rest) g.stands (next-words (word_at schemes k) (word_at schemes j) n g.letter g.more schemes g.rest)
 
-  pub prefix-colon : (n : ℕ) (c : Code) (cs : List Code) → scheme_letter n c.value ≡ false → nat_le 4 n && (c.value == 58) ≡ true → prefix_plan bytes end n (c ∷ cs) ≡ preceded (Consume ∷ []) (slashes_plan bytes end 0 cs)
-  prefix-colon n c cs e h =
-      prefix-here n (c ∷ cs) e (and-left _ _ h) ∙ letters-here 58 _ (address bytes end) c cs (sym (case-colon c.value) ∙ and-right _ _ h)
+  pub prefix-colon : (k n j : ℕ) (c : Code) (cs : List Code) → are_schemes (words_like (word_at schemes k) n schemes) ≡ true → Goes schemes (word_at schemes k) n c.value j → (c.value == 58) ≡ true
+      → prefix_plan bytes end k n (c ∷ cs) ≡ preceded (Consume ∷ []) (slashes_plan bytes end 0 cs)
+  prefix-colon k n j c cs h g e =
+      let left : List (List ℕ) = words_like (word_at schemes k) n schemes in
+      let spells : is_spelling g.letter ≡ true = left-letter schemes (word_at schemes k) n j g.letter g.more h g.rest in
+      let colon : g.letter ≡ 58 = eqb-true g.letter 58 (colon-for g.letter c.value spells g.stands e) in
+      prefix-at k n g.letter (tails g.letter left) c cs h spells g.stands refl
+      ∙ ap (preceded (Consume ∷ [])) (ap (λ a. pass_ops ((one_word_of (tails a left) then_ address bytes end) cs)) colon
+      ∙ ap pass_ops (then-same (one_word_of (tails 58 left)) (letters (codes "//")) (address bytes end) cs
+      (colon-read left cs h (ap (λ a. no_words (tails a left)) (sym colon) ∙ left-some schemes (word_at schemes k) n j g.letter g.more g.rest))))
 
-  pub prefix-none : (n : ℕ) (cs : List Code) → next_is (λ c. scheme_letter n c.value) cs ≡ false → nat_le 4 n && next_is (is_value 58) cs ≡ false → prefix_plan bytes end n cs ≡ None
-  prefix-none n cs e h =
-      elim (nat_le 4 n) as (λ b. nat_le 4 n ≡ b → prefix_plan bytes end n cs ≡ None) [
-        | true ↦ λ k. prefix-here n cs e k ∙ letters-other 58 _ (address bytes end) cs (next-same (letter_test 58) (is_value 58) (λ c. sym (case-colon c.value)) cs ∙ left-true _ _ h k)
-        | false ↦ λ k. ap pass_ops (then-none (schemes n) (letters (codes "://") then_ address bytes end) cs (schemes-none n cs e ∙ if-false _ _ _ k))
-      ] refl
+  pub prefix-none : (k n : ℕ) (c : Code) (cs : List Code) → are_schemes (words_like (word_at schemes k) n schemes) ≡ true → one_begins (words_like (word_at schemes k) n schemes) c.value ≡ false → prefix_plan bytes end k n (c ∷ cs) ≡ None
+  prefix-none k n c cs h e = ap pass_ops (then-none (one_word_of (words_like (word_at schemes k) n schemes)) (address bytes end) (c ∷ cs) (words-none (words_like (word_at schemes k) n schemes) c cs h e))
+
+  pub prefix-end : (k n : ℕ) → are_schemes (words_like (word_at schemes k) n schemes) ≡ true → prefix_plan bytes end k n [] ≡ None
+  prefix-end k n h = ap pass_ops (then-none (one_word_of (words_like (word_at schemes k) n schemes)) (address bytes end) [] (words-end (words_like (word_at schemes k) n schemes) h))
 
   slashes-by : (b : Bool) (c : Code) (cs : List Code) → (c.value == 47) ≡ true → pass_ops ((letters (if b then codes "//" else codes "/") then_ address bytes end) (c ∷ cs)) ≡ preceded (Consume ∷ []) (if b then slashes_plan bytes end 1 cs else pass_ops (address bytes end cs))
   slashes-by true c cs e = letters-here 47 _ (address bytes end) c cs (sym (case-slash c.value) ∙ e)

@@ -6,6 +6,8 @@ pub mod TrailScans
 pub mod DomainParts
 pub mod GfmAutolinkLiteralTrailLaws
 mod KnownTrails
+pub mod LettersOfWords
+pub mod SchemesLeft
 pub mod GfmAutolinkLiteralAddressLaws
 pub mod DomainScanLemmas
 pub mod DomainOutlookLemmas

@@ -1,6 +1,7 @@
 -- What the states of autolink literals do, and how runs from them end.
-use Rattle.std.specs.Prelude.{◌≡◌, ◌<◌, ◌≤◌, ◌+◌, ℕ, Bool, true, false, ◌&&◌, ◌||◌, not, ◌==◌, nat_le, nat_lt, if◌then◌else◌, Option, Some, None, List, [], ◌∷◌, ◌++◌, drop, codes, IsUtf8}
+use Rattle.std.specs.Prelude.{◌≡◌, ◌<◌, ◌≤◌, ◌+◌, ℕ, zero, suc, Bool, true, false, ◌&&◌, ◌||◌, not, ◌-◌, ◌==◌, nat_lt, if◌then◌else◌, Option, Some, None, List, [], ◌∷◌, ◌++◌, drop, length, codes, IsUtf8}
 use Rattle.std.specs.Str.{IsCharBoundary, byte}
+use Rattle.std.specs.List.{list_any, slice_index}
 use Rattle.markdown_engine_content.specs.Codes.{Code}
 use Rattle.markdown_engine.specs.FailedRun.{Grown}
 use Rattle.markdown_engine.specs.Operations.{Op, Enter, Exit, Consume, HasCode, ahead, attempted, done, current_of, previous_of, scratched, IsOpen}
@@ -9,9 +10,9 @@ use Rattle.markdown_engine_content.specs.Place.{point_of, last_of}
 use Rattle.markdown_engine.specs.StateRuns.{Stepped, stepped}
 use Rattle.markdown_engine.specs.TreeOps.{consumes}
 use Rattle.markdown_engine.specs.Weights.{codes_left}
-use Rattle.markdown_model.specs.CodeTests.{is_empty, next_is, is_whitespace_code, is_among}
-use Rattle.markdown_model.specs.Grammar.{Reading, ◌then_◌, either}
-use Rattle.markdown_model.specs.GfmAutolinkLiteral.{letters, is_other, is_space, trails_in, domain, domain_from, path, path_from, count_if, www_from_here}
+use Rattle.markdown_model.specs.CodeTests.{is_empty, next_is, is_whitespace_code, is_among, is_between}
+use Rattle.markdown_model.specs.Grammar.{Reading, ◌then_◌}
+use Rattle.markdown_model.specs.GfmAutolinkLiteral.{schemes, first_letters, letters, one_word_of, is_other, is_space, trails_in, domain, domain_from, path, path_from, count_if, www_from_here}
 use Rattle.markdown_model.specs.SingleConstructs as SingleConstructs
 use Rattle.markdown_util.specs.Neighbours.{class_of, after_index}
 use Rattle.markdown_util.specs.declared.util.char.Kind.{Kind}
@@ -40,14 +41,68 @@ end_of T = T.cursor.end.index
 abbrev pub kind_here : Tokenizer → Kind
 kind_here T = class_of (after_index (bytes_of T) (point_of T.cursor).index)
 
--- the letter of this number of `https` in either case
-abbrev pub scheme_letter : ℕ → ℕ → Bool
-scheme_letter n v =
-    if n == 0 then v == byte "h" || v == byte "H"
-    else (if n == 1 then v == byte "t" || v == byte "T"
-    else (if n == 2 then v == byte "t" || v == byte "T"
-    else (if n == 3 then v == byte "p" || v == byte "P"
-    else (n == 4 && (v == byte "s" || v == byte "S")))))
+-- Words of letters. The code at hand is known by its value.
+
+-- a letter that is given in lower case, in either case
+abbrev pub stands_for : ℕ → ℕ → Bool
+stands_for letter v = v == letter || (letter_value v && v + 32 == letter)
+
+-- the word has this behind n codes
+abbrev pub has_at : List ℕ → ℕ → ℕ → Bool
+has_at word n v = nat_lt n (length word) && stands_for (slice_index word n) v
+
+-- the word begins with n codes of the first, and goes on with this
+abbrev pub goes_on_like : List ℕ → List ℕ → ℕ → ℕ → Bool
+goes_on_like first [] n v = false
+goes_on_like first (letter ∷ rest) n v =
+    if n == 0 then stands_for letter v else elim first [ [] ↦ false | other ∷ more ↦ if other == letter then goes_on_like more rest (n - 1) v else false ]
+
+-- the word of this number
+abbrev pub word_at : List (List ℕ) → ℕ → List ℕ
+word_at [] k = []
+word_at (word ∷ words) k = if k == 0 then word else word_at words (k - 1)
+
+-- the number of the first word that begins with n codes of this one and goes on with this, counted from k
+abbrev pub first_like : List (List ℕ) → ℕ → List ℕ → ℕ → ℕ → Option ℕ
+first_like [] k word n v = None
+first_like (other ∷ words) k word n v = if goes_on_like word other n v then Some k else first_like words (k + 1) word n v
+
+-- a scheme that begins with n codes of scheme k and goes on with this: that scheme itself, or else the first
+abbrev pub scheme_with : ℕ → ℕ → ℕ → Option ℕ
+scheme_with k n v = if has_at (word_at schemes k) n v then Some k else first_like schemes 0 (word_at schemes k) n v
+
+abbrev pub begins_scheme : ℕ → Bool
+begins_scheme v = list_any (λ n. v == n) (first_letters schemes)
+
+-- what is left of the word behind n codes, if they are those that the first begins with
+abbrev pub rest_like : List ℕ → ℕ → List ℕ → Option (List ℕ)
+rest_like first zero word = Some word
+rest_like [] (suc n) word = None
+rest_like (other ∷ more) (suc n) [] = None
+rest_like (other ∷ more) (suc n) (letter ∷ rest) = if other == letter then rest_like more n rest else None
+
+abbrev pub some_before : Option (List ℕ) → List (List ℕ) → List (List ℕ)
+some_before None words = words
+some_before (Some word) words = word ∷ words
+
+-- what is left so of each of these words
+abbrev pub words_like : List ℕ → ℕ → List (List ℕ) → List (List ℕ)
+words_like first n [] = []
+words_like first n (word ∷ words) = some_before (rest_like first n word) (words_like first n words)
+
+-- Schemes: lower-case letters, and `://`.
+
+abbrev pub is_slashes : List ℕ → Bool
+is_slashes (n ∷ m ∷ []) = (n == byte "/") && (m == byte "/")
+is_slashes _ = false
+
+abbrev pub is_scheme : List ℕ → Bool
+is_scheme [] = false
+is_scheme (n ∷ ns) = if n == byte ":" then is_slashes ns else is_between (byte "a") (byte "z") n && is_scheme ns
+
+abbrev pub are_schemes : List (List ℕ) → Bool
+are_schemes [] = true
+are_schemes (word ∷ words) = is_scheme word && are_schemes words
 
 -- trailing punctuation that is one code
 abbrev pub trail_value : ℕ → Bool
@@ -87,6 +142,10 @@ rested s = record s { marker = 0; marker_b = 0; size = 0; size_b = 0; seen = fal
 
 abbrev pub sized : ℕ → TokenizeState → TokenizeState
 sized n s = record s { size = n }
+
+-- in a scheme
+abbrev pub spelled : ℕ → ℕ → TokenizeState → TokenizeState
+spelled k n s = record s { size = n; size_b = k }
 
 abbrev pub saw : TokenizeState → TokenizeState
 saw s = record s { seen = true }
@@ -131,7 +190,7 @@ entered_literal name T = done (Enter name ∷ []) T
 abbrev pub protocol_start_at : Bool → Option ℕ → Tokenizer → Stepped
 protocol_start_at may None T = stepped Nok T
 protocol_start_at may (Some c) T =
-    if may && (c == byte "h" || c == byte "H")
+    if may && begins_scheme c
     then stepped (Retry GfmAutolinkLiteralProtocolPrefixInside) (attempted false (Next GfmAutolinkLiteralProtocolAfter) Nok (entered_literal N.GfmAutolinkLiteralProtocol T))
     else stepped Nok T
 
@@ -141,15 +200,18 @@ protocol_start_step T = protocol_start_at (may_begin T) (current_of T) T
 abbrev pub protocol_after_step : Tokenizer → Stepped
 protocol_after_step T = stepped State.Ok (done (Exit N.GfmAutolinkLiteralProtocol ∷ []) T)
 
+-- by the scheme with which the code goes on
+abbrev pub prefix_by : ℕ → Option ℕ → Tokenizer → Stepped
+prefix_by c None T = refused T
+prefix_by c (Some k) T =
+    let s = T.tokenize_state in
+    if c == byte ":"
+    then stepped (Next GfmAutolinkLiteralProtocolSlashesInside) (scratched (spelled 0 0 s) (done (Consume ∷ []) T))
+    else stepped (Next GfmAutolinkLiteralProtocolPrefixInside) (scratched (spelled k (s.size + 1) s) (done (Consume ∷ []) T))
+
 abbrev pub prefix_at : Option ℕ → Tokenizer → Stepped
 prefix_at None T = refused T
-prefix_at (Some c) T =
-    let s = T.tokenize_state in
-    if scheme_letter s.size c
-    then stepped (Next GfmAutolinkLiteralProtocolPrefixInside) (scratched (sized (s.size + 1) s) (done (Consume ∷ []) T))
-    else (if nat_le 4 s.size && (c == byte ":")
-    then stepped (Next GfmAutolinkLiteralProtocolSlashesInside) (scratched (sized 0 s) (done (Consume ∷ []) T))
-    else refused T)
+prefix_at (Some c) T = prefix_by c (scheme_with T.tokenize_state.size_b T.tokenize_state.size c) T
 
 abbrev pub prefix_step : Tokenizer → Stepped
 prefix_step T = prefix_at (current_of T) T
@@ -333,11 +395,18 @@ pub record MayCount (T : Tokenizer) : Type 0 where
   pub opened : HasCode T → T.tokenize_state.size < most
   pub closed : HasCode T → T.tokenize_state.size_b < most
 
--- in the word that a literal begins with
+-- behind the name of a protocol
 pub record WordReady (T : Tokenizer) : Type 0 where
   pub text : ReadsText T
   pub fresh : sized 0 T.tokenize_state ≡ rested T.tokenize_state
   pub short : codes_left T ≤ most
+
+-- in the name of a protocol
+pub record SchemeReady (T : Tokenizer) : Type 0 where
+  pub text : ReadsText T
+  pub fresh : spelled 0 0 T.tokenize_state ≡ rested T.tokenize_state
+  pub short : codes_left T ≤ most
+  pub words : are_schemes (words_like (word_at schemes T.tokenize_state.size_b) T.tokenize_state.size schemes) ≡ true
 
 -- in a domain or a path: the parentheses that are left may be counted
 pub record LiteralReady (T : Tokenizer) : Type 0 where
@@ -421,10 +490,6 @@ abbrev pub fields_after : List Code → TokenizeState → TokenizeState
 fields_after [] s = s
 fields_after (c ∷ cs) s = fields_after cs (passed_code c s)
 
--- the name of a protocol, of which so many letters are passed
-abbrev pub schemes : ℕ → Reading (List Code)
-schemes n = either (letters (drop n (codes "https"))) (letters (drop n (codes "http")))
-
 module _ (bytes : List ℕ) (end : ℕ) where
   -- the rest of a path, with so many parentheses
   abbrev pub path_plan : ℕ → ℕ → Plan
@@ -453,15 +518,15 @@ module _ (bytes : List ℕ) (end : ℕ) where
   abbrev pub slashes_reading : ℕ → Reading (List Code)
   slashes_reading n = letters (if n == 0 then codes "//" else codes "/") then_ address
 
-  -- the rest of the name, and what follows
-  abbrev pub prefix_reading : ℕ → Reading (List Code)
-  prefix_reading n = schemes n then_ (letters (codes "://") then_ address)
+  -- the rest of a scheme that begins with n codes of scheme k, and the address
+  abbrev pub prefix_reading : ℕ → ℕ → Reading (List Code)
+  prefix_reading k n = one_word_of (words_like (word_at schemes k) n schemes) then_ address
 
   abbrev pub slashes_plan : ℕ → Plan
   slashes_plan n cs = pass_ops (slashes_reading n cs)
 
-  abbrev pub prefix_plan : ℕ → Plan
-  prefix_plan n cs = pass_ops (prefix_reading n cs)
+  abbrev pub prefix_plan : ℕ → ℕ → Plan
+  prefix_plan k n cs = pass_ops (prefix_reading k n cs)
 
 -- the code before the place
 abbrev pub before_of : Tokenizer → Option Code
@@ -478,7 +543,7 @@ abbrev pub protocol_after_ends : Tokenizer → Bool → Tokenizer → Type 0
 protocol_after_ends T ok U = (ok ≡ true) × (U ≡ done (Exit N.GfmAutolinkLiteralProtocol ∷ []) T)
 
 abbrev pub prefix_ends : Tokenizer → Bool → Tokenizer → Type 0
-prefix_ends T ok U = DoesAs 0 (prefix_plan (bytes_of T) (end_of T) T.tokenize_state.size) (rested T.tokenize_state) T ok U
+prefix_ends T ok U = DoesAs 0 (prefix_plan (bytes_of T) (end_of T) T.tokenize_state.size_b T.tokenize_state.size) (rested T.tokenize_state) T ok U
 
 abbrev pub slashes_ends : Tokenizer → Bool → Tokenizer → Type 0
 slashes_ends T ok U = DoesAs 0 (slashes_plan (bytes_of T) (end_of T) T.tokenize_state.size) (rested T.tokenize_state) T ok U
@@ -540,7 +605,7 @@ abbrev pub protocol_start_words : StateWords
 protocol_start_words = record { ready = StartReady; step = protocol_start_step; ends = protocol_start_ends; rank = 2 }
 
 abbrev pub prefix_words : StateWords
-prefix_words = record { ready = WordReady; step = prefix_step; ends = prefix_ends; rank = 1 }
+prefix_words = record { ready = SchemeReady; step = prefix_step; ends = prefix_ends; rank = 1 }
 
 abbrev pub slashes_words : StateWords
 slashes_words = record { ready = WordReady; step = slashes_step; ends = slashes_ends; rank = 1 }

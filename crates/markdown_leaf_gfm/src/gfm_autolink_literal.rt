@@ -1,6 +1,6 @@
 // The states of autolink literals with a protocol or from `www.` on (GFM 6.9). The pass of email literals is in `markdown_leaf_email_pass`.
 //
-//     protocol_literal ::= ('https' | 'http') '://' domain path
+//     protocol_literal ::= scheme domain path                  a scheme is one of `SCHEMES`, such as 'https://'
 //     www_literal ::= domain path                              where 'www.' and a further code stand
 //     domain ::= (other | '-' | '.' | '_')+                    no '.' or '_' at which a trail begins
 //     path ::= code*                                           up to whitespace, a trail or the end
@@ -23,16 +23,18 @@
 // Each state answers the error where a growth is refused; then `failed` is true.
 #![tactic(auto, using(markdown_engine::proofs::OperationFields::law_rules), unfolding(markdown_engine::specs::Operations::scratched))]
 
-ghost use Rattle.std.specs.Prelude.{◌≡◌, ◌<◌, false, IfOk, OnErr, IsTrue};
+ghost use Rattle.std.specs.Prelude.{◌≡◌, ◌<◌, ◌≤◌, ◌+◌, false, length, map, Some, IfOk, OnErr, IsTrue};
 ghost use Rattle.markdown_engine.specs.Operations.{HasCode, IsOpen, current_of, scratched};
 ghost use Rattle.markdown_engine_content.specs.declared.event.Name.TheVariants.{GfmAutolinkLiteralProtocol, GfmAutolinkLiteralWww};
 ghost use Rattle.markdown_plan.specs.Characters.{at_later};
 ghost use Rattle.markdown_partial.specs.PartialSpaceOrTab.{most};
-ghost use Rattle.markdown_leaf_gfm.specs.GfmAutolinkLiteral.{kind_here, scheme_letter, trail_value, mark_value, known_after, is_known, count_value, marked, domain_on, rested, refused, protocol_start_step, protocol_after_step, prefix_step, slashes_step, precedes_www, www_letter, is_ruled_out, www_start_step, www_prefix_step, www_prefix_after_step, www_after_step, domain_step, domain_punctuation_step, domain_after_step, passing, path_step, path_punctuation_step, path_after_step, trail_step, bracket_after_step, reference_start_step, reference_step, MayClass, TrailReady, MayCount};
+ghost use Rattle.markdown_leaf_gfm.specs.GfmAutolinkLiteral.{kind_here, trail_value, mark_value, known_after, is_known, count_value, stands_for, has_at, goes_on_like, word_at, first_like, scheme_with, begins_scheme, marked, domain_on, rested, refused, protocol_start_step, protocol_after_step, prefix_by, prefix_step, slashes_step, precedes_www, www_letter, is_ruled_out, www_start_step, www_prefix_step, www_prefix_after_step, www_after_step, domain_step, domain_punctuation_step, domain_after_step, passing, path_step, path_punctuation_step, path_after_step, trail_step, bracket_after_step, reference_start_step, reference_step, MayClass, TrailReady, MayCount};
 
 use markdown_engine::state::{State, StateName};
 use markdown_engine::tokenizer::{TokenizeState, Tokenizer};
 use markdown_engine_content::event::Name;
+use markdown_partial::literal_letters;
+use markdown_partial::literal_words::SCHEMES;
 use markdown_plan::bytes::is_letter;
 use markdown_util::util::char::{Kind, kind_after_index};
 use std::alloc::AllocError;
@@ -65,17 +67,117 @@ fn class_here(tokenizer: &Tokenizer) -> Kind
     kind_after_index(tokenizer.parse_state.bytes, tokenizer.point().index)
 }
 
-// Whether this is the letter of this number of `https`, in either case.
-fn is_scheme_letter(number: usize, code: u8) -> bool
-    ensures { result ≡ scheme_letter number code }
+// Whether the code is this letter, which is given in lower case, in either case.
+fn stands_for(letter: u8, code: u8) -> bool
+    ensures { result ≡ stands_for letter code }
 {
-    match number {
-        0 => matches!(code, b'h' | b'H'),
-        1 | 2 => matches!(code, b't' | b'T'),
-        3 => matches!(code, b'p' | b'P'),
-        4 => matches!(code, b's' | b'S'),
-        _ => false,
+    code == letter || (is_letter(code) && code + 32 == letter)
+}
+
+// Whether the word has this code behind so many.
+fn has_at(word: &[u8], size: usize, code: u8) -> bool
+    ensures { result ≡ has_at word.now size code }
+{
+    size < word.len() && stands_for(word[size], code)
+}
+
+// Whether the word begins with so many codes of the first, and goes on with this code.
+fn goes_on_like(mut first: &[u8], mut word: &[u8], mut size: usize, code: u8) -> bool
+    ensures { result ≡ goes_on_like first.entry.now word.entry.now size code }
+{
+    while let [letter, rest @ ..] = word {
+        if size == 0 {
+            return stands_for(*letter, code);
+        }
+        match first {
+            [other, more @ ..] if other == letter => first = more,
+            _ => return false,
+        }
+        word = rest;
+        size -= 1;
     }
+    false
+}
+
+// The word of this number; behind the last, none.
+fn word_at<'a>(mut words: &'a [&'a [u8]], mut number: usize) -> &'a [u8]
+    ensures { result.now ≡ word_at (map (λ w. w.now) words.entry.now) number }
+{
+    while let [word, rest @ ..] = words {
+        if number == 0 {
+            return word;
+        }
+        words = rest;
+        number -= 1;
+    }
+    &[]
+}
+
+// The number of the first of these words that begins with so many codes of the word, and goes on with this code. They are counted from
+// `number` on.
+fn first_like(
+    mut words: &[&[u8]],
+    mut number: usize,
+    word: &[u8],
+    size: usize,
+    code: u8,
+) -> Option<usize>
+    requires { number + length words.now ≤ most }
+    ensures { result ≡ first_like (map (λ w. w.now) words.entry.now) number word.now size code }
+{
+    while let [other, rest @ ..] = words {
+        if goes_on_like(word, other, size, code) {
+            return Some(number);
+        }
+        words = rest;
+        number += 1;
+    }
+    None
+}
+
+// Of a scheme that begins with so many codes of this one, and goes on with this code, the number.
+fn scheme_with(scheme: usize, size: usize, code: u8) -> Option<usize>
+    ensures { result ≡ scheme_with scheme size code }
+{
+    let word = word_at(&SCHEMES, scheme);
+    if has_at(word, size, code) {
+        Some(scheme)
+    } else {
+        first_like(&SCHEMES, 0, word, size, code)
+    }
+}
+
+// Passes a code of the scheme with this number.
+fn spell(tokenizer: &mut Tokenizer, scheme: usize, code: u8) -> State
+    requires code { HasCode tokenizer.old }
+    requires size { tokenizer.old.tokenize_state.size < most }
+    ensures { prefix_by code (Some scheme) tokenizer.old ≡ record { state = result; left = tokenizer.new } }
+{
+    tokenizer.consume();
+    let scratch = &mut tokenizer.tokenize_state;
+    if code == b':' {
+        scratch.size = 0;
+        scratch.size_b = 0;
+        State::Next(StateName::GfmAutolinkLiteralProtocolSlashesInside)
+    } else {
+        scratch.size += 1;
+        scratch.size_b = scheme;
+        State::Next(StateName::GfmAutolinkLiteralProtocolPrefixInside)
+    }
+}
+
+// Whether a literal with a protocol may begin with this byte.
+macro_rules! begins_scheme_of {
+    ($byte:ident schemes { $([$($first:literal)*] then [$($second:literal)*];)* } www $www:tt) => {
+        matches!($byte, $($($first)|*)|*)
+    };
+}
+
+// Whether a scheme may begin with this code.
+fn begins_scheme(code: u8) -> bool
+    ensures { result ≡ begins_scheme code }
+{
+    literal_letters!(begins_scheme_of code)
 }
 
 // Whether this is the code of this number of `www.`, the letters in either case.
@@ -144,13 +246,17 @@ pub fn protocol_start(tokenizer: &mut Tokenizer) -> Result<State, AllocError>
         Some(code) => is_letter(code),
         None => false,
     };
+    let letter_here = match tokenizer.current() {
+        Some(code) => begins_scheme(code),
+        None => false,
+    };
     if tokenizer
         .parse_state
         .options
         .constructs
         .gfm_autolink_literal
         && !letter_before
-        && matches!(tokenizer.current(), Some(b'h' | b'H'))
+        && letter_here
     {
         tokenizer.enter(Name::GfmAutolinkLiteralProtocol)?;
         tokenizer.attempt(
@@ -176,7 +282,7 @@ pub fn protocol_after(tokenizer: &mut Tokenizer) -> Result<State, AllocError>
     Ok(State::Ok)
 }
 
-/// In the name of a protocol, of which `size` letters are passed, or at its colon.
+/// In the name of a protocol, of which `size` letters are passed, or at its colon. A scheme that begins so has the number `size_b`.
 ///
 ///     > | to http://a.b/c and
 ///            ^^^^^
@@ -184,20 +290,14 @@ pub fn protocol_prefix_inside(tokenizer: &mut Tokenizer) -> Result<State, AllocE
     ensures ok { IfOk result (λ s. prefix_step tokenizer.old ≡ record { state = s; left = tokenizer.new }) }
     ensures err { OnErr result (IsTrue tokenizer.new.failed) }
 {
+    let Some(code) = tokenizer.current() else {
+        return Ok(refuse(tokenizer));
+    };
     let size = tokenizer.tokenize_state.size;
-    match tokenizer.current() {
-        Some(code) if is_scheme_letter(size, code) => {
-            tokenizer.consume();
-            tokenizer.tokenize_state.size = size + 1;
-            Ok(State::Next(StateName::GfmAutolinkLiteralProtocolPrefixInside))
-        }
-        Some(b':') if size >= 4 => {
-            tokenizer.consume();
-            tokenizer.tokenize_state.size = 0;
-            Ok(State::Next(StateName::GfmAutolinkLiteralProtocolSlashesInside))
-        }
-        _ => Ok(refuse(tokenizer)),
-    }
+    let Some(scheme) = scheme_with(tokenizer.tokenize_state.size_b, size, code) else {
+        return Ok(refuse(tokenizer));
+    };
+    Ok(spell(tokenizer, scheme, code))
 }
 
 /// At the slashes after a protocol, of which `size` are passed.

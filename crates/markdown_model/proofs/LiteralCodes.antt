@@ -6,16 +6,21 @@ use Rattle.markdown_engine_content.specs.Codes.{Code}
 use Rattle.markdown_engine_content.specs.Tree.{Forest, leaf, ◌⊕◌, leaf_codes}
 use Rattle.markdown_model.specs.CodeTests.{is_value, is_empty, next_is, is_alphanumeric}
 use Rattle.markdown_model.specs.Grammar.{span}
-use Rattle.markdown_model.specs.GfmAutolinkLiteral.{letters, domain, path, path_from, ends_path, count_if, domain_from, is_domain, is_domain_code}
+use Rattle.markdown_model.specs.GfmAutolinkLiteral.{letters, one_word_of, domain, path, path_from, ends_path, count_if, domain_from, is_domain, is_domain_code}
 use Rattle.markdown_model.specs.GfmEmailLiteral.{is_local, is_word, email_protocol, is_xmpp, email_domain, is_email_domain, email_at, email_leaves, with_emails}
 use Rattle.markdown_model.proofs.LeafCodes.{codes-leaf, span-append}
-use Rattle.markdown_model.proofs.ReadingsCover.{Takes, itself, bind, given, chosen_at, takes_one}
+use Rattle.markdown_model.proofs.ReadingsCover.{Takes, itself, bind, given, one_of, chosen_at, takes_one}
 use Rattle.markdown_engine_content.proofs.TreeCodes.{leaf_codes-row}
 
-pub takes_letters : (ns : List ℕ) → Takes (letters ns)
+takes_letters : (ns : List ℕ) → Takes (letters ns)
 unfolding letters
 takes_letters [] = given _ _ [] refl
 takes_letters (n ∷ ns) = bind _ _ _ _ _ (takes_one _) λ a. bind _ _ _ _ _ (takes_letters ns) λ b. given _ _ (a ++ b) refl
+
+pub takes_one_word : (words : List (List ℕ)) → Takes (one_word_of words)
+unfolding one_word_of
+takes_one_word [] = record { at = λ cs. tt }
+takes_one_word (word ∷ words) = one_of _ _ _ _ (takes_letters word) (takes_one_word words)
 
 -- a front, and the rest
 abbrev pub IsSplit : List Code → List Code × List Code → Type 0

@@ -1,13 +1,15 @@
 -- Readings of codes among which no line ending stands.
-use Rattle.std.proofs.Common.{◌≡◌, ◌≢◌, ◌+◌, ℕ, zero, suc, Bool, true, false, ◌&&◌, ◌||◌, ◌==◌, List, [], ◌∷◌, ◌++◌, length, Option, Some, None, refl, sym, ap, ◌∙◌}
+use Rattle.std.proofs.Common.{◌≡◌, ◌≢◌, ◌+◌, ℕ, zero, suc, Bool, true, false, ◌&&◌, ◌||◌, ◌==◌, nat_lt, List, [], ◌∷◌, ◌++◌, length, Option, Some, None, refl, sym, ap, ◌∙◌, arith}
 use Rattle.std.specs.List.{list_any}
 use Rattle.std.proofs.lemmas.Bool.{both_ways, eqb-true, or_parts, or_from}
+use Rattle.std.proofs.lemmas.Bool.Decides.{nat_tests}
 use Rattle.std.proofs.lemmas.List.Folds.{list_any-append}
 use Rattle.markdown_engine_content.specs.Codes.{Code, is_line_ending}
 use Rattle.markdown_model.specs.CodeTests.{is_empty, is_letter}
 use Rattle.markdown_model.specs.Grammar.{Reading, one, some, any_number, span, with_first, word_of, ◌then_◌, repeated, repeatedly, escaped_from}
-use Rattle.markdown_model.specs.GfmAutolinkLiteral.{letters}
-use Rattle.markdown_model.proofs.NoLinkInConstructs.{Passes, Yields, yields_bind, yields_gives}
+use Rattle.markdown_model.specs.GfmAutolinkLiteral.{letters, one_word_of}
+use Rattle.markdown_model.proofs.NoLinkInConstructs.{Passes, Yields, yields_bind, yields_gives, yields_either}
+use Rattle.markdown_model.proofs.GrammarSteps.{and-left, and-right}
 use Rattle.markdown_model.specs.CodeLines.{IsLine, IsSomeLine, IsOnLine}
 
 -- Codes.
@@ -202,11 +204,39 @@ letters-line [] h = yields_gives _ [] refl
 letters-line (n ∷ ns) h = yields_bind IsSomeLine _ _ _ (one-line (λ c. c.value == n || (is_letter c && c.value + 32 == n)) h.0) λ a k. yields_bind IsLine _ _ _ (letters-line ns h.1) λ b l. yields_gives _ _ (line-join a b k.1 l)
 
 -- a word of one letter at least
-pub letters-some : (n : ℕ) (ns : List ℕ) → AreLetters (n ∷ ns) → Yields IsSomeLine (letters (n ∷ ns))
+letters-some : (n : ℕ) (ns : List ℕ) → AreLetters (n ∷ ns) → Yields IsSomeLine (letters (n ∷ ns))
 unfolding letters
 letters-some n ns h =
     yields_bind IsSomeLine _ _ _ (one-line (λ c. c.value == n || (is_letter c && c.value + 32 == n)) h.0) λ a k.
     yields_bind IsLine _ _ _ (letters-line ns h.1) λ b l. yields_gives _ _ (some-join a b k.0, line-join a b k.1 l)
+
+-- one of some words, none of which is empty, with values above the controls
+abbrev are_above : List ℕ → Bool
+are_above [] = true
+are_above (n ∷ ns) = nat_lt 31 n && are_above ns
+
+above-letters : (ns : List ℕ) → are_above ns ≡ true → AreLetters ns
+above-letters [] h = tt
+above-letters (n ∷ ns) h = ((λ c. skips n c (and-left (nat_lt 31 n) (are_above ns) h)), above-letters ns (and-right (nat_lt 31 n) (are_above ns) h))
+  where
+    skips : (m : ℕ) (c : Code) → nat_lt 31 m ≡ true → (as_ending c).value == m || (is_letter (as_ending c) && (as_ending c).value + 32 == m) ≡ false
+    skips m c k = grind (arith, nat_tests)
+
+abbrev pub are_words : List (List ℕ) → Bool
+are_words [] = true
+are_words ([] ∷ words) = false
+are_words ((n ∷ ns) ∷ words) = are_above (n ∷ ns) && are_words words
+
+pub one-word-some : (words : List (List ℕ)) → are_words words ≡ true → Yields IsSomeLine (one_word_of words)
+unfolding one_word_of
+one-word-some [] h = record { at = λ cs. tt }
+one-word-some ([] ∷ words) h = absurd (no h)
+  where
+    no : false ≡ true → ⊥
+    no e = cc
+one-word-some ((n ∷ ns) ∷ words) h =
+    yields_either _ _ _ (letters-some n ns (above-letters (n ∷ ns) (and-left (are_above (n ∷ ns)) (are_words words) h)))
+    (one-word-some words (and-right (are_above (n ∷ ns)) (are_words words) h))
 
 -- Up to a code that ends the text, with escapes: neither what is escaped nor what neither ends nor refuses it is a line ending.
 module _ (stop takes refuses : Code → Bool) (skips : Skips takes) (others : (c : Code) → stop c ≡ false → refuses c ≡ false → is_line_ending c ≡ false) where

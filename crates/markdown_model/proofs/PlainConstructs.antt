@@ -12,16 +12,16 @@ use Rattle.markdown_util.specs.Reference.{Table}
 use Rattle.markdown_model.specs.CodeLines.{IsLine, IsSomeLine, IsOnLine, AreSpaced}
 use Rattle.markdown_model.specs.CodeTests.{is_value, is_among, next_is}
 use Rattle.markdown_model.specs.Grammar.{Reading, ◌>>◌, provided, either}
-use Rattle.markdown_model.specs.GfmAutolinkLiteral.{gfm_autolink_literal_protocol, www_from_here, gfm_autolink_literal_www, may_precede_www, begins_with_www}
+use Rattle.markdown_model.specs.GfmAutolinkLiteral.{schemes, gfm_autolink_literal_protocol, www_from_here, gfm_autolink_literal_www, may_precede_www, begins_with_www}
 use Rattle.markdown_model.specs.HtmlText.{html_codes, html_text}
 use Rattle.markdown_model.specs.LeafConstructs.{character_escape, hard_break_escape, Parts, named_parts, decimal_parts, hexadecimal_parts, character_reference, closing_run, joined_codes, SpanNames, code_names, math_names, span_of, span_here, scheme, domain_label, uri, email_address, in_angle_brackets, autolink, gfm_task_list_item_check}
 use Rattle.markdown_model.specs.Passes.{is_nothing}
 use Rattle.markdown_model.specs.TextLines.{stretches, line_leaves, lines}
 use Rattle.markdown_model.proofs.LeafRows.{Leaves, leaves-row, leaves-leaf, IsFine, AreFine, fine-stretches, leaves-lines, leaves-stretches}
-use Rattle.markdown_model.proofs.LiteralCodes.{takes_letters, takes_domain, takes_path}
+use Rattle.markdown_model.proofs.LiteralCodes.{takes_one_word, takes_domain, takes_path}
 use Rattle.markdown_model.proofs.NoLinkInConstructs.{Passes, Yields, yields_bind, yields_gives, yields_passed, yields_either, yields_before}
 use Rattle.markdown_model.proofs.OneLineLiterals.{IsLineThere, IsSomeLineThere, domain-line, path-line, join-there}
-use Rattle.markdown_model.proofs.OneLineReadings.{Skips, not-ending, on-line, some-join, line-join, some-any, IsOne, one-some, one-one, one-line, some-line, any-line, then-line, repeatedly-line, letters-some}
+use Rattle.markdown_model.proofs.OneLineReadings.{Skips, not-ending, on-line, some-join, line-join, some-any, IsOne, one-some, one-one, one-line, some-line, any-line, then-line, repeatedly-line, one-word-some}
 use Rattle.markdown_model.proofs.ReadingsCover.{At, Covers, codes_laws, bind, given, if_passed, one_of, seen_before, Takes, takes_one, takes_some, takes_uri, takes_email_address, takes_html_text, codes-line_leaves, codes-lines, covers_closing}
 use Rattle.markdown_model.proofs.ReadsACode.{Left, Consumes, html_text_takes}
 
@@ -400,18 +400,14 @@ module _ (bytes : List ℕ) where
       → ReadsPlain bytes (gfm_autolink_literal_protocol bytes end previous)
   unfolding gfm_autolink_literal_protocol
   reads_gfm_autolink_literal_protocol end previous = record {
-    covers = if_passed _ _ _ _ (bind _ _ _ _ _ (one_of _ _ _ _ (takes_letters (codes "https")) (takes_letters (codes "http"))) λ scheme.
-        bind _ _ _ _ _ (takes_letters (codes "://")) λ slashes. bind _ _ _ _ _ (takes_domain bytes end) λ host.
+    covers = if_passed _ _ _ _ (bind _ _ _ _ _ (takes_one_word schemes) λ scheme. bind _ _ _ _ _ (takes_domain bytes end) λ host.
         bind _ _ _ _ _ (takes_path bytes end) λ further.
-        given _ _ (leaf Name.GfmAutolinkLiteralProtocol (scheme ++ slashes ++ host ++ further)) (simp codes_laws));
-    plain = yields_passed _ _ _ (yields_bind IsSomeLine _ _ _ (yields_either _ _ _
-        (letters-some (byte "h") (codes "ttps") ((λ c. refl), ((λ c. refl), ((λ c. refl), ((λ c. refl), ((λ c. refl), tt))))))
-        (letters-some (byte "h") (codes "ttp") ((λ c. refl), ((λ c. refl), ((λ c. refl), ((λ c. refl), tt)))))) λ scheme h.
-        yields_bind IsSomeLine _ _ _ (letters-some (byte ":") (codes "//") ((λ c. refl), ((λ c. refl), ((λ c. refl), tt)))) λ slashes k.
+        given _ _ (leaf Name.GfmAutolinkLiteralProtocol (scheme ++ host ++ further)) (simp codes_laws));
+    plain = yields_passed _ _ _ (yields_bind IsSomeLine _ _ _ (one-word-some schemes refl) λ scheme h.
         yields_bind (IsSomeLineThere bytes) _ _ _ (domain-line bytes end) λ host l.
         yields_bind (IsLineThere bytes) _ _ _ (path-line bytes end) λ further m. yields_gives _ _
-        (literal-alone Name.GfmAutolinkLiteralProtocol (scheme ++ slashes ++ host ++ further) refl (some-join (scheme ++ slashes ++ host) further (some-join (scheme ++ slashes) host (some-join scheme slashes h.0)))
-        (join-there bytes (scheme ++ slashes ++ host) further (join-there bytes (scheme ++ slashes) host (λ _. line-join scheme slashes h.1 k.1) l.1) m)));
+        (literal-alone Name.GfmAutolinkLiteralProtocol (scheme ++ host ++ further) refl (some-join (scheme ++ host) further (some-join scheme host h.0))
+        (join-there bytes (scheme ++ host) further (join-there bytes scheme host (λ _. h.1) l.1) m)));
   }
 
   reads_www_from_here : (end : ℕ) → ReadsPlain bytes (www_from_here bytes end)

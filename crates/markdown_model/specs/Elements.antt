@@ -10,7 +10,7 @@ use Rattle.markdown_model.specs.CodeTests.{is_value, next_is, last_code}
 use Rattle.markdown_model.specs.Grammar.{Reading, ◌>>=◌, ◌>>◌, gives, either, provided, one, some, word, before}
 use Rattle.markdown_model.specs.LeafConstructs.{character_escape, hard_break_escape, character_reference, span_here, code_names, math_names, autolink, gfm_task_list_item_check}
 use Rattle.markdown_model.specs.HtmlText.{html_text}
-use Rattle.markdown_model.specs.GfmAutolinkLiteral.{gfm_autolink_literal_protocol, gfm_autolink_literal_www}
+use Rattle.markdown_model.specs.GfmAutolinkLiteral.{schemes, www, first_letters, gfm_autolink_literal_protocol, gfm_autolink_literal_www}
 use Rattle.markdown_model.specs.Setting.{Setting}
 use Rattle.markdown_model.specs.LabelEnd.{Element, plain, starts, label_end}
 
@@ -95,8 +95,8 @@ module _ (s : Setting) (end : ℕ) (earlier : List Element) (previous : Option C
       ∷ (codes "_", switched on.attention (attention_run (byte "_")))
       ∷ (codes "~", switched on.gfm_strikethrough (attention_run (byte "~")))
       ∷ (codes "<", either (switched on.autolink (as_plain autolink)) (switched on.html_text (as_plain html_text)))
-      ∷ (codes "Hh", switched on.gfm_autolink_literal (as_plain (gfm_autolink_literal_protocol s.bytes end previous)))
-      ∷ (codes "Ww", switched on.gfm_autolink_literal (as_plain (gfm_autolink_literal_www s.bytes end previous)))
+      ∷ (first_letters schemes, switched on.gfm_autolink_literal (as_plain (gfm_autolink_literal_protocol s.bytes end previous)))
+      ∷ (first_letters (www ∷ []), switched on.gfm_autolink_literal (as_plain (gfm_autolink_literal_www s.bytes end previous)))
       ∷ (codes "[", either (switched on.gfm_label_start_footnote gfm_label_start_footnote) (switched on.label_start_link label_start_link))
       ∷ (codes "\\", either (switched on.character_escape (as_plain character_escape)) (switched on.hard_break_escape (as_plain hard_break_escape)))
       ∷ (codes "]", switched on.label_end (label_end s earlier))

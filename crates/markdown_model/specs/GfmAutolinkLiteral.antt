@@ -1,5 +1,5 @@
 -- Autolink literals (GFM 6.9): addresses that stand bare in text, with a protocol or from `www.` on.
-use Rattle.std.specs.Prelude.{ℕ, ◌+◌, Bool, true, false, ◌&&◌, ◌||◌, not, nat_lt, ◌==◌, List, [], ◌∷◌, ◌++◌, reverse, Option, Some, None, codes}
+use Rattle.std.specs.Prelude.{ℕ, ◌+◌, ◌-◌, Bool, true, false, ◌&&◌, ◌||◌, not, nat_lt, ◌==◌, if◌then◌else◌, List, [], ◌∷◌, ◌++◌, filter, reverse, Option, Some, None, codes}
 use Rattle.std.specs.Str.{byte}
 use Rattle.std.specs.List.{list_any}
 use Rattle.markdown_engine_content.specs.Codes.{Code}
@@ -7,8 +7,20 @@ use Rattle.markdown_engine_content.specs.Tree.{Forest, leaf}
 use Rattle.markdown_engine_content.specs.declared.event.Name.{Name}
 use Rattle.markdown_util.specs.Neighbours.{class_of, after_index}
 use Rattle.markdown_util.specs.declared.util.char.Kind.{Kind}
-use Rattle.markdown_model.specs.CodeTests.{is_value, is_among, is_empty, next_is, is_whitespace_code, is_letter, is_later_byte, is_some_code}
+use Rattle.markdown_model.specs.CodeTests.{is_value, is_among, is_empty, next_is, is_whitespace_code, is_between, is_letter, is_later_byte, is_some_code}
 use Rattle.markdown_model.specs.Grammar.{Reading, ◌>>=◌, ◌>>◌, gives, either, provided, one}
+
+-- The schemes that a literal may begin with, in lower case.
+abbrev pub schemes : List (List ℕ)
+schemes = codes "https://" ∷ codes "http://" ∷ []
+
+-- what a literal without a scheme begins with, in lower case
+abbrev pub www : List ℕ
+www = codes "www."
+
+-- all words that literals begin with, but for email literals
+abbrev pub literal_words : List (List ℕ)
+literal_words = schemes ++ www ∷ []
 
 -- a word whose letters stand in either case; it is given in lower case
 unfoldable pub letters : List ℕ → Reading (List Code)
@@ -17,6 +29,21 @@ letters (n ∷ ns) = do
   a ← one (λ c. c.value == n || (is_letter c && c.value + 32 == n))
   b ← letters ns
   gives (a ++ b)
+
+-- the first of these words that stands here, its letters in either case
+unfoldable pub one_word_of : List (List ℕ) → Reading (List Code)
+one_word_of [] cs = None
+one_word_of (word ∷ words) cs = either (letters word) (one_word_of words) cs
+
+-- a letter that is given in lower case, in both cases, and any other code as it is
+abbrev pub in_both_cases : ℕ → List ℕ
+in_both_cases n = if is_between (byte "a") (byte "z") n then (n - 32) ∷ n ∷ [] else n ∷ []
+
+-- the first letters of these words in both cases, each once
+abbrev pub first_letters : List (List ℕ) → List ℕ
+first_letters [] = []
+first_letters ([] ∷ words) = first_letters words
+first_letters ((n ∷ ns) ∷ words) = in_both_cases n ++ filter (λ m. not (list_any (λ k. m == k) (in_both_cases n))) (first_letters words)
 
 abbrev pub is_other : Kind → Bool
 is_other Kind.Other = true
@@ -47,9 +74,9 @@ abbrev pub may_precede_www : Option Code → Bool
 may_precede_www None = true
 may_precede_www (Some c) = is_whitespace_code c || is_among (codes "(*_[]~") c
 
--- `www.` and a code after it
+-- `www.`, and a code after it
 abbrev pub begins_with_www : List Code → Bool
-begins_with_www cs = elim (letters (codes "www.") cs) [ None ↦ false | Some r ↦ not (is_empty r.1) ]
+begins_with_www cs = elim (letters www cs) [ None ↦ false | Some r ↦ not (is_empty r.1) ]
 
 -- `bytes` is the document, and `end` the index where the content ends.
 module _ (bytes : List ℕ) (end : ℕ) where
@@ -138,11 +165,10 @@ module _ (bytes : List ℕ) (end : ℕ) where
   unfoldable pub gfm_autolink_literal_protocol : Option Code → Reading Forest
   gfm_autolink_literal_protocol previous = do
     provided (not (is_some_code is_letter previous))
-    scheme ← either (letters (codes "https")) (letters (codes "http"))
-    slashes ← letters (codes "://")
+    scheme ← one_word_of schemes
     host ← domain
     further ← path
-    gives (leaf Name.GfmAutolinkLiteralProtocol (scheme ++ slashes ++ host ++ further))
+    gives (leaf Name.GfmAutolinkLiteralProtocol (scheme ++ host ++ further))
 
   -- the domain and the path begin with the first `w`
   unfoldable pub www_from_here : Reading Forest

@@ -1,5 +1,7 @@
 -- The words of worked examples: settings, contents and events.
 use Rattle.std.specs.Prelude.{ℕ, Bool, true, false, List, [], ◌∷◌, Option, Some, None}
+use Rattle.markdown_engine_content.specs.DefaultOptions.{default_options}
+use Rattle.markdown_engine_content.specs.declared.configuration.ParseOptions.{ParseOptions}
 use Rattle.markdown_engine_content.specs.declared.event.Name.{Name}
 use Rattle.markdown_engine_content.specs.declared.event.Content.{Content}
 use Rattle.markdown_engine_content.specs.declared.event.Event.{Event}
@@ -18,88 +20,27 @@ use Rattle.markdown_model.specs.Resource.{label, reference_names, title, title_n
 use Rattle.markdown_model.specs.Setting.{Setting}
 use Rattle.markdown_model.specs.InlineTree.{text_tree, string_tree, label_tree, run_count, pair_count, probe_bound, opener_count, closer_count, list_probe_bound}
 
--- what an example says of its setting: the switches, the options, and what is defined
+-- what an example says of its setting: the options, and what is defined
 pub record RowSetting : Type 0 where
-  pub attention : Bool
-  pub autolink : Bool
-  pub character_escape : Bool
-  pub character_reference : Bool
-  pub code_text : Bool
-  pub gfm_autolink_literal : Bool
-  pub gfm_label_start_footnote : Bool
-  pub gfm_strikethrough : Bool
-  pub gfm_task_list_item : Bool
-  pub hard_break_escape : Bool
-  pub hard_break_trailing : Bool
-  pub html_text : Bool
-  pub label_end : Bool
-  pub label_start_image : Bool
-  pub label_start_link : Bool
-  pub math_text : Bool
-  pub shortcut : Bool
-  pub lengths : Bool
-  pub single_tilde : Bool
-  pub single_dollar : Bool
+  pub options : ParseOptions
   pub first_of_item : Bool
   pub definitions : List (List ℕ)
   pub footnotes : List (List ℕ)
 
--- CommonMark's constructs, and nothing defined
+-- the default options, and nothing defined
 abbrev pub default : RowSetting
 default = record {
-  attention = true;
-  autolink = true;
-  character_escape = true;
-  character_reference = true;
-  code_text = true;
-  gfm_autolink_literal = false;
-  gfm_label_start_footnote = false;
-  gfm_strikethrough = false;
-  gfm_task_list_item = false;
-  hard_break_escape = true;
-  hard_break_trailing = true;
-  html_text = true;
-  label_end = true;
-  label_start_image = true;
-  label_start_link = true;
-  math_text = false;
-  shortcut = false;
-  lengths = false;
-  single_tilde = true;
-  single_dollar = true;
+  options = default_options;
   first_of_item = false;
   definitions = [];
   footnotes = [];
 }
 
--- the shipped table of references, with the switches and options of the example
+-- the shipped table of references, with the options of the example
 abbrev pub setting : RowSetting → List ℕ → Setting
 setting r bytes = record {
   bytes = bytes;
-  options = record {
-    constructs = record {
-      attention = r.attention;
-      autolink = r.autolink;
-      character_escape = r.character_escape;
-      character_reference = r.character_reference;
-      code_text = r.code_text;
-      gfm_autolink_literal = r.gfm_autolink_literal;
-      gfm_label_start_footnote = r.gfm_label_start_footnote;
-      gfm_strikethrough = r.gfm_strikethrough;
-      gfm_task_list_item = r.gfm_task_list_item;
-      hard_break_escape = r.hard_break_escape;
-      hard_break_trailing = r.hard_break_trailing;
-      html_text = r.html_text;
-      label_end = r.label_end;
-      label_start_image = r.label_start_image;
-      label_start_link = r.label_start_link;
-      math_text = r.math_text;
-    };
-    gfm_strikethrough_single_tilde = r.single_tilde;
-    math_text_single_dollar = r.single_dollar;
-    attention_first_lengths = r.lengths;
-    label_shortcut_before_bracket = r.shortcut;
-  };
+  options = r.options;
   references = html_5_rows;
   definitions = r.definitions;
   footnotes = r.footnotes;

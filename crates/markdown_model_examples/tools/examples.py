@@ -8,10 +8,10 @@ HERE = os.path.dirname(os.path.dirname(os.path.abspath(__file__)))
 SYMBOLS = {'␊': '\n', '␍': '\r', '␉': '\t', '␀': '\0', '␠': ' ', '␋': '\v'}
 READINGS = {'label', 'title', 'destination', 'spacing', 'bounded', 'data'}
 CHAINED = {'ReferenceString', 'ResourceTitleString', 'ResourceDestinationString'}
-SWITCHES = ['attention', 'autolink', 'character_escape', 'character_reference', 'code_text', 'gfm_autolink_literal',
-            'gfm_label_start_footnote', 'gfm_strikethrough', 'gfm_task_list_item', 'hard_break_escape',
-            'hard_break_trailing', 'html_text', 'label_end', 'label_start_image', 'label_start_link', 'math_text']
-WORDS = {'gfm': ['%s = true' % name for name in SWITCHES if name.startswith('gfm_')], 'math': ['math_text = true'],
+GFM = ['gfm_autolink_literal', 'gfm_label_start_footnote', 'gfm_strikethrough', 'gfm_task_list_item']
+OPTIONS = {'single_tilde': 'gfm_strikethrough_single_tilde', 'single_dollar': 'math_text_single_dollar',
+           'lengths': 'attention_first_lengths', 'shortcut': 'label_shortcut_before_bracket'}
+WORDS = {'gfm': ['%s = true' % name for name in GFM], 'math': ['math_text = true'],
          'first': ['first_of_item = true'], 'shortcut': ['shortcut = true'], 'lengths': ['lengths = true'],
          'no-single-tilde': ['single_tilde = false'], 'no-single-dollar': ['single_dollar = false']}
 
@@ -126,13 +126,40 @@ def settings(words):
             definitions.append(plain(word[11:]).encode())
         elif word.startswith('footnote='):
             footnotes.append(plain(word[9:]).encode())
-        elif word[:3] == 'no-' and word[3:] in SWITCHES:
-            fields = [f for f in fields if not f.startswith(word[3:] + ' ')] + ['%s = false' % word[3:]]
-        elif word in SWITCHES:
-            fields.append('%s = true' % word)
-        else:
+        elif word in WORDS:
             fields += WORDS[word]
+        elif turns_off(word):
+            fields = [f for f in fields if not f.startswith(word[3:] + ' ')] + ['%s = false' % word[3:]]
+        else:
+            assert re.fullmatch('[a-z_]+', word), word
+            fields.append('%s = true' % word)
     return fields, definitions, footnotes, outer
+
+
+def turns_off(word):
+    """Whether the word turns a construct off. Each word that is not known otherwise names a construct; the check refuses others."""
+    return word not in WORDS and re.fullmatch('no-[a-z_]+', word) is not None
+
+
+def setting(fields, definitions, footnotes):
+    """The term of a setting: the default one, but for these fields of its options, of their constructs, and of itself."""
+    own, options, constructs = [], [], []
+    for field in fields:
+        name, value = field.split(' = ')
+        if name == 'first_of_item':
+            own.append(field)
+        elif name in OPTIONS:
+            options.append('%s = %s' % (OPTIONS[name], value))
+        else:
+            constructs.append(field)
+    if constructs:
+        options.insert(0, 'constructs = record default_constructs { %s }' % '; '.join(constructs))
+    if options:
+        own.insert(0, 'options = record default_options { %s }' % '; '.join(options))
+    for field, names in (('definitions', definitions), ('footnotes', footnotes)):
+        if names:
+            own.append('%s = %s' % (field, listed(['(%s)' % literal(n) for n in names])))
+    return 'record default { %s }' % '; '.join(own) if own else 'default'
 
 
 def ends_of(pieces, data):
@@ -156,10 +183,7 @@ def statement(line):
             before = ' (%s)' % literal(plain(given['upto']).encode())
         return '%s_answer%s (%s) ≡ %s' % (kind, before, literal(data), wanted)
     fields, definitions, footnotes, outer = settings(words)
-    for field, names in (('definitions', definitions), ('footnotes', footnotes)):
-        if names:
-            fields.append('%s = %s' % (field, listed(['(%s)' % literal(n) for n in names])))
-    row = 'record default { %s }' % '; '.join(fields) if fields else 'default'
+    row = setting(fields, definitions, footnotes)
     content = listed(['piece %d %d %d %d' % (a + b) for a, b in ends_of(pieces, data)])
     if kind in ('counts', 'looks'):
         return '%s_answer (%s) (%s) (%s) ≡ (%s)' % (kind, row, literal(data), content, ' ∷ '.join(answer.split() + ['[]']))
@@ -202,6 +226,7 @@ def main():
 
 SPEC_USES = [
     ('Rattle.std.specs.Prelude', ['◌≡◌', 'true', 'false', '[]', '◌∷◌', 'codes', 'Some', 'None']),
+    ('Rattle.markdown_engine_content.specs.DefaultOptions', ['default_constructs', 'default_options']),
     ('Rattle.markdown_engine_content.specs.declared.event.Name', ['Name']),
     ('Rattle.markdown_engine_content.specs.declared.event.Content', ['Content']),
     ('Rattle.markdown_model_examples.specs.ExampleNotation', ['default', 'piece', 'enter', 'exit', 'chained', 'text_answer', 'text_outline', 'string_answer', 'string_outline', 'label_answer', 'title_answer', 'destination_answer', 'spacing_answer', 'bounded_answer', 'data_answer', 'counts_answer', 'looks_answer']),

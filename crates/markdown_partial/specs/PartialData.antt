@@ -1,5 +1,5 @@
 -- What the states of data do, and how runs from them end.
-use Rattle.std.specs.Prelude.{ℕ, Bool, ◌||◌, ◌&&◌, false, not, ◌==◌, if◌then◌else◌, Option, Some, None, List, [], ◌∷◌, codes}
+use Rattle.std.specs.Prelude.{ℕ, Bool, ◌||◌, ◌&&◌, false, not, ◌==◌, if◌then◌else◌, Option, Some, None, List, [], ◌∷◌}
 use Rattle.std.specs.List.{list_any}
 use Rattle.markdown_engine_content.specs.Codes.{Code, is_line_ending}
 use Rattle.markdown_engine_content.specs.ListFunctions.{first_of}
@@ -8,6 +8,7 @@ use Rattle.markdown_engine.specs.PastTree.{EndsAs, TreeReading, passed}
 use Rattle.markdown_engine_content.specs.Place.{code_at, moved, value_of}
 use Rattle.markdown_engine.specs.StateRuns.{Stepped, stepped}
 use Rattle.markdown_model.specs.CodeTests.{next_is}
+use Rattle.markdown_model.specs.GfmAutolinkLiteral.{literal_words, first_letters, in_both_cases}
 use Rattle.markdown_model.specs.Grammar.{until}
 use Rattle.markdown_model.specs.TextLines.{data_up_to, line_leaves, lines_of}
 use Rattle.markdown_engine_content.specs.declared.event.Name.TheVariants as N
@@ -30,10 +31,14 @@ is_some_mark markers (Some v) = marks markers v
 
 -- Where data stops.
 
--- a letter with which a literal may begin, behind which none goes on (GFM 6.9): an `h` before no `t`, or a `w` before no other
+-- the word begins with this value and the next
+abbrev pub begins_with : List ℕ → ℕ → Option ℕ → Bool
+begins_with (n ∷ m ∷ ns) v next = marks (in_both_cases n) v && is_some_mark (in_both_cases m) next
+begins_with _ v next = false
+
+-- a letter with which a literal may begin, behind which none goes on (GFM 6.9), as an `h` before no `t`
 abbrev pub begins_none : ℕ → Option ℕ → Bool
-begins_none v next =
-    if marks (codes "Hh") v then not (is_some_mark (codes "Tt") next) else if marks (codes "Ww") v then not (is_some_mark (codes "Ww") next) else false
+begins_none v next = marks (first_letters literal_words) v && not (list_any (λ word. begins_with word v next) literal_words)
 
 -- data stops at its markers, by the value at hand and the one behind it; but it may pass the letters with which no literal begins
 abbrev pub stops_at : Bool → List ℕ → ℕ → Option ℕ → Bool

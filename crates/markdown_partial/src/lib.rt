@@ -2,6 +2,7 @@
 #![tactic(auto)]
 
 mod leaf;
+pub mod literal_words;
 pub mod partial_data;
 pub mod partial_space_or_tab;
 pub mod partial_space_or_tab_eol;

@@ -123,7 +123,7 @@ fn put_back<'a>(
 /// `DestinationStart`, `TitleStart` and `LabelStart`, which take their names from the scratch fields `token_1` to `token_5`, and a destination
 /// the depth of its parentheses from `size_b`; `DataStart`, which takes the bytes at which it stops from the scratch field `markers`, and holds
 /// everywhere (where the scratch field `passes_letters` is set, as behind `TextStart`, it goes on past letters with which no literal begins, GFM
-/// 6.9: an `h` before no `t`, a `w` before no other); `SpaceOrTabStart` or `SpaceOrTabEolStart`, after the setter that asks for it.
+/// 6.9, as an `h` before no `t`); `SpaceOrTabStart` or `SpaceOrTabEolStart`, after the setter that asks for it.
 ///
 /// Where the construct holds, its events are appended, and the tokenizer stands at its end; otherwise it is as before. The scratch fields are
 /// as before in either case, but that whitespace puts its own fields to rest, that starts and labels are kept, and that an end that makes no

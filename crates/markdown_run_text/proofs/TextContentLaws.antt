@@ -1,5 +1,5 @@
 -- The laws of the states of a text.
-use Rattle.std.proofs.Common.{◌≡◌, ◌≢◌, ℕ, ◌*◌, ◌<◌, ◌==◌, ◌||◌, Bool, true, false, Option, Some, None, List, [], refl, sym, ap, subst, ◌∙◌, arith}
+use Rattle.std.proofs.Common.{◌≡◌, ◌≢◌, ℕ, ◌*◌, ◌<◌, ◌==◌, ◌||◌, Bool, true, false, Option, Some, None, List, [], ◌∷◌, refl, sym, ap, subst, ◌∙◌, arith}
 use Rattle.std.specs.List.{list_any}
 use Rattle.std.specs.Prelude.{codes}
 use Rattle.std.specs.Str.{byte}
@@ -39,6 +39,7 @@ use Rattle.markdown_leaf.specs.CharacterReference.{reference_here}
 use Rattle.markdown_leaf.specs.HardBreakEscape as HardBreakEscape
 use Rattle.markdown_leaf.specs.HardBreakEscape.{break_here}
 use Rattle.markdown_leaf.specs.RawText as RawText
+use Rattle.markdown_model.specs.GfmAutolinkLiteral.{schemes, www, first_letters}
 use Rattle.markdown_model.specs.TextLines.{data_up_to}
 use Rattle.markdown_partial.specs.PartialData as PartialData
 use Rattle.markdown_partial.specs.PartialData.{stops_of}
@@ -47,7 +48,7 @@ use Rattle.markdown_run_row.specs.Row.{loses, row_end, past_mark, kinds_of}
 use Rattle.markdown_run_row.proofs.RowFields.{row-cursor, tree-within, lost-within}
 use Rattle.markdown_run_text.specs.StringContent.{is_on}
 use Rattle.markdown_run_text.specs.TextContent.{text_tries, text_markers, marked_fields, text_marked, text_passed, attempt_step, start_step, first_try, tries_at, before_at, before_step, text_choice_of, IsMarked, BeforeReady, StandsAlone, before_ends, data_ends, start_words, before_words, before_html_words, before_hard_break_escape_words, before_label_start_link_words, before_data_words}
-use Rattle.markdown_run_text.proofs.TryTableLemmas.{EachOf, by-row}
+use Rattle.markdown_run_text.proofs.TryTableLemmas.{EachOf, each-among, by-row}
 use Rattle.markdown_run_row.proofs.ConstructNodes.{node-of}
 use Rattle.markdown_model.proofs.PlainConstructs.{ReadsPlain, plain_constructs}
 use Rattle.markdown_model.specs.Elements.{tries, tried}
@@ -160,13 +161,13 @@ module _ (W : Words) (within : Within states W) where
         (λ U now k. let r : Refuses (run_tree T) T.tokenize_state T U = k in
         rw (restored-fails false (Next TextBefore) (Next TextBeforeData) T.tokenize_state T U r.fails, scratched-same T) (to-data 8 T v (omega arith) ready e (run-alone T v e h r.refused)))
 
-    tries-protocol : (v : ℕ) → current_of T ≡ Some v → (v == byte "H" || v == byte "h") ≡ true → Before (attempt_step GfmAutolinkLiteralProtocolStart TextBeforeData T)
+    tries-protocol : (v : ℕ) → current_of T ≡ Some v → list_any (λ n. v == n) (first_letters schemes) ≡ true → Before (attempt_step GfmAutolinkLiteralProtocolStart TextBeforeData T)
     tries-protocol v e h =
         try-law 8 T GfmAutolinkLiteralProtocolStart TextBeforeData (within GfmAutolinkLiteralProtocolStart) (GfmAutolinkLiteral.protocol_here T) alone ready.marked.literals (omega arith) ready.marked (λ ok U g. g)
         (search plain_constructs) (protocol-reads T v ready.marked.last e h)
         (λ none. to-data 8 T v (omega arith) ready e (protocol-alone T v ready.marked.last e h none))
 
-    tries-www : (v : ℕ) → current_of T ≡ Some v → (v == byte "W" || v == byte "w") ≡ true → Before (attempt_step GfmAutolinkLiteralWwwStart TextBeforeData T)
+    tries-www : (v : ℕ) → current_of T ≡ Some v → list_any (λ n. v == n) (first_letters (www ∷ [])) ≡ true → Before (attempt_step GfmAutolinkLiteralWwwStart TextBeforeData T)
     tries-www v e h =
         try-law 8 T GfmAutolinkLiteralWwwStart TextBeforeData (within GfmAutolinkLiteralWwwStart) (GfmAutolinkLiteral.www_here T) alone ready.marked.literals (omega arith) ready.marked (λ ok U g. g)
         (search plain_constructs) (www-reads T v ready.marked.last e h)
@@ -240,11 +241,11 @@ module _ (W : Words) (within : Within states W) where
     at-runs : EachOf (IsTried AttentionStart TextBeforeData) (codes "*_~")
     at-runs = (λ e. tries-run (byte "*") e refl, (λ e. tries-run (byte "_") e refl, (λ e. tries-run (byte "~") e refl, tt)))
 
-    at-protocols : EachOf (IsTried GfmAutolinkLiteralProtocolStart TextBeforeData) (codes "Hh")
-    at-protocols = (λ e. tries-protocol (byte "H") e refl, (λ e. tries-protocol (byte "h") e refl, tt))
+    at-protocols : EachOf (IsTried GfmAutolinkLiteralProtocolStart TextBeforeData) (first_letters schemes)
+    at-protocols = each-among (IsTried GfmAutolinkLiteralProtocolStart TextBeforeData) (first_letters schemes) (λ v h e. tries-protocol v e h)
 
-    at-www : EachOf (IsTried GfmAutolinkLiteralWwwStart TextBeforeData) (codes "Ww")
-    at-www = (λ e. tries-www (byte "W") e refl, (λ e. tries-www (byte "w") e refl, tt))
+    at-www : EachOf (IsTried GfmAutolinkLiteralWwwStart TextBeforeData) (first_letters (www ∷ []))
+    at-www = each-among (IsTried GfmAutolinkLiteralWwwStart TextBeforeData) (first_letters (www ∷ [])) (λ v h e. tries-www v e h)
 
     tries-by-code : (v : ℕ) → current_of T ≡ Some v → Before (tries_at (first_try v) T)
     tries-by-code v =

@@ -1,9 +1,10 @@
 -- Where data of a text stops: at each other place the code is an element by itself.
-use Rattle.std.proofs.Common.{◌≡◌, ℕ, Bool, true, false, ◌&&◌, ◌||◌, ◌==◌, not, if◌then◌else◌, List, [], ◌∷◌, ◌++◌, Option, None, Some, refl, sym, ap, subst, ◌∙◌, arith}
-use Rattle.std.specs.Prelude.{codes}
+use Rattle.std.proofs.Common.{◌≡◌, ℕ, Bool, true, false, ◌&&◌, ◌||◌, ◌==◌, not, if◌then◌else◌, List, [], ◌∷◌, ◌++◌, Option, None, Some, refl, sym, ap, subst, ◌∙◌, arith, inl, inr}
+use Rattle.std.specs.Prelude.{codes, nat_lt}
 use Rattle.std.specs.List.{list_any}
-use Rattle.std.proofs.lemmas.Bool.{or_parts, and_from, not-true, not-false}
+use Rattle.std.proofs.lemmas.Bool.{or_parts, or_cases, and_from, eqb-true, not-true, not-false}
 use Rattle.std.proofs.lemmas.Bool.Decides.{nat_tests}
+use Rattle.std.proofs.lemmas.List.Folds.{list_any-append}
 use Rattle.markdown_engine_content.specs.Codes.{Code}
 use Rattle.markdown_engine_content.specs.ListFunctions.{first_of, rest_of}
 use Rattle.markdown_engine_content.specs.Place.{value_of}
@@ -14,19 +15,20 @@ use Rattle.markdown_engine_content.specs.declared.parser.ParseState.{ParseState}
 use Rattle.markdown_engine_index.specs.declared.sequence_index.Sequence.TheVariants.{ProtocolSlash, WwwDot}
 use Rattle.markdown_engine_index.proofs.RunIndexFacts.{later-none}
 use Rattle.markdown_engine_index.proofs.SequenceIndexLemmas.{not-held}
-use Rattle.markdown_leaf_gfm.proofs.GfmAutolinkLiteralReadings.{letter_test, letters-more, letters-nil, letters-none}
+use Rattle.markdown_leaf_gfm.proofs.LettersOfWords.{letter_test, letters-more, letters-none}
+use Rattle.markdown_leaf_gfm.proofs.SchemesLeft.{among-filter, both-stand}
 use Rattle.markdown_model.specs.TextLines.{code_leaf}
-use Rattle.markdown_model.proofs.GrammarSteps.{bind-some, bind-none, either-second, either-some, switched-off}
+use Rattle.markdown_model.proofs.GrammarSteps.{bind-none, either-second, and-left, and-right, switched-off}
 use Rattle.markdown_model.specs.CodeTests.{is_among, is_empty, is_letter, is_some_code}
 use Rattle.markdown_model.specs.Elements.{text_element}
-use Rattle.markdown_model.specs.Grammar.{Reading, with_first, ◌>>=◌, ◌>>◌, either, provided}
+use Rattle.markdown_model.specs.Grammar.{Reading, with_first, ◌>>◌, provided}
 use Rattle.markdown_model.specs.LabelEnd.{Element, plain}
-use Rattle.markdown_model.specs.GfmAutolinkLiteral.{letters, begins_with_www, may_precede_www, gfm_autolink_literal_protocol, www_from_here, gfm_autolink_literal_www}
+use Rattle.markdown_model.specs.GfmAutolinkLiteral.{schemes, www, literal_words, in_both_cases, first_letters, letters, one_word_of, begins_with_www, may_precede_www, gfm_autolink_literal_protocol, www_from_here, gfm_autolink_literal_www}
 use Rattle.markdown_model.specs.Setting.{Setting}
-use Rattle.markdown_partial.specs.PartialData.{begins_none, is_some_mark, marks, stops_by}
+use Rattle.markdown_partial.specs.PartialData.{begins_none, begins_with, is_some_mark, marks, stops_by}
 use Rattle.markdown_run_row.specs.RunOverElements.{AreSingle}
-use Rattle.markdown_run_text.proofs.TryTableLemmas.{EachOf, one-of}
-use Rattle.markdown_run_text.specs.TextContent.{markers_for, may_hold_literals, plain_markers, text_markers}
+use Rattle.markdown_run_text.proofs.TryTableLemmas.{none-passes}
+use Rattle.markdown_run_text.specs.TextContent.{markers_for, may_hold_literals, literal_letters, plain_markers, text_markers}
 use Rattle.markdown_run_text.proofs.TextElements.{off-or-none, other-element, protocol-element, www-element}
 
 -- Codes without a sign of literals.
@@ -46,6 +48,10 @@ behind-all : (front cs : List Code) → NoSigns (front ++ cs) → NoSigns cs
 behind-all [] cs k = k
 behind-all (c ∷ front) cs k = behind-all front cs (behind c (front ++ cs) k)
 
+not-false-true : (b : Bool) → not b ≡ false → b ≡ true
+not-false-true true h = refl
+not-false-true false h = cc
+
 -- Words of letters.
 
 clash : {A : Type 0} → (b : Bool) → b ≡ true → b ≡ false → A
@@ -64,16 +70,10 @@ letters-after n ns (c ∷ cs) next = by_test (letter_test n c) refl
 letters-behind : (n : ℕ) (ns : List ℕ) (c : Code) (cs : List Code) → letters ns cs ≡ None → letters (n ∷ ns) (c ∷ cs) ≡ None
 letters-behind n ns c cs h = letters-after n ns (c ∷ cs) (λ d ds e t. subst (λ xs. letters ns xs ≡ None) (ap rest_of e) h)
 
--- no letter comes of these two, by the value that comes
-no-next : (low high : ℕ) (ns : List ℕ) (cs : List Code) → ((c : Code) → list_any (λ n. c.value == n) (high ∷ low ∷ []) ≡ false → letter_test low c ≡ false) → is_some_mark (high ∷ low ∷ []) (value_of (first_of cs)) ≡ false → letters (low ∷ ns) cs ≡ None
-no-next low high ns [] other h = letters-none low ns [] refl
-no-next low high ns (c ∷ cs) other h = letters-none low ns (c ∷ cs) (other c h)
-
-other-116 : (c : Code) → list_any (λ n. c.value == n) (codes "Tt") ≡ false → letter_test 116 c ≡ false
-other-116 c h = grind (arith, nat_tests)
-
-other-119 : (c : Code) → list_any (λ n. c.value == n) (codes "Ww") ≡ false → letter_test 119 c ≡ false
-other-119 c h = grind (arith, nat_tests)
+-- no letter comes, by the value that comes
+no-next : (n : ℕ) (ns : List ℕ) (cs : List Code) → nat_lt n 129 ≡ true → is_some_mark (in_both_cases n) (value_of (first_of cs)) ≡ false → letters (n ∷ ns) cs ≡ None
+no-next n ns [] low h = letters-none n ns [] refl
+no-next n ns (c ∷ cs) low h = letters-none n ns (c ∷ cs) (sym (both-stand n c.value low) ∙ h)
 
 -- two letters that are a sign
 pair-none : (n m : ℕ) (ns : List ℕ) (cs : List Code) → ((c d : Code) (ds : List Code) → letter_test n c ≡ true → letter_test m d ≡ true → NoSigns (c ∷ d ∷ ds) → ⊥) → NoSigns cs → letters (n ∷ m ∷ ns) cs ≡ None
@@ -106,83 +106,92 @@ w-dot c d ds h k none =
     (and_from (is_w c.value) (d.value == 46 && true) (letter-119 c h) (and_from (d.value == 46) true (letter-46 d k) refl))
     (no-more dots_behind_w c (d ∷ ds) none.1).1
 
--- no more signs stand behind letters that are read
-same-read : (x y : List Code × List Code) → Some x ≡ Some y → x ≡ y
-same-read x y e = cc
-
-same-rest : (a b : List Code) (r s : List Code) → ◌≡◌ {A = Option (List Code × List Code)} (Some (a, r)) (Some (b, s)) → r ≡ s
-same-rest a b r s e = ap (λ (x : List Code × List Code). x.1) (same-read (a, r) (b, s) e)
-
-no-letters : {A : Type 0} (b : List Code) (s : List Code) → ◌≡◌ {A = Option (List Code × List Code)} None (Some (b, s)) → A
-no-letters b s e = cc
-
-after-letters : (ns : List ℕ) (cs a rest : List Code) → letters ns cs ≡ Some (a, rest) → NoSigns cs → NoSigns rest
-after-letters [] cs a rest e k = subst NoSigns (same-rest [] a cs rest (sym (letters-nil cs) ∙ e)) k
-after-letters (n ∷ ns) [] a rest e k = no-letters a rest (sym (letters-none n ns [] refl) ∙ e)
-after-letters (n ∷ ns) (c ∷ cs) a rest e k = by_test (letter_test n c) refl (λ r h. after-letters ns cs r.0 r.1 h (behind c cs k))
-  where
-    More : Type 0
-    More = (r : List Code × List Code) → letters ns cs ≡ Some r → NoSigns r.1
-
-    by_more : (o : Option (List Code × List Code)) → letters ns cs ≡ o → with_first c o ≡ Some (a, rest) → More → NoSigns rest
-    by_more None h g more = no-letters a rest g
-    by_more (Some r) h g more = subst NoSigns (same-rest (c ∷ r.0) a r.1 rest g) (more r h)
-
-    by_test : (b : Bool) → letter_test n c ≡ b → More → NoSigns rest
-    by_test true t more = by_more (letters ns cs) refl (sym (letters-more n ns c cs t) ∙ e) more
-    by_test false t more = no-letters a rest (sym (letters-none n ns (c ∷ cs) t) ∙ e)
-
-after-either : (xs ys : List ℕ) (cs a rest : List Code) → either (letters xs) (letters ys) cs ≡ Some (a, rest) → NoSigns cs → NoSigns rest
-after-either xs ys cs a rest e k = by_first (letters xs cs) refl
-  where
-    by_first : (o : Option (List Code × List Code)) → letters xs cs ≡ o → NoSigns rest
-    by_first None h = after-letters ys cs a rest (sym (either-second (letters xs) (letters ys) cs h) ∙ e) k
-    by_first (Some r) h = subst NoSigns (same-rest r.0 a r.1 rest (sym (either-some (letters xs) (letters ys) cs r h) ∙ e)) (after-letters xs cs r.0 r.1 h k)
-
 -- Literals.
 
-bind-nothing : {A B : Type 0} (a : Reading A) (next : A → Reading B) (cs : List Code) → ((x : A) (rest : List Code) → a cs ≡ Some (x, rest) → next x rest ≡ None) → (a >>= next) cs ≡ None
-bind-nothing {A} {B} a next cs h = by_first (a cs) refl
+-- a word that holds a sign
+holds_pair : ℕ → ℕ → List ℕ → Bool
+holds_pair a b [] = false
+holds_pair a b (n ∷ []) = false
+holds_pair a b (n ∷ m ∷ ns) = ((n == a) && (m == b)) || holds_pair a b (m ∷ ns)
+
+sign-none : (a b : ℕ) → ((c d : Code) (ds : List Code) → letter_test a c ≡ true → letter_test b d ≡ true → NoSigns (c ∷ d ∷ ds) → ⊥) → (word : List ℕ) (cs : List Code) → holds_pair a b word ≡ true → NoSigns cs → letters word cs ≡ None
+unfolding holds_pair
+sign-none a b never [] cs h k = cc
+sign-none a b never (n ∷ []) cs h k = cc
+sign-none a b never (n ∷ m ∷ ns) cs h k = by_test ((n == a) && (m == b)) refl h (λ f ds j. sign-none a b never (m ∷ ns) ds f j)
   where
-    by_first : (o : Option (A × List Code)) → a cs ≡ o → (a >>= next) cs ≡ None
-    by_first None e = bind-none a next cs e
-    by_first (Some r) e = bind-some a next cs r.0 r.1 None e (h r.0 r.1 e)
+    by_test : (t : Bool) → (n == a) && (m == b) ≡ t → (t || holds_pair a b (m ∷ ns)) ≡ true → (holds_pair a b (m ∷ ns) ≡ true → (ds : List Code) → NoSigns ds → letters (m ∷ ns) ds ≡ None) → letters (n ∷ m ∷ ns) cs ≡ None
+    by_test true e f more = (λ i. letters (eqb-true n a (and-left (n == a) (m == b) e) i ∷ eqb-true m b (and-right (n == a) (m == b) e) i ∷ ns) cs) ∙ pair-none a b ns cs never k
+    by_test false e f more = letters-after n (m ∷ ns) cs (λ c ds g t. more f ds (behind c ds (subst NoSigns g k)))
+
+-- none of these words is read
+EachNone : List (List ℕ) → List Code → Type 0
+EachNone [] cs = Unit {0}
+EachNone (word ∷ words) cs = (letters word cs ≡ None) × EachNone words cs
+
+no-word : (words : List (List ℕ)) (cs : List Code) → EachNone words cs → one_word_of words cs ≡ None
+unfolding one_word_of EachNone
+no-word [] cs h = refl
+no-word (word ∷ words) cs h = either-second (letters word) (one_word_of words) cs h.0 ∙ no-word words cs h.1
+
+each_hold_pair : ℕ → ℕ → List (List ℕ) → Bool
+each_hold_pair a b [] = true
+each_hold_pair a b (word ∷ words) = holds_pair a b word && each_hold_pair a b words
+
+signs-none : (a b : ℕ) → ((c d : Code) (ds : List Code) → letter_test a c ≡ true → letter_test b d ≡ true → NoSigns (c ∷ d ∷ ds) → ⊥) → (words : List (List ℕ)) (cs : List Code) → each_hold_pair a b words ≡ true → NoSigns cs → EachNone words cs
+unfolding EachNone each_hold_pair
+signs-none a b never [] cs h k = tt
+signs-none a b never (word ∷ words) cs h k =
+    (sign-none a b never word cs (and-left (holds_pair a b word) (each_hold_pair a b words) h) k, signs-none a b never words cs (and-right (holds_pair a b word) (each_hold_pair a b words) h) k)
+
+no-scheme : (bytes : List ℕ) (end : ℕ) (previous : Option Code) (cs : List Code) → one_word_of schemes cs ≡ None → gfm_autolink_literal_protocol bytes end previous cs ≡ None
+unfolding gfm_autolink_literal_protocol
+no-scheme bytes end previous cs e = off-or-none (not (is_some_code is_letter previous)) _ cs (bind-none (one_word_of schemes) _ cs e)
 
 no-protocol : (bytes : List ℕ) (end : ℕ) (previous : Option Code) (cs : List Code) → NoSigns cs → gfm_autolink_literal_protocol bytes end previous cs ≡ None
-unfolding gfm_autolink_literal_protocol
-no-protocol bytes end previous cs k =
-    off-or-none (not (is_some_code is_letter previous)) _ cs
-    (bind-nothing (either (letters (codes "https")) (letters (codes "http"))) _ cs (λ scheme rest e.
-    bind-none (letters (codes "://")) _ rest (pair-none 58 47 (47 ∷ []) rest colon-slash (after-either (codes "https") (codes "http") cs scheme rest e k))))
+unfolding each_hold_pair holds_pair
+no-protocol bytes end previous cs k = no-scheme bytes end previous cs (no-word schemes cs (signs-none 58 47 colon-slash schemes cs refl k))
 
--- an `h` before no `t`
-no-scheme : (bytes : List ℕ) (end : ℕ) (previous : Option Code) (c : Code) (cs : List Code) → is_some_mark (codes "Tt") (value_of (first_of cs)) ≡ false → gfm_autolink_literal_protocol bytes end previous (c ∷ cs) ≡ None
-unfolding gfm_autolink_literal_protocol
-no-scheme bytes end previous c cs h =
-    let none : (ns : List ℕ) → letters (104 ∷ 116 ∷ ns) (c ∷ cs) ≡ None = λ ns. letters-behind 104 (116 ∷ ns) c cs (no-next 116 84 ns cs other-116 h) in
-    off-or-none (not (is_some_code is_letter previous)) _ (c ∷ cs)
-    (bind-none (either (letters (codes "https")) (letters (codes "http"))) _ (c ∷ cs)
-    (either-second (letters (codes "https")) (letters (codes "http")) (c ∷ cs) (none (116 ∷ 112 ∷ 115 ∷ [])) ∙ none (116 ∷ 112 ∷ [])))
+no-www-letters : (cs : List Code) → NoSigns cs → letters www cs ≡ None
+unfolding holds_pair
+no-www-letters cs k = sign-none 119 46 w-dot www cs refl k
 
-no-www-letters : (cs : List Code) → NoSigns cs → letters (codes "www.") cs ≡ None
-no-www-letters cs k =
-    letters-after 119 (119 ∷ 119 ∷ 46 ∷ []) cs (λ c ds e t.
-    let k2 : NoSigns ds = behind c ds (subst NoSigns e k) in
-    letters-after 119 (119 ∷ 46 ∷ []) ds (λ d es f u. pair-none 119 46 [] es w-dot (behind d es (subst NoSigns f k2))))
+-- words behind whose first letter the second does not come
+are_words : List (List ℕ) → Bool
+are_words [] = true
+are_words ([] ∷ words) = false
+are_words ((n ∷ []) ∷ words) = false
+are_words ((n ∷ m ∷ ns) ∷ words) = (nat_lt n 129 && nat_lt m 129) && are_words words
+
+word-none : (n m : ℕ) (ns : List ℕ) (c : Code) (cs : List Code) → nat_lt n 129 && nat_lt m 129 ≡ true → begins_with (n ∷ m ∷ ns) c.value (value_of (first_of cs)) ≡ false → letters (n ∷ m ∷ ns) (c ∷ cs) ≡ None
+word-none n m ns c cs low h = by_first (marks (in_both_cases n) c.value) refl h
+  where
+    by_first : (b : Bool) → marks (in_both_cases n) c.value ≡ b → (b && is_some_mark (in_both_cases m) (value_of (first_of cs))) ≡ false → letters (n ∷ m ∷ ns) (c ∷ cs) ≡ None
+    by_first true e f = letters-behind n (m ∷ ns) c cs (no-next m ns cs (and-right (nat_lt n 129) (nat_lt m 129) low) f)
+    by_first false e f = letters-none n (m ∷ ns) (c ∷ cs) (sym (both-stand n c.value (and-left (nat_lt n 129) (nat_lt m 129) low)) ∙ e)
+
+words-none : (words : List (List ℕ)) (c : Code) (cs : List Code) → are_words words ≡ true → list_any (λ word. begins_with word c.value (value_of (first_of cs))) words ≡ false → EachNone words (c ∷ cs)
+unfolding EachNone are_words
+words-none [] c cs low h = tt
+words-none ([] ∷ words) c cs low h = cc
+words-none ((n ∷ []) ∷ words) c cs low h = cc
+words-none ((n ∷ m ∷ ns) ∷ words) c cs low h =
+    let k = or_parts (begins_with (n ∷ m ∷ ns) c.value (value_of (first_of cs))) (list_any (λ word. begins_with word c.value (value_of (first_of cs))) words) h in
+    (word-none n m ns c cs (and-left (nat_lt n 129 && nat_lt m 129) (are_words words) low) k.0, words-none words c cs (and-right (nat_lt n 129 && nat_lt m 129) (are_words words) low) k.1)
 
 and-none : (b : Bool) → (b && false) ≡ false
 and-none true = refl
 and-none false = refl
 
-no-www : (bytes : List ℕ) (end : ℕ) (previous : Option Code) (cs : List Code) → letters (codes "www.") cs ≡ None → gfm_autolink_literal_www bytes end previous cs ≡ None
+no-www : (bytes : List ℕ) (end : ℕ) (previous : Option Code) (cs : List Code) → letters www cs ≡ None → gfm_autolink_literal_www bytes end previous cs ≡ None
 unfolding gfm_autolink_literal_www
 no-www bytes end previous cs k =
-    let none : begins_with_www cs ≡ false = by_letters (letters (codes "www.") cs) k in
+    let none : begins_with_www cs ≡ false = by_letters (letters www cs) k in
     switched-off (www_from_here bytes end) (may_precede_www previous && begins_with_www cs) cs (ap (λ b. may_precede_www previous && b) none ∙ and-none (may_precede_www previous))
   where
     by_letters : (o : Option (List Code × List Code)) → o ≡ None → (elim o as (λ _. Bool) [ None ↦ false | Some r ↦ not (is_empty r.1) ]) ≡ false
     by_letters None e = refl
-    by_letters (Some r) e = no-letters r.0 r.1 (sym e)
+    by_letters (Some r) e = cc
 
 -- The codes of a text.
 
@@ -201,49 +210,43 @@ module _ (s : Setting) (end : ℕ) (whole : List Code) (p : ParseState) (same : 
           let signs = or_parts (holds ProtocolSlash whole) (holds WwwDot whole) (sym (ap (λ b. b && (holds ProtocolSlash whole || holds WwwDot whole)) on) ∙ none) in
           off-or-none s.options.constructs.gfm_autolink_literal a cs (reads (not-held ProtocolSlash whole signs.0, not-held WwwDot whole signs.1))
 
-  letter-h : (v : ℕ) (c : Code) (cs : List Code) → c.value ≡ v → (v == 72 || v == 104) ≡ true → may_hold_literals whole p ≡ false → (NoSigns whole → NoSigns (c ∷ cs)) → IsSingle c cs
-  letter-h v c cs e h none part earlier previous =
-      protocol-element s end earlier previous v c cs None e h (off (gfm_autolink_literal_protocol s.bytes end previous) (c ∷ cs) none (λ k. no-protocol s.bytes end previous (c ∷ cs) (part k)))
+  -- a letter of literals, where none is read
+  at-letter : (c : Code) (cs : List Code) → is_among literal_letters c ≡ true → ((previous : Option Code) → (provided s.options.constructs.gfm_autolink_literal >> gfm_autolink_literal_protocol s.bytes end previous) (c ∷ cs) ≡ None)
+      → ((previous : Option Code) → (provided s.options.constructs.gfm_autolink_literal >> gfm_autolink_literal_www s.bytes end previous) (c ∷ cs) ≡ None) → IsSingle c cs
+  at-letter c cs h protocol bare earlier previous = elim (or_cases (is_among (first_letters schemes) c) (is_among (first_letters (www ∷ [])) c) first) [
+    | inl x ↦ protocol-element s end earlier previous c.value c cs None refl x (protocol previous)
+    | inr x ↦ www-element s end earlier previous c.value c cs None refl x (bare previous)
+  ]
+    where
+      first : is_among (first_letters schemes) c || is_among (first_letters (www ∷ [])) c ≡ true
+      first = not-false-true (is_among (first_letters schemes) c || is_among (first_letters (www ∷ [])) c)
+          (none-passes (λ n. not (list_any (λ m. n == m) (first_letters schemes) || list_any (λ m. n == m) (first_letters (www ∷ [])))) literal_letters refl c.value h)
 
-  letter-w : (v : ℕ) (c : Code) (cs : List Code) → c.value ≡ v → (v == 87 || v == 119) ≡ true → may_hold_literals whole p ≡ false → (NoSigns whole → NoSigns (c ∷ cs)) → IsSingle c cs
-  letter-w v c cs e h none part earlier previous =
-      www-element s end earlier previous v c cs None e h (off (gfm_autolink_literal_www s.bytes end previous) (c ∷ cs) none (λ k. no-www s.bytes end previous (c ∷ cs) (no-www-letters (c ∷ cs) (part k))))
-
-  -- a code at which something is tried, but a literal alone
-  abbrev IsOther : Code → List Code → ℕ → Type 0
-  IsOther c cs n = c.value ≡ n → list_any (λ m. n == m) plain_markers ≡ false → IsSingle c cs
-
-  each-letter : (c : Code) (cs : List Code) → may_hold_literals whole p ≡ false → (NoSigns whole → NoSigns (c ∷ cs)) → EachOf (IsOther c cs) text_markers
-  each-letter c cs none part = (λ e h. clash true refl h, (λ e h. clash true refl h, (λ e h. clash true refl h, (λ e h. clash true refl h, (λ e h. clash true refl h, (λ e h. clash true refl h, (λ e h. clash true refl h, (λ e h. clash true refl h, (λ e h. letter-h 72 c cs e refl none part, (λ e h. letter-h 104 c cs e refl none part, (λ e h. letter-w 87 c cs e refl none part, (λ e h. letter-w 119 c cs e refl none part, (λ e h. clash true refl h, (λ e h. clash true refl h, (λ e h. clash true refl h, tt)))))))))))))))
+  -- one that is no code of another row, where no literal may begin
+  other-letter : (c : Code) (cs : List Code) → is_among text_markers c ≡ true → is_among plain_markers c ≡ false → may_hold_literals whole p ≡ false → (NoSigns whole → NoSigns (c ∷ cs)) → IsSingle c cs
+  other-letter c cs e h none part =
+      at-letter c cs letter
+      (λ previous. off (gfm_autolink_literal_protocol s.bytes end previous) (c ∷ cs) none (λ k. no-protocol s.bytes end previous (c ∷ cs) (part k)))
+      (λ previous. off (gfm_autolink_literal_www s.bytes end previous) (c ∷ cs) none (λ k. no-www s.bytes end previous (c ∷ cs) (no-www-letters (c ∷ cs) (part k))))
+    where
+      letter : is_among literal_letters c ≡ true
+      letter = not-false-true (is_among literal_letters c)
+          (ap (λ b. b && not (is_among literal_letters c)) (sym e) ∙ sym (among-filter (λ n. not (list_any (λ m. n == m) literal_letters)) text_markers c.value) ∙ h)
 
   -- a letter of literals behind which none goes on
   passed-letter : (c : Code) (cs : List Code) → begins_none c.value (value_of (first_of cs)) ≡ true → IsSingle c cs
-  passed-letter c cs h earlier previous = by_h (marks (codes "Hh") c.value) refl h
+  unfolding are_words EachNone
+  passed-letter c cs h =
+      at-letter c cs (and-left (is_among literal_letters c) (not goes_on) h)
+      (λ previous. off-or-none s.options.constructs.gfm_autolink_literal (gfm_autolink_literal_protocol s.bytes end previous) (c ∷ cs) (no-scheme s.bytes end previous (c ∷ cs) (no-word schemes (c ∷ cs) (words-none schemes c cs refl parts.0))))
+      (λ previous. off-or-none s.options.constructs.gfm_autolink_literal (gfm_autolink_literal_www s.bytes end previous) (c ∷ cs) (no-www s.bytes end previous (c ∷ cs) (words-none (www ∷ []) c cs refl parts.1).0))
     where
-      next : Option ℕ
-      next = value_of (first_of cs)
+      goes_on : Bool
+      goes_on = list_any (λ word. begins_with word c.value (value_of (first_of cs))) literal_words
 
-      on : Bool
-      on = s.options.constructs.gfm_autolink_literal
-
-      Single : Type 0
-      Single = text_element s end earlier previous (c ∷ cs) ≡ Some (plain (code_leaf c), cs)
-
-      single-h : is_some_mark (codes "Tt") next ≡ false → (v : ℕ) → (v == 72 || v == 104) ≡ true → c.value ≡ v → Single
-      single-h other v k e = protocol-element s end earlier previous v c cs None e k (off-or-none on (gfm_autolink_literal_protocol s.bytes end previous) (c ∷ cs) (no-scheme s.bytes end previous c cs other))
-
-      single-w : is_some_mark (codes "Ww") next ≡ false → (v : ℕ) → (v == 87 || v == 119) ≡ true → c.value ≡ v → Single
-      single-w other v k e =
-          www-element s end earlier previous v c cs None e k (off-or-none on (gfm_autolink_literal_www s.bytes end previous) (c ∷ cs)
-          (no-www s.bytes end previous (c ∷ cs) (letters-behind 119 (119 ∷ 119 ∷ 46 ∷ []) c cs (no-next 119 87 (119 ∷ 46 ∷ []) cs other-119 other))))
-
-      by_w : (b : Bool) → marks (codes "Ww") c.value ≡ b → (if b then not (is_some_mark (codes "Ww") next) else false) ≡ true → Single
-      by_w true e k = one-of (λ n. c.value ≡ n → Single) (codes "Ww") c.value (let other = not-true (is_some_mark (codes "Ww") next) k in (single-w other 87 refl, (single-w other 119 refl, tt))) e refl
-      by_w false e k = cc
-
-      by_h : (b : Bool) → marks (codes "Hh") c.value ≡ b → (if b then not (is_some_mark (codes "Tt") next) else if marks (codes "Ww") c.value then not (is_some_mark (codes "Ww") next) else false) ≡ true → Single
-      by_h true e k = one-of (λ n. c.value ≡ n → Single) (codes "Hh") c.value (let other = not-true (is_some_mark (codes "Tt") next) k in (single-h other 72 refl, (single-h other 104 refl, tt))) e refl
-      by_h false e k = by_w (marks (codes "Ww") c.value) refl k
+      parts : (list_any (λ word. begins_with word c.value (value_of (first_of cs))) schemes ≡ false) × (list_any (λ word. begins_with word c.value (value_of (first_of cs))) (www ∷ []) ≡ false)
+      parts = or_parts (list_any (λ word. begins_with word c.value (value_of (first_of cs))) schemes) (list_any (λ word. begins_with word c.value (value_of (first_of cs))) (www ∷ []))
+          (sym (list_any-append (λ word. begins_with word c.value (value_of (first_of cs))) schemes (www ∷ [])) ∙ not-true goes_on (and-right (is_among literal_letters c) (not goes_on) h))
 
   -- each code where data does not stop
   pub stops-where : AreSingle (text_element s end) (stops_by true (markers_for whole p)) whole
@@ -251,7 +254,7 @@ module _ (s : Setting) (end : ℕ) (whole : List Code) (p : ParseState) (same : 
     where
       by_letter : (b : Bool) → is_among text_markers c ≡ b → may_hold_literals whole p ≡ false → is_among plain_markers c ≡ false → text_element s end earlier previous (c ∷ cs) ≡ Some (plain (code_leaf c), cs)
       by_letter false e none h = other-element s end earlier previous c cs e
-      by_letter true e none h = one-of (IsOther c cs) text_markers c.value (each-letter c cs none (λ k. behind-all front (c ∷ cs) (subst NoSigns w k))) e refl h earlier previous
+      by_letter true e none h = other-letter c cs e h none (λ k. behind-all front (c ∷ cs) (subst NoSigns w k)) earlier previous
 
       by_signs : (b : Bool) → may_hold_literals whole p ≡ b → is_among (if b then text_markers else plain_markers) c ≡ false → text_element s end earlier previous (c ∷ cs) ≡ Some (plain (code_leaf c), cs)
       by_signs true e h = other-element s end earlier previous c cs h

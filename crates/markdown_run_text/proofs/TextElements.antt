@@ -1,9 +1,9 @@
 -- Which element of a text stands at the codes at hand.
-use Rattle.std.proofs.Common.{◌≡◌, ℕ, Bool, true, false, not, ◌&&◌, ◌||◌, ◌==◌, List, [], ◌∷◌, Option, None, Some, refl, sym, ap, ◌∙◌, inl, inr}
-use Rattle.std.specs.Prelude.{codes, is_none, nat_lt}
+use Rattle.std.proofs.Common.{◌≡◌, ℕ, Bool, true, false, not, ◌&&◌, ◌||◌, ◌==◌, List, [], ◌∷◌, ◌++◌, Option, None, Some, refl, sym, ap, ◌∙◌}
+use Rattle.std.specs.Prelude.{codes, is_none, nat_lt, take, drop}
 use Rattle.std.specs.Str.{byte}
 use Rattle.std.specs.List.{list_any}
-use Rattle.std.proofs.lemmas.Bool.{or_parts, or_from, or_cases, eqb-true}
+use Rattle.std.proofs.lemmas.Bool.{or_parts, or_from, eqb-true}
 use Rattle.markdown_engine_content.specs.Codes.{Code, is_line_ending}
 use Rattle.markdown_engine_content.specs.Tree.{Forest, leaf}
 use Rattle.markdown_engine_content.specs.declared.event.Name.TheVariants as N
@@ -17,13 +17,13 @@ use Rattle.markdown_model.specs.Elements.{attention_run, as_plain, switched, lin
 use Rattle.markdown_model.specs.Grammar.{Reading, ◌>>◌, ◌>>=◌, provided, either, gives, one}
 use Rattle.markdown_model.specs.LabelEnd.{Element, plain, label_end}
 use Rattle.markdown_model.specs.TextLines.{data_up_to, code_leaf}
-use Rattle.markdown_model.specs.GfmAutolinkLiteral.{gfm_autolink_literal_protocol, gfm_autolink_literal_www}
+use Rattle.markdown_model.specs.GfmAutolinkLiteral.{schemes, www, first_letters, gfm_autolink_literal_protocol, gfm_autolink_literal_www}
 use Rattle.markdown_model.specs.LeafConstructs.{character_reference, gfm_task_list_item_check, span_here, code_names, math_names}
 use Rattle.markdown_model.specs.Setting.{Setting}
 use Rattle.markdown_run_row.specs.RunOverElements.{StandsAfter}
 use Rattle.markdown_run_text.specs.TryTable.{codes_in}
 use Rattle.markdown_run_text.specs.TextContent.{text_markers}
-use Rattle.markdown_run_text.proofs.TryTableLemmas.{one-of, none-of, not-in-row}
+use Rattle.markdown_run_text.proofs.TryTableLemmas.{one-of, none-of, none-passes, not-in-row}
 use Rattle.markdown_model.proofs.GrammarSteps.{bind-some, bind-none, one-here, one-other, either-first, either-second, either-some, switched-on, switched-off}
 
 -- the element of what a construct reads here, or of the code by itself
@@ -77,6 +77,12 @@ tried-data : (rows : Tries) (v : ℕ) → list_any (λ n. v == n) (codes_in rows
 unfolding tried
 tried-data [] v h = refl
 tried-data (row ∷ rows) v h = let k = not-in-row row rows v h in rw (k.0, tried) (tried-data rows v k.1)
+
+-- a code of a row, and of none before it
+tried-at : (front : Tries) (row : List ℕ × Reading Element) (behind : Tries) (v : ℕ) → list_any (λ n. v == n) (codes_in front) ≡ false → list_any (λ n. v == n) row.0 ≡ true → tried (front ++ row ∷ behind) v ≡ row.1
+unfolding tried
+tried-at [] row behind v none h = rw (h, tried) refl
+tried-at (other ∷ front) row behind v none h = let k = not-in-row other front v none in rw (k.0, tried) (tried-at front row behind v k.1 h)
 
 -- The markers of runs.
 
@@ -226,29 +232,27 @@ module _ (s : Setting) (end : ℕ) (earlier : List Element) (previous : Option C
       let r = run-row v m in
       row-none v (switched (begins_run s.options.constructs v) (attention_run v)) c cs e r.0 r.1.0 r.1.1 h
 
-  -- Literals, in either case of the letter that they begin with.
+  -- Literals, by the letters that they begin with.
 
-  -- a code of one of two values, whose rows are the same
-  two-rows : (v a b : ℕ) (on : Bool) (k : Reading Forest) (c : Code) (cs : List Code) (o : Option (Forest × List Code)) → c.value ≡ v → (v == a || v == b) ≡ true
-      → (a == byte "\n" || b == byte "\n") ≡ false → (a == byte "[" || b == byte "[") ≡ false → tried (tries s end earlier previous) a ≡ switched on (as_plain k) → tried (tries s end earlier previous) b ≡ switched on (as_plain k)
-      → (provided on >> k) (c ∷ cs) ≡ o → text_element s end earlier previous (c ∷ cs) ≡ element_here c cs o
-  two-rows v a b on k c cs o e h lines brackets first second read =
-      let line = or_parts (a == byte "\n") (b == byte "\n") lines in
-      let bracket = or_parts (a == byte "[") (b == byte "[") brackets in
-      elim (or_cases (v == a) (v == b) h) [
-        | inl x ↦ one-row a on k c cs o (e ∙ eqb-true v a x) line.0 bracket.0 first read
-        | inr x ↦ one-row b on k c cs o (e ∙ eqb-true v b x) line.1 bracket.1 second read
-      ]
+  -- a code of a row of one construct, by the rows before and behind it
+  letter-row : (front behind : Tries) (letters : List ℕ) (on : Bool) (k : Reading Forest) → tries s end earlier previous ≡ front ++ (letters, switched on (as_plain k)) ∷ behind
+      → list_any (λ n. list_any (λ m. n == m) (byte "\n" ∷ byte "[" ∷ codes_in front)) letters ≡ false
+      → (v : ℕ) (c : Code) (cs : List Code) (o : Option (Forest × List Code)) → c.value ≡ v → list_any (λ n. v == n) letters ≡ true → (provided on >> k) (c ∷ cs) ≡ o → text_element s end earlier previous (c ∷ cs) ≡ element_here c cs o
+  letter-row front behind letters on k rows apart v c cs o e h read =
+      let other = none-passes (λ n. list_any (λ m. n == m) (byte "\n" ∷ byte "[" ∷ codes_in front)) letters apart v h in
+      let line = or_parts (v == byte "\n") (list_any (λ m. v == m) (byte "[" ∷ codes_in front)) other in
+      let bracket = or_parts (v == byte "[") (list_any (λ m. v == m) (codes_in front)) line.1 in
+      one-row v on k c cs o e line.0 bracket.0 (ap (λ t. tried t v) rows ∙ tried-at front (letters, switched on (as_plain k)) behind v bracket.1 h) read
 
-  pub protocol-element : (v : ℕ) (c : Code) (cs : List Code) (o : Option (Forest × List Code)) → c.value ≡ v → (v == byte "H" || v == byte "h") ≡ true
+  pub protocol-element : (v : ℕ) (c : Code) (cs : List Code) (o : Option (Forest × List Code)) → c.value ≡ v → list_any (λ n. v == n) (first_letters schemes) ≡ true
       → (provided s.options.constructs.gfm_autolink_literal >> gfm_autolink_literal_protocol s.bytes end previous) (c ∷ cs) ≡ o → text_element s end earlier previous (c ∷ cs) ≡ element_here c cs o
-  unfolding tries tried
-  protocol-element v c cs o e h read = two-rows v (byte "H") (byte "h") s.options.constructs.gfm_autolink_literal (gfm_autolink_literal_protocol s.bytes end previous) c cs o e h refl refl refl refl read
+  unfolding tries
+  protocol-element = letter-row (take 9 (tries s end earlier previous)) (drop 10 (tries s end earlier previous)) (first_letters schemes) s.options.constructs.gfm_autolink_literal (gfm_autolink_literal_protocol s.bytes end previous) refl refl
 
-  pub www-element : (v : ℕ) (c : Code) (cs : List Code) (o : Option (Forest × List Code)) → c.value ≡ v → (v == byte "W" || v == byte "w") ≡ true
+  pub www-element : (v : ℕ) (c : Code) (cs : List Code) (o : Option (Forest × List Code)) → c.value ≡ v → list_any (λ n. v == n) (first_letters (www ∷ [])) ≡ true
       → (provided s.options.constructs.gfm_autolink_literal >> gfm_autolink_literal_www s.bytes end previous) (c ∷ cs) ≡ o → text_element s end earlier previous (c ∷ cs) ≡ element_here c cs o
-  unfolding tries tried
-  www-element v c cs o e h read = two-rows v (byte "W") (byte "w") s.options.constructs.gfm_autolink_literal (gfm_autolink_literal_www s.bytes end previous) c cs o e h refl refl refl refl read
+  unfolding tries
+  www-element = letter-row (take 10 (tries s end earlier previous)) (drop 11 (tries s end earlier previous)) (first_letters (www ∷ [])) s.options.constructs.gfm_autolink_literal (gfm_autolink_literal_www s.bytes end previous) refl refl
 
   -- Starts and ends of labels.
 

@@ -22,7 +22,7 @@ use Rattle.markdown_leaf.specs.RawText.{span_at, code_just_before}
 use Rattle.markdown_model.specs.TextLines.{code_leaf}
 use Rattle.markdown_model.specs.CodeTests.{is_value}
 use Rattle.markdown_model.specs.LeafConstructs.{gfm_task_list_item_check}
-use Rattle.markdown_model.specs.GfmAutolinkLiteral.{gfm_autolink_literal_protocol, gfm_autolink_literal_www}
+use Rattle.markdown_model.specs.GfmAutolinkLiteral.{schemes, www, first_letters, gfm_autolink_literal_protocol, gfm_autolink_literal_www}
 use Rattle.markdown_model.specs.LabelEnd.{Element, plain}
 use Rattle.markdown_model.specs.Setting.{Setting}
 use Rattle.markdown_partial.specs.PartialData.{stops_of}
@@ -134,12 +134,12 @@ protocol-so : (T : Tokenizer) (v : ℕ) (earlier : List Element) (previous : Opt
     → (provided (is_on T) >> gfm_autolink_literal_protocol (bytes_of T) (end_in T) previous) cs ≡ protocol_here T cs
 protocol-so T v earlier previous cs last e k = λ i. (provided (is_on T) >> gfm_autolink_literal_protocol (bytes_of T) (sym (end-here T v last e) i) (sym k.before i)) cs
 
-pub protocol-reads : (T : Tokenizer) (v : ℕ) → EndsWithCodes T.cursor → current_of T ≡ Some v → (v == byte "H" || v == byte "h") ≡ true → ReadsElements (protocol_here T) T
+pub protocol-reads : (T : Tokenizer) (v : ℕ) → EndsWithCodes T.cursor → current_of T ≡ Some v → list_any (λ n. v == n) (first_letters schemes) ≡ true → ReadsElements (protocol_here T) T
 protocol-reads T v last e h =
     at-hand (protocol_here T) T v e (λ c cs t rest k holds earlier previous stands.
     protocol-element (text_setting T) (end_in T) earlier previous v c cs (Some (t, rest)) k h (protocol-so T v earlier previous (c ∷ cs) last e stands ∙ holds))
 
-pub protocol-alone : (T : Tokenizer) (v : ℕ) → EndsWithCodes T.cursor → current_of T ≡ Some v → (v == byte "H" || v == byte "h") ≡ true → OrStandsAlone (protocol_here T) T
+pub protocol-alone : (T : Tokenizer) (v : ℕ) → EndsWithCodes T.cursor → current_of T ≡ Some v → list_any (λ n. v == n) (first_letters schemes) ≡ true → OrStandsAlone (protocol_here T) T
 protocol-alone T v last e h =
     alone-at (protocol_here T) T v e (λ c cs k none earlier previous stands.
     protocol-element (text_setting T) (end_in T) earlier previous v c cs None k h (protocol-so T v earlier previous (c ∷ cs) last e stands ∙ none))
@@ -148,12 +148,12 @@ www-so : (T : Tokenizer) (v : ℕ) (earlier : List Element) (previous : Option C
     → (provided (is_on T) >> gfm_autolink_literal_www (bytes_of T) (end_in T) previous) cs ≡ www_here T cs
 www-so T v earlier previous cs last e k = λ i. (provided (is_on T) >> gfm_autolink_literal_www (bytes_of T) (sym (end-here T v last e) i) (sym k.before i)) cs
 
-pub www-reads : (T : Tokenizer) (v : ℕ) → EndsWithCodes T.cursor → current_of T ≡ Some v → (v == byte "W" || v == byte "w") ≡ true → ReadsElements (www_here T) T
+pub www-reads : (T : Tokenizer) (v : ℕ) → EndsWithCodes T.cursor → current_of T ≡ Some v → list_any (λ n. v == n) (first_letters (www ∷ [])) ≡ true → ReadsElements (www_here T) T
 www-reads T v last e h =
     at-hand (www_here T) T v e (λ c cs t rest k holds earlier previous stands.
     www-element (text_setting T) (end_in T) earlier previous v c cs (Some (t, rest)) k h (www-so T v earlier previous (c ∷ cs) last e stands ∙ holds))
 
-pub www-alone : (T : Tokenizer) (v : ℕ) → EndsWithCodes T.cursor → current_of T ≡ Some v → (v == byte "W" || v == byte "w") ≡ true → OrStandsAlone (www_here T) T
+pub www-alone : (T : Tokenizer) (v : ℕ) → EndsWithCodes T.cursor → current_of T ≡ Some v → list_any (λ n. v == n) (first_letters (www ∷ [])) ≡ true → OrStandsAlone (www_here T) T
 www-alone T v last e h =
     alone-at (www_here T) T v e (λ c cs k none earlier previous stands.
     www-element (text_setting T) (end_in T) earlier previous v c cs None k h (www-so T v earlier previous (c ∷ cs) last e stands ∙ none))

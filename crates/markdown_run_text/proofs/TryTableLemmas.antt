@@ -1,7 +1,8 @@
 -- What holds of each row of a table, at each of its codes, holds of what the table says.
-use Rattle.std.proofs.Common.{◌≡◌, ℕ, Bool, true, false, ◌||◌, ◌==◌, if◌then◌else◌, List, [], ◌∷◌, Option, Some, None, refl, sym, subst, ◌∙◌}
+use Rattle.std.proofs.Common.{◌≡◌, ℕ, Bool, true, false, ◌||◌, ◌==◌, if◌then◌else◌, List, [], ◌∷◌, Option, Some, None, refl, sym, ap, subst, ◌∙◌, arith}
 use Rattle.std.specs.List.{list_any}
 use Rattle.std.proofs.lemmas.Bool.{eqb-true, or_from, or_parts}
+use Rattle.std.proofs.lemmas.Bool.Decides.{nat_tests}
 use Rattle.std.proofs.lemmas.List.Folds.{list_any-append}
 use Rattle.markdown_run_text.specs.TryTable.{Table, codes_in, said_at}
 
@@ -18,6 +19,26 @@ one-of P (n ∷ ns) v h e = by_test (v == n) refl e (one-of P ns v h.1)
     by_test : (b : Bool) → (v == n) ≡ b → (b || list_any (λ m. v == m) ns) ≡ true → (list_any (λ m. v == m) ns ≡ true → P v) → P v
     by_test true k f more = subst P (sym (eqb-true v n k)) h.0
     by_test false k f more = more f
+
+-- and it holds of each, if it holds of what is among them
+pub each-among : (P : ℕ → Type 0) (ns : List ℕ) → ((v : ℕ) → list_any (λ n. v == n) ns ≡ true → P v) → EachOf P ns
+each-among P [] h = tt
+each-among P (n ∷ ns) h = (h n (ap (λ b. b || list_any (λ m. n == m) ns) (same n)), each-among P ns (λ v e. h v (or-right (v == n) (list_any (λ m. v == m) ns) e)))
+  where
+    same : (n : ℕ) → (n == n) ≡ true
+    same n = grind (arith, nat_tests)
+
+    or-right : (x y : Bool) → y ≡ true → (x || y) ≡ true
+    or-right true y e = refl
+    or-right false y e = e
+
+-- a test that none of these passes
+pub none-passes : (p : ℕ → Bool) (ns : List ℕ) → list_any p ns ≡ false → (v : ℕ) → list_any (λ n. v == n) ns ≡ true → p v ≡ false
+none-passes p ns h v e = one-of (λ n. p n ≡ false) ns v (each ns h) e
+  where
+    each : (ms : List ℕ) → list_any p ms ≡ false → EachOf (λ n. p n ≡ false) ms
+    each [] k = tt
+    each (m ∷ ms) k = let r = or_parts (p m) (list_any p ms) k in (r.0, each ms r.1)
 
 -- a code that is not among these is none of them
 pub none-of : (ns : List ℕ) (v n : ℕ) → list_any (λ m. v == m) ns ≡ false → list_any (λ m. n == m) ns ≡ true → (v == n) ≡ false

@@ -31,6 +31,7 @@ use Rattle.markdown_leaf.specs.Autolink.{link_here}
 use Rattle.markdown_leaf.specs.CharacterEscape.{escape_here}
 use Rattle.markdown_leaf.specs.RawText as RawText
 use Rattle.markdown_model.specs.Elements.{Choice, text_choice}
+use Rattle.markdown_model.specs.GfmAutolinkLiteral.{schemes, www, literal_words, first_letters}
 use Rattle.markdown_model.specs.LabelEnd.{Element, plain}
 use Rattle.markdown_model.specs.TextLines.{data_up_to, code_leaf}
 use Rattle.markdown_model.specs.Setting.{Setting}
@@ -47,8 +48,8 @@ text_tries =
     ∷ (codes "&", (CharacterReferenceStart, TextBeforeData))
     ∷ (codes "*_~", (AttentionStart, TextBeforeData))
     ∷ (codes "<", (AutolinkStart, TextBeforeHtml))
-    ∷ (codes "Hh", (GfmAutolinkLiteralProtocolStart, TextBeforeData))
-    ∷ (codes "Ww", (GfmAutolinkLiteralWwwStart, TextBeforeData))
+    ∷ (first_letters schemes, (GfmAutolinkLiteralProtocolStart, TextBeforeData))
+    ∷ (first_letters (www ∷ []), (GfmAutolinkLiteralWwwStart, TextBeforeData))
     ∷ (codes "[", (GfmLabelStartFootnoteStart, TextBeforeLabelStartLink))
     ∷ (codes "\\", (CharacterEscapeStart, TextBeforeHardBreakEscape))
     ∷ (codes "]", (LabelEndStart, TextBeforeData))
@@ -65,7 +66,7 @@ first_try = said_at text_tries
 -- Where no literal may begin, data goes on over the letters that literals begin with.
 
 abbrev pub literal_letters : List ℕ
-literal_letters = codes "HhWw"
+literal_letters = first_letters literal_words
 
 -- the codes of the other lines
 abbrev pub plain_markers : List ℕ

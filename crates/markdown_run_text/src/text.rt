@@ -39,7 +39,7 @@ use markdown_engine_index::sequence_index::{Sequence, SequenceIndex};
 use markdown_engine_index::title_index::TitleIndex;
 use markdown_leaf_email_pass::email;
 use markdown_leaf_gfm::domain_outlook;
-use markdown_partial::partial_whitespace;
+use markdown_partial::{literal_letters, partial_whitespace};
 use std::alloc::AllocError;
 
 // Where so many names are defined, and so many labels may end, an order of the names pays. Where so many titles may begin, it pays to note
@@ -52,7 +52,14 @@ const LONG: usize = 64;
 // What is tried at which bytes: the start of what is tried first, and the state to go on with where that does not hold. The lines are
 // handed to the macro that is named, behind the words that come after its name.
 macro_rules! tries {
-    ($of_rows:ident $($more:tt)*) => {
+    ($of_rows:ident $($more:tt)*) => { literal_letters!(tries_with ($of_rows $($more)*)) };
+}
+
+// The same, with the first letters of literals.
+macro_rules! tries_with {
+    (($of_rows:ident $($more:tt)*)
+        schemes { $([$($of_scheme:literal)*] then $scheme_next:tt;)* }
+        www { $([$($of_www:literal)*] then $www_next:tt;)* }) => {
         $of_rows! {
             $($more)*
             [b'!'] LabelStartImageStart, TextBeforeData;
@@ -60,8 +67,8 @@ macro_rules! tries {
             [b'&'] CharacterReferenceStart, TextBeforeData;
             [b'*' b'_' b'~'] AttentionStart, TextBeforeData;
             [b'<'] AutolinkStart, TextBeforeHtml;
-            [b'H' b'h'] GfmAutolinkLiteralProtocolStart, TextBeforeData;
-            [b'W' b'w'] GfmAutolinkLiteralWwwStart, TextBeforeData;
+            [$($($of_scheme)*)*] GfmAutolinkLiteralProtocolStart, TextBeforeData;
+            [$($($of_www)*)*] GfmAutolinkLiteralWwwStart, TextBeforeData;
             [b'['] GfmLabelStartFootnoteStart, TextBeforeLabelStartLink;
             [b'\\'] CharacterEscapeStart, TextBeforeHardBreakEscape;
             [b']'] LabelEndStart, TextBeforeData;

@@ -174,7 +174,7 @@ def worked_pair_cases(kind, words, document, pieces, answer):
     said = ' equal but for chains' if chained and re.search('[*_~]', document) else ' equal'
     if has_blank_line(data, pieces):
         said, count = REFUSED[0], 0
-    off = [word for word in words if word[:3] == 'no-' and word[3:] in examples.SWITCHES]
+    off = [word for word in words if examples.turns_off(word)]
     own = [word for word in words if word not in off + ['outer']]
     rest = piece_fields(pieces, data) + list(document_fields(document))
     if kind == 'text' and own == words:

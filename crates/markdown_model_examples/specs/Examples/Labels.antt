@@ -1,5 +1,6 @@
 -- Worked examples, written by tools/examples.py from tools/examples.txt.
 use Rattle.std.specs.Prelude.{◌≡◌, true, [], ◌∷◌, codes, None}
+use Rattle.markdown_engine_content.specs.DefaultOptions.{default_constructs, default_options}
 use Rattle.markdown_engine_content.specs.declared.event.Name.{Name}
 use Rattle.markdown_model_examples.specs.ExampleNotation.{default, piece, enter, exit, chained, text_answer, text_outline}
 
@@ -10,9 +11,9 @@ Examples =
     -- text footnote=a «[a]»: Data 0-3
     (text_answer (record default { footnotes = (codes "a") ∷ [] }) (codes "[a]") (piece 0 0 3 0 ∷ []) ≡ (enter Name.Data 1 1 0 0 ∷ exit Name.Data 1 4 3 0 ∷ [])) ×
     -- text gfm footnote=a «[a]»: Data 0-3
-    (text_answer (record default { gfm_autolink_literal = true; gfm_label_start_footnote = true; gfm_strikethrough = true; gfm_task_list_item = true; footnotes = (codes "a") ∷ [] }) (codes "[a]") (piece 0 0 3 0 ∷ []) ≡ (enter Name.Data 1 1 0 0 ∷ exit Name.Data 1 4 3 0 ∷ [])) ×
+    (text_answer (record default { options = record default_options { constructs = record default_constructs { gfm_autolink_literal = true; gfm_label_start_footnote = true; gfm_strikethrough = true; gfm_task_list_item = true } }; footnotes = (codes "a") ∷ [] }) (codes "[a]") (piece 0 0 3 0 ∷ []) ≡ (enter Name.Data 1 1 0 0 ∷ exit Name.Data 1 4 3 0 ∷ [])) ×
     -- text gfm «[^a]»: Data 0-4
-    (text_answer (record default { gfm_autolink_literal = true; gfm_label_start_footnote = true; gfm_strikethrough = true; gfm_task_list_item = true }) (codes "[^a]") (piece 0 0 4 0 ∷ []) ≡ (enter Name.Data 1 1 0 0 ∷ exit Name.Data 1 5 4 0 ∷ [])) ×
+    (text_answer (record default { options = record default_options { constructs = record default_constructs { gfm_autolink_literal = true; gfm_label_start_footnote = true; gfm_strikethrough = true; gfm_task_list_item = true } } }) (codes "[^a]") (piece 0 0 4 0 ∷ []) ≡ (enter Name.Data 1 1 0 0 ∷ exit Name.Data 1 5 4 0 ∷ [])) ×
     -- text «[a][]»: Data 0-5
     (text_answer (default) (codes "[a][]") (piece 0 0 5 0 ∷ []) ≡ (enter Name.Data 1 1 0 0 ∷ exit Name.Data 1 6 5 0 ∷ [])) ×
     -- text definition=a «[a][x]»: Data 0-6
@@ -46,8 +47,8 @@ Examples =
     -- text outer definition=b «[a[b]]»: Data 0-2, Link 2-5, Data 5-6
     (text_outline (record default { definitions = (codes "b") ∷ [] }) (codes "[a[b]]") (piece 0 0 6 0 ∷ []) ≡ (enter Name.Data 1 1 0 0 ∷ exit Name.Data 1 3 2 0 ∷ enter Name.Link 1 3 2 0 ∷ exit Name.Link 1 6 5 0 ∷ enter Name.Data 1 6 5 0 ∷ exit Name.Data 1 7 6 0 ∷ [])) ×
     -- text shortcut definition=a «[a][b]»: Data 0-6
-    (text_answer (record default { shortcut = true; definitions = (codes "a") ∷ [] }) (codes "[a][b]") (piece 0 0 6 0 ∷ []) ≡ (enter Name.Data 1 1 0 0 ∷ exit Name.Data 1 7 6 0 ∷ [])) ×
+    (text_answer (record default { options = record default_options { label_shortcut_before_bracket = true }; definitions = (codes "a") ∷ [] }) (codes "[a][b]") (piece 0 0 6 0 ∷ []) ≡ (enter Name.Data 1 1 0 0 ∷ exit Name.Data 1 7 6 0 ∷ [])) ×
     -- text outer shortcut definition=a definition=b «[a][b]»: Link 0-6
-    (text_outline (record default { shortcut = true; definitions = (codes "a") ∷ (codes "b") ∷ [] }) (codes "[a][b]") (piece 0 0 6 0 ∷ []) ≡ (enter Name.Link 1 1 0 0 ∷ exit Name.Link 1 7 6 0 ∷ [])) ×
+    (text_outline (record default { options = record default_options { label_shortcut_before_bracket = true }; definitions = (codes "a") ∷ (codes "b") ∷ [] }) (codes "[a][b]") (piece 0 0 6 0 ∷ []) ≡ (enter Name.Link 1 1 0 0 ∷ exit Name.Link 1 7 6 0 ∷ [])) ×
     -- text outer shortcut definition=a «[a](b»: Link 0-3, Data 3-5
-    (text_outline (record default { shortcut = true; definitions = (codes "a") ∷ [] }) (codes "[a](b") (piece 0 0 5 0 ∷ []) ≡ (enter Name.Link 1 1 0 0 ∷ exit Name.Link 1 4 3 0 ∷ enter Name.Data 1 4 3 0 ∷ exit Name.Data 1 6 5 0 ∷ []))
+    (text_outline (record default { options = record default_options { label_shortcut_before_bracket = true }; definitions = (codes "a") ∷ [] }) (codes "[a](b") (piece 0 0 5 0 ∷ []) ≡ (enter Name.Link 1 1 0 0 ∷ exit Name.Link 1 4 3 0 ∷ enter Name.Data 1 4 3 0 ∷ exit Name.Data 1 6 5 0 ∷ []))

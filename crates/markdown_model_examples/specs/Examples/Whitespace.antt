@@ -1,5 +1,6 @@
 -- Worked examples, written by tools/examples.py from tools/examples.txt.
 use Rattle.std.specs.Prelude.{◌≡◌, true, [], ◌∷◌, codes}
+use Rattle.markdown_engine_content.specs.DefaultOptions.{default_constructs, default_options}
 use Rattle.markdown_engine_content.specs.declared.event.Name.{Name}
 use Rattle.markdown_model_examples.specs.ExampleNotation.{default, piece, enter, exit, text_answer, text_outline, string_answer}
 
@@ -48,7 +49,7 @@ Examples =
     -- text outer «`a` b»: CodeText 0-3, Data 3-5
     (text_outline (default) (codes "`a` b") (piece 0 0 5 0 ∷ []) ≡ (enter Name.CodeText 1 1 0 0 ∷ exit Name.CodeText 1 4 3 0 ∷ enter Name.Data 1 4 3 0 ∷ exit Name.Data 1 6 5 0 ∷ [])) ×
     -- text outer gfm «http://a b»: GfmAutolinkLiteralProtocol 0-8, Data 8-10
-    (text_outline (record default { gfm_autolink_literal = true; gfm_label_start_footnote = true; gfm_strikethrough = true; gfm_task_list_item = true }) (codes "http://a b") (piece 0 0 10 0 ∷ []) ≡ (enter Name.GfmAutolinkLiteralProtocol 1 1 0 0 ∷ exit Name.GfmAutolinkLiteralProtocol 1 9 8 0 ∷ enter Name.Data 1 9 8 0 ∷ exit Name.Data 1 11 10 0 ∷ [])) ×
+    (text_outline (record default { options = record default_options { constructs = record default_constructs { gfm_autolink_literal = true; gfm_label_start_footnote = true; gfm_strikethrough = true; gfm_task_list_item = true } } }) (codes "http://a b") (piece 0 0 10 0 ∷ []) ≡ (enter Name.GfmAutolinkLiteralProtocol 1 1 0 0 ∷ exit Name.GfmAutolinkLiteralProtocol 1 9 8 0 ∷ enter Name.Data 1 9 8 0 ∷ exit Name.Data 1 11 10 0 ∷ [])) ×
     -- text outer «␠`a`»: SpaceOrTab 0-1, CodeText 1-4
     (text_outline (default) (codes " `a`") (piece 0 0 4 0 ∷ []) ≡ (enter Name.SpaceOrTab 1 1 0 0 ∷ exit Name.SpaceOrTab 1 2 1 0 ∷ enter Name.CodeText 1 2 1 0 ∷ exit Name.CodeText 1 5 4 0 ∷ [])) ×
     -- text outer «*a* ␊ *b*»: Emphasis 0-3, SpaceOrTab 3-4, LineEnding 4-5, SpaceOrTab 5-6, Emphasis 6-9
