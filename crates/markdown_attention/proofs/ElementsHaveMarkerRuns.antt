@@ -1,5 +1,5 @@
 -- The elements of a content are sound, so its tree of labels is striped.
-use Rattle.std.proofs.Common.{◌≡◌, ℕ, Bool, false, List, [], ◌∷◌, ◌++◌, refl, sym, subst, Option, Some, None, inl, inr}
+use Rattle.std.proofs.Common.{◌≡◌, ℕ, false, List, [], ◌∷◌, ◌++◌, refl, sym, subst, Option, Some, None, inl, inr}
 use Rattle.markdown_engine_content.specs.declared.event.Name.{Name}
 use Rattle.markdown_engine_content.specs.declared.label_kind.LabelKind.{LabelKind}
 use Rattle.markdown_engine_content.specs.Codes.{Code}
@@ -7,8 +7,8 @@ use Rattle.markdown_engine_content.specs.Tree.{Forest, leaf}
 use Rattle.markdown_model.specs.CodeTests.{is_value}
 use Rattle.markdown_model.specs.Grammar.{Reading, ◌>>=◌, gives, some}
 use Rattle.markdown_model.specs.Setting.{Setting}
-use Rattle.markdown_model.specs.LabelEnd.{Element, plain, starts, ends, Label, label_before, outcome_of, label_end}
-use Rattle.markdown_model.specs.Elements.{as_plain, line_ending, data_code, attention_run, label_start_image, gfm_label_start_footnote, label_start_link, text_element, AreElementsFrom, AreElements, code_before, elements_of}
+use Rattle.markdown_model.specs.LabelEnd.{Element, plain, ends, Label, label_before, outcome_of, label_end}
+use Rattle.markdown_model.specs.Elements.{as_plain, line_ending, data_code, attention_run, text_element, AreElementsFrom, AreElements, code_before, elements_of}
 use Rattle.markdown_model.specs.InlineTree.{label_tree}
 use Rattle.markdown_model.proofs.ElementCases.{AllAre, EachConstruct, outcome_yields, text_has}
 use Rattle.markdown_model.proofs.ElementsCover.{covers_text_element}
@@ -58,18 +58,6 @@ module _ (bytes : List ℕ) where
       by_answer None h = tt
       by_answer (Some x) h = good-run bytes x.0 h
 
-  sound_image_start : (footnotes : Bool) → Sound (label_start_image footnotes)
-  unfolding label_start_image
-  sound_image_start footnotes = on_any _ _ (then_any _ _ _ λ marker. yields_gives _ (starts LabelKind.Image marker) tt)
-
-  sound_footnote_start : Sound gfm_label_start_footnote
-  unfolding gfm_label_start_footnote
-  sound_footnote_start = on_any _ _ (then_any _ _ _ λ marker. yields_gives _ (starts LabelKind.GfmFootnote marker) tt)
-
-  sound_link_start : Sound label_start_link
-  unfolding label_start_link
-  sound_link_start = on_any _ _ (then_any _ _ _ λ marker. yields_gives _ (starts LabelKind.Link marker) tt)
-
   -- Ends of labels.
 
   abbrev QuietOutcome : LabelKind × Forest → Type 0
@@ -94,13 +82,11 @@ module _ (bytes : List ℕ) where
       each cs k = record {
         none = tt;
         ending = sound_line_ending.at cs k;
-        image = λ footnotes. (sound_image_start footnotes).at cs k;
         plain_has = λ a h. (sound_plain s.bytes a h).at cs k;
         stars = λ _. (sound_run 42 (inl refl)).at cs k;
         underscores = λ _. (sound_run 95 (inr (inl refl))).at cs k;
         tildes = λ _. (sound_run 126 (inr (inr refl))).at cs k;
-        footnote = sound_footnote_start.at cs k;
-        link = sound_link_start.at cs k;
+        starts_has = λ kind marker rest some whole. tt;
         ended = (sound_label_end s earlier).at cs k;
       }
 

@@ -1,16 +1,20 @@
 -- What holds where nothing is read, and of what each construct reads at some codes, holds of the element that is read there.
-use Rattle.std.proofs.Common.{◌≡◌, ℕ, Bool, true, false, not, ◌==◌, List, [], ◌∷◌, drop, refl, subst, Option, Some, None}
+use Rattle.std.proofs.Common.{◌≡◌, ℕ, Bool, true, false, not, ◌==◌, List, [], ◌∷◌, ◌++◌, drop, refl, subst, Option, Some, None}
+use Rattle.std.specs.Prelude.{codes}
 use Rattle.std.specs.List.{list_any}
 use Rattle.std.specs.Str.{byte}
 use Rattle.markdown_engine_content.specs.Codes.{Code}
 use Rattle.markdown_engine_content.specs.Tree.{Forest, empty}
 use Rattle.markdown_engine_content.specs.declared.label_kind.LabelKind.{LabelKind}
-use Rattle.markdown_model.specs.Grammar.{Reading, ◌>>◌, either, provided}
+use Rattle.markdown_model.specs.Grammar.{Reading, ◌>>=◌, ◌>>◌, gives, either, provided, word}
 use Rattle.markdown_model.specs.Setting.{Setting}
-use Rattle.markdown_model.specs.LabelEnd.{Element, Label, is_barred, after_label, footnote_call, link_or_image, outcome_of, label_end}
+use Rattle.markdown_model.specs.LabelEnd.{Element, starts, Label, is_barred, after_label, footnote_call, link_or_image, outcome_of, label_end}
 use Rattle.markdown_model.specs.Elements.{as_plain, switched, line_ending, data_code, attention_run, label_start_image, gfm_label_start_footnote, label_start_link, code_text, math_text, Tries, tries, tried, first_check, text_element, string_element, Choice, AreElementsFrom, code_before}
-use Rattle.markdown_model.proofs.NoLinkInConstructs.{Passes, Yields, yields_bind, yields_gives, yields_passed, yields_either}
+use Rattle.markdown_model.proofs.NoLinkInConstructs.{Passes, Yields, yields_bind, yields_gives, yields_passed, yields_either, yields_before}
+use Rattle.markdown_model.proofs.OneLineReadings.{one-line, word-some}
 use Rattle.markdown_model.proofs.PlainConstructs.{ReadsPlain, plain_constructs}
+use Rattle.markdown_model.proofs.ReadingsCover.{At, Takes, itself, seen_before, takes_one, takes_word_of}
+use Rattle.markdown_model.specs.CodeLines.{IsSomeLine}
 
 module _ (P : Option (Element × List Code) → Type 0) (none : P None) (cs : List Code) where
   pub either_has : (a b : Reading Element) → P (a cs) → P (b cs) → P (either a b cs)
@@ -39,6 +43,30 @@ module _ (P : Option (Element × List Code) → Type 0) (none : P None) (cs : Li
       by_test true more = h.0
       by_test false more = more
 
+  -- starts of labels, each of which is a marker on a line
+  module _ (starts_has : (kind : LabelKind) (marker rest : List Code) → IsSomeLine marker → marker ++ rest ≡ cs → P (Some (starts kind marker, rest))) where
+    start_has : (kind : LabelKind) (a : Reading (List Code)) → Takes a → Yields IsSomeLine a → P ((a >>= λ marker. gives (starts kind marker)) cs)
+    unfolding ◌>>=◌ gives
+    start_has kind a covers line = by_answer (a cs) (covers.at cs) (line.at cs)
+      where
+        by_answer : (r : Option (List Code × List Code)) → At itself [] cs r → Passes IsSomeLine r
+            → P (elim r as (λ _. Option (Element × List Code)) [ None ↦ None | Some x ↦ Some (starts kind x.0, x.1) ])
+        by_answer None h k = none
+        by_answer (Some x) h k = starts_has kind x.0 x.1 k h
+
+    image_has : (footnotes : Bool) → P (label_start_image footnotes cs)
+    unfolding label_start_image word
+    image_has footnotes =
+        start_has LabelKind.Image _ (seen_before _ _ _ _ (takes_word_of (codes "!["))) (yields_before _ _ _ (word-some (byte "!") (codes "[") refl))
+
+    footnote_has : P (gfm_label_start_footnote cs)
+    unfolding gfm_label_start_footnote word
+    footnote_has = start_has LabelKind.GfmFootnote _ (takes_word_of (codes "[^")) (word-some (byte "[") (codes "^") refl)
+
+    link_has : P (label_start_link cs)
+    unfolding label_start_link
+    link_has = start_has LabelKind.Link _ (takes_one _) (one-line _ λ c. refl)
+
   -- what stands by itself, where it is switched on
   module _ (bytes : List ℕ) (plain_has : (a : Reading Forest) → ReadsPlain bytes a → P (as_plain a cs)) where
     switched_plain : (on : Bool) (a : Reading Forest) → ReadsPlain bytes a → P (switched on (as_plain a) cs)
@@ -52,23 +80,21 @@ module _ (P : Option (Element × List Code) → Type 0) (none : P None) (cs : Li
       either_has _ _ (switched_plain s.bytes plain_has _ _ (search plain_constructs))
       (either_has _ _ (switched_plain s.bytes plain_has _ _ (search plain_constructs)) more)
 
--- It holds of what stands by itself, of what each other construct reads there but data, and of runs where they are looked for.
+-- It holds of what stands by itself, of starts of labels, of what each other construct reads there but data, and of runs where they are looked for.
 pub record EachConstruct (s : Setting) (end : ℕ) (earlier : List Element) (previous : Option Code) (P : Option (Element × List Code) → Type 0) (cs : List Code) : Type 0 where
   pub none : P None
   pub ending : P (line_ending cs)
-  pub image : (footnotes : Bool) → P (label_start_image footnotes cs)
   pub plain_has : (a : Reading Forest) → ReadsPlain s.bytes a → P (as_plain a cs)
   pub stars : s.options.constructs.attention ≡ true → P (attention_run (byte "*") cs)
   pub underscores : s.options.constructs.attention ≡ true → P (attention_run (byte "_") cs)
   pub tildes : s.options.constructs.gfm_strikethrough ≡ true → P (attention_run (byte "~") cs)
-  pub footnote : P (gfm_label_start_footnote cs)
-  pub link : P (label_start_link cs)
+  pub starts_has : (kind : LabelKind) (marker rest : List Code) → IsSomeLine marker → marker ++ rest ≡ cs → P (Some (starts kind marker, rest))
   pub ended : P (label_end s earlier cs)
 
 module _ (s : Setting) (end : ℕ) (earlier : List Element) (previous : Option Code) (P : Option (Element × List Code) → Type 0) where
   each_has : (cs : List Code) (h : EachConstruct s end earlier previous P cs) → EachHas P h.none cs (tries s end earlier previous)
   unfolding tries code_text math_text
-  each_has cs h = (h.ending, (on _ _ (λ _. h.image _), (own _ _ (search plain_constructs), (own _ _ (search plain_constructs), from_references))))
+  each_has cs h = (h.ending, (on _ _ (λ _. image_has P h.none cs h.starts_has _), (own _ _ (search plain_constructs), (own _ _ (search plain_constructs), from_references))))
     where
       on : (b : Bool) (a : Reading Element) → (b ≡ true → P (a cs)) → P (switched b a cs)
       on = switched_has P h.none cs
@@ -80,8 +106,10 @@ module _ (s : Setting) (end : ℕ) (earlier : List Element) (previous : Option C
       both = either_has P h.none cs
 
       from_brackets : EachHas P h.none cs (drop 11 (tries s end earlier previous))
-      from_brackets =
-          (both _ _ (on _ _ (λ _. h.footnote)) (on _ _ (λ _. h.link)), (both _ _ (own _ _ (search plain_constructs)) (own _ _ (search plain_constructs)), (on _ _ (λ _. h.ended), tt)))
+      from_brackets = (
+        both _ _ (on _ _ (λ _. footnote_has P h.none cs h.starts_has)) (on _ _ (λ _. link_has P h.none cs h.starts_has)),
+        (both _ _ (own _ _ (search plain_constructs)) (own _ _ (search plain_constructs)), (on _ _ (λ _. h.ended), tt)),
+      )
 
       from_angles : EachHas P h.none cs (drop 8 (tries s end earlier previous))
       from_angles =

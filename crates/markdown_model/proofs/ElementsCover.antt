@@ -1,15 +1,14 @@
 -- The elements of a content cover its codes.
-use Rattle.std.proofs.Common.{◌≡◌, ℕ, Bool, List, [], ◌∷◌, ◌++◌, refl, sym, ◌∙◌, ap, Option, Some, None}
+use Rattle.std.proofs.Common.{◌≡◌, ℕ, List, [], ◌∷◌, ◌++◌, refl, sym, ◌∙◌, ap, Option, Some, None}
 use Rattle.markdown_engine_content.specs.declared.event.Name.{Name}
-use Rattle.markdown_engine_content.specs.declared.label_kind.LabelKind.{LabelKind}
 use Rattle.markdown_engine_content.specs.Codes.{Code}
 use Rattle.markdown_engine_content.specs.Tree.{Forest, leaf}
 use Rattle.markdown_model.specs.Grammar.{Reading}
 use Rattle.markdown_model.specs.Setting.{Setting}
-use Rattle.markdown_model.specs.LabelEnd.{Element, plain, starts}
-use Rattle.markdown_model.specs.Elements.{as_plain, line_ending, data_code, attention_run, label_start_image, gfm_label_start_footnote, label_start_link, text_element, string_element, Choice, AreElementsFrom, code_before}
+use Rattle.markdown_model.specs.LabelEnd.{Element, plain}
+use Rattle.markdown_model.specs.Elements.{as_plain, line_ending, data_code, attention_run, text_element, string_element, Choice, AreElementsFrom, code_before}
 use Rattle.markdown_model.proofs.LeafCodes.{codes-leaf}
-use Rattle.markdown_model.proofs.ReadingsCover.{At, Covers, bind, given, one_of, seen_before, takes_one, takes_some, takes_word}
+use Rattle.markdown_model.proofs.ReadingsCover.{At, Covers, bind, given, one_of, takes_one, takes_some}
 use Rattle.markdown_model.proofs.PlainConstructs.{ReadsPlain}
 use Rattle.markdown_model.proofs.LabelsCover.{element_codes, elements_codes, unused, covers_label_end}
 use Rattle.markdown_model.proofs.ElementCases.{EachConstruct, string_has, text_has}
@@ -33,18 +32,6 @@ module _ (d : ℕ) where
   unfolding attention_run
   covers_run marker = bind _ _ _ _ _ (takes_some _) λ markers. given _ _ (plain (leaf Name.AttentionSequence markers)) (codes-leaf Name.AttentionSequence markers)
 
-  pub covers_image_start : (footnotes : Bool) → Covers (element_codes d) [] (label_start_image footnotes)
-  unfolding label_start_image
-  covers_image_start footnotes = bind _ _ _ _ _ (seen_before _ _ _ _ (takes_word "![")) λ marker. given _ _ (starts LabelKind.Image marker) refl
-
-  pub covers_footnote_start : Covers (element_codes d) [] gfm_label_start_footnote
-  unfolding gfm_label_start_footnote
-  covers_footnote_start = bind _ _ _ _ _ (takes_word "[^") λ marker. given _ _ (starts LabelKind.GfmFootnote marker) refl
-
-  pub covers_link_start : Covers (element_codes d) [] label_start_link
-  unfolding label_start_link
-  covers_link_start = bind _ _ _ _ _ (takes_one _) λ marker. given _ _ (starts LabelKind.Link marker) refl
-
 pub covers_text_element : (s : Setting) (end : ℕ) (earlier : List Element) (previous : Option Code) → Covers (element_codes (unused earlier)) [] (text_element s end earlier previous)
 covers_text_element s end earlier previous = record { at = λ cs. text_has s end earlier previous (At (element_codes d) [] cs) cs (each cs) ((covers_data_code d).at cs) }
   where
@@ -55,13 +42,11 @@ covers_text_element s end earlier previous = record { at = λ cs. text_has s end
     each cs = record {
       none = tt;
       ending = (covers_line_ending d).at cs;
-      image = λ footnotes. (covers_image_start d footnotes).at cs;
       plain_has = λ a h. (covers_plain d s.bytes a h).at cs;
       stars = λ _. (covers_run d 42).at cs;
       underscores = λ _. (covers_run d 95).at cs;
       tildes = λ _. (covers_run d 126).at cs;
-      footnote = (covers_footnote_start d).at cs;
-      link = (covers_link_start d).at cs;
+      starts_has = λ kind marker rest some whole. whole;
       ended = (covers_label_end s earlier).at cs;
     }
 

@@ -1,12 +1,13 @@
 -- An element begins at each code, and what reads it takes a code at least.
-use Rattle.std.proofs.Common.{ℕ, Bool, List, ◌∷◌, refl, Option, Some, None}
+use Rattle.std.proofs.Common.{◌≡◌, ◌≢◌, ℕ, ◌+◌, ◌≤◌, List, [], ◌∷◌, ◌++◌, length, refl, ap, arith, Option, Some, None}
+use Rattle.std.proofs.lemmas.List.{length-append}
 use Rattle.markdown_engine_content.specs.Codes.{Code}
 use Rattle.markdown_engine_content.specs.Tree.{Forest}
 use Rattle.markdown_model.specs.Grammar.{Reading, ◌>>=◌, gives, either, one}
 use Rattle.markdown_model.specs.Setting.{Setting}
 use Rattle.markdown_model.specs.LabelEnd.{Element, label_before, label_end}
-use Rattle.markdown_model.specs.Elements.{as_plain, line_ending, data_code, attention_run, label_start_image, gfm_label_start_footnote, label_start_link, tries, tried, first_check, text_element, string_element}
-use Rattle.markdown_model.proofs.ReadsACode.{Left, Consumes, taking, first_takes, both_take, gives_takes, either_takes, before_takes, takes_no_more, one_takes, text_takes}
+use Rattle.markdown_model.specs.Elements.{as_plain, line_ending, data_code, attention_run, tries, tried, first_check, text_element, string_element}
+use Rattle.markdown_model.proofs.ReadsACode.{Left, Consumes, taking, first_takes, both_take, gives_takes, either_takes, takes_no_more, one_takes}
 use Rattle.markdown_model.proofs.LabelsCover.{covers_outcome}
 use Rattle.markdown_model.proofs.PlainConstructs.{ReadsPlain, plain-takes}
 use Rattle.markdown_model.proofs.ElementCases.{EachConstruct, string_has, text_has}
@@ -27,17 +28,10 @@ run_takes : (marker : ℕ) → Consumes 1 (attention_run marker)
 unfolding attention_run
 run_takes marker = search taking depth 8
 
-image_start_takes : (footnotes : Bool) → Consumes 1 (label_start_image footnotes)
-unfolding label_start_image
-image_start_takes footnotes = first_takes _ _ (before_takes _ _ _ (text_takes "![" _ _ refl)) λ marker. gives_takes _
-
-footnote_start_takes : Consumes 1 gfm_label_start_footnote
-unfolding gfm_label_start_footnote
-footnote_start_takes = first_takes _ _ (text_takes "[^" _ _ refl) λ marker. gives_takes _
-
-link_start_takes : Consumes 1 label_start_link
-unfolding label_start_link
-link_start_takes = search taking depth 8
+-- some codes before others
+shorter : (xs ys cs : List Code) → xs ≢ [] → xs ++ ys ≡ cs → 1 + length ys ≤ length cs
+shorter [] ys cs some e = absurd (some refl)
+shorter (x ∷ xs) ys cs some e = omega (arith, length-append xs ys, ap length e)
 
 label_end_takes : (s : Setting) (earlier : List Element) → Consumes 1 (label_end s earlier)
 unfolding label_end
@@ -52,13 +46,11 @@ text_element_takes s end earlier previous = record { at = λ cs. text_has s end 
     each cs = record {
       none = tt;
       ending = line_ending_takes.at cs;
-      image = λ footnotes. (image_start_takes footnotes).at cs;
       plain_has = λ a h. (plain_takes s.bytes a h).at cs;
       stars = λ _. (run_takes 42).at cs;
       underscores = λ _. (run_takes 95).at cs;
       tildes = λ _. (run_takes 126).at cs;
-      footnote = footnote_start_takes.at cs;
-      link = link_start_takes.at cs;
+      starts_has = λ kind marker rest some whole. shorter marker rest cs some.0 whole;
       ended = (label_end_takes s earlier).at cs;
     }
 

@@ -9,7 +9,7 @@ use Rattle.markdown_engine_content.specs.Tree.{Forest, leaf, ◌⊕◌, group, t
 use Rattle.markdown_model.specs.Grammar.{Reading, ◌>>=◌, ◌>>◌, gives, provided, either}
 use Rattle.markdown_model.specs.Setting.{Setting}
 use Rattle.markdown_model.specs.LabelEnd.{Element, plain, starts, ends, Label, label_before, is_image, is_footnote, is_barred, makes_link, footnote_call, link_or_image, link_kind, outcome_of, label_end}
-use Rattle.markdown_model.specs.Elements.{as_plain, line_ending, data_code, attention_run, label_start_image, gfm_label_start_footnote, label_start_link, text_element, Choice, AreElementsFrom, code_before, text_choice, elements_of}
+use Rattle.markdown_model.specs.Elements.{as_plain, line_ending, data_code, attention_run, text_element, Choice, AreElementsFrom, code_before, text_choice, elements_of}
 use Rattle.markdown_model.specs.Pairs.{pair_list}
 use Rattle.markdown_model.specs.BracketGroups.{paired, nest, nested, onto, after_loose, joined, loose}
 use Rattle.markdown_model.specs.Passes.{Start, End, as_bracket, start_marker, start_tree, label_name, label_group, loose_start, loose_end, labelled, labels_of, merged, trimmed, with_emails_apart}
@@ -112,18 +112,6 @@ module _ (us : List UnusedStart) where
   unfolding attention_run
   allowed_run marker = then_any _ _ _ λ markers. yields_gives _ (plain (leaf Name.AttentionSequence markers)) (holds-leaf Name.AttentionSequence markers)
 
-  allowed_image_start : (footnotes : Bool) → Yields (IsAllowed us) (label_start_image footnotes)
-  unfolding label_start_image
-  allowed_image_start footnotes = then_any _ _ _ λ marker. yields_gives _ (starts LabelKind.Image marker) tt
-
-  allowed_footnote_start : Yields (IsAllowed us) gfm_label_start_footnote
-  unfolding gfm_label_start_footnote
-  allowed_footnote_start = then_any _ _ _ λ marker. yields_gives _ (starts LabelKind.GfmFootnote marker) tt
-
-  allowed_link_start : Yields (IsAllowed us) label_start_link
-  unfolding label_start_link
-  allowed_link_start = then_any _ _ _ λ marker. yields_gives _ (starts LabelKind.Link marker) tt
-
 allowed_text_element : (s : Setting) (end : ℕ) (earlier : List Element) (previous : Option Code) → Yields (IsAllowed (unused_starts earlier)) (text_element s end earlier previous)
 allowed_text_element s end earlier previous = record { at = λ cs. text_has s end earlier previous (Passes (IsAllowed us)) cs (each cs) ((allowed_data_code us).at cs) }
   where
@@ -134,13 +122,11 @@ allowed_text_element s end earlier previous = record { at = λ cs. text_has s en
     each cs = record {
       none = tt;
       ending = (allowed_line_ending us).at cs;
-      image = λ footnotes. (allowed_image_start us footnotes).at cs;
       plain_has = λ a h. (allowed_plain us s.bytes a h).at cs;
       stars = λ _. (allowed_run us 42).at cs;
       underscores = λ _. (allowed_run us 95).at cs;
       tildes = λ _. (allowed_run us 126).at cs;
-      footnote = (allowed_footnote_start us).at cs;
-      link = (allowed_link_start us).at cs;
+      starts_has = λ kind marker rest some whole. tt;
       ended = (allowed_label_end s earlier).at cs;
     }
 

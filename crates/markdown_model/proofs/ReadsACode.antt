@@ -5,7 +5,7 @@ use Rattle.std.proofs.lemmas.List.{length-append}
 use Prim.Native.String.{String}
 use Rattle.markdown_engine_content.specs.Codes.{Code}
 use Rattle.markdown_model.specs.CodeTests.{is_empty}
-use Rattle.markdown_model.specs.Grammar.{Reading, ◌>>=◌, gives, either, before, one, some, any_number, span, with_first, word_of, word, ◌then_◌}
+use Rattle.markdown_model.specs.Grammar.{Reading, ◌>>=◌, gives, either, one, some, any_number, span, with_first, word_of, word, ◌then_◌}
 use Rattle.markdown_model.specs.HtmlText.{html_codes, open_tag, closing_tag, comment, instruction, declaration, cdata}
 use Rattle.markdown_model.proofs.LeafCodes.{span-append}
 use Rattle.markdown_model.proofs.ReadingsCover.{At, Covers, takes_one, takes_then, takes_optional, takes_repeatedly, takes_word, takes_through, takes_tag_name, takes_spaces, takes_optional_spaces, takes_attribute}
@@ -63,18 +63,6 @@ module _ {A : Type 0} where
       by_answer : (cs : List Code) (r : Option (A × List Code)) → Left n cs r → Left n cs (elim r [ None ↦ b cs | Some x ↦ Some x ])
       by_answer cs None h = hb.at cs
       by_answer cs (Some x) h = h
-
-  pub before_takes : (n : ℕ) (a : Reading A) (p : List Code → Bool) → Consumes n a → Consumes n (before a p)
-  unfolding before
-  before_takes n a p h = record { at = λ cs. by_answer cs (a cs) (h.at cs) }
-    where
-      by_test : (cs : List Code) (x : A × List Code) (b : Bool) → n + length x.1 ≤ length cs → Left n cs (elim b [ true ↦ Some x | false ↦ None ])
-      by_test cs x true h = h
-      by_test cs x false h = tt
-
-      by_answer : (cs : List Code) (r : Option (A × List Code)) → Left n cs r → Left n cs (elim r [ None ↦ None | Some x ↦ elim (p x.1) [ true ↦ Some x | false ↦ None ] ])
-      by_answer cs None h = tt
-      by_answer cs (Some x) h = by_test cs x (p x.1) h
 
   pub weaker : (a : Reading A) → Consumes 1 a → Consumes 0 a
   weaker a h = record { at = λ cs. by_answer cs (a cs) (h.at cs) }

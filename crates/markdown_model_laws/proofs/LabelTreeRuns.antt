@@ -14,7 +14,7 @@ use Rattle.markdown_model.specs.Grammar.{Reading, ◌>>=◌, gives, some, span}
 use Rattle.markdown_model.specs.Setting.{Setting}
 use Rattle.markdown_model.specs.Runs.{marker_of}
 use Rattle.markdown_model.specs.LabelEnd.{Element, plain, starts, ends, Label, label_before, outcome_of, label_end}
-use Rattle.markdown_model.specs.Elements.{as_plain, line_ending, data_code, attention_run, label_start_image, gfm_label_start_footnote, label_start_link, text_element, AreElementsFrom, code_before, elements_of}
+use Rattle.markdown_model.specs.Elements.{as_plain, line_ending, data_code, attention_run, text_element, AreElementsFrom, code_before, elements_of}
 use Rattle.markdown_model.specs.BracketGroups.{nest, onto, after_loose, joined, loose}
 use Rattle.markdown_model.specs.Passes.{Start, End, as_bracket, start_marker, start_tree, label_group, loose_start, loose_end, labelled, labels_of, is_nothing}
 use Rattle.markdown_model.proofs.ReadsACode.{Left}
@@ -188,21 +188,6 @@ fine_run m h = record { at = λ cs. by_codes (span (is_value m) cs) (span-all (i
     by_codes ([], rest) k l = tt
     by_codes (c ∷ ds, rest) k l = inr (read c ds rest k l)
 
-fine_start : (a : Reading (List Code)) (kind : LabelKind) → Yields Always (a >>= λ marker. gives (starts kind marker))
-fine_start a kind = then_any _ _ _ λ marker. yields_gives _ (starts kind marker) (λ rest. tt)
-
-fine_image_start : (footnotes : Bool) → Fine (label_start_image footnotes)
-unfolding label_start_image
-fine_image_start footnotes = fine_always _ (fine_start _ LabelKind.Image)
-
-fine_footnote_start : Fine gfm_label_start_footnote
-unfolding gfm_label_start_footnote
-fine_footnote_start = fine_always _ (fine_start _ LabelKind.GfmFootnote)
-
-fine_link_start : Fine label_start_link
-unfolding label_start_link
-fine_link_start = fine_always _ (fine_start _ LabelKind.Link)
-
 abbrev QuietOutcome : LabelKind × Forest → Type 0
 QuietOutcome outcome = IsQuiet false outcome.1
 
@@ -223,13 +208,11 @@ fine_text_element s end earlier previous cs = text_has s end earlier previous An
     each = record {
       none = tt;
       ending = fine_line_ending.at cs;
-      image = λ footnotes. (fine_image_start footnotes).at cs;
       plain_has = λ a h. (fine_plain s.bytes a h).at cs;
       stars = λ _. (fine_run 42 refl).at cs;
       underscores = λ _. (fine_run 95 refl).at cs;
       tildes = λ _. (fine_run 126 refl).at cs;
-      footnote = fine_footnote_start.at cs;
-      link = fine_link_start.at cs;
+      starts_has = λ kind marker rest some whole. tt;
       ended = (fine_label_end s earlier).at cs;
     }
 

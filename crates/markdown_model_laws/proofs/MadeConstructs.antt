@@ -108,7 +108,7 @@ rows-made empty h = refl
 rows-made (leaf_then name link cs rest) h = λ i. not (h.0.0 i) && (not (h.0.1 i) && rows-made rest h.1 i)
 rows-made (group_then name enter exit inside rest) h = absurd h
 
-some-not-empty : (cs : List Code) → cs ≢ [] → is_empty cs ≡ false
+pub some-not-empty : (cs : List Code) → cs ≢ [] → is_empty cs ≡ false
 some-not-empty [] h = absurd (h refl)
 some-not-empty (c ∷ cs) h = refl
 
@@ -166,7 +166,7 @@ abbrev pub Makes : Reading Forest → Type 0
 Makes a = Yields IsMade a
 
 -- a reading that takes a code at least gives one
-pub gives-some : (a : Reading (List Code)) → Takes a → Consumes 1 a → Yields IsSome a
+gives-some : (a : Reading (List Code)) → Takes a → Consumes 1 a → Yields IsSome a
 gives-some a h k = record { at = λ cs. by_answer cs (a cs) refl }
   where
     none : (xs cs rest : List Code) → xs ≡ [] → cs ≡ xs ++ rest → 1 + length rest ≤ length cs → ⊥

@@ -1,6 +1,6 @@
 -- What is made of the elements of a content: each leaf has a code and is no email literal, each group but the text of a label reaches from where its first
 -- tree begins to where its last one ends, none is a pair's, and an autolink holds leaves of its own.
-use Rattle.std.proofs.Common.{◌≡◌, ℕ, Bool, true, false, ◌&&◌, ◌||◌, not, List, [], ◌∷◌, length, drop, refl, ◌∙◌, Option, Some, None, ap}
+use Rattle.std.proofs.Common.{◌≡◌, ℕ, true, false, ◌&&◌, ◌||◌, not, List, [], ◌∷◌, length, drop, refl, ◌∙◌, Option, Some, None, ap}
 use Rattle.std.proofs.lemmas.Bool.{and_parts}
 use Rattle.std.proofs.Math.Bool.{or-true}
 use Rattle.markdown_engine_content.specs.declared.event.Name.{Name}
@@ -11,18 +11,16 @@ use Rattle.markdown_engine_content.specs.Tree.{Forest, empty, leaf_then, group_t
 use Rattle.markdown_model.specs.Grammar.{Reading}
 use Rattle.markdown_model.specs.Setting.{Setting}
 use Rattle.markdown_model.specs.LabelEnd.{Element, plain, starts, ends, Label, label_before, outcome_of, label_end}
-use Rattle.markdown_model.specs.Elements.{as_plain, line_ending, data_code, attention_run, label_start_image, gfm_label_start_footnote, label_start_link, text_element, string_element, text_choice, string_choice, elements_of, string_elements_of}
+use Rattle.markdown_model.specs.Elements.{as_plain, line_ending, data_code, attention_run, text_element, string_element, text_choice, string_choice, elements_of, string_elements_of}
 use Rattle.markdown_model.specs.Passes.{End, start_marker, start_tree, label_name, label_group, labels_of, is_nothing}
-use Rattle.markdown_model.proofs.ReadsACode.{text_takes}
 use Rattle.markdown_model.proofs.ElementCases.{AllAre, EachConstruct, all_are, outcome_yields, string_has, text_has}
 use Rattle.markdown_model.proofs.OneElementList.{text_elements, string_elements}
 use Rattle.markdown_model.proofs.LabelTreeFacts.{labels-have}
-use Rattle.markdown_model.proofs.NoLinkInConstructs.{Passes, Yields, yields_bind, yields_gives, yields_either, yields_before, then_any}
-use Rattle.markdown_model.proofs.ReadingsCover.{takes_word}
+use Rattle.markdown_model.proofs.NoLinkInConstructs.{Passes, Yields, yields_bind, yields_gives, yields_either, then_any}
 use Rattle.markdown_model.specs.CodeTests.{is_empty}
 use Rattle.markdown_model_laws.specs.EmailsInData.{is_email}
 use Rattle.markdown_model_laws.specs.TreesFilled.{is_label_text}
-use Rattle.markdown_model_laws.proofs.MadeConstructs.{is_single, made, reaches, made-join, made-leaf, made-group, IsSome, IsMade, gives-some, one-gives, plain-made, makes_after_label}
+use Rattle.markdown_model_laws.proofs.MadeConstructs.{is_single, made, reaches, made-join, made-leaf, made-group, IsSome, IsMade, some-not-empty, one-gives, plain-made, makes_after_label}
 use Rattle.markdown_model.proofs.PlainConstructs.{IsPlainTree, ReadsPlain}
 
 -- Elements.
@@ -55,18 +53,6 @@ good_run : (marker : ℕ) → Yields IsGood (attention_run marker)
 unfolding attention_run
 good_run marker = then_any _ _ _ λ markers. yields_gives _ (plain (leaf Name.AttentionSequence markers)) (made-leaf false Name.AttentionSequence markers)
 
-good_image_start : (footnotes : Bool) → Yields IsGood (label_start_image footnotes)
-unfolding label_start_image
-good_image_start footnotes = yields_bind IsSome _ _ _ (yields_before _ _ _ (gives-some _ (takes_word "![") (text_takes "![" _ _ refl))) λ marker h. yields_gives _ (starts LabelKind.Image marker) h
-
-good_footnote_start : Yields IsGood gfm_label_start_footnote
-unfolding gfm_label_start_footnote
-good_footnote_start = yields_bind IsSome _ _ _ (gives-some _ (takes_word "[^") (text_takes "[^" _ _ refl)) λ marker h. yields_gives _ (starts LabelKind.GfmFootnote marker) h
-
-good_link_start : Yields IsGood label_start_link
-unfolding label_start_link
-good_link_start = yields_bind IsSome _ _ _ (one-gives _) λ marker h. yields_gives _ (starts LabelKind.Link marker) h
-
 good_outcome : (s : Setting) (l : Option Label) (back : List Code) → Yields IsGoodOutcome (outcome_of s l back)
 good_outcome s l back = outcome_yields IsMade refl s (makes_after_label s) l back
 
@@ -83,13 +69,11 @@ good_text_element s end earlier previous cs = text_has s end earlier previous (P
     each = record {
       none = tt;
       ending = good_line_ending.at cs;
-      image = λ footnotes. (good_image_start footnotes).at cs;
       plain_has = λ a h. (good_plain s.bytes a h).at cs;
       stars = λ _. (good_run 42).at cs;
       underscores = λ _. (good_run 95).at cs;
       tildes = λ _. (good_run 126).at cs;
-      footnote = good_footnote_start.at cs;
-      link = good_link_start.at cs;
+      starts_has = λ kind marker rest some whole. some-not-empty marker some.0;
       ended = (good_label_end s earlier).at cs;
     }
 

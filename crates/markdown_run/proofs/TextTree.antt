@@ -7,7 +7,7 @@ use Rattle.markdown_engine_content.specs.declared.event.Name.{Name}
 use Rattle.markdown_engine_content.specs.declared.event.Name.TheVariants as N
 use Rattle.markdown_engine_content.specs.declared.configuration.Constructs.{Constructs}
 use Rattle.markdown_engine_content.specs.declared.label_kind.LabelKind.{LabelKind}
-use Rattle.markdown_model.specs.Elements.{attention_run, as_plain, line_ending, data_code, text_element, label_start_image, gfm_label_start_footnote, label_start_link, text_choice, AreElements, elements_of}
+use Rattle.markdown_model.specs.Elements.{attention_run, as_plain, line_ending, data_code, text_element, text_choice, AreElements, elements_of}
 use Rattle.markdown_model.specs.Grammar.{Reading}
 use Rattle.markdown_model.specs.BracketGroups.{paired}
 use Rattle.markdown_model.specs.InlineTree.{label_tree, raw_tree, finished_text, text_tree}
@@ -53,18 +53,6 @@ module _ (P : Element → Type 0) (s : Setting) (h : HoldsOfParts P s.options.co
   unfolding data_code
   data_yields = then_any _ _ _ λ c. yields_gives _ (plain (leaf N.Data c)) (h.leaves N.Data c refl)
 
-  image_yields : (footnotes : Bool) → Yields P (label_start_image footnotes)
-  unfolding label_start_image
-  image_yields footnotes = then_any _ _ _ λ marker. yields_gives _ _ (h.opens LabelKind.Image marker)
-
-  footnote_yields : Yields P gfm_label_start_footnote
-  unfolding gfm_label_start_footnote
-  footnote_yields = then_any _ _ _ λ marker. yields_gives _ _ (h.opens LabelKind.GfmFootnote marker)
-
-  link_yields : Yields P label_start_link
-  unfolding label_start_link
-  link_yields = then_any _ _ _ λ marker. yields_gives _ _ (h.opens LabelKind.Link marker)
-
   end_yields : (earlier : List Element) → Yields P (label_end s earlier)
   unfolding label_end
   end_yields earlier = then_any _ _ _ λ back. yields_either _ _ _ (then_any _ _ _ λ outcome. yields_gives _ _ (h.closes back (Some outcome))) (yields_gives _ _ (h.closes back None))
@@ -76,13 +64,11 @@ module _ (P : Element → Type 0) (s : Setting) (h : HoldsOfParts P s.options.co
       each = record {
         none = tt;
         ending = ending_yields.at cs;
-        image = λ footnotes. (image_yields footnotes).at cs;
         plain_has = λ a k. (plain_yields a k).at cs;
         stars = λ e. (h.stars e).at cs;
         underscores = λ e. (h.underscores e).at cs;
         tildes = λ e. (h.tildes e).at cs;
-        footnote = footnote_yields.at cs;
-        link = link_yields.at cs;
+        starts_has = λ kind marker rest some whole. h.opens kind marker;
         ended = (end_yields earlier).at cs;
       }
 

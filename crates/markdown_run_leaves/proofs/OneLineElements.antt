@@ -6,19 +6,19 @@ use Rattle.markdown_engine_content.specs.Tree.{Forest, leaf, leaf_codes}
 use Rattle.markdown_engine_content.specs.declared.event.Name.TheVariants as N
 use Rattle.markdown_engine_content.specs.declared.label_kind.LabelKind.{LabelKind}
 use Rattle.markdown_model.specs.CodeTests.{is_value}
-use Rattle.markdown_model.specs.Elements.{as_plain, line_ending, data_code, attention_run, label_start_image, gfm_label_start_footnote, label_start_link, Tries, tries, tried, first_check, text_element, string_element, text_choice, string_choice, Choice, AreElementsFrom, AreElements, AreStringElements, code_before}
-use Rattle.markdown_model.specs.Grammar.{Reading, ◌>>=◌, gives, either, one, word}
+use Rattle.markdown_model.specs.Elements.{as_plain, line_ending, data_code, attention_run, Tries, tries, tried, first_check, text_element, string_element, text_choice, string_choice, Choice, AreElementsFrom, AreElements, AreStringElements, code_before}
+use Rattle.markdown_model.specs.Grammar.{Reading, ◌>>=◌, gives, either, one}
 use Rattle.markdown_model.specs.LabelEnd.{Element, plain, starts, ends, Label, label_before, outcome_of, label_end}
 use Rattle.markdown_model.specs.Setting.{Setting}
 use Rattle.markdown_model.proofs.ElementCases.{AllAre, EachConstruct, check_has, either_has, outcome_yields, row_has, string_has}
 use Rattle.markdown_model.proofs.ElementsCover.{covers_text_element, covers_string_element}
 use Rattle.markdown_model.proofs.LabelsCover.{element_codes, unused}
-use Rattle.markdown_model.proofs.NoLinkInConstructs.{Passes, Yields, yields_bind, yields_gives, yields_either, yields_before}
+use Rattle.markdown_model.proofs.NoLinkInConstructs.{Passes, Yields, yields_bind, yields_gives, yields_either}
 use Rattle.markdown_model.proofs.ReadingsCover.{At, Covers}
 use Rattle.markdown_model.specs.CodeLines.{IsSomeLine, AreSpaced}
 use Rattle.markdown_run_leaves.specs.OneLineLeaves.{IsLined, AtStart, IsLinedElement}
 use Rattle.markdown_run_leaves.proofs.OneLineConstructs.{Tree, one-leaf, line-leaf, plain-lined, after-tree}
-use Rattle.markdown_model.proofs.OneLineReadings.{IsOne, one-one, one-line, some-line, word-some}
+use Rattle.markdown_model.proofs.OneLineReadings.{IsOne, one-one, one-line, some-line}
 use Rattle.markdown_model.proofs.OneLineLiterals.{spaced-both}
 use Rattle.markdown_model.proofs.PlainConstructs.{IsPlainTree, ReadsPlain}
 
@@ -46,18 +46,6 @@ module _ (s : Setting) where
   there-run : (m : ℕ) → (10 == m) ≡ false → There (attention_run m)
   unfolding attention_run
   there-run m e = yields_bind IsSomeLine _ _ _ (some-line (is_value m) (λ c. e)) λ markers h. yields_gives _ (plain (leaf N.AttentionSequence markers)) (λ _. line-leaf N.AttentionSequence markers h.1)
-
-  there-image : (footnotes : Bool) → There (label_start_image footnotes)
-  unfolding label_start_image word
-  there-image footnotes = yields_bind IsSomeLine _ _ _ (yields_before _ _ _ (word-some 33 (91 ∷ []) refl)) λ marker h. yields_gives _ (starts LabelKind.Image marker) h
-
-  there-footnote : There gfm_label_start_footnote
-  unfolding gfm_label_start_footnote word
-  there-footnote = yields_bind IsSomeLine _ _ _ (word-some 91 (94 ∷ []) refl) λ marker h. yields_gives _ (starts LabelKind.GfmFootnote marker) h
-
-  there-link : There label_start_link
-  unfolding label_start_link
-  there-link = yields_bind IsSomeLine _ _ _ (one-line _ λ c. refl) λ marker h. yields_gives _ (starts LabelKind.Link marker) h
 
   abbrev LinedOutcome : LabelKind × Forest → Type 0
   LinedOutcome outcome = IsLined AtStart outcome.1
@@ -110,13 +98,11 @@ module _ (s : Setting) where
       each-here = record {
         none = tt;
         ending = there-ending.at (c ∷ cs);
-        image = λ footnotes. (there-image footnotes).at (c ∷ cs);
         plain_has = λ a h. (there-plain a h).at (c ∷ cs);
         stars = λ _. (there-run 42 refl).at (c ∷ cs);
         underscores = λ _. (there-run 95 refl).at (c ∷ cs);
         tildes = λ _. (there-run 126 refl).at (c ∷ cs);
-        footnote = there-footnote.at (c ∷ cs);
-        link = there-link.at (c ∷ cs);
+        starts_has = λ kind marker rest some whole. some;
         ended = (there-end earlier).at (c ∷ cs);
       }
 
