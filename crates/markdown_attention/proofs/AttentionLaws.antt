@@ -6,7 +6,7 @@ use Rattle.markdown_engine_content.specs.ListFunctions.{rest_of}
 use Rattle.markdown_engine.specs.Operations.{Enter, Exit, Consume, ahead, applied, current_of, done, entered, exited, registered, scratched}
 use Rattle.markdown_engine.specs.PastTree.{past, passed}
 use Rattle.markdown_engine.specs.StateRuns.{Stepped}
-use Rattle.markdown_engine.specs.StateWords.{Words, GoesIn, Law}
+use Rattle.markdown_engine.specs.StateWords.{StateWords, Words, GoesIn, Law}
 use Rattle.markdown_engine_content.specs.Tree.{Forest, leaf, leaf_codes}
 use Rattle.markdown_engine.specs.Weights.{codes_left, weight_at}
 use Rattle.markdown_model.specs.CodeTests.{is_empty, is_value}
@@ -18,6 +18,8 @@ use Rattle.markdown_model.specs.SingleConstructs.{begins_run, plain_tree}
 use Rattle.markdown_engine_content.specs.declared.event.Name.TheVariants as N
 use Rattle.markdown_engine.specs.declared.resolve.ResolveName.TheVariants as R
 use Rattle.markdown_engine.specs.declared.state.State.TheVariants.{Next, Retry}
+use Rattle.markdown_engine.specs.declared.state.StateName.{StateName}
+use Rattle.markdown_engine.specs.declared.state.StateName.TheVariants as H
 use Rattle.markdown_engine.specs.declared.state.StateName.TheVariants.{AttentionInside}
 use Rattle.markdown_engine.specs.declared.tokenizer.TokenizeState.{TokenizeState}
 use Rattle.markdown_engine.specs.declared.tokenizer.Tokenizer.{Tokenizer}
@@ -26,7 +28,7 @@ use Rattle.markdown_engine.proofs.LawSteps.{if-step, code-step}
 use Rattle.markdown_engine.proofs.OperationFields.{Begins, ahead-none, ahead-some, attempts-applied, attempts-scratched, attempts-registered, some-codes}
 use Rattle.markdown_engine.proofs.OperationLemmas.{ahead-done, left-done}
 use Rattle.markdown_engine.proofs.TreeEvents.{leaf-past, ahead-past}
-use Rattle.markdown_plan.specs.LayerEquation.{Within}
+use Rattle.markdown_plan.specs.LayerEquation.{Within, AreLawful}
 use Rattle.markdown_plan.proofs.PassedCodes.{passed-none, passed-one}
 use Rattle.markdown_plan.proofs.PlanSteps.{ahead-scratched}
 use Rattle.markdown_plan.proofs.LawStepsOfLayer.{Goes-plain, Goes-end, Goes-ops}
@@ -239,3 +241,9 @@ inside-law W within T alone opened =
     (λ h. let less : codes_left (done (Consume ∷ []) T) + 1 ≡ codes_left T = left-done (Consume ∷ []) T (some-codes T v e) in
     Goes-ops W n (inside_ends T) (Next AttentionInside) (within AttentionInside) (Consume ∷ []) T alone (stack-consumed T opened) (omega (arith, less)) (run-goes T v e h))
     (λ h. leave (run-stops T v e h)))
+
+-- of these states, and of any other as it is given
+pub laws : (W : Words) → Within states W → (t : StateName → StateWords) → AreLawful W t → AreLawful W (states t)
+laws W within t other H.AttentionStart = start-law W within
+laws W within t other H.AttentionInside = inside-law W within
+laws W within t other s = other s

@@ -14,7 +14,7 @@ use Rattle.markdown_engine.specs.declared.resolve.ResolveName.TheVariants as R
 use Rattle.markdown_engine.specs.declared.state.State.TheVariants.{Next, Retry, Nok}
 use Rattle.markdown_engine.specs.declared.state.State.TheVariants as State
 use Rattle.markdown_engine.specs.declared.state.StateName.{StateName}
-use Rattle.markdown_engine.specs.declared.state.StateName.TheVariants.{AttentionInside}
+use Rattle.markdown_engine.specs.declared.state.StateName.TheVariants.{AttentionStart, AttentionInside}
 use Rattle.markdown_engine.specs.declared.tokenizer.TokenizeState.{TokenizeState}
 use Rattle.markdown_engine.specs.declared.tokenizer.Tokenizer.{Tokenizer}
 
@@ -93,7 +93,12 @@ start_words = record { ready = StartReady; step = start_step; ends = start_ends;
 abbrev pub inside_words : StateWords
 inside_words = record { ready = InsideReady; step = inside_step; ends = inside_ends; rank = 1 }
 
--- the state with which another goes on, as it is said, and any other as it is given
+-- a part of what is said of these states, and of any other as it is given
+abbrev pub said {ℓ} : {A : Type ℓ} → (StateWords → A) → (StateName → A) → StateName → A
+said part other AttentionStart = part start_words
+said part other AttentionInside = part inside_words
+said part other s = other s
+
+-- all of it
 abbrev pub states : (StateName → StateWords) → StateName → StateWords
-states other AttentionInside = inside_words
-states other s = other s
+states other s = said (λ (w : StateWords). w) other s

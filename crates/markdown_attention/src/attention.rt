@@ -26,11 +26,12 @@ mod reading;
 pub mod runs;
 mod sizes;
 
-ghost use Rattle.std.specs.Prelude.{◌≡◌, IfOk, OnErr, IsTrue};
+ghost use Rattle.std.specs.Prelude.{◌≡◌};
 ghost use Rattle.markdown_attention.specs.Attention.{start_step, inside_step, leaving};
 ghost use Rattle.markdown_model.specs.SingleConstructs.{begins_run};
 ghost use Rattle.markdown_engine.specs.Operations.{IsOpen, scratched};
 ghost use Rattle.markdown_engine_content.specs.declared.event.Name.TheVariants.{AttentionSequence};
+ghost use Rattle.markdown_plan.specs.StateCalls.{Steps};
 
 pub use crate::attention::grouping::{resolve, resolve_counted};
 use markdown_engine::resolve::ResolveName;
@@ -56,8 +57,7 @@ fn begins_run(constructs: Constructs, byte: u8) -> bool
 ///     > | so **very** ok
 ///            ^     ^
 pub fn start(tokenizer: &mut Tokenizer) -> Result<State, AllocError>
-    ensures ok { IfOk result (λ s. start_step tokenizer.old ≡ record { state = s; left = tokenizer.new }) }
-    ensures err { OnErr result (IsTrue tokenizer.new.failed) }
+    ensures { Steps start_step tokenizer.old result tokenizer.new }
 {
     let constructs = tokenizer.parse_state.options.constructs;
     match tokenizer.current() {
@@ -73,8 +73,7 @@ pub fn start(tokenizer: &mut Tokenizer) -> Result<State, AllocError>
 // After the run: the pass that pairs runs is asked for.
 fn leave(tokenizer: &mut Tokenizer) -> Result<State, AllocError>
     requires { IsOpen AttentionSequence tokenizer.old }
-    ensures ok { IfOk result (λ s. leaving tokenizer.old ≡ record { state = s; left = tokenizer.new }) }
-    ensures err { OnErr result (IsTrue tokenizer.new.failed) }
+    ensures { Steps leaving tokenizer.old result tokenizer.new }
 {
     tokenizer.exit(Name::AttentionSequence)?;
     tokenizer.tokenize_state.marker = 0;
@@ -88,8 +87,7 @@ fn leave(tokenizer: &mut Tokenizer) -> Result<State, AllocError>
 ///            ^^^   ^^^
 pub fn inside(tokenizer: &mut Tokenizer) -> Result<State, AllocError>
     requires { IsOpen AttentionSequence tokenizer.old }
-    ensures ok { IfOk result (λ s. inside_step tokenizer.old ≡ record { state = s; left = tokenizer.new }) }
-    ensures err { OnErr result (IsTrue tokenizer.new.failed) }
+    ensures { Steps inside_step tokenizer.old result tokenizer.new }
 {
     match tokenizer.current() {
         Some(byte) if byte == tokenizer.tokenize_state.marker => {

@@ -40,7 +40,7 @@ use Rattle.markdown_label.specs.LabelFields.{bars, as_link, loosened}
 use Rattle.std.specs.Str.{IsCharBoundary}
 use Rattle.std.proofs.lemmas.Bool.{eqb-true}
 use Rattle.markdown_engine_content.specs.declared.event.Point.{Point}
-use Rattle.markdown_label.specs.LabelEnd.{AreAround, EndsBetween, point_or, place_at, identifier_between, end_ops, ended_at, ended, start_by, is_on, start_at, AreWithin, StartReady, AfterReady, after_reading_of, after_reading, after_ends, nok_ends, lost_here, end_tree, outcome_by, end_reading, lost_starts, lost_by, lost_fields, end_made, start_ends, start_words, states}
+use Rattle.markdown_label.specs.LabelEnd.{AreAround, EndsBetween, point_or, place_at, identifier_between, end_ops, ended_at, ended, start_by, is_on, start_at, AreWithin, StartReady, AfterReady, after_reading_of, after_reading, after_ends, nok_ends, lost_here, end_tree, outcome_by, end_reading, lost_starts, lost_by, lost_fields, end_made, start_ends, start_words, states_and_called}
 use Rattle.markdown_model.specs.SingleConstructs.{outcome}
 use Rattle.markdown_label.specs.LabelSetting.{setting_in}
 use Rattle.markdown_label.proofs.LabelEndLemmas.{Fails-lost}
@@ -195,7 +195,7 @@ module _ (T : Tokenizer) (x : Code) (cs : List Code) (whole : ahead T ≡ x ∷ 
         fails = subst (λ s. Fails s T U) (barred-fields l ls e barred ∙ sym (lost-there l ls e on here)) (subst (λ y. Fails (loosened (ended T).tokenize_state.label_starts (ended T).tokenize_state) T y) (sym k.1) lost-ended);
       }
 
-module _ (W : Words) (within : Within states W) where
+module _ (W : Words) (within : Within states_and_called W) where
   nok-here : (T : Tokenizer) → T.attempts ≡ [] → end_reading T (ahead T) ≡ None → lost_fields T ≡ T.tokenize_state → GoesIn W (weight_at 3 T) (start_ends T) (stepped Nok T)
   nok-here T alone none same = Goes-end W (weight_at 3 T) (start_ends T) false T alone (omega arith) fails
     where

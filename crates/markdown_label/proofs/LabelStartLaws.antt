@@ -11,6 +11,7 @@ use Rattle.markdown_engine.specs.Weights.{weight_at}
 use Rattle.markdown_engine.specs.declared.resolve.ResolveName.TheVariants as R
 use Rattle.markdown_engine.specs.declared.state.State.TheVariants.{Next, Ok, Nok}
 use Rattle.markdown_engine.specs.declared.state.StateName.{StateName}
+use Rattle.markdown_engine.specs.declared.state.StateName.TheVariants as H
 use Rattle.markdown_engine.specs.declared.state.StateName.TheVariants.{GfmLabelStartFootnoteOpen, LabelStartImageOpen, LabelStartImageAfter}
 use Rattle.markdown_engine_content.specs.declared.label_kind.LabelKind.{LabelKind}
 use Rattle.markdown_engine.specs.declared.tokenizer.Tokenizer.{Tokenizer}
@@ -19,7 +20,7 @@ use Rattle.markdown_engine.proofs.OperationFields.{attempts-scratched, some-code
 use Rattle.markdown_engine.proofs.OperationLemmas.{ahead-done, attempts-done, left-done, scratch-done, input-done}
 use Rattle.markdown_engine.proofs.TreeEvents.{done-append}
 use Rattle.markdown_plan.specs.Plan.{depth_after}
-use Rattle.markdown_plan.specs.LayerEquation.{Within}
+use Rattle.markdown_plan.specs.LayerEquation.{Within, AreLawful}
 use Rattle.markdown_plan.proofs.PlanSteps.{Grown-after}
 use Rattle.markdown_plan.proofs.LawStepsOfLayer.{Goes-end, Goes-ops}
 use Rattle.markdown_model.specs.CodeTests.{is_value, next_is}
@@ -151,3 +152,13 @@ module _ (W : Words) (within : Within states W) where
     where
       open-same : (T : Tokenizer) → image_open_test T (rest_of (ahead T)) ≡ image_open_test (done image_front T) (ahead (done image_front T))
       open-same T = let a = sym (ahead-one image_front T refl) in let f = sym (footnotes-done image_front T) in (λ i. next_is (is_value 91) (a i) && not (f i && next_is (is_value 94) (rest_of (a i))))
+
+-- of these states, and of any other as it is given
+pub laws : (W : Words) → Within states W → (t : StateName → StateWords) → AreLawful W t → AreLawful W (states t)
+laws W within t other H.GfmLabelStartFootnoteOpen = footnote_open-law W within
+laws W within t other H.LabelStartImageOpen = image_open-law W within
+laws W within t other H.LabelStartImageAfter = image_after-law W within
+laws W within t other H.GfmLabelStartFootnoteStart = footnote-law W within
+laws W within t other H.LabelStartImageStart = image-law W within
+laws W within t other H.LabelStartLinkStart = link-law W within
+laws W within t other s = other s

@@ -28,3 +28,5 @@ pub mod ResourceLaws
 pub mod ResourceInsideLaws
 pub mod ResourceStartLaw
 pub mod AfterLabelLaws
+pub mod LabelEndStateLaws
+pub mod ResourceStateLaws

@@ -28,7 +28,7 @@ use Rattle.markdown_model.specs.Setting.{Setting, is_defined}
 use Rattle.markdown_model.proofs.NoLinkInConstructs.{Passes}
 use Rattle.markdown_model.proofs.GrammarSteps.{bind-some, bind-none, switched-on, switched-off}
 use Rattle.markdown_partial_link.specs.PartialLabel as PartialLabel
-use Rattle.markdown_label.specs.LabelEnd.{names_set, label_seen, reference_name, ReferenceIsAround, FullReady, FullFails, reference_full_ends, reference_full_after_ends, reference_full_missing_ends, states, reference_full_words, reference_full_after_words, reference_full_missing_words}
+use Rattle.markdown_label.specs.LabelEnd.{names_set, label_seen, reference_name, ReferenceIsAround, FullReady, FullFails, reference_full_ends, reference_full_after_ends, reference_full_missing_ends, states_and_called, reference_full_words, reference_full_after_words, reference_full_missing_words}
 use Rattle.markdown_label.specs.AfterLabelParts.{names_rested, rested, PartReady}
 use Rattle.markdown_label.specs.LabelSetting.{setting_in, IsListed}
 use Rattle.markdown_label.proofs.ReferenceFullText.{reference-around}
@@ -157,7 +157,7 @@ unfolding scratched
 missing-ends T k none true V h = cc
 missing-ends T k none false V h = none-there T V k none h.1
 
-module _ (W : Words) (within : Within states W) where
+module _ (W : Words) (within : Within states_and_called W) where
   pub reference_full_missing-law : Law W reference_full_missing_words
   reference_full_missing-law T alone _ = Goes-end W (weight_at 1 T) (reference_full_missing_ends T) false (scratched (names_rested T.tokenize_state) T) (attempts-scratched _ T ∙ alone) (omega arith) (λ ok U h. h)
 

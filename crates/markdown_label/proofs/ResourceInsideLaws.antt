@@ -40,7 +40,7 @@ use Rattle.markdown_partial.specs.PartialSpaceOrTabEol.{WhitespaceAtRest}
 use Rattle.markdown_partial_link.specs.PartialDestination as PartialDestination
 use Rattle.markdown_partial_link.specs.PartialTitle as PartialTitle
 use Rattle.markdown_label.specs.AfterLabelParts.{PartReady, rested, names_rested}
-use Rattle.markdown_label.specs.Resource.{destination_asked, destination_rested, title_asked, front_ops, at_space, at_close, at_title, at_parenthesis, is_hopeless, spaced, destination_put, destination_after_step, title_put, title_after_step, RowReads, RowEnds, closes, or_without, and_then, after_title, between, after_destination_of, after_destination, opened, InReady, open_ends, destination_after_ends, missing_ends, between_ends, title_after_ends, end_ends, open_words, destination_after_words, missing_words, between_words, title_after_words, end_words, states}
+use Rattle.markdown_label.specs.Resource.{destination_asked, destination_rested, title_asked, front_ops, at_space, at_close, at_title, at_parenthesis, is_hopeless, spaced, destination_put, destination_after_step, title_put, title_after_step, RowReads, RowEnds, closes, or_without, and_then, after_title, between, after_destination_of, after_destination, opened, InReady, open_ends, destination_after_ends, missing_ends, between_ends, title_after_ends, end_ends, open_words, destination_after_words, missing_words, between_words, title_after_words, end_words, states_and_called}
 use Rattle.markdown_label.proofs.NextCodeTests.{at-value, at-none}
 use Rattle.markdown_label.proofs.ResourceWithoutTitleEnd.{no-title, none-twice}
 use Rattle.markdown_label.proofs.ResourceLaws.{NoLinks, indexed-same, titled-same, codes-read, row-then, row-scratched, row-same, no-space, closes-here, fields-read, in-read, spacing-unlinked, spaced-law}
@@ -193,7 +193,7 @@ closed-so T true U h x = by-codes (ahead T) refl h
     by-codes [] e g = cc
     by-codes (c ∷ cs) e g = marker-read T U c cs e g x.1
 
-module _ (W : Words) (within : Within states W) where
+module _ (W : Words) (within : Within states_and_called W) where
   pub missing-law : Law W missing_words
   missing-law T alone _ = Goes-end W (weight_at 1 T) (missing_ends T) false (destination_put T) (attempts-scratched _ T ∙ alone) (omega arith) (λ ok U h. h)
 

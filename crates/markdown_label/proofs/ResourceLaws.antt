@@ -38,7 +38,7 @@ use Rattle.markdown_partial.proofs.WhitespaceAttempts.{eol-asked-ready, eol-aske
 use Rattle.markdown_partial.proofs.WhitespaceReadings.{spacing-none}
 use Rattle.markdown_label.specs.AfterLabelParts.{PartReady, rested}
 use Rattle.markdown_label.proofs.NextCodeTests.{same-codes}
-use Rattle.markdown_label.specs.Resource.{at_space, at_close, spaced, or_without, opened, inside, InReady, RowEnds, before_ends, open_ends, before_words, states}
+use Rattle.markdown_label.specs.Resource.{at_space, at_close, spaced, or_without, opened, inside, InReady, RowEnds, before_ends, open_ends, before_words, states_and_called}
 
 -- Rows.
 
@@ -172,7 +172,7 @@ same-frame : (r : Bool) (ok nok : State) (s : TokenizeState) (T : Tokenizer) →
 unfolding frame_of scratched
 same-frame r ok nok s T = refl
 
-module _ (W : Words) (within : Within states W) where
+module _ (W : Words) (within : Within states_and_called W) where
   -- whitespace is tried
   pub spaced-law : (n : ℕ) (End : Bool → Tokenizer → Type 0) (ok nok : StateName) (T : Tokenizer) → T.attempts ≡ [] → PartReady T → weight_at 8 T < n
       → ((U : Tokenizer) → Reads (space_or_tab_eol None) None T.tokenize_state T U → FollowsIn W n End (Next ok) U)

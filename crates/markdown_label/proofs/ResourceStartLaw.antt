@@ -34,7 +34,7 @@ use Rattle.markdown_model.proofs.GrammarSteps.{bind-some, one-here}
 use Rattle.markdown_plan.specs.LayerEquation.{Within}
 use Rattle.markdown_plan.proofs.LawStepsOfLayer.{Goes-end, Goes-plain}
 use Rattle.markdown_label.specs.AfterLabelParts.{PartReady}
-use Rattle.markdown_label.specs.Resource.{resource_ends, front_ops, start_at, closes, or_without, and_then, after_title, between, after_destination_of, after_destination, opened, inside, InReady, before_ends, start_words, states}
+use Rattle.markdown_label.specs.Resource.{resource_ends, front_ops, start_at, closes, or_without, and_then, after_title, between, after_destination_of, after_destination, opened, inside, InReady, before_ends, start_words, states_and_called}
 use Rattle.markdown_label.proofs.NextCodeTests.{at-value, at-none}
 use Rattle.markdown_label.proofs.ResourceLaws.{past-then}
 use Rattle.markdown_label.proofs.ResourceReadings.{row-assoc, closes-none, grouped, resource-inside, resource-none}
@@ -168,7 +168,7 @@ module _ (T : Tokenizer) (x : Code) (cs : List Code) (whole : ahead T ≡ x ∷ 
   unfolding past applied
   attempts-there e = e
 
-module _ (W : Words) (within : Within states W) where
+module _ (W : Words) (within : Within states_and_called W) where
   refuses-here : (T : Tokenizer) → T.attempts ≡ [] → resource (ahead T) ≡ None → GoesIn W (weight_at 12 T) (resource_ends T) (stepped Nok T)
   refuses-here T alone none = Goes-end W (weight_at 12 T) (resource_ends T) false T alone (omega arith) lost
     where

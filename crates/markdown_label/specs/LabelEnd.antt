@@ -14,7 +14,7 @@ use Rattle.markdown_engine_content.specs.declared.event.Point.{Point}
 use Rattle.markdown_engine.specs.declared.resolve.ResolveName.TheVariants as R
 use Rattle.markdown_engine.specs.declared.state.State.TheVariants.{Next, Retry, Ok, Nok}
 use Rattle.markdown_engine.specs.declared.state.StateName.{StateName}
-use Rattle.markdown_engine.specs.declared.state.StateName.TheVariants.{LabelEndAfter, LabelEndOk, LabelEndNok, LabelEndResourceStart, LabelEndReferenceFull, LabelEndReferenceFullAfter, LabelEndReferenceFullMissing, LabelEndReferenceNotFull, LabelEndReferenceCollapsed, LabelEndReferenceCollapsedOpen, LabelStart}
+use Rattle.markdown_engine.specs.declared.state.StateName.TheVariants.{LabelEndStart, LabelEndAfter, LabelEndOk, LabelEndNok, LabelEndResourceStart, LabelEndReferenceFull, LabelEndReferenceFullAfter, LabelEndReferenceFullMissing, LabelEndReferenceNotFull, LabelEndReferenceCollapsed, LabelEndReferenceCollapsedOpen, LabelStart}
 use Rattle.markdown_engine_content.specs.declared.label_kind.LabelKind.{LabelKind}
 use Rattle.markdown_engine.specs.declared.tokenizer.LabelStart as Kept
 use Rattle.markdown_engine.specs.declared.tokenizer.TokenizeState.{TokenizeState}
@@ -405,17 +405,29 @@ reference_collapsed_words = record { ready = λ T. Unit {0}; step = reference_co
 abbrev pub reference_collapsed_open_words : StateWords
 reference_collapsed_open_words = record { ready = IsOpen N.Reference; step = reference_collapsed_open_step; ends = reference_collapsed_open_ends; rank = 1 }
 
--- those of these states with which another goes on, as they are said, and any other as it is given
+-- a part of what is said of these states, and of any other as it is given
+abbrev pub said {ℓ} : {A : Type ℓ} → (StateWords → A) → (StateName → A) → StateName → A
+said part other LabelEndStart = part start_words
+said part other LabelEndAfter = part after_words
+said part other LabelEndOk = part ok_words
+said part other LabelEndNok = part nok_words
+said part other LabelEndReferenceFull = part reference_full_words
+said part other LabelEndReferenceFullAfter = part reference_full_after_words
+said part other LabelEndReferenceFullMissing = part reference_full_missing_words
+said part other LabelEndReferenceNotFull = part reference_not_full_words
+said part other LabelEndReferenceCollapsed = part reference_collapsed_words
+said part other LabelEndReferenceCollapsedOpen = part reference_collapsed_open_words
+said part other s = other s
+
+-- all of it
 abbrev pub states : (StateName → StateWords) → StateName → StateWords
-states other LabelEndAfter = after_words
-states other LabelEndOk = ok_words
-states other LabelEndNok = nok_words
-states other LabelEndReferenceFull = reference_full_words
-states other LabelEndReferenceFullAfter = reference_full_after_words
-states other LabelEndReferenceFullMissing = reference_full_missing_words
-states other LabelEndReferenceNotFull = reference_not_full_words
-states other LabelEndReferenceCollapsed = reference_collapsed_words
-states other LabelEndReferenceCollapsedOpen = reference_collapsed_open_words
-states other LabelEndResourceStart = Resource.start_words
-states other LabelStart = PartialLabel.start_words
-states other s = other s
+states other s = said (λ (w : StateWords). w) other s
+
+-- the states of others that they call, and any other as it is given
+abbrev pub called : (StateName → StateWords) → StateName → StateWords
+called other LabelEndResourceStart = Resource.start_words
+called other LabelStart = PartialLabel.start_words
+called other s = other s
+
+abbrev pub states_and_called : (StateName → StateWords) → StateName → StateWords
+states_and_called other s = states (called other) s

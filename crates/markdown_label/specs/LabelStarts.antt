@@ -11,7 +11,7 @@ use Rattle.markdown_engine_content.specs.declared.event.Name.TheVariants as N
 use Rattle.markdown_engine.specs.declared.resolve.ResolveName.TheVariants as R
 use Rattle.markdown_engine.specs.declared.state.State.TheVariants.{Next, Ok, Nok}
 use Rattle.markdown_engine.specs.declared.state.StateName.{StateName}
-use Rattle.markdown_engine.specs.declared.state.StateName.TheVariants.{GfmLabelStartFootnoteOpen, LabelStartImageOpen, LabelStartImageAfter}
+use Rattle.markdown_engine.specs.declared.state.StateName.TheVariants.{GfmLabelStartFootnoteStart, LabelStartImageStart, LabelStartLinkStart, GfmLabelStartFootnoteOpen, LabelStartImageOpen, LabelStartImageAfter}
 use Rattle.markdown_engine_content.specs.declared.label_kind.LabelKind.{LabelKind}
 use Rattle.markdown_engine.specs.declared.tokenizer.Tokenizer.{Tokenizer}
 use Rattle.markdown_model.specs.CodeTests.{is_value, next_is}
@@ -182,9 +182,16 @@ image_open_words = record { ready = ImageOpenReady; step = image_open_step; ends
 abbrev pub image_after_words : StateWords
 image_after_words = record { ready = ImageAfterReady; step = image_after_step; ends = image_after_ends; rank = 1 }
 
--- those of these states with which another goes on, as they are said, and any other as it is given
+-- a part of what is said of these states, and of any other as it is given
+abbrev pub said {ℓ} : {A : Type ℓ} → (StateWords → A) → (StateName → A) → StateName → A
+said part other GfmLabelStartFootnoteStart = part footnote_words
+said part other LabelStartImageStart = part image_words
+said part other LabelStartLinkStart = part link_words
+said part other GfmLabelStartFootnoteOpen = part footnote_open_words
+said part other LabelStartImageOpen = part image_open_words
+said part other LabelStartImageAfter = part image_after_words
+said part other s = other s
+
+-- all of it
 abbrev pub states : (StateName → StateWords) → StateName → StateWords
-states other GfmLabelStartFootnoteOpen = footnote_open_words
-states other LabelStartImageOpen = image_open_words
-states other LabelStartImageAfter = image_after_words
-states other s = other s
+states other s = said (λ (w : StateWords). w) other s

@@ -229,17 +229,28 @@ title_after_words = record { ready = BehindReady title_put; step = title_after_s
 abbrev pub end_words : StateWords
 end_words = record { ready = InReady; step = end_step; ends = end_ends; rank = 1 }
 
--- these states as they are said, and any other as it is given
+-- a part of what is said of these states, and of any other as it is given
+abbrev pub said {ℓ} : {A : Type ℓ} → (StateWords → A) → (StateName → A) → StateName → A
+said part other LabelEndResourceStart = part start_words
+said part other LabelEndResourceBefore = part before_words
+said part other LabelEndResourceOpen = part open_words
+said part other LabelEndResourceDestinationAfter = part destination_after_words
+said part other LabelEndResourceDestinationMissing = part missing_words
+said part other LabelEndResourceBetween = part between_words
+said part other LabelEndResourceTitleAfter = part title_after_words
+said part other LabelEndResourceEnd = part end_words
+said part other s = other s
+
+-- all of it
 abbrev pub states : (StateName → StateWords) → StateName → StateWords
-states other LabelEndResourceStart = start_words
-states other LabelEndResourceBefore = before_words
-states other LabelEndResourceOpen = open_words
-states other LabelEndResourceDestinationAfter = destination_after_words
-states other LabelEndResourceDestinationMissing = missing_words
-states other LabelEndResourceBetween = between_words
-states other LabelEndResourceTitleAfter = title_after_words
-states other LabelEndResourceEnd = end_words
-states other SpaceOrTabEolStart = PartialSpaceOrTabEol.start_words
-states other DestinationStart = PartialDestination.start_words
-states other TitleStart = PartialTitle.start_words
-states other s = other s
+states other s = said (λ (w : StateWords). w) other s
+
+-- the states of others that they call, and any other as it is given
+abbrev pub called : (StateName → StateWords) → StateName → StateWords
+called other SpaceOrTabEolStart = PartialSpaceOrTabEol.start_words
+called other DestinationStart = PartialDestination.start_words
+called other TitleStart = PartialTitle.start_words
+called other s = other s
+
+abbrev pub states_and_called : (StateName → StateWords) → StateName → StateWords
+states_and_called other s = states (called other) s

@@ -15,6 +15,8 @@ use Rattle.markdown_engine_content.specs.declared.event.Name.{Name}
 use Rattle.markdown_engine_content.specs.declared.event.Name.TheVariants as N
 use Rattle.markdown_engine.specs.declared.state.State.TheVariants.{Next, Retry}
 use Rattle.markdown_engine.specs.declared.state.State.TheVariants as State
+use Rattle.markdown_engine.specs.declared.state.StateName.{StateName}
+use Rattle.markdown_engine.specs.declared.state.StateName.TheVariants as H
 use Rattle.markdown_engine.specs.declared.state.StateName.TheVariants.{AutolinkOpen, AutolinkSchemeOrEmailAtext, AutolinkSchemeInsideOrEmailAtext, AutolinkUrlInside, AutolinkEmailAtext, AutolinkEmailAtSignOrDot, AutolinkEmailLabel, AutolinkEmailValue}
 use Rattle.markdown_engine.specs.declared.tokenizer.TokenizeState.{TokenizeState}
 use Rattle.markdown_engine.specs.declared.tokenizer.Tokenizer.{Tokenizer}
@@ -34,9 +36,9 @@ use Rattle.markdown_plan.proofs.LateNameSteps.{renamed-entered, renamed-consumed
 use Rattle.markdown_plan.proofs.PlanSteps.{EndsAs-plan, DoesAs-then, kept}
 use Rattle.markdown_leaf.proofs.RawTextReady.{some-event}
 use Rattle.markdown_model.proofs.GrammarSteps.{and-left, and-right}
-use Rattle.markdown_engine.specs.StateWords.{Words, Law, GoesIn}
+use Rattle.markdown_engine.specs.StateWords.{StateWords, Words, Law, GoesIn}
 use Rattle.markdown_plan.proofs.LawStepsOfLayer.{GoesOn-map, Goes-to, Goes-inside, Goes-inside-kept, Goes-over, Goes-no, Goes-named, Goes-refused}
-use Rattle.markdown_plan.specs.LayerEquation.{Within}
+use Rattle.markdown_plan.specs.LayerEquation.{Within, AreLawful}
 
 -- Tests.
 
@@ -339,3 +341,16 @@ uri-steady T set known free =
     let greater = or_parts (v == 62) _ less.1 in
     let control = no-control v greater.1 in
     rw (greater.0, nul.0, space.0, less.0, control.0, control.1) refl)
+
+-- of these states, and of any other as it is given
+pub laws : (W : Words) → Within states W → (t : StateName → StateWords) → AreLawful W t → AreLawful W (states t)
+laws W within t other H.AutolinkStart = start-law W within
+laws W within t other H.AutolinkOpen = open-law W within
+laws W within t other H.AutolinkSchemeOrEmailAtext = scheme_or-law W within
+laws W within t other H.AutolinkSchemeInsideOrEmailAtext = scheme_inside-law W within
+laws W within t other H.AutolinkUrlInside = url_inside-law W within
+laws W within t other H.AutolinkEmailAtext = email_atext-law W within
+laws W within t other H.AutolinkEmailAtSignOrDot = email_at_sign_or_dot-law W within
+laws W within t other H.AutolinkEmailLabel = email_label-law W within
+laws W within t other H.AutolinkEmailValue = email_value-law W within
+laws W within t other s = other s

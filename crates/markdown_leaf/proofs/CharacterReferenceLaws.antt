@@ -10,6 +10,8 @@ use Rattle.markdown_engine.specs.Weights.{weight_at}
 use Rattle.markdown_engine_content.specs.declared.event.Name.{Name}
 use Rattle.markdown_engine_content.specs.declared.event.Name.TheVariants as N
 use Rattle.markdown_engine.specs.declared.state.State.TheVariants.{Next, Retry, Nok}
+use Rattle.markdown_engine.specs.declared.state.StateName.{StateName}
+use Rattle.markdown_engine.specs.declared.state.StateName.TheVariants as H
 use Rattle.markdown_engine.specs.declared.state.StateName.TheVariants.{CharacterReferenceOpen, CharacterReferenceNumeric, CharacterReferenceValue}
 use Rattle.markdown_engine.specs.declared.tokenizer.TokenizeState.{TokenizeState}
 use Rattle.markdown_engine.specs.declared.tokenizer.Tokenizer.{Tokenizer}
@@ -26,9 +28,9 @@ use Rattle.markdown_leaf.proofs.CharacterReferenceReadings.{reference-start, no-
 use Rattle.markdown_plan.proofs.PlanSteps.{EndsAs-plan, no-codes}
 use Rattle.markdown_model.proofs.GrammarSteps.{and-left, and-right, if-true, if-false}
 use Rattle.markdown_plan.proofs.PassedByReadings.{Gives, Covers, IsSome, IsNothing, Gives-bind, Gives-after, Gives-either, Gives-switched, Gives-one, Gives-some, Gives-test, Gives-gives, Covers-group, Covers-row, Covers-leaf, some-first}
-use Rattle.markdown_engine.specs.StateWords.{Words, Law, GoesIn}
+use Rattle.markdown_engine.specs.StateWords.{StateWords, Words, Law, GoesIn}
 use Rattle.markdown_plan.proofs.LawStepsOfLayer.{GoesOn-map, Goes-on, Goes-kept, Goes-next, Goes-ok, Goes-nok, Goes-no}
-use Rattle.markdown_plan.specs.LayerEquation.{Within}
+use Rattle.markdown_plan.specs.LayerEquation.{Within, AreLawful}
 
 -- What a reference passes.
 
@@ -221,3 +223,11 @@ module _ (W : Words) (within : Within states W) where
       (value-on T v c t)
       (λ ok U k. subst (λ (q : TokenizeState). DoesAs 2 (value_plan q.marker q.size) (rested q) V ok U) (scratch-scratched (sized (s.size + 1) s) (done (Consume ∷ []) T)) k))
       (λ t. Goes-nok W 1 2 p (rested s) T alone (ap p b.whole ∙ value-stop s.marker s.size b.code (rest_of (ahead T)) (ap (λ x. (x == 59) && nat_lt 0 s.size) b.value ∙ h) (ap (is_taken s.marker s.size) b.value ∙ t)))))
+
+-- of these states, and of any other as it is given
+pub laws : (W : Words) → Within states W → (t : StateName → StateWords) → AreLawful W t → AreLawful W (states t)
+laws W within t other H.CharacterReferenceStart = start-law W within
+laws W within t other H.CharacterReferenceOpen = open-law W within
+laws W within t other H.CharacterReferenceNumeric = numeric-law W within
+laws W within t other H.CharacterReferenceValue = value-law W within
+laws W within t other s = other s

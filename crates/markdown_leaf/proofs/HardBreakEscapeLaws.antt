@@ -9,6 +9,8 @@ use Rattle.markdown_engine_content.specs.Tree.{leaf}
 use Rattle.markdown_engine.specs.Weights.{weight_at}
 use Rattle.markdown_engine_content.specs.declared.event.Name.TheVariants as N
 use Rattle.markdown_engine.specs.declared.state.State.TheVariants.{Next}
+use Rattle.markdown_engine.specs.declared.state.StateName.{StateName}
+use Rattle.markdown_engine.specs.declared.state.StateName.TheVariants as H
 use Rattle.markdown_engine.specs.declared.state.StateName.TheVariants.{HardBreakEscapeAfter}
 use Rattle.markdown_engine.specs.declared.tokenizer.Tokenizer.{Tokenizer}
 use Rattle.markdown_engine.proofs.LawSteps.{if-step, code-step}
@@ -21,9 +23,9 @@ use Rattle.markdown_plan.specs.Plan.{Plan, preceded, tree_ops, plan_of, KeepsAs}
 use Rattle.markdown_plan.proofs.PlanSteps.{EndsAs-plan}
 use Rattle.markdown_model.proofs.GrammarSteps.{bind-some, bind-none, before-some, before-none, before-other, one-here, one-not, switched-on, switched-off, and-left, and-right, if-true, if-false}
 use Rattle.markdown_plan.proofs.PassedByReadings.{Gives, Covers, IsSome, Gives-bind, Gives-before, Gives-switched, Gives-one, Gives-gives, Covers-leaf}
-use Rattle.markdown_engine.specs.StateWords.{Words, Law, GoesIn}
+use Rattle.markdown_engine.specs.StateWords.{StateWords, Words, Law, GoesIn}
 use Rattle.markdown_plan.proofs.LawStepsOfLayer.{GoesOn-map, Goes-next, Goes-yes, Goes-no}
-use Rattle.markdown_plan.specs.LayerEquation.{Within}
+use Rattle.markdown_plan.specs.LayerEquation.{Within, AreLawful}
 
 -- The reading, by what stands there.
 
@@ -75,3 +77,9 @@ after-law W T alone _ =
     if-step P (c == 10) _ _
     (λ h. Goes-yes W 1 1 after_plan closing T alone (ap after_plan b.whole ∙ if-true _ _ _ (ap (λ v. v == 10) b.value ∙ h)))
     (λ h. Goes-no W 1 1 after_plan T alone (ap after_plan b.whole ∙ if-false _ _ _ (ap (λ v. v == 10) b.value ∙ h))))
+
+-- of these states, and of any other as it is given
+pub laws : (W : Words) → Within states W → (t : StateName → StateWords) → AreLawful W t → AreLawful W (states t)
+laws W within t other H.HardBreakEscapeStart = start-law W within
+laws W within t other H.HardBreakEscapeAfter = after-law W
+laws W within t other s = other s

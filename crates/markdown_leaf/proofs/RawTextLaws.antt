@@ -11,6 +11,8 @@ use Rattle.markdown_engine.specs.Weights.{weight_at}
 use Rattle.markdown_engine_content.specs.declared.event.Name.TheVariants as N
 use Rattle.markdown_engine.specs.declared.state.State.TheVariants.{Next, Retry}
 use Rattle.markdown_engine.specs.declared.state.State.TheVariants as State
+use Rattle.markdown_engine.specs.declared.state.StateName.{StateName}
+use Rattle.markdown_engine.specs.declared.state.StateName.TheVariants as H
 use Rattle.markdown_engine.specs.declared.state.StateName.TheVariants.{RawTextSequenceOpen, RawTextBetween, RawTextData, RawTextSequenceClose}
 use Rattle.markdown_engine.specs.declared.tokenizer.TokenizeState.{TokenizeState}
 use Rattle.markdown_engine.specs.declared.tokenizer.Tokenizer.{Tokenizer}
@@ -31,9 +33,9 @@ use Rattle.markdown_leaf.proofs.RawTextReady.{start-opened, opened-more, opened-
 use Rattle.markdown_leaf.proofs.RawTextCovers.{whole-here}
 use Rattle.markdown_model.proofs.GrammarSteps.{and-left, and-right, if-true}
 use Rattle.markdown_plan.proofs.PassedByReadings.{Gives, Covers, Gives-either}
-use Rattle.markdown_engine.specs.StateWords.{Words, Law, GoesIn}
+use Rattle.markdown_engine.specs.StateWords.{StateWords, Words, Law, GoesIn}
 use Rattle.markdown_plan.proofs.LawStepsOfLayer.{GoesOn-map, Goes-on, Goes-kept, Goes-entered, Goes-inside, Goes-settled, Goes-nok, Goes-no, Goes-named}
-use Rattle.markdown_plan.specs.LayerEquation.{Within}
+use Rattle.markdown_plan.specs.LayerEquation.{Within, AreLawful}
 
 -- Tests.
 
@@ -241,3 +243,12 @@ data-steady T set known free =
     steady-at set T data_at (stepped (Next RawTextData) (consumed T)) free (λ v a b.
     let other : (v == m) ≡ false = alone-other v m set (alone-is (codes "`$") m set known) b in
     rw (a, other) refl)
+
+-- of these states, and of any other as it is given
+pub laws : (W : Words) → Within states W → (t : StateName → StateWords) → AreLawful W t → AreLawful W (states t)
+laws W within t other H.RawTextStart = start-law W within
+laws W within t other H.RawTextSequenceOpen = sequence_open-law W within
+laws W within t other H.RawTextBetween = between-law W within
+laws W within t other H.RawTextData = data-law W within
+laws W within t other H.RawTextSequenceClose = sequence_close-law W within
+laws W within t other s = other s

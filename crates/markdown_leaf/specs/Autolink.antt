@@ -269,15 +269,19 @@ email_label_words = record { ready = LabelReady; step = email_label_step; ends =
 abbrev pub email_value_words : StateWords
 email_value_words = record { ready = LabelReady; step = email_value_step; ends = email_value_ends; rank = 1 }
 
--- these states as they are said, and any other as it is given
+-- a part of what is said of these states, and of any other as it is given
+abbrev pub said {ℓ} : {A : Type ℓ} → (StateWords → A) → (StateName → A) → StateName → A
+said part other AutolinkStart = part start_words
+said part other AutolinkOpen = part open_words
+said part other AutolinkSchemeOrEmailAtext = part scheme_or_words
+said part other AutolinkSchemeInsideOrEmailAtext = part scheme_inside_words
+said part other AutolinkUrlInside = part url_inside_words
+said part other AutolinkEmailAtext = part email_atext_words
+said part other AutolinkEmailAtSignOrDot = part email_at_sign_or_dot_words
+said part other AutolinkEmailLabel = part email_label_words
+said part other AutolinkEmailValue = part email_value_words
+said part other s = other s
+
+-- all of it
 abbrev pub states : (StateName → StateWords) → StateName → StateWords
-states other AutolinkStart = start_words
-states other AutolinkOpen = open_words
-states other AutolinkSchemeOrEmailAtext = scheme_or_words
-states other AutolinkSchemeInsideOrEmailAtext = scheme_inside_words
-states other AutolinkUrlInside = url_inside_words
-states other AutolinkEmailAtext = email_atext_words
-states other AutolinkEmailAtSignOrDot = email_at_sign_or_dot_words
-states other AutolinkEmailLabel = email_label_words
-states other AutolinkEmailValue = email_value_words
-states other s = other s
+states other s = said (λ (w : StateWords). w) other s

@@ -66,8 +66,12 @@ start_words = record { ready = λ T. Unit {0}; step = start_step; ends = start_e
 abbrev pub inside_words : StateWords
 inside_words = record { ready = IsOpen N.CharacterEscape; step = inside_step; ends = inside_ends; rank = 1 }
 
--- these states as they are said, and any other as it is given
+-- a part of what is said of these states, and of any other as it is given
+abbrev pub said {ℓ} : {A : Type ℓ} → (StateWords → A) → (StateName → A) → StateName → A
+said part other CharacterEscapeStart = part start_words
+said part other CharacterEscapeInside = part inside_words
+said part other s = other s
+
+-- all of it
 abbrev pub states : (StateName → StateWords) → StateName → StateWords
-states other CharacterEscapeStart = start_words
-states other CharacterEscapeInside = inside_words
-states other s = other s
+states other s = said (λ (w : StateWords). w) other s

@@ -208,10 +208,14 @@ numeric_words = record { ready = IsOpened; step = numeric_step; ends = numeric_e
 abbrev pub value_words : StateWords
 value_words = record { ready = IsValue; step = value_step; ends = value_ends; rank = 1 }
 
--- these states as they are said, and any other as it is given
+-- a part of what is said of these states, and of any other as it is given
+abbrev pub said {ℓ} : {A : Type ℓ} → (StateWords → A) → (StateName → A) → StateName → A
+said part other CharacterReferenceStart = part start_words
+said part other CharacterReferenceOpen = part open_words
+said part other CharacterReferenceNumeric = part numeric_words
+said part other CharacterReferenceValue = part value_words
+said part other s = other s
+
+-- all of it
 abbrev pub states : (StateName → StateWords) → StateName → StateWords
-states other CharacterReferenceStart = start_words
-states other CharacterReferenceOpen = open_words
-states other CharacterReferenceNumeric = numeric_words
-states other CharacterReferenceValue = value_words
-states other s = other s
+states other s = said (λ (w : StateWords). w) other s

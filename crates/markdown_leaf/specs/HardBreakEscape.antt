@@ -64,8 +64,12 @@ start_words = record { ready = λ T. Unit {0}; step = start_step; ends = start_e
 abbrev pub after_words : StateWords
 after_words = record { ready = IsOpen N.HardBreakEscape; step = after_step; ends = after_ends; rank = 1 }
 
--- these states as they are said, and any other as it is given
+-- a part of what is said of these states, and of any other as it is given
+abbrev pub said {ℓ} : {A : Type ℓ} → (StateWords → A) → (StateName → A) → StateName → A
+said part other HardBreakEscapeStart = part start_words
+said part other HardBreakEscapeAfter = part after_words
+said part other s = other s
+
+-- all of it
 abbrev pub states : (StateName → StateWords) → StateName → StateWords
-states other HardBreakEscapeStart = start_words
-states other HardBreakEscapeAfter = after_words
-states other s = other s
+states other s = said (λ (w : StateWords). w) other s

@@ -268,11 +268,15 @@ data_words = record { ready = DataReady; step = data_step; ends = data_ends; ran
 abbrev pub sequence_close_words : StateWords
 sequence_close_words = record { ready = SequenceCloseReady; step = sequence_close_step; ends = sequence_close_ends; rank = 3 }
 
--- these states as they are said, and any other as it is given
+-- a part of what is said of these states, and of any other as it is given
+abbrev pub said {ℓ} : {A : Type ℓ} → (StateWords → A) → (StateName → A) → StateName → A
+said part other RawTextStart = part start_words
+said part other RawTextSequenceOpen = part sequence_open_words
+said part other RawTextBetween = part between_words
+said part other RawTextData = part data_words
+said part other RawTextSequenceClose = part sequence_close_words
+said part other s = other s
+
+-- all of it
 abbrev pub states : (StateName → StateWords) → StateName → StateWords
-states other RawTextStart = start_words
-states other RawTextSequenceOpen = sequence_open_words
-states other RawTextBetween = between_words
-states other RawTextData = data_words
-states other RawTextSequenceClose = sequence_close_words
-states other s = other s
+states other s = said (λ (w : StateWords). w) other s

@@ -22,11 +22,12 @@
 // Each state answers the error where a growth is refused; then `failed` is true.
 #![tactic(auto, using(markdown_engine::proofs::OperationFields::law_rules), unfolding(markdown_engine::specs::Operations::scratched))]
 
-ghost use Rattle.std.specs.Prelude.{◌≡◌, IfOk, OnErr, IsTrue};
+ghost use Rattle.std.specs.Prelude.{◌≡◌};
 ghost use Rattle.markdown_engine.specs.Operations.{HasCode, current_of};
 ghost use Rattle.markdown_engine_content.specs.declared.event.Name.TheVariants.{Autolink};
 ghost use Rattle.markdown_plan.specs.ScratchFields.{AreOpen};
 ghost use Rattle.markdown_leaf.specs.Autolink.{scheme_value, local_value, uri_stops, uri_value, refused, finished, start_step, open_step, scheme_or_step, scheme_inside_step, url_inside_step, email_atext_step, email_at_sign_or_dot_step, in_label_at, email_value_step, email_label_step, InsideReady, SchemeReady, LabelReady};
+ghost use Rattle.markdown_plan.specs.StateCalls.{Steps};
 
 use crate::renaming::rename_entered;
 use markdown_engine::state::{State, StateName};
@@ -50,8 +51,7 @@ fn refuse(tokenizer: &mut Tokenizer) -> State
 fn finish(tokenizer: &mut Tokenizer, name: Name) -> Result<State, AllocError>
     requires open { AreOpen name Autolink tokenizer.old }
     requires code { HasCode tokenizer.old }
-    ensures ok { IfOk result (λ s. finished name tokenizer.old ≡ record { state = s; left = tokenizer.new }) }
-    ensures err { OnErr result (IsTrue tokenizer.new.failed) }
+    ensures { Steps (finished name) tokenizer.old result tokenizer.new }
 {
     tokenizer.exit(name)?;
     tokenizer.enter(Name::AutolinkMarker)?;
@@ -67,8 +67,7 @@ fn finish(tokenizer: &mut Tokenizer, name: Name) -> Result<State, AllocError>
 ///     > | <ftp:x> or <me@b.c>
 ///         ^          ^
 pub fn start(tokenizer: &mut Tokenizer) -> Result<State, AllocError>
-    ensures ok { IfOk result (λ s. start_step tokenizer.old ≡ record { state = s; left = tokenizer.new }) }
-    ensures err { OnErr result (IsTrue tokenizer.new.failed) }
+    ensures { Steps start_step tokenizer.old result tokenizer.new }
 {
     if tokenizer.parse_state.options.constructs.autolink && tokenizer.current() == Some(b'<') {
         tokenizer.enter(Name::Autolink)?;
@@ -88,8 +87,7 @@ pub fn start(tokenizer: &mut Tokenizer) -> Result<State, AllocError>
 ///          ^          ^
 pub fn open(tokenizer: &mut Tokenizer) -> Result<State, AllocError>
     requires { InsideReady tokenizer.old }
-    ensures ok { IfOk result (λ s. open_step tokenizer.old ≡ record { state = s; left = tokenizer.new }) }
-    ensures err { OnErr result (IsTrue tokenizer.new.failed) }
+    ensures { Steps open_step tokenizer.old result tokenizer.new }
 {
     match tokenizer.current() {
         Some(code) if is_letter(code) => {
@@ -110,8 +108,7 @@ pub fn open(tokenizer: &mut Tokenizer) -> Result<State, AllocError>
 ///           ^          ^
 pub fn scheme_or_email_atext(tokenizer: &mut Tokenizer) -> Result<State, AllocError>
     requires { InsideReady tokenizer.old }
-    ensures ok { IfOk result (λ s. scheme_or_step tokenizer.old ≡ record { state = s; left = tokenizer.new }) }
-    ensures err { OnErr result (IsTrue tokenizer.new.failed) }
+    ensures { Steps scheme_or_step tokenizer.old result tokenizer.new }
 {
     match tokenizer.current() {
         Some(code) if is_scheme(code) => {
@@ -129,8 +126,7 @@ pub fn scheme_or_email_atext(tokenizer: &mut Tokenizer) -> Result<State, AllocEr
 ///            ^^         ^
 pub fn scheme_inside_or_email_atext(tokenizer: &mut Tokenizer) -> Result<State, AllocError>
     requires { SchemeReady tokenizer.old }
-    ensures ok { IfOk result (λ s. scheme_inside_step tokenizer.old ≡ record { state = s; left = tokenizer.new }) }
-    ensures err { OnErr result (IsTrue tokenizer.new.failed) }
+    ensures { Steps scheme_inside_step tokenizer.old result tokenizer.new }
 {
     let passed = tokenizer.tokenize_state.size;
     match tokenizer.current() {
@@ -153,8 +149,7 @@ pub fn scheme_inside_or_email_atext(tokenizer: &mut Tokenizer) -> Result<State, 
 ///              ^^
 pub fn url_inside(tokenizer: &mut Tokenizer) -> Result<State, AllocError>
     requires { InsideReady tokenizer.old }
-    ensures ok { IfOk result (λ s. url_inside_step tokenizer.old ≡ record { state = s; left = tokenizer.new }) }
-    ensures err { OnErr result (IsTrue tokenizer.new.failed) }
+    ensures { Steps url_inside_step tokenizer.old result tokenizer.new }
 {
     match tokenizer.current() {
         Some(b'>') => finish(tokenizer, Name::AutolinkProtocol),
@@ -179,8 +174,7 @@ pub fn uri_stops() -> ByteSet
 ///           ^^^
 pub fn email_atext(tokenizer: &mut Tokenizer) -> Result<State, AllocError>
     requires { InsideReady tokenizer.old }
-    ensures ok { IfOk result (λ s. email_atext_step tokenizer.old ≡ record { state = s; left = tokenizer.new }) }
-    ensures err { OnErr result (IsTrue tokenizer.new.failed) }
+    ensures { Steps email_atext_step tokenizer.old result tokenizer.new }
 {
     match tokenizer.current() {
         Some(b'@') => {
@@ -201,8 +195,7 @@ pub fn email_atext(tokenizer: &mut Tokenizer) -> Result<State, AllocError>
 ///              ^   ^
 pub fn email_at_sign_or_dot(tokenizer: &mut Tokenizer) -> Result<State, AllocError>
     requires { InsideReady tokenizer.old }
-    ensures ok { IfOk result (λ s. email_at_sign_or_dot_step tokenizer.old ≡ record { state = s; left = tokenizer.new }) }
-    ensures err { OnErr result (IsTrue tokenizer.new.failed) }
+    ensures { Steps email_at_sign_or_dot_step tokenizer.old result tokenizer.new }
 {
     match tokenizer.current() {
         Some(code) if is_alphanumeric(code) => {
@@ -242,8 +235,7 @@ fn in_label(tokenizer: &mut Tokenizer) -> State
 #[tactic(auto, using(markdown_plan::proofs::RenameLemmas::rename_rules), unfolding(markdown_engine::specs::Operations::scratched))]
 pub fn email_label(tokenizer: &mut Tokenizer) -> Result<State, AllocError>
     requires { LabelReady tokenizer.old }
-    ensures ok { IfOk result (λ s. email_label_step tokenizer.old ≡ record { state = s; left = tokenizer.new }) }
-    ensures err { OnErr result (IsTrue tokenizer.new.failed) }
+    ensures { Steps email_label_step tokenizer.old result tokenizer.new }
 {
     match tokenizer.current() {
         Some(b'.') => {
@@ -264,8 +256,7 @@ pub fn email_label(tokenizer: &mut Tokenizer) -> Result<State, AllocError>
 ///                ^
 pub fn email_value(tokenizer: &mut Tokenizer) -> Result<State, AllocError>
     requires { LabelReady tokenizer.old }
-    ensures ok { IfOk result (λ s. email_value_step tokenizer.old ≡ record { state = s; left = tokenizer.new }) }
-    ensures err { OnErr result (IsTrue tokenizer.new.failed) }
+    ensures { Steps email_value_step tokenizer.old result tokenizer.new }
 {
     Ok(in_label(tokenizer))
 }

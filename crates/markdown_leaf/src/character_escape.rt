@@ -16,10 +16,10 @@
 // Each state answers the error where a growth is refused; then `failed` is true.
 #![tactic(auto, using(markdown_engine::proofs::OperationFields::op_rules))]
 
-ghost use Rattle.std.specs.Prelude.{◌≡◌, IfOk, OnErr, IsTrue};
 ghost use Rattle.markdown_engine.specs.Operations.{IsOpen};
 ghost use Rattle.markdown_engine_content.specs.declared.event.Name.TheVariants.{CharacterEscape};
 ghost use Rattle.markdown_leaf.specs.CharacterEscape.{start_step, inside_step};
+ghost use Rattle.markdown_plan.specs.StateCalls.{Steps};
 
 use markdown_engine::state::{State, StateName};
 use markdown_engine::tokenizer::Tokenizer;
@@ -31,8 +31,7 @@ use std::alloc::AllocError;
 ///     > | 5 \* 3
 ///           ^
 pub fn start(tokenizer: &mut Tokenizer) -> Result<State, AllocError>
-    ensures ok { IfOk result (λ s. start_step tokenizer.old ≡ record { state = s; left = tokenizer.new }) }
-    ensures err { OnErr result (IsTrue tokenizer.new.failed) }
+    ensures { Steps start_step tokenizer.old result tokenizer.new }
 {
     if tokenizer.parse_state.options.constructs.character_escape
         && tokenizer.current() == Some(b'\\')
@@ -53,8 +52,7 @@ pub fn start(tokenizer: &mut Tokenizer) -> Result<State, AllocError>
 ///            ^
 pub fn inside(tokenizer: &mut Tokenizer) -> Result<State, AllocError>
     requires { IsOpen CharacterEscape tokenizer.old }
-    ensures ok { IfOk result (λ s. inside_step tokenizer.old ≡ record { state = s; left = tokenizer.new }) }
-    ensures err { OnErr result (IsTrue tokenizer.new.failed) }
+    ensures { Steps inside_step tokenizer.old result tokenizer.new }
 {
     match tokenizer.current() {
         Some(b'!'..=b'/' | b':'..=b'@' | b'['..=b'`' | b'{'..=b'~') => {

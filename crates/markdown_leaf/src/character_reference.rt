@@ -21,13 +21,14 @@
 // Each state answers the error where a growth is refused; then `failed` is true.
 #![tactic(auto, using(markdown_engine::proofs::OperationFields::op_rules), unfolding(markdown_engine::specs::Operations::scratched))]
 
-ghost use Rattle.std.specs.Prelude.{◌≡◌, ◌<◌, IfOk, OnErr, IsTrue};
+ghost use Rattle.std.specs.Prelude.{◌≡◌, ◌<◌, IsTrue};
 ghost use Rattle.std.specs.Char.{is_ascii_alphanumeric};
 ghost use Rattle.std.specs.List.{list_all};
 ghost use Rattle.markdown_engine.specs.Operations.{scratched};
 ghost use Rattle.markdown_engine_content.specs.Place.{ahead_at};
 ghost use Rattle.markdown_util.specs.Reference.{html_5_rows, IsMarker, value_size_max};
 ghost use Rattle.markdown_leaf.specs.CharacterReference.{begins_name, has_value, HasPassed, IsValue, is_taken, rested, start_step, open_step, numeric_step, value_step};
+ghost use Rattle.markdown_plan.specs.StateCalls.{Steps};
 
 use markdown_engine::state::{State, StateName};
 use markdown_engine::tokenizer::Tokenizer;
@@ -43,8 +44,7 @@ use std::str;
 ///     > | &lt; &#36; &#x3E;
 ///         ^    ^     ^
 pub fn start(tokenizer: &mut Tokenizer) -> Result<State, AllocError>
-    ensures ok { IfOk result (λ s. start_step tokenizer.old ≡ record { state = s; left = tokenizer.new }) }
-    ensures err { OnErr result (IsTrue tokenizer.new.failed) }
+    ensures { Steps start_step tokenizer.old result tokenizer.new }
 {
     if tokenizer.parse_state.options.constructs.character_reference
         && tokenizer.current() == Some(b'&')
@@ -64,8 +64,7 @@ pub fn start(tokenizer: &mut Tokenizer) -> Result<State, AllocError>
 ///     > | &lt; &#36; &#x3E;
 ///          ^    ^     ^
 pub fn open(tokenizer: &mut Tokenizer) -> Result<State, AllocError>
-    ensures ok { IfOk result (λ s. open_step tokenizer.old ≡ record { state = s; left = tokenizer.new }) }
-    ensures err { OnErr result (IsTrue tokenizer.new.failed) }
+    ensures { Steps open_step tokenizer.old result tokenizer.new }
 {
     if tokenizer.current() == Some(b'#') {
         tokenizer.enter(Name::CharacterReferenceMarkerNumeric)?;
@@ -86,8 +85,7 @@ pub fn open(tokenizer: &mut Tokenizer) -> Result<State, AllocError>
 ///     > | &lt; &#36; &#x3E;
 ///                ^     ^
 pub fn numeric(tokenizer: &mut Tokenizer) -> Result<State, AllocError>
-    ensures ok { IfOk result (λ s. numeric_step tokenizer.old ≡ record { state = s; left = tokenizer.new }) }
-    ensures err { OnErr result (IsTrue tokenizer.new.failed) }
+    ensures { Steps numeric_step tokenizer.old result tokenizer.new }
 {
     if let Some(b'x' | b'X') = tokenizer.current() {
         tokenizer.enter(Name::CharacterReferenceMarkerHexadecimal)?;
@@ -109,8 +107,7 @@ pub fn numeric(tokenizer: &mut Tokenizer) -> Result<State, AllocError>
 ///          ^^^   ^^^    ^^^
 pub fn value(tokenizer: &mut Tokenizer) -> Result<State, AllocError>
     requires { IsValue tokenizer.old }
-    ensures ok { IfOk result (λ s. value_step tokenizer.old ≡ record { state = s; left = tokenizer.new }) }
-    ensures err { OnErr result (IsTrue tokenizer.new.failed) }
+    ensures { Steps value_step tokenizer.old result tokenizer.new }
 {
     let marker = tokenizer.tokenize_state.marker;
     let size = tokenizer.tokenize_state.size;

@@ -22,10 +22,11 @@
 // Each state answers the error where a growth is refused; then `failed` is true.
 #![tactic(auto, using(markdown_engine::proofs::OperationFields::law_rules), unfolding(markdown_engine::specs::Operations::scratched))]
 
-ghost use Rattle.std.specs.Prelude.{◌≡◌, IfOk, OnErr, IsTrue};
+ghost use Rattle.std.specs.Prelude.{◌≡◌};
 ghost use Rattle.markdown_engine.specs.Operations.{HasCode, scratched};
 ghost use Rattle.markdown_leaf.specs.RawText.{start_step, sequence_open_step, between_step, data_step, data_stops, sequence_close_step, after_opening, after_run, opened, is_barred, is_hopeless, rested, names_in, SequenceOpenReady, BetweenReady, DataReady, SequenceCloseReady};
 ghost use Rattle.markdown_model.specs.SingleConstructs.{ends_escape, follows_escape};
+ghost use Rattle.markdown_plan.specs.StateCalls.{Steps};
 
 use crate::renaming::rename_entered;
 use markdown_engine::state::{State, StateName};
@@ -69,8 +70,7 @@ fn open(
     text: Name,
 ) -> Result<State, AllocError>
     requires { HasCode tokenizer.old }
-    ensures ok { IfOk result (λ s. opened marker (record { whole = whole; sequence = sequence; text = text }) tokenizer.old ≡ record { state = s; left = tokenizer.new }) }
-    ensures err { OnErr result (IsTrue tokenizer.new.failed) }
+    ensures { Steps (opened marker (record { whole = whole; sequence = sequence; text = text })) tokenizer.old result tokenizer.new }
 {
     tokenizer.enter(whole)?;
     tokenizer.enter(sequence)?;
@@ -102,8 +102,7 @@ fn rest(tokenizer: &mut Tokenizer)
 ///     > | `p` $$q$$
 ///         ^   ^
 pub fn start(tokenizer: &mut Tokenizer) -> Result<State, AllocError>
-    ensures ok { IfOk result (λ s. start_step tokenizer.old ≡ record { state = s; left = tokenizer.new }) }
-    ensures err { OnErr result (IsTrue tokenizer.new.failed) }
+    ensures { Steps start_step tokenizer.old result tokenizer.new }
 {
     let constructs = &tokenizer.parse_state.options.constructs;
     match tokenizer.current() {
@@ -138,8 +137,7 @@ fn is_hopeless(tokenizer: &Tokenizer) -> bool
 // After the opening run: it has to be long enough, and a run as long may have to follow.
 fn after_opening(tokenizer: &mut Tokenizer) -> Result<State, AllocError>
     requires { SequenceOpenReady tokenizer.old }
-    ensures ok { IfOk result (λ s. after_opening tokenizer.old ≡ record { state = s; left = tokenizer.new }) }
-    ensures err { OnErr result (IsTrue tokenizer.new.failed) }
+    ensures { Steps after_opening tokenizer.old result tokenizer.new }
 {
     if (tokenizer.tokenize_state.marker == b'$'
         && tokenizer.tokenize_state.size == 1
@@ -160,8 +158,7 @@ fn after_opening(tokenizer: &mut Tokenizer) -> Result<State, AllocError>
 ///          ^^
 pub fn sequence_open(tokenizer: &mut Tokenizer) -> Result<State, AllocError>
     requires { SequenceOpenReady tokenizer.old }
-    ensures ok { IfOk result (λ s. sequence_open_step tokenizer.old ≡ record { state = s; left = tokenizer.new }) }
-    ensures err { OnErr result (IsTrue tokenizer.new.failed) }
+    ensures { Steps sequence_open_step tokenizer.old result tokenizer.new }
 {
     match tokenizer.current() {
         Some(code) if code == tokenizer.tokenize_state.marker => {
@@ -180,8 +177,7 @@ pub fn sequence_open(tokenizer: &mut Tokenizer) -> Result<State, AllocError>
 ///           ^ ^^^
 pub fn between(tokenizer: &mut Tokenizer) -> Result<State, AllocError>
     requires { BetweenReady tokenizer.old }
-    ensures ok { IfOk result (λ s. between_step tokenizer.old ≡ record { state = s; left = tokenizer.new }) }
-    ensures err { OnErr result (IsTrue tokenizer.new.failed) }
+    ensures { Steps between_step tokenizer.old result tokenizer.new }
 {
     match tokenizer.current() {
         None => {
@@ -214,8 +210,7 @@ pub fn between(tokenizer: &mut Tokenizer) -> Result<State, AllocError>
 ///            ^^ ^
 pub fn data(tokenizer: &mut Tokenizer) -> Result<State, AllocError>
     requires { DataReady tokenizer.old }
-    ensures ok { IfOk result (λ s. data_step tokenizer.old ≡ record { state = s; left = tokenizer.new }) }
-    ensures err { OnErr result (IsTrue tokenizer.new.failed) }
+    ensures { Steps data_step tokenizer.old result tokenizer.new }
 {
     match tokenizer.current() {
         Some(code) if code != b'\n' && code != tokenizer.tokenize_state.marker => {
@@ -244,8 +239,7 @@ pub fn data_stops(fields: &TokenizeState) -> Option<ByteSet>
 #[tactic(auto, using(markdown_plan::proofs::RenameLemmas::rename_rules), unfolding(markdown_engine::specs::Operations::scratched))]
 fn after_run(tokenizer: &mut Tokenizer) -> Result<State, AllocError>
     requires { SequenceCloseReady tokenizer.old }
-    ensures ok { IfOk result (λ s. after_run tokenizer.old ≡ record { state = s; left = tokenizer.new }) }
-    ensures err { OnErr result (IsTrue tokenizer.new.failed) }
+    ensures { Steps after_run tokenizer.old result tokenizer.new }
 {
     if tokenizer.tokenize_state.size_b == tokenizer.tokenize_state.size {
         tokenizer.exit(tokenizer.tokenize_state.token_2)?;
@@ -266,8 +260,7 @@ fn after_run(tokenizer: &mut Tokenizer) -> Result<State, AllocError>
 ///              ^ ^^
 pub fn sequence_close(tokenizer: &mut Tokenizer) -> Result<State, AllocError>
     requires { SequenceCloseReady tokenizer.old }
-    ensures ok { IfOk result (λ s. sequence_close_step tokenizer.old ≡ record { state = s; left = tokenizer.new }) }
-    ensures err { OnErr result (IsTrue tokenizer.new.failed) }
+    ensures { Steps sequence_close_step tokenizer.old result tokenizer.new }
 {
     match tokenizer.current() {
         Some(code) if code == tokenizer.tokenize_state.marker => {

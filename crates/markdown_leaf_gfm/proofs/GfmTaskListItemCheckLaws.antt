@@ -14,6 +14,8 @@ use Rattle.markdown_engine_content.specs.declared.event.Name.{Name}
 use Rattle.markdown_engine_content.specs.declared.event.Name.TheVariants as N
 use Rattle.markdown_engine.specs.declared.state.State.{State}
 use Rattle.markdown_engine.specs.declared.state.State.TheVariants.{Next, Retry, Nok}
+use Rattle.markdown_engine.specs.declared.state.StateName.{StateName}
+use Rattle.markdown_engine.specs.declared.state.StateName.TheVariants as H
 use Rattle.markdown_engine.specs.declared.state.StateName.TheVariants.{GfmTaskListItemCheckInside, GfmTaskListItemCheckClose, GfmTaskListItemCheckAfter, GfmTaskListItemCheckAfterSpaceOrTab, SpaceOrTabStart}
 use Rattle.markdown_engine.specs.declared.tokenizer.TokenizeState.{TokenizeState}
 use Rattle.markdown_engine.specs.declared.tokenizer.Tokenizer.{Tokenizer}
@@ -33,12 +35,12 @@ use Rattle.markdown_partial.proofs.WhitespaceReadings.{space-all}
 use Rattle.markdown_plan.specs.Plan.{Plan, preceded, tree_ops, plan_of, KeepsAs}
 use Rattle.markdown_plan.proofs.PlanSteps.{EndsAs-plan}
 use Rattle.markdown_plan.proofs.PassedByReadings.{Gives, Covers, IsSome, Gives-bind, Gives-before, Gives-switched, Gives-one, Gives-gives, Covers-group, Covers-row, Covers-leaf, some-first}
-use Rattle.markdown_leaf_gfm.specs.GfmTaskListItemCheck.{opening, value, closing, is_mark, is_space, may_begin, start_at, start_step, inside_at, close_at, space_asked, looked, after_at, after_space_or_tab_at, MayLook, IsOpened, check_here, start_ends, after_plan, close_plan, inside_plan, inside_ends, close_ends, after_ends, after_space_or_tab_ends, states, after_space_or_tab_words, after_words, close_words, inside_words, start_words}
+use Rattle.markdown_leaf_gfm.specs.GfmTaskListItemCheck.{opening, value, closing, is_mark, is_space, may_begin, start_at, start_step, inside_at, close_at, space_asked, looked, after_at, after_space_or_tab_at, MayLook, IsOpened, check_here, start_ends, after_plan, close_plan, inside_plan, inside_ends, close_ends, after_ends, after_space_or_tab_ends, states_and_called, after_space_or_tab_words, after_words, close_words, inside_words, start_words, states}
 use Rattle.markdown_leaf_gfm.proofs.CheckSteps.{Goes-looked, goes-then}
 use Rattle.markdown_model.proofs.GrammarSteps.{span-takes, bind-some, bind-none, before-some, before-none, before-other, one-here, one-not, switched-on, switched-off, and-left, and-right, if-true, if-false}
-use Rattle.markdown_engine.specs.StateWords.{Words, Law, GoesIn, weight_in}
+use Rattle.markdown_engine.specs.StateWords.{StateWords, Words, Law, GoesIn, weight_in}
 use Rattle.markdown_plan.proofs.LawStepsOfLayer.{GoesOn-map, Goes-end, Goes-next, Goes-yes, Goes-no}
-use Rattle.markdown_plan.specs.LayerEquation.{Within}
+use Rattle.markdown_plan.specs.LayerEquation.{Within, AreLawful}
 
 -- The reading, by what stands there.
 
@@ -119,7 +121,7 @@ look-done os T h k =
 
 -- The states.
 
-pub start-law : (W : Words) → Within states W → Law W start_words
+pub start-law : (W : Words) → Within states_and_called W → Law W start_words
 start-law W within T alone look =
     let p : Plan = plan_of (check_here T) in
     let E : Bool → Tokenizer → Type 0 = KeepsAs 0 p T in
@@ -136,13 +138,13 @@ start-law W within T alone look =
     (λ h. Goes-no W 2 0 p T alone (ap p b.whole ∙ no-check (may_begin T) (b.code ∷ rest_of (ahead T)) (ap (λ v. may_begin T && (v == 91)) b.value ∙ h)))))
 
 -- past the value of this name
-value-goes : (W : Words) → Within states W → (name : Name) (T : Tokenizer) → T.attempts ≡ [] → IsOpened T → 1 ≤ length (ahead T) → inside_plan (ahead T) ≡ preceded (value name) (close_plan (rest_of (ahead T))) → GoesIn W (weight_at 1 T) (inside_ends T) (stepped (Next GfmTaskListItemCheckClose) (done (value name) T))
+value-goes : (W : Words) → Within states_and_called W → (name : Name) (T : Tokenizer) → T.attempts ≡ [] → IsOpened T → 1 ≤ length (ahead T) → inside_plan (ahead T) ≡ preceded (value name) (close_plan (rest_of (ahead T))) → GoesIn W (weight_at 1 T) (inside_ends T) (stepped (Next GfmTaskListItemCheckClose) (done (value name) T))
 value-goes W within name T alone on some e =
     Goes-next W 1 1 inside_plan close_plan (value name) T (Next GfmTaskListItemCheckClose) (within GfmTaskListItemCheckClose) alone refl some (omega arith) e
     (record { whole = (let w : IsOpen N.GfmTaskListItemCheck T = on.whole in grind (arith, law_rules)); look = look-done (value name) T some on.look })
     (λ ok U x. x)
 
-pub inside-law : (W : Words) → Within states W → Law W inside_words
+pub inside-law : (W : Words) → Within states_and_called W → Law W inside_words
 inside-law W within T alone on =
     let P : Stepped → Type 0 = GoesIn W (weight_at 1 T) (inside_ends T) in
     code-step P (current_of T) (λ o. inside_at o T)
@@ -156,7 +158,7 @@ inside-law W within T alone on =
     (ap inside_plan b.whole ∙ if-false _ _ _ (ap is_mark b.value ∙ h) ∙ if-true _ _ _ (ap is_space b.value ∙ k)))
     (λ k. Goes-no W 1 1 inside_plan T alone (ap inside_plan b.whole ∙ if-false _ _ _ (ap is_mark b.value ∙ h) ∙ if-false _ _ _ (ap is_space b.value ∙ k)))))
 
-pub close-law : (W : Words) → Within states W → Law W close_words
+pub close-law : (W : Words) → Within states_and_called W → Law W close_words
 close-law W within T alone on =
     let P : Stepped → Type 0 = GoesIn W (weight_at 1 T) (close_ends T) in
     code-step P (current_of T) (λ o. close_at o T)
@@ -233,7 +235,7 @@ check-ended W n End true A V X some e k =
 check-ended W n End false A V X some e k =
     (record { goes_on = tt; falls = some }, λ ok U x. subst (λ b. End b U) (sym x.0) (subst (End false) (sym (x.1 ∙ e)) k))
 
-look-law : (W : Words) → Within states W → (T : Tokenizer) → T.attempts ≡ [] → MayLook T → next_is is_blank (ahead T) ≡ true → begins_task_text (ahead T) ≡ not (is_empty (span is_blank (ahead T)).1) → GoesIn W (weight_at 4 T) (after_ends T) (stepped (Retry SpaceOrTabStart) (looked T))
+look-law : (W : Words) → Within states_and_called W → (T : Tokenizer) → T.attempts ≡ [] → MayLook T → next_is is_blank (ahead T) ≡ true → begins_task_text (ahead T) ≡ not (is_empty (span is_blank (ahead T)).1) → GoesIn W (weight_at 4 T) (after_ends T) (stepped (Retry SpaceOrTabStart) (looked T))
 look-law W within T alone look b text =
     let s : TokenizeState = T.tokenize_state in
     let n : ℕ = weight_at 4 T in
@@ -245,7 +247,7 @@ look-law W within T alone look b text =
     (λ ok V now m. check-ended W n (after_ends T) ok A V T (omega arith) (ap (restored (frame_of true State.Ok Nok A)) m.1 ∙ g.back) (after-keeps T ok T (m.0 ∙ ap (λ cs. not (is_empty cs)) g.after ∙ sym text) refl))))
     (λ U now k. absurd (never-refused T U look b k))
 
-pub after-law : (W : Words) → Within states W → Law W after_words
+pub after-law : (W : Words) → Within states_and_called W → Law W after_words
 after-law W within T alone look =
     let P : Stepped → Type 0 = GoesIn W (weight_at 4 T) (after_ends T) in
     code-step P (current_of T) (λ o. after_at o T)
@@ -270,3 +272,12 @@ after_space_or_tab-law W T alone _ =
     code-step P (current_of T) (λ o. after_space_or_tab_at o T)
     (λ e. Goes-end W n (after_space_or_tab_ends T) false T alone (omega arith) (λ ok U k. (k.0 ∙ ap (λ cs. not (is_empty cs)) (sym (ahead-none T e)), k.1)))
     (λ c e. Goes-end W n (after_space_or_tab_ends T) true T alone (omega arith) (λ ok U k. (k.0 ∙ ap (λ cs. not (is_empty cs)) (sym (ahead-some T c e).whole), k.1)))
+
+-- of these states, and of any other as it is given
+pub laws : (W : Words) → Within states_and_called W → (t : StateName → StateWords) → AreLawful W t → AreLawful W (states t)
+laws W within t other H.GfmTaskListItemCheckStart = start-law W within
+laws W within t other H.GfmTaskListItemCheckInside = inside-law W within
+laws W within t other H.GfmTaskListItemCheckClose = close-law W within
+laws W within t other H.GfmTaskListItemCheckAfter = after-law W within
+laws W within t other H.GfmTaskListItemCheckAfterSpaceOrTab = after_space_or_tab-law W
+laws W within t other s = other s

@@ -15,3 +15,4 @@ pub mod GfmAutolinkLiteralCovers
 pub mod GfmAutolinkLiteralAttempts
 pub mod GfmAutolinkLiteralProtocolLaws
 pub mod GfmAutolinkLiteralWwwLaws
+pub mod GfmAutolinkLiteralStateLaws

@@ -655,24 +655,28 @@ reference_start_words = record { ready = ReadsText; step = reference_start_step;
 abbrev pub reference_words : StateWords
 reference_words = record { ready = ReadsText; step = reference_step; ends = reference_ends; rank = 1 }
 
--- these states as they are said, and any other as it is given
+-- a part of what is said of these states, and of any other as it is given
+abbrev pub said {ℓ} : {A : Type ℓ} → (StateWords → A) → (StateName → A) → StateName → A
+said part other GfmAutolinkLiteralProtocolStart = part protocol_start_words
+said part other GfmAutolinkLiteralProtocolPrefixInside = part prefix_words
+said part other GfmAutolinkLiteralProtocolSlashesInside = part slashes_words
+said part other GfmAutolinkLiteralProtocolAfter = part protocol_after_words
+said part other GfmAutolinkLiteralWwwStart = part www_start_words
+said part other GfmAutolinkLiteralWwwPrefixInside = part www_prefix_words
+said part other GfmAutolinkLiteralWwwPrefixAfter = part www_prefix_after_words
+said part other GfmAutolinkLiteralWwwAfter = part www_after_words
+said part other GfmAutolinkLiteralDomainInside = part domain_words
+said part other GfmAutolinkLiteralDomainAtPunctuation = part domain_punctuation_words
+said part other GfmAutolinkLiteralDomainAfter = part domain_after_words
+said part other GfmAutolinkLiteralPathInside = part path_words
+said part other GfmAutolinkLiteralPathAtPunctuation = part path_punctuation_words
+said part other GfmAutolinkLiteralPathAfter = part path_after_words
+said part other GfmAutolinkLiteralTrail = part trail_words
+said part other GfmAutolinkLiteralTrailBracketAfter = part bracket_after_words
+said part other GfmAutolinkLiteralTrailCharRefStart = part reference_start_words
+said part other GfmAutolinkLiteralTrailCharRefInside = part reference_words
+said part other s = other s
+
+-- all of it
 abbrev pub states : (StateName → StateWords) → StateName → StateWords
-states other GfmAutolinkLiteralProtocolStart = protocol_start_words
-states other GfmAutolinkLiteralProtocolPrefixInside = prefix_words
-states other GfmAutolinkLiteralProtocolSlashesInside = slashes_words
-states other GfmAutolinkLiteralProtocolAfter = protocol_after_words
-states other GfmAutolinkLiteralWwwStart = www_start_words
-states other GfmAutolinkLiteralWwwPrefixInside = www_prefix_words
-states other GfmAutolinkLiteralWwwPrefixAfter = www_prefix_after_words
-states other GfmAutolinkLiteralWwwAfter = www_after_words
-states other GfmAutolinkLiteralDomainInside = domain_words
-states other GfmAutolinkLiteralDomainAtPunctuation = domain_punctuation_words
-states other GfmAutolinkLiteralDomainAfter = domain_after_words
-states other GfmAutolinkLiteralPathInside = path_words
-states other GfmAutolinkLiteralPathAtPunctuation = path_punctuation_words
-states other GfmAutolinkLiteralPathAfter = path_after_words
-states other GfmAutolinkLiteralTrail = trail_words
-states other GfmAutolinkLiteralTrailBracketAfter = bracket_after_words
-states other GfmAutolinkLiteralTrailCharRefStart = reference_start_words
-states other GfmAutolinkLiteralTrailCharRefInside = reference_words
-states other s = other s
+states other s = said (λ (w : StateWords). w) other s

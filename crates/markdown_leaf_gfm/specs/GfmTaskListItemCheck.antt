@@ -158,12 +158,23 @@ after_words = record { ready = MayLook; step = after_step; ends = after_ends; ra
 abbrev pub after_space_or_tab_words : StateWords
 after_space_or_tab_words = record { ready = λ T. Unit {0}; step = after_space_or_tab_step; ends = after_space_or_tab_ends; rank = 1 }
 
--- these states as they are said, and any other as it is given
+-- a part of what is said of these states, and of any other as it is given
+abbrev pub said {ℓ} : {A : Type ℓ} → (StateWords → A) → (StateName → A) → StateName → A
+said part other GfmTaskListItemCheckStart = part start_words
+said part other GfmTaskListItemCheckInside = part inside_words
+said part other GfmTaskListItemCheckClose = part close_words
+said part other GfmTaskListItemCheckAfter = part after_words
+said part other GfmTaskListItemCheckAfterSpaceOrTab = part after_space_or_tab_words
+said part other s = other s
+
+-- all of it
 abbrev pub states : (StateName → StateWords) → StateName → StateWords
-states other GfmTaskListItemCheckStart = start_words
-states other GfmTaskListItemCheckInside = inside_words
-states other GfmTaskListItemCheckClose = close_words
-states other GfmTaskListItemCheckAfter = after_words
-states other GfmTaskListItemCheckAfterSpaceOrTab = after_space_or_tab_words
-states other SpaceOrTabStart = PartialSpaceOrTab.start_words
-states other s = other s
+states other s = said (λ (w : StateWords). w) other s
+
+-- the states of others that they call, and any other as it is given
+abbrev pub called : (StateName → StateWords) → StateName → StateWords
+called other SpaceOrTabStart = PartialSpaceOrTab.start_words
+called other s = other s
+
+abbrev pub states_and_called : (StateName → StateWords) → StateName → StateWords
+states_and_called other s = states (called other) s

@@ -11,3 +11,4 @@ pub mod HtmlTextLaws
 pub mod HtmlTextCovers
 pub mod HtmlTextStartLaw
 pub mod HtmlSteadyLaws
+pub mod HtmlTextStateLaws

@@ -489,3 +489,40 @@ line_ending_after_words = record { ready = AfterReady; step = line_ending_after_
 
 abbrev pub line_ending_after_prefix_words : StateWords
 line_ending_after_prefix_words = record { ready = AfterReady; step = line_ending_after_prefix_step; ends = line_ending_after_prefix_ends; rank = 1 }
+
+-- a part of what is said of these states, and of any other as it is given
+abbrev pub said {ℓ} : {A : Type ℓ} → (StateWords → A) → (StateName → A) → StateName → A
+said part other H.HtmlTextStart = part start_words
+said part other H.HtmlTextOpen = part (part_words Open)
+said part other H.HtmlTextDeclarationOpen = part (part_words DeclarationOpen)
+said part other H.HtmlTextCommentOpenInside = part (part_words CommentOpenInside)
+said part other H.HtmlTextComment = part (part_words Comment)
+said part other H.HtmlTextCommentClose = part (part_words CommentClose)
+said part other H.HtmlTextCommentEnd = part (part_words CommentEnd)
+said part other H.HtmlTextCdata = part (part_words Cdata)
+said part other H.HtmlTextCdataClose = part (part_words CdataClose)
+said part other H.HtmlTextCdataEnd = part (part_words CdataEnd)
+said part other H.HtmlTextDeclaration = part (part_words Declaration)
+said part other H.HtmlTextInstruction = part (part_words Instruction)
+said part other H.HtmlTextInstructionClose = part (part_words InstructionClose)
+said part other H.HtmlTextTagCloseStart = part (part_words TagCloseStart)
+said part other H.HtmlTextTagClose = part (part_words TagClose)
+said part other H.HtmlTextTagCloseBetween = part (part_words TagCloseBetween)
+said part other H.HtmlTextTagOpen = part (part_words TagOpen)
+said part other H.HtmlTextTagOpenBetween = part (part_words TagOpenBetween)
+said part other H.HtmlTextTagOpenAttributeName = part (part_words AttributeName)
+said part other H.HtmlTextTagOpenAttributeNameAfter = part (part_words AttributeNameAfter)
+said part other H.HtmlTextTagOpenAttributeValueBefore = part (part_words ValueBefore)
+said part other H.HtmlTextTagOpenAttributeValueQuotedAfter = part (part_words ValueQuotedAfter)
+said part other H.HtmlTextTagOpenAttributeValueUnquoted = part (part_words ValueUnquoted)
+said part other H.HtmlTextEnd = part (part_words End)
+said part other H.HtmlTextCdataOpenInside = part cdata_open_inside_words
+said part other H.HtmlTextTagOpenAttributeValueQuoted = part tag_open_attribute_value_quoted_words
+said part other H.HtmlTextLineEndingBefore = part line_ending_before_words
+said part other H.HtmlTextLineEndingAfter = part line_ending_after_words
+said part other H.HtmlTextLineEndingAfterPrefix = part line_ending_after_prefix_words
+said part other s = other s
+
+-- all of it
+abbrev pub states : (StateName → StateWords) → StateName → StateWords
+states other s = said (λ (w : StateWords). w) other s

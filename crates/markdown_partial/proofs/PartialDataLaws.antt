@@ -12,6 +12,8 @@ use Rattle.markdown_engine.specs.Weights.{codes_left, weight_at}
 use Rattle.markdown_engine_content.specs.declared.event.Name.TheVariants as N
 use Rattle.markdown_engine.specs.declared.state.State.TheVariants.{Next, Retry}
 use Rattle.markdown_engine.specs.declared.state.State.{State}
+use Rattle.markdown_engine.specs.declared.state.StateName.{StateName}
+use Rattle.markdown_engine.specs.declared.state.StateName.TheVariants as H
 use Rattle.markdown_engine.specs.declared.state.StateName.TheVariants.{DataAtBreak, DataInside}
 use Rattle.markdown_engine.specs.declared.tokenizer.TokenizeState.{TokenizeState}
 use Rattle.markdown_engine.specs.declared.tokenizer.Tokenizer.{Tokenizer}
@@ -26,10 +28,10 @@ use Rattle.markdown_partial.specs.PartialData.{inside_step, inside_stops, marks,
 use Rattle.markdown_partial.proofs.EndLemmas.{EndsAs-same, EndsAs-here}
 use Rattle.markdown_partial.proofs.LineCuts.{up_to_break, data-then, ending-then, more-goes, more-stops, break-stops, break-goes}
 use Rattle.markdown_model.proofs.LeafCodes.{until-append}
-use Rattle.markdown_engine.specs.StateWords.{Words, Law, GoesIn}
+use Rattle.markdown_engine.specs.StateWords.{StateWords, Words, Law, GoesIn}
 use Rattle.markdown_plan.proofs.PassedCodes.{passed-none, passed-one}
 use Rattle.markdown_plan.proofs.LawStepsOfLayer.{GoesOn-map, Goes-end, Goes-ops}
-use Rattle.markdown_plan.specs.LayerEquation.{Within}
+use Rattle.markdown_plan.specs.LayerEquation.{Within, AreLawful}
 
 -- the value behind the code at hand
 next-ahead : (T : Tokenizer) → next_of T ≡ value_of (first_of (rest_of (ahead T)))
@@ -200,3 +202,10 @@ inside-steady T set known free =
     let same : T.tokenize_state.markers ≡ set = cc in
     let other : stops_here T v ≡ false = ap (λ x. x && not (T.tokenize_state.passes_letters && begins_none v (next_of T))) (ap (λ (m : List ℕ). marks m v) same ∙ b) in
     rw (a, other) refl)
+
+-- of these states, and of any other as it is given
+pub laws : (W : Words) → Within states W → (t : StateName → StateWords) → AreLawful W t → AreLawful W (states t)
+laws W within t other H.DataStart = start-law W within
+laws W within t other H.DataAtBreak = at_break-law W within
+laws W within t other H.DataInside = inside-law W within
+laws W within t other s = other s

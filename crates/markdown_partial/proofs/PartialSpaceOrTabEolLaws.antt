@@ -11,6 +11,8 @@ use Rattle.markdown_engine_content.specs.declared.event.Content.{Content}
 use Rattle.markdown_engine_content.specs.declared.event.Event.{Event}
 use Rattle.markdown_engine_content.specs.declared.event.Name.TheVariants as N
 use Rattle.markdown_engine.specs.declared.state.State.TheVariants.{Next, Retry, Nok}
+use Rattle.markdown_engine.specs.declared.state.StateName.{StateName}
+use Rattle.markdown_engine.specs.declared.state.StateName.TheVariants as H
 use Rattle.markdown_engine.specs.declared.state.StateName.TheVariants.{SpaceOrTabStart, SpaceOrTabEolAfterFirst, SpaceOrTabEolAtEol, SpaceOrTabEolAfterEol, SpaceOrTabEolAfterMore}
 use Rattle.markdown_engine.specs.declared.tokenizer.TokenizeState.{TokenizeState}
 use Rattle.markdown_engine.specs.declared.tokenizer.Tokenizer.{Tokenizer}
@@ -24,7 +26,7 @@ use Rattle.markdown_model.specs.TextLines.{linked_leaf}
 use Rattle.markdown_model.specs.Whitespace.{space_or_tab, space_or_tab_eol, begins_filled_line}
 use Rattle.markdown_partial.specs.PartialSpaceOrTab as PartialSpaceOrTab
 use Rattle.markdown_partial.specs.PartialSpaceOrTab.{most, at_blank, rested}
-use Rattle.markdown_partial.specs.PartialSpaceOrTabEol.{space_asked, eol_rested, held, joins, joined, at_line_ending, ending_entered, goes_on_line, EolReady, AfterFirstReady, indent, at_ending, start_ends, after_first_ends, at_eol_ends, after_eol_ends, after_more_ends, states, after_eol_words, after_first_words, after_more_words, at_eol_words, start_words}
+use Rattle.markdown_partial.specs.PartialSpaceOrTabEol.{space_asked, eol_rested, held, joins, joined, at_line_ending, ending_entered, goes_on_line, EolReady, AfterFirstReady, indent, at_ending, start_ends, after_first_ends, at_eol_ends, after_eol_ends, after_more_ends, states_and_called, after_eol_words, after_first_words, after_more_words, at_eol_words, start_words, states}
 use Rattle.markdown_partial.proofs.EndLemmas.{EndsAs-same}
 use Rattle.markdown_partial.proofs.BlankCodes.{Here, here, blank-ahead, ending-ahead, filled-ahead}
 use Rattle.markdown_partial.proofs.WhitespaceReadings.{nothing, space-all, ending-here, ending-none, spacing-then, spacing-none}
@@ -32,9 +34,9 @@ use Rattle.markdown_partial.proofs.LinkedLeafLemmas.{entered-attempts}
 use Rattle.markdown_model.proofs.LeafCodes.{span-append}
 use Rattle.markdown_model.proofs.GrammarSteps.{span-none}
 use Rattle.markdown_model.proofs.ReadingsCover.{codes-linked_leaf}
-use Rattle.markdown_engine.specs.StateWords.{Words, Law, GoesIn}
+use Rattle.markdown_engine.specs.StateWords.{StateWords, Words, Law, GoesIn}
 use Rattle.markdown_plan.proofs.LawStepsOfLayer.{Goes-end, Goes-plain, Goes-attempt, follows}
-use Rattle.markdown_plan.specs.LayerEquation.{Within}
+use Rattle.markdown_plan.specs.LayerEquation.{Within, AreLawful}
 
 pub after_more-law : (W : Words) → Law W after_more_words
 after_more-law W T alone _ =
@@ -55,7 +57,7 @@ first-closed : (T : Tokenizer) (ok : Bool) (V : Tokenizer) → at_eol_ends (scra
 unfolding scratched
 first-closed T ok V k = EndsAs-scratched _ _ _ (held T.tokenize_state) T ok V k
 
-pub after_first-law : (W : Words) → Within states W → Law W after_first_words
+pub after_first-law : (W : Words) → Within states_and_called W → Law W after_first_words
 after_first-law W within T alone r =
     let U : Tokenizer = scratched (held T.tokenize_state) T in
     Goes-plain W (weight_at 7 T) (after_first_ends T) (Retry SpaceOrTabEolAtEol) (within SpaceOrTabEolAtEol) U (attempts-scratched _ T ∙ alone) (eol-held T r.goes_on)
@@ -125,7 +127,7 @@ none-closed T e ok V m =
     indent-closed s.space_or_tab_eol_content previous (eol_rested s) T ok V (m.0 ∙ ap (λ (b : List Code × List Code). begins_filled_line b.1) (sym e))
     (m.1 ∙ sym (past-empty previous (scratched (eol_rested s) T)) ∙ ap (λ (b : List Code × List Code). past previous (linked_leaf N.SpaceOrTab s.space_or_tab_eol_content b.0) (scratched (eol_rested s) T)) (sym e))
 
-pub after_eol-law : (W : Words) → Within states W → Law W after_eol_words
+pub after_eol-law : (W : Words) → Within states_and_called W → Law W after_eol_words
 after_eol-law W within T alone r =
     let s : TokenizeState = T.tokenize_state in
     let n : ℕ = weight_at 5 T in
@@ -229,7 +231,7 @@ ending-alone : (T : Tokenizer) → T.attempts ≡ [] → (left_by_ending T).atte
 unfolding scratched applied
 ending-alone T h = entered-attempts N.LineEnding T.tokenize_state.space_or_tab_eol_content T.tokenize_state.space_or_tab_eol_connect T ∙ h
 
-pub at_eol-law : (W : Words) → Within states W → Law W at_eol_words
+pub at_eol-law : (W : Words) → Within states_and_called W → Law W at_eol_words
 at_eol-law W within T alone r =
     let s : TokenizeState = T.tokenize_state in
     let n : ℕ = weight_at 6 T in
@@ -290,7 +292,7 @@ start-none T z h ok V k =
     let same : space_or_tab_eol s.space_or_tab_eol_content (ahead T) ≡ at_ending s.space_or_tab_eol_content s.space_or_tab_eol_ok (ahead T) = spacing-none s.space_or_tab_eol_content (ahead T) h ∙ ap (λ b. at_ending s.space_or_tab_eol_content b (ahead T)) (sym z) in
     EndsAs-same (space_or_tab_eol s.space_or_tab_eol_content) (at_ending s.space_or_tab_eol_content s.space_or_tab_eol_ok) _ _ T same ok V k
 
-pub start-law : (W : Words) → Within states W → Law W start_words
+pub start-law : (W : Words) → Within states_and_called W → Law W start_words
 start-law W within T alone r =
     let s : TokenizeState = T.tokenize_state in
     let n : ℕ = weight_at 8 T in
@@ -305,3 +307,12 @@ start-law W within T alone r =
     (λ U now k. absurd (never-refused T U r.begins b k)))
     (λ h. Goes-plain W n (start_ends T) (Retry SpaceOrTabEolAtEol) (within SpaceOrTabEolAtEol) T alone r.begins (omega arith)
     (λ ok V m. start-none T r.none_yet (sym (blank-ahead T) ∙ h) ok V m))
+
+-- of these states, and of any other as it is given
+pub laws : (W : Words) → Within states_and_called W → (t : StateName → StateWords) → AreLawful W t → AreLawful W (states t)
+laws W within t other H.SpaceOrTabEolStart = start-law W within
+laws W within t other H.SpaceOrTabEolAfterFirst = after_first-law W within
+laws W within t other H.SpaceOrTabEolAtEol = at_eol-law W within
+laws W within t other H.SpaceOrTabEolAfterEol = after_eol-law W within
+laws W within t other H.SpaceOrTabEolAfterMore = after_more-law W
+laws W within t other s = other s

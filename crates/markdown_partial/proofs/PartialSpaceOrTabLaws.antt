@@ -11,6 +11,8 @@ use Rattle.markdown_engine.specs.Weights.{codes_left, weight_at}
 use Rattle.markdown_engine_content.specs.declared.event.Content.{Content}
 use Rattle.markdown_engine_content.specs.declared.event.Name.{Name}
 use Rattle.markdown_engine.specs.declared.state.State.TheVariants.{Next, Retry}
+use Rattle.markdown_engine.specs.declared.state.StateName.{StateName}
+use Rattle.markdown_engine.specs.declared.state.StateName.TheVariants as H
 use Rattle.markdown_engine.specs.declared.state.StateName.TheVariants.{SpaceOrTabInside, SpaceOrTabAfter}
 use Rattle.markdown_engine.specs.declared.tokenizer.TokenizeState.{TokenizeState}
 use Rattle.markdown_engine.specs.declared.tokenizer.Tokenizer.{Tokenizer}
@@ -26,9 +28,9 @@ use Rattle.markdown_partial.proofs.LinkedLeafLemmas.{entered-cursor, entered-scr
 use Rattle.markdown_partial.proofs.BlankCodes.{Here, here, blank-ahead, taken-parts, taken-first, taken-none}
 use Rattle.markdown_partial.proofs.WhitespaceReadings.{space-holds, space-refused}
 use Rattle.markdown_model.proofs.ReadingsCover.{codes-linked_leaf}
-use Rattle.markdown_engine.specs.StateWords.{Words, Law, GoesIn}
+use Rattle.markdown_engine.specs.StateWords.{StateWords, Words, Law, GoesIn}
 use Rattle.markdown_plan.proofs.LawStepsOfLayer.{Goes-plain, Goes-end}
-use Rattle.markdown_plan.specs.LayerEquation.{Within}
+use Rattle.markdown_plan.specs.LayerEquation.{Within, AreLawful}
 
 pub after-law : (W : Words) → Law W after_words
 after-law W T alone _ =
@@ -160,3 +162,10 @@ start-law W within T alone on =
     (λ ok U k. start-inside T (ltb-true _ _ (and-right _ _ h)) on.none_yet b ok U k))
     (λ h. let none : take s.space_or_tab_max (span is_blank (ahead T)).0 ≡ [] = taken-none s.space_or_tab_max is_blank (ahead T) (ap (λ b. b && nat_lt 0 s.space_or_tab_max) (sym (blank-ahead T)) ∙ h) in
     Goes-plain W n (start_ends T) (Retry SpaceOrTabAfter) (within SpaceOrTabAfter) T alone tt (omega arith) (λ ok U k. start-after T on.none_yet none ok U k))
+
+-- of these states, and of any other as it is given
+pub laws : (W : Words) → Within states W → (t : StateName → StateWords) → AreLawful W t → AreLawful W (states t)
+laws W within t other H.SpaceOrTabStart = start-law W within
+laws W within t other H.SpaceOrTabInside = inside-law W within
+laws W within t other H.SpaceOrTabAfter = after-law W
+laws W within t other s = other s

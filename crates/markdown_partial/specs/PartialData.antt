@@ -141,9 +141,13 @@ at_break_words = record { ready = λ T. Unit {0}; step = at_break_step; ends = a
 abbrev pub inside_words : StateWords
 inside_words = record { ready = IsOpen N.Data; step = inside_step; ends = inside_ends; rank = 2 }
 
--- these states as they are said, and any other as it is given
+-- a part of what is said of these states, and of any other as it is given
+abbrev pub said {ℓ} : {A : Type ℓ} → (StateWords → A) → (StateName → A) → StateName → A
+said part other DataStart = part start_words
+said part other DataAtBreak = part at_break_words
+said part other DataInside = part inside_words
+said part other s = other s
+
+-- all of it
 abbrev pub states : (StateName → StateWords) → StateName → StateWords
-states other DataStart = start_words
-states other DataAtBreak = at_break_words
-states other DataInside = inside_words
-states other s = other s
+states other s = said (λ (w : StateWords). w) other s

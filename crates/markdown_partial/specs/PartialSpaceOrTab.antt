@@ -102,9 +102,13 @@ inside_words = record { ready = λ T. IsOpen T.tokenize_state.space_or_tab_token
 abbrev pub after_words : StateWords
 after_words = record { ready = λ T. Unit {0}; step = after_step; ends = after_ends; rank = 1 }
 
--- these states as they are said, and any other as it is given
+-- a part of what is said of these states, and of any other as it is given
+abbrev pub said {ℓ} : {A : Type ℓ} → (StateWords → A) → (StateName → A) → StateName → A
+said part other SpaceOrTabStart = part start_words
+said part other SpaceOrTabInside = part inside_words
+said part other SpaceOrTabAfter = part after_words
+said part other s = other s
+
+-- all of it
 abbrev pub states : (StateName → StateWords) → StateName → StateWords
-states other SpaceOrTabStart = start_words
-states other SpaceOrTabInside = inside_words
-states other SpaceOrTabAfter = after_words
-states other s = other s
+states other s = said (λ (w : StateWords). w) other s

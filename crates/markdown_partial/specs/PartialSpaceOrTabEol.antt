@@ -173,12 +173,23 @@ after_eol_words = record { ready = EolReady; step = after_eol_step; ends = after
 abbrev pub after_more_words : StateWords
 after_more_words = record { ready = λ T. Unit {0}; step = after_more_step; ends = after_more_ends; rank = 4 }
 
--- these states as they are said, and any other as it is given
+-- a part of what is said of these states, and of any other as it is given
+abbrev pub said {ℓ} : {A : Type ℓ} → (StateWords → A) → (StateName → A) → StateName → A
+said part other SpaceOrTabEolStart = part start_words
+said part other SpaceOrTabEolAfterFirst = part after_first_words
+said part other SpaceOrTabEolAtEol = part at_eol_words
+said part other SpaceOrTabEolAfterEol = part after_eol_words
+said part other SpaceOrTabEolAfterMore = part after_more_words
+said part other s = other s
+
+-- all of it
 abbrev pub states : (StateName → StateWords) → StateName → StateWords
-states other SpaceOrTabEolStart = start_words
-states other SpaceOrTabEolAfterFirst = after_first_words
-states other SpaceOrTabEolAtEol = at_eol_words
-states other SpaceOrTabEolAfterEol = after_eol_words
-states other SpaceOrTabEolAfterMore = after_more_words
-states other SpaceOrTabStart = PartialSpaceOrTab.start_words
-states other s = other s
+states other s = said (λ (w : StateWords). w) other s
+
+-- the states of others that they call, and any other as it is given
+abbrev pub called : (StateName → StateWords) → StateName → StateWords
+called other SpaceOrTabStart = PartialSpaceOrTab.start_words
+called other s = other s
+
+abbrev pub states_and_called : (StateName → StateWords) → StateName → StateWords
+states_and_called other s = states (called other) s

@@ -28,6 +28,7 @@ ghost use Rattle.markdown_engine_content.specs.Tree.{Forest};
 ghost use Rattle.markdown_model.specs.Passes.{merged};
 ghost use Rattle.markdown_partial.specs.PartialData.{begins_none, next_of, stops_here, passing, start_step, at_break_step, inside_step, inside_stops};
 ghost use Rattle.markdown_partial.specs.MergedEvents.{opens_data, closes_data, joint, marked, joints, HasData};
+ghost use Rattle.markdown_plan.specs.StateCalls.{Steps};
 
 use crate::literal_letters;
 use markdown_engine::state::{State, StateName};
@@ -67,8 +68,7 @@ fn stops(tokenizer: &Tokenizer, byte: u8) -> bool
 // Passes the code at hand, a line ending or the first code of a stretch.
 fn pass(tokenizer: &mut Tokenizer, byte: u8) -> Result<State, AllocError>
     requires { current_of tokenizer.old ≡ Some byte }
-    ensures ok { IfOk result (λ s. passing byte tokenizer.old ≡ record { state = s; left = tokenizer.new }) }
-    ensures err { OnErr result (IsTrue tokenizer.new.failed) }
+    ensures { Steps (passing byte) tokenizer.old result tokenizer.new }
 {
     if byte == b'\n' {
         tokenizer.enter(Name::LineEnding)?;
@@ -87,8 +87,7 @@ fn pass(tokenizer: &mut Tokenizer, byte: u8) -> Result<State, AllocError>
 ///     > | one & six
 ///         ^   ^
 pub fn start(tokenizer: &mut Tokenizer) -> Result<State, AllocError>
-    ensures ok { IfOk result (λ s. start_step tokenizer.old ≡ record { state = s; left = tokenizer.new }) }
-    ensures err { OnErr result (IsTrue tokenizer.new.failed) }
+    ensures { Steps start_step tokenizer.old result tokenizer.new }
 {
     match tokenizer.current() {
         None => Ok(State::Ok),
@@ -103,8 +102,7 @@ pub fn start(tokenizer: &mut Tokenizer) -> Result<State, AllocError>
 ///     > | six *
 ///         ^   ^
 pub fn at_break(tokenizer: &mut Tokenizer) -> Result<State, AllocError>
-    ensures ok { IfOk result (λ s. at_break_step tokenizer.old ≡ record { state = s; left = tokenizer.new }) }
-    ensures err { OnErr result (IsTrue tokenizer.new.failed) }
+    ensures { Steps at_break_step tokenizer.old result tokenizer.new }
 {
     match tokenizer.current() {
         Some(byte) if !stops(tokenizer, byte) => pass(tokenizer, byte),
@@ -121,8 +119,7 @@ pub fn at_break(tokenizer: &mut Tokenizer) -> Result<State, AllocError>
 ///          ^^^^^^
 pub fn inside(tokenizer: &mut Tokenizer) -> Result<State, AllocError>
     requires { IsOpen Data tokenizer.old }
-    ensures ok { IfOk result (λ s. inside_step tokenizer.old ≡ record { state = s; left = tokenizer.new }) }
-    ensures err { OnErr result (IsTrue tokenizer.new.failed) }
+    ensures { Steps inside_step tokenizer.old result tokenizer.new }
 {
     match tokenizer.current() {
         Some(byte) if byte != b'\n' && !stops(tokenizer, byte) => {

@@ -14,11 +14,12 @@
 // Each state answers the error where a growth is refused; then `failed` is true.
 #![tactic(auto, using(markdown_engine::proofs::OperationFields::op_rules), unfolding(markdown_engine::specs::Operations::scratched))]
 
-ghost use Rattle.std.specs.Prelude.{◌≡◌, IfOk, OnErr, IsTrue, true, false, None};
+ghost use Rattle.std.specs.Prelude.{◌≡◌, true, false, None};
 ghost use Rattle.markdown_engine.specs.Operations.{IsOpen, LinkedBefore, scratched};
 ghost use Rattle.markdown_engine_content.specs.declared.event.Name.TheVariants.{SpaceOrTab};
 ghost use Rattle.markdown_engine.specs.declared.state.StateName.TheVariants.{SpaceOrTabStart};
 ghost use Rattle.markdown_partial.specs.PartialSpaceOrTab.{most, asked, start_step, inside_step, after_step};
+ghost use Rattle.markdown_plan.specs.StateCalls.{Steps};
 
 use crate::leaf::enter_leaf;
 use markdown_engine::state::{State, StateName};
@@ -92,8 +93,7 @@ pub fn space_or_tab_with_options(tokenizer: &mut Tokenizer, options: Options) ->
 ///             ^
 pub fn start(tokenizer: &mut Tokenizer) -> Result<State, AllocError>
     requires { tokenizer.old.tokenize_state.space_or_tab_connect ≡ true → LinkedBefore tokenizer.old }
-    ensures ok { IfOk result (λ s. start_step tokenizer.old ≡ record { state = s; left = tokenizer.new }) }
-    ensures err { OnErr result (IsTrue tokenizer.new.failed) }
+    ensures { Steps start_step tokenizer.old result tokenizer.new }
 {
     match tokenizer.current() {
         Some(b' ' | b'\t') if tokenizer.tokenize_state.space_or_tab_max > 0 => {
@@ -113,8 +113,7 @@ pub fn start(tokenizer: &mut Tokenizer) -> Result<State, AllocError>
 ///             ^^^
 pub fn inside(tokenizer: &mut Tokenizer) -> Result<State, AllocError>
     requires { IsOpen tokenizer.old.tokenize_state.space_or_tab_token tokenizer.old }
-    ensures ok { IfOk result (λ s. inside_step tokenizer.old ≡ record { state = s; left = tokenizer.new }) }
-    ensures err { OnErr result (IsTrue tokenizer.new.failed) }
+    ensures { Steps inside_step tokenizer.old result tokenizer.new }
 {
     let size = tokenizer.tokenize_state.space_or_tab_size;
     match tokenizer.current() {
@@ -135,8 +134,7 @@ pub fn inside(tokenizer: &mut Tokenizer) -> Result<State, AllocError>
 ///     > | [x](  y)
 ///               ^
 pub fn after(tokenizer: &mut Tokenizer) -> Result<State, AllocError>
-    ensures ok { IfOk result (λ s. after_step tokenizer.old ≡ record { state = s; left = tokenizer.new }) }
-    ensures err { OnErr result (IsTrue tokenizer.new.failed) }
+    ensures { Steps after_step tokenizer.old result tokenizer.new }
 {
     let scratch = &mut tokenizer.tokenize_state;
     let is_enough = scratch.space_or_tab_size >= scratch.space_or_tab_min;

@@ -18,10 +18,11 @@
 // Each state answers the error where a growth is refused; then `failed` is true.
 #![tactic(auto, using(markdown_engine::proofs::OperationFields::op_rules), unfolding(markdown_engine::specs::Operations::scratched, markdown_engine::specs::Operations::attempted, markdown_engine::specs::Operations::frame_of))]
 
-ghost use Rattle.std.specs.Prelude.{◌≡◌, IfOk, OnErr, IsTrue, true, false, None};
+ghost use Rattle.std.specs.Prelude.{◌≡◌, true, false, None};
 ghost use Rattle.markdown_engine.specs.Operations.{LinkedBefore, scratched};
 ghost use Rattle.markdown_engine.specs.declared.state.StateName.TheVariants.{SpaceOrTabStart, SpaceOrTabEolStart};
 ghost use Rattle.markdown_partial.specs.PartialSpaceOrTabEol.{eol_asked, space_asked, eol_rested, start_step, after_first_step, at_eol_step, after_eol_step, after_more_step};
+ghost use Rattle.markdown_plan.specs.StateCalls.{Steps};
 
 use crate::leaf::enter_leaf;
 use crate::partial_space_or_tab;
@@ -101,8 +102,7 @@ fn rest(tokenizer: &mut Tokenizer)
 ///             ^ ^
 ///     > |   "z")
 pub fn start(tokenizer: &mut Tokenizer) -> Result<State, AllocError>
-    ensures ok { IfOk result (λ s. start_step tokenizer.old ≡ record { state = s; left = tokenizer.new }) }
-    ensures err { OnErr result (IsTrue tokenizer.new.failed) }
+    ensures { Steps start_step tokenizer.old result tokenizer.new }
 {
     match tokenizer.current() {
         Some(b' ' | b'\t') => {
@@ -123,8 +123,7 @@ pub fn start(tokenizer: &mut Tokenizer) -> Result<State, AllocError>
 ///              ^
 ///     > |   "z")
 pub fn after_first(tokenizer: &mut Tokenizer) -> Result<State, AllocError>
-    ensures ok { IfOk result (λ s. after_first_step tokenizer.old ≡ record { state = s; left = tokenizer.new }) }
-    ensures err { OnErr result (IsTrue tokenizer.new.failed) }
+    ensures { Steps after_first_step tokenizer.old result tokenizer.new }
 {
     tokenizer.tokenize_state.space_or_tab_eol_ok = true;
     Ok(State::Retry(StateName::SpaceOrTabEolAtEol))
@@ -137,8 +136,7 @@ pub fn after_first(tokenizer: &mut Tokenizer) -> Result<State, AllocError>
 ///     > |   "z")
 pub fn at_eol(tokenizer: &mut Tokenizer) -> Result<State, AllocError>
     requires { tokenizer.old.tokenize_state.space_or_tab_eol_connect ≡ true → LinkedBefore tokenizer.old }
-    ensures ok { IfOk result (λ s. at_eol_step tokenizer.old ≡ record { state = s; left = tokenizer.new }) }
-    ensures err { OnErr result (IsTrue tokenizer.new.failed) }
+    ensures { Steps at_eol_step tokenizer.old result tokenizer.new }
 {
     match tokenizer.current() {
         Some(b'\n') => {
@@ -166,8 +164,7 @@ pub fn at_eol(tokenizer: &mut Tokenizer) -> Result<State, AllocError>
 ///     > |   "z")
 ///         ^
 pub fn after_eol(tokenizer: &mut Tokenizer) -> Result<State, AllocError>
-    ensures ok { IfOk result (λ s. after_eol_step tokenizer.old ≡ record { state = s; left = tokenizer.new }) }
-    ensures err { OnErr result (IsTrue tokenizer.new.failed) }
+    ensures { Steps after_eol_step tokenizer.old result tokenizer.new }
 {
     match tokenizer.current() {
         Some(b' ' | b'\t') => {
@@ -185,8 +182,7 @@ pub fn after_eol(tokenizer: &mut Tokenizer) -> Result<State, AllocError>
 ///     > |   "z")
 ///           ^
 pub fn after_more(tokenizer: &mut Tokenizer) -> Result<State, AllocError>
-    ensures ok { IfOk result (λ s. after_more_step tokenizer.old ≡ record { state = s; left = tokenizer.new }) }
-    ensures err { OnErr result (IsTrue tokenizer.new.failed) }
+    ensures { Steps after_more_step tokenizer.old result tokenizer.new }
 {
     rest(tokenizer);
     match tokenizer.current() {

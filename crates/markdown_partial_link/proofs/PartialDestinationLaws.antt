@@ -9,6 +9,8 @@ use Rattle.markdown_engine.specs.StateRuns.{Stepped, stepped}
 use Rattle.markdown_engine.specs.Weights.{weight_at}
 use Rattle.markdown_engine_content.specs.declared.event.Name.TheVariants as N
 use Rattle.markdown_engine.specs.declared.state.State.TheVariants.{Next, Retry}
+use Rattle.markdown_engine.specs.declared.state.StateName.{StateName}
+use Rattle.markdown_engine.specs.declared.state.StateName.TheVariants as H
 use Rattle.markdown_engine.specs.declared.state.StateName.TheVariants.{DestinationEnclosedBefore, DestinationEnclosed, DestinationEnclosedEscape, DestinationRaw, DestinationRawEscape}
 use Rattle.markdown_engine.specs.declared.tokenizer.TokenizeState.{TokenizeState}
 use Rattle.markdown_engine.specs.declared.tokenizer.Tokenizer.{Tokenizer}
@@ -26,9 +28,9 @@ use Rattle.markdown_partial_link.proofs.PartialDestinationReadings.{enclosed-non
 use Rattle.markdown_partial_link.proofs.LinkedTreeLemmas.{EndsAs-linked}
 use Rattle.markdown_partial_link.proofs.BoolLemmas.{same-value}
 use Rattle.markdown_model.proofs.GrammarSteps.{if-true, if-false, right-true}
-use Rattle.markdown_engine.specs.StateWords.{Words, Law, GoesIn}
+use Rattle.markdown_engine.specs.StateWords.{StateWords, Words, Law, GoesIn}
 use Rattle.markdown_plan.proofs.LawStepsOfLayer.{GoesOn-map, Goes-on, Goes-kept, Goes-next, Goes-ok, Goes-yes, Goes-nok, Goes-no}
-use Rattle.markdown_plan.specs.LayerEquation.{Within}
+use Rattle.markdown_plan.specs.LayerEquation.{Within, AreLawful}
 
 -- The conditions.
 
@@ -377,3 +379,13 @@ module _ (W : Words) (within : Within states W) where
       (ap p b.whole ∙ destination-raw max names b.code cs (ap (λ v. v == 60) b.value ∙ h) (or_from (white_value v) (is_value 41 b.code && true) white (ap (λ x. x && true) closer)) plain closer ∙ ap (λ xs. preceded (raw_opening names) (raw_plan names max false 0 xs)) (sym b.whole))
       (opened-raw T)
       (λ ok U x. raw-says T k ok U x)))))
+
+-- of these states, and of any other as it is given
+pub laws : (W : Words) → Within states W → (t : StateName → StateWords) → AreLawful W t → AreLawful W (states t)
+laws W within t other H.DestinationStart = start-law W within
+laws W within t other H.DestinationEnclosedBefore = enclosed_before-law W within
+laws W within t other H.DestinationEnclosed = enclosed-law W within
+laws W within t other H.DestinationEnclosedEscape = enclosed_escape-law W within
+laws W within t other H.DestinationRaw = raw-law W within
+laws W within t other H.DestinationRawEscape = raw_escape-law W within
+laws W within t other s = other s

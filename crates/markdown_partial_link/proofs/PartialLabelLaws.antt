@@ -11,6 +11,8 @@ use Rattle.markdown_engine.specs.StateRuns.{Stepped, stepped}
 use Rattle.markdown_engine.specs.Weights.{weight_at}
 use Rattle.markdown_engine_content.specs.declared.event.Name.TheVariants as N
 use Rattle.markdown_engine.specs.declared.state.State.TheVariants.{Next, Retry}
+use Rattle.markdown_engine.specs.declared.state.StateName.{StateName}
+use Rattle.markdown_engine.specs.declared.state.StateName.TheVariants as H
 use Rattle.markdown_engine.specs.declared.state.StateName.TheVariants.{LabelAtBreak, LabelEolAfter, LabelInside, LabelEscape, LabelNok, SpaceOrTabEolStart}
 use Rattle.markdown_engine.specs.declared.tokenizer.TokenizeState.{TokenizeState}
 use Rattle.markdown_engine.specs.declared.tokenizer.Tokenizer.{Tokenizer}
@@ -24,7 +26,7 @@ use Rattle.markdown_plan.proofs.PlanSteps.{preceded-nil, done-scratched, no-code
 use Rattle.markdown_partial.specs.PartialSpaceOrTabEol.{WhitespaceAtRest}
 use Rattle.markdown_partial_link.specs.LinkedTreeOps.{plan_of}
 use Rattle.markdown_partial_link.specs.LinkedText.{ending, names_in, joined, enter_text, text_entered, TextReady, break_ops, inside_ops}
-use Rattle.markdown_partial_link.specs.PartialLabel.{rested, sized, opening, start_at, start_step, closed, refused, next_state, passing, is_short, at_break_at, leaving, inside_at, escapes, escape_at, StartReady, BreakReady, EolAfterReady, InsideReady, EscapeReady, start_ends, text_from, fits, inside_plan, break_plan, at_break_ends, nok_ends, inside_ends, escape_ends, states, at_break_words, eol_after_words, escape_words, inside_words, nok_words, start_words}
+use Rattle.markdown_partial_link.specs.PartialLabel.{rested, sized, opening, start_at, start_step, closed, refused, next_state, passing, is_short, at_break_at, leaving, inside_at, escapes, escape_at, StartReady, BreakReady, EolAfterReady, InsideReady, EscapeReady, start_ends, text_from, fits, inside_plan, break_plan, at_break_ends, nok_ends, inside_ends, escape_ends, states_and_called, at_break_words, eol_after_words, escape_words, inside_words, nok_words, start_words, states}
 use Rattle.markdown_partial_link.proofs.LinkedTreeLemmas.{EndsAs-linked}
 use Rattle.markdown_partial_link.proofs.PartialLabelReadings.{label-plain, fits-data, fits-ending, fits-none, fits-long, fits-seen, fits-unseen, label-here, label-none, label-covers}
 use Rattle.markdown_partial_link.proofs.LinkedTextLineEnding.{Passed, DoesAs-ending, ending-law}
@@ -32,9 +34,9 @@ use Rattle.markdown_partial_link.proofs.LinkedTextReadings.{answer-none, breaks-
 use Rattle.markdown_partial_link.proofs.LinkedTextSteps.{open-append, open-closed, open-rest, text-after, text-same, text-kept, rest-joined, DoesAs-fails, state-by, stays-data, moves-data, depth-data}
 use Rattle.markdown_partial_link.proofs.BoolLemmas.{or-by}
 use Rattle.markdown_model.proofs.GrammarSteps.{and-left, and-right}
-use Rattle.markdown_engine.specs.StateWords.{Words, Law, GoesIn}
+use Rattle.markdown_engine.specs.StateWords.{StateWords, Words, Law, GoesIn}
 use Rattle.markdown_plan.proofs.LawStepsOfLayer.{GoesOn-map, Goes-plain, Goes-end, Goes-on, Goes-kept, Goes-ok, Goes-no, FollowsIn, follows}
-use Rattle.markdown_plan.specs.LayerEquation.{Within}
+use Rattle.markdown_plan.specs.LayerEquation.{Within, AreLawful}
 
 -- The conditions.
 
@@ -156,7 +158,7 @@ taken-line c h =
     or-by (c.value == 92) _ g (λ f. ap (λ v. v == 10) (eqb-true c.value 92 f)) (λ f.
     or-by (c.value == 93) false f (λ e. ap (λ v. v == 10) (eqb-true c.value 93 e)) (λ e. let no : false ≡ true = e in cc)))
 
-module _ (W : Words) (within : Within states W) where
+module _ (W : Words) (within : Within states_and_called W) where
   pub nok-law : Law W nok_words
   nok-law T alone _ =
       Goes-end W (weight_at 1 T) (nok_ends T) false (scratched (rested T.tokenize_state) T) (attempts-scratched _ T ∙ alone) (omega arith) (λ ok U k. k)
@@ -411,3 +413,13 @@ module _ (W : Words) (within : Within states W) where
       (opened-ready T more k)
       (λ ok U x. start-says T k ok U x))
       (λ h. Goes-no W 11 0 p T alone (ap p b.whole ∙ label-none names (b.code ∷ cs) (ap (λ v. v == 91) b.value ∙ h)))))
+
+-- of these states, and of any other as it is given
+pub laws : (W : Words) → Within states_and_called W → (t : StateName → StateWords) → AreLawful W t → AreLawful W (states t)
+laws W within t other H.LabelStart = start-law W within
+laws W within t other H.LabelAtBreak = at_break-law W within
+laws W within t other H.LabelEolAfter = eol_after-law W within
+laws W within t other H.LabelInside = inside-law W within
+laws W within t other H.LabelEscape = escape-law W within
+laws W within t other H.LabelNok = nok-law W within
+laws W within t other s = other s

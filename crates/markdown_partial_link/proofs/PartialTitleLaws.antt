@@ -8,6 +8,8 @@ use Rattle.markdown_engine.specs.StateRuns.{Stepped, stepped}
 use Rattle.markdown_engine.specs.Weights.{weight_at}
 use Rattle.markdown_engine_content.specs.declared.event.Name.TheVariants as N
 use Rattle.markdown_engine.specs.declared.state.State.TheVariants.{Next, Retry}
+use Rattle.markdown_engine.specs.declared.state.StateName.{StateName}
+use Rattle.markdown_engine.specs.declared.state.StateName.TheVariants as H
 use Rattle.markdown_engine.specs.declared.state.StateName.TheVariants.{TitleBegin, TitleAtBreak, TitleAfterEol, TitleInside, TitleEscape, TitleNok, SpaceOrTabEolStart}
 use Rattle.markdown_engine.specs.declared.tokenizer.TokenizeState.{TokenizeState}
 use Rattle.markdown_engine.specs.declared.tokenizer.Tokenizer.{Tokenizer}
@@ -20,7 +22,7 @@ use Rattle.markdown_plan.proofs.PlanSteps.{preceded-nil, done-scratched, no-code
 use Rattle.markdown_partial.specs.PartialSpaceOrTabEol.{WhitespaceAtRest}
 use Rattle.markdown_partial_link.specs.LinkedTreeOps.{plan_of}
 use Rattle.markdown_partial_link.specs.LinkedText.{closing, ending, names_in, joined, enter_text, text_entered, TextReady, ends_filled}
-use Rattle.markdown_partial_link.specs.PartialTitle.{begun, rested, opening, opened, start_at, start_step, beginning, begin_at, next_state, passing, at_break_at, leaving, inside_at, escapes, escape_at, is_closer, StartReady, BeginReady, BreakReady, AfterEolReady, InsideReady, start_ends, inside_plan, break_plan, begin_plan, begin_ends, at_break_ends, nok_ends, inside_ends, escape_ends, states, after_eol_words, at_break_words, begin_words, escape_words, inside_words, nok_words, start_words}
+use Rattle.markdown_partial_link.specs.PartialTitle.{begun, rested, opening, opened, start_at, start_step, beginning, begin_at, next_state, passing, at_break_at, leaving, inside_at, escapes, escape_at, is_closer, StartReady, BeginReady, BreakReady, AfterEolReady, InsideReady, start_ends, inside_plan, break_plan, begin_plan, begin_ends, at_break_ends, nok_ends, inside_ends, escape_ends, states_and_called, after_eol_words, at_break_words, begin_words, escape_words, inside_words, nok_words, start_words, states}
 use Rattle.markdown_partial_link.proofs.LinkedTreeLemmas.{EndsAs-linked}
 use Rattle.markdown_partial_link.proofs.LinkedTextLineEnding.{Passed, DoesAs-ending, ending-law}
 use Rattle.markdown_partial_link.proofs.LinkedTextReadings.{filled-data, filled-ending, filled-none, breaks-end, breaks-stop, breaks-data, breaks-ending, breaks-blank, insides-end, insides-next, insides-taken, insides-bare, leave-end, leave-stop, leave-ending}
@@ -28,9 +30,9 @@ use Rattle.markdown_partial_link.proofs.LinkedTextSteps.{open-append, open-close
 use Rattle.markdown_partial_link.proofs.PartialTitleReadings.{title-plain, closer-line, title-none, title-double, title-single, title-paren, title-covers}
 use Rattle.markdown_partial_link.proofs.BoolLemmas.{or-by}
 use Rattle.markdown_model.proofs.GrammarSteps.{if-true, if-false}
-use Rattle.markdown_engine.specs.StateWords.{Words, Law, GoesIn}
+use Rattle.markdown_engine.specs.StateWords.{StateWords, Words, Law, GoesIn}
 use Rattle.markdown_plan.proofs.LawStepsOfLayer.{GoesOn-map, Goes-plain, Goes-end, Goes-on, Goes-kept, Goes-ok, Goes-no, FollowsIn, follows}
-use Rattle.markdown_plan.specs.LayerEquation.{Within}
+use Rattle.markdown_plan.specs.LayerEquation.{Within, AreLawful}
 
 -- The conditions.
 
@@ -95,7 +97,7 @@ joined-ready T k = record { text = record { short = k.text.short; resting = rest
 
 -- Tests.
 
-module _ (W : Words) (within : Within states W) where
+module _ (W : Words) (within : Within states_and_called W) where
   pub nok-law : Law W nok_words
   nok-law T alone _ =
       Goes-end W (weight_at 1 T) (nok_ends T) false (scratched (rested T.tokenize_state) T) (attempts-scratched _ T ∙ alone) (omega arith) (λ ok U k. k)
@@ -347,3 +349,14 @@ module _ (W : Words) (within : Within states W) where
       (λ f. opens 41 T alone k more refl (ap p b.whole ∙ title-paren names b.code cs (ap (λ v. v == 40) b.value ∙ f)))
       (λ f. Goes-no W 11 0 p T alone
       (ap p b.whole ∙ title-none names (b.code ∷ cs) (ap (λ v. v == 34) b.value ∙ h) (ap (λ v. v == 39) b.value ∙ g) (ap (λ v. v == 40) b.value ∙ f)))))))
+
+-- of these states, and of any other as it is given
+pub laws : (W : Words) → Within states_and_called W → (t : StateName → StateWords) → AreLawful W t → AreLawful W (states t)
+laws W within t other H.TitleStart = start-law W within
+laws W within t other H.TitleBegin = begin-law W within
+laws W within t other H.TitleAtBreak = at_break-law W within
+laws W within t other H.TitleAfterEol = after_eol-law W within
+laws W within t other H.TitleInside = inside-law W within
+laws W within t other H.TitleEscape = escape-law W within
+laws W within t other H.TitleNok = nok-law W within
+laws W within t other s = other s

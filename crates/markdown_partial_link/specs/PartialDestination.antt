@@ -248,12 +248,16 @@ raw_words = record { ready = RawReady; step = raw_step; ends = raw_ends; rank = 
 abbrev pub raw_escape_words : StateWords
 raw_escape_words = record { ready = RawReady; step = raw_escape_step; ends = raw_escape_ends; rank = 2 }
 
--- these states as they are said, and any other as it is given
+-- a part of what is said of these states, and of any other as it is given
+abbrev pub said {ℓ} : {A : Type ℓ} → (StateWords → A) → (StateName → A) → StateName → A
+said part other DestinationStart = part start_words
+said part other DestinationEnclosedBefore = part enclosed_before_words
+said part other DestinationEnclosed = part enclosed_words
+said part other DestinationEnclosedEscape = part enclosed_escape_words
+said part other DestinationRaw = part raw_words
+said part other DestinationRawEscape = part raw_escape_words
+said part other s = other s
+
+-- all of it
 abbrev pub states : (StateName → StateWords) → StateName → StateWords
-states other DestinationStart = start_words
-states other DestinationEnclosedBefore = enclosed_before_words
-states other DestinationEnclosed = enclosed_words
-states other DestinationEnclosedEscape = enclosed_escape_words
-states other DestinationRaw = raw_words
-states other DestinationRawEscape = raw_escape_words
-states other s = other s
+states other s = said (λ (w : StateWords). w) other s

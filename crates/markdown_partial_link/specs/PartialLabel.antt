@@ -199,13 +199,24 @@ escape_words = record { ready = EscapeReady; step = escape_step; ends = escape_e
 abbrev pub nok_words : StateWords
 nok_words = record { ready = λ T. Unit {0}; step = nok_step; ends = nok_ends; rank = 1 }
 
--- these states as they are said, and any other as it is given
+-- a part of what is said of these states, and of any other as it is given
+abbrev pub said {ℓ} : {A : Type ℓ} → (StateWords → A) → (StateName → A) → StateName → A
+said part other LabelStart = part start_words
+said part other LabelAtBreak = part at_break_words
+said part other LabelEolAfter = part eol_after_words
+said part other LabelInside = part inside_words
+said part other LabelEscape = part escape_words
+said part other LabelNok = part nok_words
+said part other s = other s
+
+-- all of it
 abbrev pub states : (StateName → StateWords) → StateName → StateWords
-states other LabelStart = start_words
-states other LabelAtBreak = at_break_words
-states other LabelEolAfter = eol_after_words
-states other LabelInside = inside_words
-states other LabelEscape = escape_words
-states other LabelNok = nok_words
-states other SpaceOrTabEolStart = PartialSpaceOrTabEol.start_words
-states other s = other s
+states other s = said (λ (w : StateWords). w) other s
+
+-- the states of others that they call, and any other as it is given
+abbrev pub called : (StateName → StateWords) → StateName → StateWords
+called other SpaceOrTabEolStart = PartialSpaceOrTabEol.start_words
+called other s = other s
+
+abbrev pub states_and_called : (StateName → StateWords) → StateName → StateWords
+states_and_called other s = states (called other) s

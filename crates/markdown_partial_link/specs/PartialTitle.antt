@@ -225,14 +225,25 @@ escape_words = record { ready = InsideReady; step = escape_step; ends = escape_e
 abbrev pub nok_words : StateWords
 nok_words = record { ready = λ T. Unit {0}; step = nok_step; ends = nok_ends; rank = 1 }
 
--- these states as they are said, and any other as it is given
+-- a part of what is said of these states, and of any other as it is given
+abbrev pub said {ℓ} : {A : Type ℓ} → (StateWords → A) → (StateName → A) → StateName → A
+said part other TitleStart = part start_words
+said part other TitleBegin = part begin_words
+said part other TitleAtBreak = part at_break_words
+said part other TitleAfterEol = part after_eol_words
+said part other TitleInside = part inside_words
+said part other TitleEscape = part escape_words
+said part other TitleNok = part nok_words
+said part other s = other s
+
+-- all of it
 abbrev pub states : (StateName → StateWords) → StateName → StateWords
-states other TitleStart = start_words
-states other TitleBegin = begin_words
-states other TitleAtBreak = at_break_words
-states other TitleAfterEol = after_eol_words
-states other TitleInside = inside_words
-states other TitleEscape = escape_words
-states other TitleNok = nok_words
-states other SpaceOrTabEolStart = PartialSpaceOrTabEol.start_words
-states other s = other s
+states other s = said (λ (w : StateWords). w) other s
+
+-- the states of others that they call, and any other as it is given
+abbrev pub called : (StateName → StateWords) → StateName → StateWords
+called other SpaceOrTabEolStart = PartialSpaceOrTabEol.start_words
+called other s = other s
+
+abbrev pub states_and_called : (StateName → StateWords) → StateName → StateWords
+states_and_called other s = states (called other) s

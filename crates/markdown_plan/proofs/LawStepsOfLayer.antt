@@ -3,7 +3,7 @@ use Rattle.std.proofs.Common.{if◌then◌else◌, ◌≡◌, ℕ, suc, ◌+◌,
 use Rattle.markdown_engine_content.specs.Codes.{Code}
 use Rattle.markdown_engine.specs.Operations.{Op, Enter, Consume, moves, ahead, applied, attempted, done, frame_of, scratched, stays}
 use Rattle.markdown_engine.specs.StateRuns.{Stepped, stepped, restored, ready_state, ends_state, weight_state}
-use Rattle.markdown_engine.specs.StateWords.{StateWords, Words, words_in, words_at, weight_in, GoesIn}
+use Rattle.markdown_engine.specs.StateWords.{StateWords, Words, words_in, words_at, weight_in, GoesIn, end_words}
 use Rattle.markdown_engine.specs.Weights.{codes_left, weight_at}
 use Rattle.markdown_engine_content.specs.declared.event.Name.{Name}
 use Rattle.markdown_engine.specs.declared.state.State.{State}
@@ -13,6 +13,7 @@ use Rattle.markdown_engine.specs.declared.tokenizer.Tokenizer.{Tokenizer}
 use Rattle.markdown_engine.proofs.LawSteps as LawSteps
 use Rattle.markdown_engine.proofs.OperationFields.{attempts-scratched, left-scratched}
 use Rattle.markdown_engine.proofs.OperationLemmas.{attempts-done, left-done, scratch-done}
+use Rattle.markdown_plan.specs.LayerEquation.{AreLawful}
 use Rattle.markdown_plan.specs.Plan.{Plan, preceded, depth_after, DoesAs, KeepsAs}
 use Rattle.markdown_plan.specs.LateNames.{Naming, NamesAs, renamed, opened, under, preceded_by}
 use Rattle.markdown_plan.proofs.LateNameSteps as LateNameSteps
@@ -154,3 +155,7 @@ module _ (W : Words) where
   -- the construct does not hold
   pub Goes-refused : (k d : ℕ) (p : Naming) (s : TokenizeState) (T : Tokenizer) → T.attempts ≡ [] → p (ahead T) ≡ None → GoesIn W (weight_at k T) (NamesAs d p s T) (stepped Nok (scratched s T))
   Goes-refused = LateNameSteps.Goes-refused W.ready W.ends (weight_in W)
+
+-- the law where there are no states
+pub no-laws : (W : Words) → AreLawful W (λ s. end_words false)
+no-laws W s T alone r = Goes-end W (weight_at 0 T) ((end_words false).ends T) false T alone (omega arith) (λ b U k. k)

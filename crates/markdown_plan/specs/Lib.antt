@@ -4,6 +4,7 @@ pub mod LateNames
 pub mod ScratchFields
 pub mod ByteTests
 pub mod Characters
+pub mod StateCalls
 -- What serves proofs: what functions and proofs promise each other.
 pub mod Plan
 pub mod PrecededReadings

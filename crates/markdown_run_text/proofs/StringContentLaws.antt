@@ -10,19 +10,20 @@ use Rattle.markdown_engine.specs.Weights.{codes_left, weight_at}
 use Rattle.markdown_engine.specs.declared.resolve.ResolveName.TheVariants as R
 use Rattle.markdown_engine.specs.declared.state.State.TheVariants.{Next, Retry, Nok}
 use Rattle.markdown_engine.specs.declared.state.StateName.{StateName}
+use Rattle.markdown_engine.specs.declared.state.StateName.TheVariants as H
 use Rattle.markdown_engine.specs.declared.state.StateName.TheVariants.{CharacterEscapeStart, CharacterReferenceStart, DataStart, StringBefore, StringBeforeData}
 use Rattle.markdown_engine.specs.declared.tokenizer.Tokenizer.{Tokenizer}
 use Rattle.markdown_engine.proofs.ReadingSequences.{scratched-same}
 use Rattle.markdown_engine.proofs.LawSteps.{code-step, restored-fails}
 use Rattle.markdown_engine.proofs.OperationFields.{Begins, ahead-some, attempts-registered, attempts-scratched, left-scratched}
-use Rattle.markdown_plan.specs.LayerEquation.{Within}
+use Rattle.markdown_plan.specs.LayerEquation.{Within, AreLawful}
 use Rattle.markdown_plan.proofs.LawStepsOfLayer.{FollowsIn, Goes-plain, Goes-end, Goes-attempt, follows}
 use Rattle.markdown_leaf.specs.CharacterEscape as CharacterEscape
 use Rattle.markdown_leaf.specs.CharacterEscape.{escape_here}
 use Rattle.markdown_leaf.specs.CharacterReference as CharacterReference
 use Rattle.markdown_leaf.specs.CharacterReference.{reference_here}
 use Rattle.markdown_partial.specs.PartialData as PartialData
-use Rattle.markdown_run_text.specs.StringContent.{is_on, string_tries, string_markers, string_marked, string_passed, string_here, tries_at, before_at, StartReady, BeforeReady, before_ends, start_words, before_words, before_data_words}
+use Rattle.markdown_run_text.specs.StringContent.{states, is_on, string_tries, string_markers, string_marked, string_passed, string_here, tries_at, before_at, StartReady, BeforeReady, before_ends, start_words, before_words, before_data_words}
 use Rattle.markdown_run_text.specs.TryTable.{said_at}
 use Rattle.markdown_run_text.proofs.TryTableLemmas.{by-row, none-of}
 use Rattle.markdown_run_row.proofs.ElementSteps.{finishes-end}
@@ -32,14 +33,16 @@ use Rattle.markdown_partial.specs.PartialData.{stops_of}
 use Rattle.markdown_run_text.proofs.TextSteps.{some-none}
 use Rattle.markdown_run_text.proofs.StringSteps.{Passes, passes-ready, passes-ends, escape-past, reference-past, data-past}
 
--- those of these states with which another goes on, and the starts of what is tried, as they are said, and any other as it is given
-abbrev pub states : (StateName → StateWords) → StateName → StateWords
-states other StringBefore = before_words
-states other StringBeforeData = before_data_words
-states other CharacterReferenceStart = CharacterReference.start_words
-states other CharacterEscapeStart = CharacterEscape.start_words
-states other DataStart = PartialData.start_words
-states other s = other s
+-- the starts of what is tried, as they are said, and any other as it is given
+abbrev pub called : (StateName → StateWords) → StateName → StateWords
+called other CharacterReferenceStart = CharacterReference.start_words
+called other CharacterEscapeStart = CharacterEscape.start_words
+called other DataStart = PartialData.start_words
+called other s = other s
+
+-- these states, and those that they try
+abbrev pub states_and_called : (StateName → StateWords) → StateName → StateWords
+states_and_called other s = states (called other) s
 
 at-end : (T : Tokenizer) → current_of T ≡ None → (ok : Bool) (U : Tokenizer) → (ok ≡ true) × (U ≡ string_passed T) → before_ends T ok U
 at-end T e true U k = finishes-end (string_here T) string_passed T U e k.1
@@ -62,7 +65,7 @@ marked-ready : (T : Tokenizer) → StartReady T → BeforeReady (string_marked T
 unfolding scratched
 marked-ready T r = record { marked = refl; rest = record { marker = r.rest.marker; size = r.rest.size }; ends = record { end = r.ends.end; seen = r.ends.seen } }
 
-module _ (W : Words) (within : Within states W) where
+module _ (W : Words) (within : Within states_and_called W) where
   -- past an element the run goes on before the next
   on-before : (n : ℕ) (T U : Tokenizer) → codes_left T * 256 < n → BeforeReady T → Passes T U → FollowsIn W n (before_ends T) (Next StringBefore) U
   on-before n T U room marked p =
@@ -119,3 +122,10 @@ module _ (W : Words) (within : Within states W) where
       let M : Tokenizer = string_marked T in
       Goes-plain W (weight_at 7 T) (before_ends M) (Retry StringBefore) (within StringBefore) M (attempts-scratched _ T ∙ alone) (marked-ready T rest)
       (omega (arith, left-scratched (record T.tokenize_state { markers = string_markers }) T)) (λ ok U k. k)
+
+-- of these states, and of any other as it is given
+pub laws : (W : Words) → Within states_and_called W → (t : StateName → StateWords) → AreLawful W t → AreLawful W (states t)
+laws W within t other H.StringStart = start-law W within
+laws W within t other H.StringBefore = before-law W within
+laws W within t other H.StringBeforeData = before_data-law W within
+laws W within t other s = other s

@@ -12,6 +12,7 @@ use Rattle.markdown_engine_content.specs.Tree.{leaf_codes}
 use Rattle.markdown_engine.specs.Weights.{codes_left, weight_at}
 use Rattle.markdown_engine.specs.declared.state.State.TheVariants.{Next, Retry, Nok}
 use Rattle.markdown_engine.specs.declared.state.StateName.{StateName}
+use Rattle.markdown_engine.specs.declared.state.StateName.TheVariants as H
 use Rattle.markdown_engine.specs.declared.state.StateName.TheVariants.{AttentionStart, AutolinkStart, CharacterEscapeStart, CharacterReferenceStart, DataStart, GfmAutolinkLiteralProtocolStart, GfmAutolinkLiteralWwwStart, GfmLabelStartFootnoteStart, GfmTaskListItemCheckStart, HardBreakEscapeStart, HtmlTextStart, LabelEndStart, LabelStartImageStart, LabelStartLinkStart, RawTextStart, TextBefore, TextBeforeData, TextBeforeHardBreakEscape, TextBeforeHtml, TextBeforeLabelStartLink}
 use Rattle.markdown_engine.specs.declared.tokenizer.TokenizeState.{TokenizeState}
 use Rattle.markdown_engine.specs.declared.tokenizer.Tokenizer.{Tokenizer}
@@ -24,7 +25,7 @@ use Rattle.markdown_leaf_html.specs.HtmlText as HtmlText
 use Rattle.markdown_attention.specs.Attention as Attention
 use Rattle.markdown_attention.specs.Attention.{ReadsRun, run_tree}
 use Rattle.markdown_plan.specs.Characters.{bytes_of}
-use Rattle.markdown_plan.specs.LayerEquation.{Within}
+use Rattle.markdown_plan.specs.LayerEquation.{Within, AreLawful}
 use Rattle.markdown_plan.proofs.LawStepsOfLayer.{FollowsIn, Goes-plain, Goes-end, Goes-attempt, follows}
 use Rattle.markdown_label.specs.LabelEnd as LabelEnd
 use Rattle.markdown_label.specs.LabelEnd.{AreWithin}
@@ -47,7 +48,7 @@ use Rattle.markdown_run_row.specs.RunOverElements.{Advances, DataFinishes, Finis
 use Rattle.markdown_run_row.specs.Row.{loses, row_end, past_mark, kinds_of}
 use Rattle.markdown_run_row.proofs.RowFields.{row-cursor, tree-within, lost-within}
 use Rattle.markdown_run_text.specs.StringContent.{is_on}
-use Rattle.markdown_run_text.specs.TextContent.{text_tries, text_markers, marked_fields, text_marked, text_passed, attempt_step, start_step, first_try, tries_at, before_at, before_step, text_choice_of, IsMarked, BeforeReady, StandsAlone, before_ends, data_ends, start_words, before_words, before_html_words, before_hard_break_escape_words, before_label_start_link_words, before_data_words}
+use Rattle.markdown_run_text.specs.TextContent.{states, text_tries, text_markers, marked_fields, text_marked, text_passed, attempt_step, start_step, first_try, tries_at, before_at, before_step, text_choice_of, IsMarked, BeforeReady, StandsAlone, before_ends, data_ends, start_words, before_words, before_html_words, before_hard_break_escape_words, before_label_start_link_words, before_data_words}
 use Rattle.markdown_run_text.proofs.TryTableLemmas.{EachOf, each-among, by-row}
 use Rattle.markdown_run_row.proofs.ConstructNodes.{node-of}
 use Rattle.markdown_model.proofs.PlainConstructs.{ReadsPlain, plain_constructs}
@@ -60,29 +61,28 @@ use Rattle.markdown_run_row.proofs.ElementSteps.{DataRead, data-read, some-ahead
 use Rattle.markdown_run_text.proofs.TextLabelTries.{image-advances, image-alone, footnote-advances, link-advances, bracket-alone, made-advances, failed-advances, end-alone}
 use Rattle.markdown_run_text.proofs.TextSteps.{IsSame, same-row, choice-same, stops-same, marked-past, no-check-behind, no-check-past, advances-ends, alone-ends, tree-kept, registered-kept, made-kept, some-none, weight-marked, at-rest-reference, run-ready, passed-attempts, at-end, ends-on, lost-there, not-lost, lost-left, lost-current, same-lost, html-ready, marked-start, check-elements}
 
--- those of these states with which another goes on, and the starts of what is tried, as they are said, and any other as it is given
-abbrev pub states : (StateName → StateWords) → StateName → StateWords
-states other TextBefore = before_words
-states other TextBeforeHtml = before_html_words
-states other TextBeforeHardBreakEscape = before_hard_break_escape_words
-states other TextBeforeLabelStartLink = before_label_start_link_words
-states other TextBeforeData = before_data_words
-states other GfmTaskListItemCheckStart = GfmTaskListItemCheck.start_words
-states other LabelStartImageStart = image_words
-states other RawTextStart = RawText.start_words
-states other CharacterReferenceStart = CharacterReference.start_words
-states other AttentionStart = Attention.start_words
-states other AutolinkStart = Autolink.start_words
-states other HtmlTextStart = HtmlText.start_words
-states other GfmAutolinkLiteralProtocolStart = GfmAutolinkLiteral.protocol_start_words
-states other GfmAutolinkLiteralWwwStart = GfmAutolinkLiteral.www_start_words
-states other GfmLabelStartFootnoteStart = footnote_words
-states other LabelStartLinkStart = link_words
-states other CharacterEscapeStart = CharacterEscape.start_words
-states other HardBreakEscapeStart = HardBreakEscape.start_words
-states other LabelEndStart = LabelEnd.start_words
-states other DataStart = PartialData.start_words
-states other s = other s
+-- the starts of what is tried, as they are said, and any other as it is given
+abbrev pub called : (StateName → StateWords) → StateName → StateWords
+called other GfmTaskListItemCheckStart = GfmTaskListItemCheck.start_words
+called other LabelStartImageStart = image_words
+called other RawTextStart = RawText.start_words
+called other CharacterReferenceStart = CharacterReference.start_words
+called other AttentionStart = Attention.start_words
+called other AutolinkStart = Autolink.start_words
+called other HtmlTextStart = HtmlText.start_words
+called other GfmAutolinkLiteralProtocolStart = GfmAutolinkLiteral.protocol_start_words
+called other GfmAutolinkLiteralWwwStart = GfmAutolinkLiteral.www_start_words
+called other GfmLabelStartFootnoteStart = footnote_words
+called other LabelStartLinkStart = link_words
+called other CharacterEscapeStart = CharacterEscape.start_words
+called other HardBreakEscapeStart = HardBreakEscape.start_words
+called other LabelEndStart = LabelEnd.start_words
+called other DataStart = PartialData.start_words
+called other s = other s
+
+-- these states, and those that they try
+abbrev pub states_and_called : (StateName → StateWords) → StateName → StateWords
+states_and_called other s = states (called other) s
 
 -- what is said of a construct that is tried: it ends with its reading
 abbrev EndsOf : StateWords → TreeReading → Tokenizer → Type 0
@@ -98,7 +98,7 @@ slash-row : (T : Tokenizer) → AreTriedAt T (byte "\\") (is_on T).character_esc
 unfolding tries tried
 slash-row T earlier previous = (refl, (refl, refl))
 
-module _ (W : Words) (within : Within states W) where
+module _ (W : Words) (within : Within states_and_called W) where
   -- past an element the run goes on before the next
   on-before : (n : ℕ) (T U : Tokenizer) → codes_left T * 256 < n → IsMarked T → AreWithin U U.tokenize_state.label_starts → Advances (text_choice_of T) T U → FollowsIn W n (before_ends T) (Next TextBefore) U
   on-before n T U room r kept a =
@@ -315,3 +315,13 @@ module _ (W : Words) (within : Within states W) where
       (try-law 9 M GfmTaskListItemCheckStart TextBefore (within GfmTaskListItemCheckStart) (GfmTaskListItemCheck.check_here M) (attempts-scratched s T ∙ alone) marked.look (omega arith) marked (λ ok U g. g)
       (search plain_constructs) (check-elements M (current_of M) refl)
       (λ none. follows W (weight_at 9 M) (before_ends M) (Next TextBefore) (within TextBefore) M (record { marked = marked; unchecked = none }) (omega arith) (λ ok V h. h)))
+
+-- of these states, and of any other as it is given
+pub laws : (W : Words) → Within states_and_called W → (t : StateName → StateWords) → AreLawful W t → AreLawful W (states t)
+laws W within t other H.TextStart = start-law W within
+laws W within t other H.TextBefore = before-law W within
+laws W within t other H.TextBeforeHtml = before_html-law W within
+laws W within t other H.TextBeforeHardBreakEscape = before_hard_break_escape-law W within
+laws W within t other H.TextBeforeLabelStartLink = before_label_start_link-law W within
+laws W within t other H.TextBeforeData = before_data-law W within
+laws W within t other s = other s

@@ -7,6 +7,7 @@ use Rattle.markdown_engine_content.specs.declared.configuration.Constructs.{Cons
 use Rattle.markdown_engine.specs.declared.resolve.ResolveName.TheVariants as R
 use Rattle.markdown_engine.specs.declared.state.State.TheVariants.{Next, Retry, Ok, Nok}
 use Rattle.markdown_engine.specs.declared.state.StateName.{StateName}
+use Rattle.markdown_engine.specs.declared.state.StateName.TheVariants as H
 use Rattle.markdown_engine.specs.declared.state.StateName.TheVariants.{CharacterEscapeStart, CharacterReferenceStart, DataStart, StringBefore, StringBeforeData}
 use Rattle.markdown_engine.specs.declared.tokenizer.Tokenizer.{Tokenizer}
 use Rattle.markdown_leaf.specs.CharacterEscape.{escape_here}
@@ -100,3 +101,14 @@ before_words = record { ready = BeforeReady; step = before_step; ends = before_e
 
 abbrev pub before_data_words : StateWords
 before_data_words = record { ready = BeforeDataReady; step = before_data_step; ends = before_ends; rank = 5 }
+
+-- a part of what is said of these states, and of any other as it is given
+abbrev pub said {ℓ} : {A : Type ℓ} → (StateWords → A) → (StateName → A) → StateName → A
+said part other H.StringStart = part start_words
+said part other H.StringBefore = part before_words
+said part other H.StringBeforeData = part before_data_words
+said part other s = other s
+
+-- all of it
+abbrev pub states : (StateName → StateWords) → StateName → StateWords
+states other s = said (λ (w : StateWords). w) other s

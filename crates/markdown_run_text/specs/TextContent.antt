@@ -18,6 +18,7 @@ use Rattle.markdown_engine.specs.declared.resolve.ResolveName.TheVariants as R
 use Rattle.markdown_engine_index.specs.declared.sequence_index.Sequence.TheVariants.{ResourceEnd, ProtocolSlash, WwwDot}
 use Rattle.markdown_engine.specs.declared.state.State.TheVariants.{Next, Retry, Ok, Nok}
 use Rattle.markdown_engine.specs.declared.state.StateName.{StateName}
+use Rattle.markdown_engine.specs.declared.state.StateName.TheVariants as H
 use Rattle.markdown_engine.specs.declared.state.StateName.TheVariants.{AttentionStart, AutolinkStart, CharacterEscapeStart, CharacterReferenceStart, DataStart, GfmAutolinkLiteralProtocolStart, GfmAutolinkLiteralWwwStart, GfmLabelStartFootnoteStart, GfmTaskListItemCheckStart, HardBreakEscapeStart, HtmlTextStart, LabelEndStart, LabelStartImageStart, LabelStartLinkStart, RawTextStart, TextBefore, TextBeforeData, TextBeforeHardBreakEscape, TextBeforeHtml, TextBeforeLabelStartLink}
 use Rattle.markdown_engine_index.specs.declared.title_index.Closer.{Closer}
 use Rattle.markdown_engine.specs.declared.tokenizer.TokenizeState.{TokenizeState}
@@ -276,3 +277,17 @@ before_label_start_link_words = record { ready = BeforeLinkReady; step = before_
 
 abbrev pub before_data_words : StateWords
 before_data_words = record { ready = BeforeDataReady; step = before_data_step; ends = data_ends; rank = 5 }
+
+-- a part of what is said of these states, and of any other as it is given
+abbrev pub said {ℓ} : {A : Type ℓ} → (StateWords → A) → (StateName → A) → StateName → A
+said part other H.TextStart = part start_words
+said part other H.TextBefore = part before_words
+said part other H.TextBeforeHtml = part before_html_words
+said part other H.TextBeforeHardBreakEscape = part before_hard_break_escape_words
+said part other H.TextBeforeLabelStartLink = part before_label_start_link_words
+said part other H.TextBeforeData = part before_data_words
+said part other s = other s
+
+-- all of it
+abbrev pub states : (StateName → StateWords) → StateName → StateWords
+states other s = said (λ (w : StateWords). w) other s
