@@ -1,5 +1,5 @@
 //! The passes of inline content by name.
-ghost use Rattle.std.specs.Prelude.{◌≡◌, IfOk, IsErr, OnErr, IsTrue, None};
+ghost use Rattle.std.specs.Prelude.{◌≡◌, false, IfOk, IsErr, OnErr, IsTrue, None};
 ghost use Rattle.markdown_run_text.specs.ContentPasses.{may_resolve_of, resolves_of};
 
 use crate::{attention, label_end};
@@ -28,9 +28,10 @@ fn dispatch(name: ResolveName, tokenizer: &mut Tokenizer) -> Result<Option<Subre
 
 /// Calls the pass of this name.
 ///
-/// The error comes where a growth is refused; then `failed` is true. It comes at once where `failed` is true already.
+/// The error comes where a growth is refused; then `failed` is true. It comes at once where `failed` is true already, and then
+/// nothing is asked of the tokenizer.
 pub fn call(name: ResolveName, tokenizer: &mut Tokenizer) -> Result<Option<Subresult>, AllocError>
-    requires { may_resolve_of name tokenizer.old }
+    requires { tokenizer.old.failed ≡ false → may_resolve_of name tokenizer.old }
     ensures none { IfOk result (λ r. r ≡ None) }
     ensures ok { IfOk result (λ _. resolves_of name tokenizer.old tokenizer.new) }
     ensures failed { IsTrue tokenizer.old.failed → IsErr result }

@@ -125,9 +125,14 @@ fn put_back<'a>(
 /// everywhere (where the scratch field `passes_letters` is set, as behind `TextStart`, it goes on past letters with which no literal begins, GFM
 /// 6.9, as an `h` before no `t`); `SpaceOrTabStart` or `SpaceOrTabEolStart`, after the setter that asks for it.
 ///
+/// `ConstructEnds` of `specs/RunConstruct` says what each reads: `construct_reading` names its definition, `start_reading` that of a start of a
+/// label, `end_reading` that of an end. These take the options, the code before, whether an escape ends right before, whether this is the content's
+/// first place, the document, and the last start kept.
+///
 /// Where the construct holds, its events are appended, and the tokenizer stands at its end; otherwise it is as before. The scratch fields are
 /// as before in either case, but that whitespace puts its own fields to rest, that starts and labels are kept, and that an end that makes no
-/// label uses up the last start. The error comes where a growth is refused; then `failed` is true. It comes at once where `failed` is true already.
+/// label uses up the last start. The error comes where a growth is refused; then `failed` is true. It comes at once where `failed` is true already,
+/// and then nothing is asked of the tokenizer.
 ///
 /// The scratch fields that a construct counts in are at rest before, as they are in a new tokenizer. Where a construct counts codes, or reads
 /// whitespace, it asks that fewer are left than a `usize` counts, which holds over every content: it has at most four codes for each byte.
@@ -137,8 +142,8 @@ fn put_back<'a>(
 /// for a linked event just before, and with a line ending for a content too; and where whitespace with a line ending has a content, no blank
 /// code is at hand. An end of a label asks that the starts kept end between characters, as each does that was read.
 pub fn construct(name: StateName, tokenizer: &mut Tokenizer) -> Result<bool, AllocError>
-    requires construct { IsConstruct name tokenizer.old }
-    requires alone { tokenizer.old.attempts ≡ [] }
+    requires construct { tokenizer.old.failed ≡ false → IsConstruct name tokenizer.old }
+    requires alone { tokenizer.old.failed ≡ false → tokenizer.old.attempts ≡ [] }
     ensures reads { IfOk result (λ ok. ConstructEnds name tokenizer.old ok tokenizer.new) }
     ensures failed { IsTrue tokenizer.old.failed → IsErr result }
     ensures err { OnErr result (IsTrue tokenizer.new.failed) }

@@ -1,5 +1,5 @@
 //! The states of inline content by name.
-ghost use Rattle.std.specs.Prelude.{◌≡◌, IfOk, IsErr, OnErr, IsTrue};
+ghost use Rattle.std.specs.Prelude.{◌≡◌, false, IfOk, IsErr, OnErr, IsTrue};
 ghost use Rattle.markdown_run.specs.Layer.{ready_of, step_of, ends_of, weight_of, stops_of};
 ghost use Rattle.markdown_run.specs.LayerLaws.{laws_of};
 ghost use Rattle.markdown_run.specs.LayerLaws.Steady.{steady_of};
@@ -203,9 +203,10 @@ fn dispatch(name: StateName, tokenizer: &mut Tokenizer) -> Result<State, AllocEr
 
 /// Calls the state of this name.
 ///
-/// The error comes where a growth is refused; then `failed` is true. It comes at once where `failed` is true already.
+/// The error comes where a growth is refused; then `failed` is true. It comes at once where `failed` is true already, and then
+/// nothing is asked of the tokenizer.
 pub fn call(name: StateName, tokenizer: &mut Tokenizer) -> Result<State, AllocError>
-    requires { ready_of name tokenizer.old }
+    requires { tokenizer.old.failed ≡ false → ready_of name tokenizer.old }
     ensures ok { IfOk result (λ s. step_of name tokenizer.old ≡ record { state = s; left = tokenizer.new }) }
     ensures failed { IsTrue tokenizer.old.failed → IsErr result }
     ensures err { OnErr result (IsTrue tokenizer.new.failed) }

@@ -1,6 +1,6 @@
 // Single constructs, each read at the start of a content. A tokenizer that has met a refusal of memory says so, and its next calls answer the error
 // at once, also where memory is to be had again.
-ghost use Rattle.std.specs.Prelude.{◌≡◌, ◌≤◌, []};
+ghost use Rattle.std.specs.Prelude.{◌≡◌, ◌≤◌, [], IsTrue};
 ghost use Rattle.markdown_plan.specs.Characters.{ReadsText};
 ghost use Rattle.markdown_engine_content.specs.Content.{IsContent};
 ghost use Rattle.markdown_engine.specs.RestingFields.{at_rest};
@@ -18,7 +18,6 @@ use markdown_engine::tokenizer::Tokenizer;
 use markdown_engine_content::byte_set;
 use markdown_engine_content::event::{Content, Name};
 use markdown_engine_content::parser::{ParseState, Piece};
-use markdown_engine_events::util::edit_map::EditMap;
 use markdown_engine_index::sequence_index::SequenceIndex;
 use markdown_inline::run::construct;
 use markdown_inline::{partial_space_or_tab, partial_space_or_tab_eol, resolve, state};
@@ -40,27 +39,20 @@ fn at_start<'a>(
     Tokenizer::new(alloc, parse_state, pieces)
 }
 
-// Whether the pass that merges data answers the error.
-fn pass_is_refused(tokenizer: &mut Tokenizer) -> bool {
-    tokenizer.map = EditMap::new(tokenizer.alloc);
-    resolve::call(ResolveName::Data, tokenizer).is_err()
-}
-
-// Whether a construct answers the error.
-fn construct_is_refused(tokenizer: &mut Tokenizer) -> bool {
-    tokenizer.attempts.truncate(0);
-    construct(StateName::CharacterEscapeStart, tokenizer).is_err()
+// Whether a state, a pass and a construct answer the error, where the tokenizer has met a refusal, whatever else it holds.
+fn calls_are_refused(tokenizer: &mut Tokenizer) -> bool
+    requires { IsTrue tokenizer.old.failed }
+    ensures { IsTrue result × IsTrue tokenizer.new.failed }
+{
+    state::call(StateName::CharacterEscapeStart, tokenizer).is_err()
+        && resolve::call(ResolveName::Data, tokenizer).is_err()
+        && construct(StateName::CharacterEscapeStart, tokenizer).is_err()
 }
 
 /// Answers the error once more, where each further call of a tokenizer that has met a refusal answers it at once; and else that one does not.
 pub(crate) fn answer_again(tokenizer: &mut Tokenizer) -> Result<bool, AllocError> {
     let events = tokenizer.events.len();
-    let has_failed = tokenizer.failed();
-    let no_state = state::call(StateName::CharacterEscapeStart, tokenizer).is_err();
-    let no_pass = pass_is_refused(tokenizer);
-    let no_construct = construct_is_refused(tokenizer);
-    let is_same = tokenizer.failed() && tokenizer.events.len() == events;
-    if has_failed && no_state && no_pass && no_construct && is_same {
+    if tokenizer.failed() && calls_are_refused(tokenizer) && tokenizer.events.len() == events {
         return Err(AllocError);
     }
     Ok(false)

@@ -7,6 +7,7 @@ ghost use Rattle.markdown_attention.specs.RunsOfEvents.{runs_of_events};
 ghost use Rattle.markdown_attention.specs.OpenRuns.{HaveMarkers};
 ghost use Rattle.markdown_attention.specs.PairScan.{Whole, StandIn};
 ghost use Rattle.markdown_attention.specs.RunsOfTree.{IsOf, HasRuns, HasRows};
+ghost use Rattle.markdown_engine.specs.Operations.{refused};
 ghost use Rattle.markdown_engine.specs.PastTree.{appended_from};
 ghost use Rattle.markdown_engine_content.specs.Tree.{Forest};
 ghost use Rattle.markdown_model.specs.Setting.{Setting};
@@ -66,7 +67,7 @@ impl Model for Runs {
 impl Runs {
     /// The runs of the events, the first of them in turn.
     ///
-    /// The error comes where memory is refused; then `failed` is true.
+    /// The error comes where memory is refused; then `failed` is true, and nothing else of the tokenizer has changed.
     pub fn new(tokenizer: &mut Tokenizer) -> Result<Runs, AllocError>
         requires utf8 { IsUtf8 tokenizer.old.parse_state.now.bytes.now }
         requires places { HaveRunPlaces tokenizer.old.parse_state.now.bytes.now tokenizer.old.events }
@@ -76,7 +77,7 @@ impl Runs {
         ensures containers { IfOk result (λ runs. StandIn (count_by opens_text tokenizer.old.events) runs.list) }
         ensures rows { (s : Setting) (t : Forest) → IsOf s tokenizer.old → HasRuns tokenizer.old.parse_state.now.bytes.now t → tokenizer.old.events ≡ appended_from 0 None t → IfOk result (λ runs. HasRows s t runs.list) }
         ensures same { OnOk result (tokenizer.new ≡ tokenizer.old) }
-        ensures err { OnErr result (IsTrue tokenizer.new.failed) }
+        ensures err { OnErr result (tokenizer.new ≡ refused tokenizer.old) }
     {
         let bytes = tokenizer.parse_state.bytes;
         let tildes = tokenizer.parse_state.options.constructs.gfm_strikethrough;

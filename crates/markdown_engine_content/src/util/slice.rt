@@ -46,7 +46,7 @@ impl Position {
 }
 
 /// Bytes of a document, with virtual spaces of the tabs at both ends.
-#[derive(Clone, Copy, Debug)]
+#[derive(Clone, Copy, Debug, PartialEq, Eq)]
 pub struct Slice<'a> {
     /// The bytes.
     pub bytes: &'a [u8],

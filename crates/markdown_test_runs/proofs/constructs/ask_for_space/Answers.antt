@@ -6,7 +6,8 @@ use Rattle.markdown_partial.specs.PartialSpaceOrTab.{StartReady}
 use Rattle.markdown_test_runs.proofs.constructs.ask_for_space.Goals as goal
 
 pub returns-clause-alone : goal.returns-clause-alone
-returns-clause-alone c = ap (λ (x : Tokenizer). x.attempts) c.space_or_tab_min_max.ensures.asked ∙ attempts-scratched _ c.args.tokenizer.now
+returns-clause-alone c =
+    ap (λ (x : Tokenizer). x.attempts) c.space_or_tab_min_max.ensures.asked ∙ attempts-scratched _ c.args.tokenizer.now
 
 pub returns-clause-construct : goal.returns-clause-construct
 returns-clause-construct c =

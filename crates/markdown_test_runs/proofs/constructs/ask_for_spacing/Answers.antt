@@ -6,7 +6,8 @@ use Rattle.markdown_partial.specs.PartialSpaceOrTabEol.{StartReady}
 use Rattle.markdown_test_runs.proofs.constructs.ask_for_spacing.Goals as goal
 
 pub returns-clause-alone : goal.returns-clause-alone
-returns-clause-alone c = ap (λ (x : Tokenizer). x.attempts) c.space_or_tab_eol.ensures.asked ∙ attempts-scratched _ c.args.tokenizer.now
+returns-clause-alone c =
+    ap (λ (x : Tokenizer). x.attempts) c.space_or_tab_eol.ensures.asked ∙ attempts-scratched _ c.args.tokenizer.now
 
 pub returns-clause-construct : goal.returns-clause-construct
 returns-clause-construct c =

@@ -8,10 +8,12 @@ use Rattle.markdown_partial.specs.PartialSpaceOrTab.{most}
 use Rattle.markdown_test_runs.proofs.constructs.pass_first.Goals as goal
 
 pub returns-then-is_some-clause-alone : goal.returns-then-is_some-clause-alone
-returns-then-is_some-clause-alone c = ap (λ (x : Tokenizer). x.attempts) c.consume.ensures ∙ attempts-applied Consume c.args.tokenizer.now
+returns-then-is_some-clause-alone c =
+    ap (λ (x : Tokenizer). x.attempts) c.consume.ensures ∙ attempts-applied Consume c.args.tokenizer.now
 
 pub returns-then-is_some-clause-rest : goal.returns-then-is_some-clause-rest
-returns-then-is_some-clause-rest c = ap (λ (x : Tokenizer). x.tokenize_state) c.consume.ensures ∙ scratch-applied Consume c.args.tokenizer.now
+returns-then-is_some-clause-rest c =
+    ap (λ (x : Tokenizer). x.tokenize_state) c.consume.ensures ∙ scratch-applied Consume c.args.tokenizer.now
 
 pub returns-then-is_some-clause-fits : goal.returns-then-is_some-clause-fits
 returns-then-is_some-clause-fits c =

@@ -8,7 +8,8 @@ use Rattle.markdown_engine_content.specs.declared.event.Name.TheVariants as N
 use Rattle.markdown_partial.specs.TrimmedEvents.{FirstHasPlaces, HasPlaces}
 use Rattle.markdown_test_runs.proofs.passes.has_places.Goals as goal
 
-from-here : (bytes : List ℕ) (es : List Event) (j : ℕ) → j < length es → FirstHasPlaces bytes (drop j es) → HasPlaces bytes (drop (suc j) es) → HasPlaces bytes (drop j es)
+from-here : (bytes : List ℕ) (es : List Event) (j : ℕ) → j < length es → FirstHasPlaces bytes (drop j es) →
+    HasPlaces bytes (drop (suc j) es) → HasPlaces bytes (drop j es)
 from-here bytes es j low first rest =
     let here = drop-cons es j (event Kind.Enter N.Data document_start) low in
     subst (λ (xs : List Event). HasPlaces bytes xs) (sym here) (subst (λ (xs : List Event). FirstHasPlaces bytes xs) here first, rest)
